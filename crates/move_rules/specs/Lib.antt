@@ -1,0 +1,4 @@
+pub mod Moves
+pub mod Sequences
+pub mod Ends
+pub mod Order

@@ -1,0 +1,9 @@
+//! The rules of play: which plays a roll allows.
+#![tactic(auto)]
+
+mod laws;
+mod moves;
+mod play;
+
+pub use laws::legal_ends_are_exact;
+pub use play::{Entry, Move, Play, PlayList};

@@ -1,0 +1,172 @@
+ghost use Rattle.std.specs.Prelude.{◌≡◌, ℕ, ◌+◌, ◌-◌, ◌<◌, ◌≤◌, ◌↔◌, IsTrue, IsSome, IsNone, IfSome, List, length, sum, slice_index};
+ghost use Rattle.position_rank.specs.Board.{Board, IsLayout, IsPosition, IsLive, swap, moved, above, hit};
+
+use crate::layout::Layout;
+use std::marker::Model;
+
+/// Where all the checkers stand, seen by the side that moves.
+#[derive(Clone, Copy, Debug, PartialEq, Eq)]
+pub struct Position {
+    mover: Layout,
+    other: Layout,
+}
+
+impl Model for Position {
+    ghost Value = { Board };
+
+    ghost view = { λ a. record { mover = a.mover; other = a.other } };
+
+    ghost invariant = { λ a. IsPosition (record { mover = a.mover; other = a.other }) };
+
+    ghost inverse = { λ p. record { mover = p.mover; other = p.other } };
+}
+
+impl Position {
+    /// `None` exactly where the sides have different numbers of checkers.
+    pub fn new(mover: Layout, other: Layout) -> Option<Position>
+        ensures same { IsSome result ↔ (sum mover ≡ sum other) }
+        ensures value { IfSome result (λ p. (p ≡ record { mover = mover; other = other }) × IsPosition p) }
+    {
+        if mover.checkers() == other.checkers() {
+            Some(Position { mover, other })
+        } else {
+            None
+        }
+    }
+
+    /// The checkers of the side that moves.
+    pub fn mover(&self) -> Layout
+        ensures mover { result ≡ self.now.mover }
+        ensures valid { IsPosition self.now }
+    {
+        self.mover
+    }
+
+    /// The checkers of the side that doesn't move, in that side's numbering.
+    pub fn other(&self) -> Layout
+        ensures other { result ≡ self.now.other }
+        ensures valid { IsPosition self.now }
+    {
+        self.other
+    }
+
+    /// The same position, seen by the other side.
+    pub fn swap(&self) -> Position
+        ensures swap { result ≡ swap self.now }
+        ensures valid { IsPosition result }
+    {
+        Position {
+            mover: self.other,
+            other: self.mover,
+        }
+    }
+
+    /// Whether no point is held by both sides, and both have checkers in play.
+    pub fn is_live(&self) -> bool
+        ensures { IsTrue result ↔ IsLive self.now }
+    {
+        let checkers = self.mover.checkers();
+        if self.mover.count(0) == checkers || self.other.count(0) == checkers {
+            return false;
+        }
+        for point in 1..25 {
+            if self.mover.count(point) > 0 && self.other.count(25 - point) > 0 {
+                return false;
+            }
+        }
+        true
+    }
+
+    /// How many of the mover's checkers stand on a place.
+    pub fn mover_at(&self, place: u8) -> u8
+        requires { place ≤ 25 }
+        ensures { result ≡ slice_index self.now.mover place }
+    {
+        self.mover.count(place)
+    }
+
+    /// How many of the other side's checkers stand on a place of that side.
+    pub fn other_at(&self, place: u8) -> u8
+        requires { place ≤ 25 }
+        ensures { result ≡ slice_index self.now.other place }
+    {
+        self.other.count(place)
+    }
+
+    /// How many of the mover's checkers stand above a place.
+    pub fn mover_above(&self, place: u8) -> u8
+        requires { place ≤ 25 }
+        ensures { result ≡ above self.now.mover place }
+    {
+        self.mover.above(place)
+    }
+
+    /// How many of the other side's checkers stand above a place of that side.
+    pub fn other_above(&self, place: u8) -> u8
+        requires { place ≤ 25 }
+        ensures { result ≡ above self.now.other place }
+    {
+        self.other.above(place)
+    }
+
+    /// The highest place below this one with a checker of the mover, or 0 where there is none.
+    pub fn highest_below(&self, place: u8) -> u8
+        requires low { 1 ≤ place }
+        requires high { place ≤ 26 }
+        ensures below { result < place }
+        ensures held { 0 < result → 0 < slice_index self.now.mover result }
+        ensures empty { (between : ℕ) → result < between → between < place → slice_index self.now.mover between ≡ 0 }
+    {
+        self.mover.highest_below(place)
+    }
+
+    /// After a checker of the mover went to another point, where it hits a single checker of the other side.
+    pub fn run(&self, from: u8, to: u8) -> Position
+        requires from { from ≤ 25 }
+        requires point { 1 ≤ to }
+        requires to { to ≤ 24 }
+        requires checker { 0 < slice_index self.now.mover from }
+        ensures { result ≡ record { mover = moved self.now.mover from to; other = hit self.now.other (25 - to) } }
+    {
+        let mover = self.mover.moved(from, to);
+        if self.other.count(25 - to) == 1 {
+            let other = self.other.moved(25 - to, 25);
+            Position { mover, other }
+        } else {
+            let other = self.other;
+            Position { mover, other }
+        }
+    }
+
+    /// After a checker of the mover went off.
+    pub fn bear_off(&self, from: u8) -> Position
+        requires from { from ≤ 25 }
+        requires checker { 0 < slice_index self.now.mover from }
+        ensures { result ≡ record { mover = moved self.now.mover from 0; other = self.now.other } }
+    {
+        Position {
+            mover: self.mover.moved(from, 0),
+            other: self.other,
+        }
+    }
+
+    /// How many checkers each side has.
+    pub fn checkers(&self) -> u8
+        ensures checkers { result ≡ sum self.now.mover }
+        ensures valid { IsPosition self.now }
+    {
+        self.mover.checkers()
+    }
+}
+
+impl Default for Position {
+    ghost is_default = { λ _. Unit {0} };
+
+    /// One checker of each side on its first point.
+    fn default() -> Self {
+        Position {
+            mover: Layout::on_first(),
+            other: Layout::on_first(),
+        }
+    }
+}

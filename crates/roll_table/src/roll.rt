@@ -1,0 +1,83 @@
+ghost use Rattle.std.specs.Prelude.{◌≡◌, ◌≤◌, ◌<◌, ℕ, max, min, IsSome, IfSome, ◌↔◌};
+ghost use Rattle.roll_table.specs.Rolls.{Dice, IsRoll, all_rolls};
+
+use std::marker::Model;
+
+/// The numbers that two dice show, 1 to 6 each, in no order.
+#[derive(Clone, Copy, Debug, PartialEq, Eq)]
+pub struct Roll {
+    high: u8,
+    low: u8,
+}
+
+impl Model for Roll {
+    ghost Value = { Dice };
+
+    ghost view = { λ a. record { high = a.high; low = a.low } };
+
+    ghost invariant = { λ a. IsRoll (record { high = a.high; low = a.low }) };
+
+    ghost inverse = { λ d. record { high = d.high; low = d.low } };
+}
+
+impl Roll {
+    /// The dice may come in either order. `None` exactly where one of them doesn't show 1 to 6.
+    pub fn new(a: u8, b: u8) -> Option<Roll>
+        ensures dice { IsSome result ↔ ((1 ≤ a) × (a ≤ 6) × (1 ≤ b) × (b ≤ 6)) }
+        ensures value { IfSome result (λ roll. roll ≡ record { high = max a b; low = min a b }) }
+    {
+        if a < 1 || a > 6 || b < 1 || b > 6 {
+            return None;
+        }
+        Some(Roll {
+            high: a.max(b),
+            low: a.min(b),
+        })
+    }
+
+    /// The greater number.
+    pub fn high(self) -> u8
+        ensures high { result ≡ self.high }
+        ensures valid { IsRoll self }
+    {
+        self.high
+    }
+
+    /// The smaller number, or the same.
+    pub fn low(self) -> u8
+        ensures low { result ≡ self.low }
+        ensures valid { IsRoll self }
+    {
+        self.low
+    }
+}
+
+/// The 21 rolls, each with the number of ways in which two dice show it, by rising higher and then rising lower number.
+#[tactic(auto, unfolding(crate::specs::Rolls::all_rolls))]
+pub fn rolls() -> [(Roll, u64); 21]
+    ensures { result ≡ all_rolls }
+{
+    [
+        (Roll { high: 1, low: 1 }, 1),
+        (Roll { high: 2, low: 1 }, 2),
+        (Roll { high: 2, low: 2 }, 1),
+        (Roll { high: 3, low: 1 }, 2),
+        (Roll { high: 3, low: 2 }, 2),
+        (Roll { high: 3, low: 3 }, 1),
+        (Roll { high: 4, low: 1 }, 2),
+        (Roll { high: 4, low: 2 }, 2),
+        (Roll { high: 4, low: 3 }, 2),
+        (Roll { high: 4, low: 4 }, 1),
+        (Roll { high: 5, low: 1 }, 2),
+        (Roll { high: 5, low: 2 }, 2),
+        (Roll { high: 5, low: 3 }, 2),
+        (Roll { high: 5, low: 4 }, 2),
+        (Roll { high: 5, low: 5 }, 1),
+        (Roll { high: 6, low: 1 }, 2),
+        (Roll { high: 6, low: 2 }, 2),
+        (Roll { high: 6, low: 3 }, 2),
+        (Roll { high: 6, low: 4 }, 2),
+        (Roll { high: 6, low: 5 }, 2),
+        (Roll { high: 6, low: 6 }, 1),
+    ]
+}
