@@ -41,6 +41,16 @@ impl Pair {
         Pair { lower, upper }
     }
 
+    /// The pair whose two ends are this value.
+    pub fn exactly(value: Fixed) -> Pair
+        ensures { result ≡ record { lower = value; upper = value } }
+    {
+        Pair {
+            lower: value,
+            upper: value,
+        }
+    }
+
     /// The lower bound.
     pub fn lower(self) -> Fixed
         ensures lower { result ≡ self.lower }

@@ -1,4 +1,4 @@
-ghost use Rattle.std.specs.Prelude.{◌≡◌, ◌^◌, ◌↔◌, ℕ, ℤ, pos, neg_ℤ, ◌+ℤ◌, ◌≤ℤ◌, IsSome, IfSome};
+ghost use Rattle.std.specs.Prelude.{◌≡◌, ◌^◌, ◌↔◌, ℕ, ℤ, pos, neg_ℤ, ◌+ℤ◌, ◌*ℤ◌, ◌≤ℤ◌, IsSome, IfSome};
 ghost use Rattle.std.specs.Int.{int_max, int_min};
 ghost use Rattle.directed_fixed.specs.Bounds.{IsWithinUnits};
 
@@ -30,6 +30,15 @@ impl Fixed {
             return None;
         }
         Some(Fixed { units })
+    }
+
+    /// So many whole points, or points lost where the number is negative.
+    pub fn whole(points: i8) -> Fixed
+        ensures { result ≡ (pos (2 ^ 32) *ℤ points) }
+    {
+        Fixed {
+            units: (1 << 32) * i64::from(points),
+        }
     }
 
     /// How many units.

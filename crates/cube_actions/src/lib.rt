@@ -1,0 +1,14 @@
+//! What a game is played for: kinds of state, the cube and the stakes.
+#![tactic(auto)]
+
+mod kind;
+mod name;
+mod phase;
+mod score;
+mod stakes;
+
+pub use kind::{Double, Kind, Taken};
+pub use name::{KindName, Side, StakesName};
+pub use phase::Phase;
+pub use score::{BadScore, Score};
+pub use stakes::Stakes;

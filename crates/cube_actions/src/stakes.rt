@@ -1,0 +1,82 @@
+ghost use Rattle.std.specs.Prelude.{◌≡◌, ◌<◌, ℕ, length};
+ghost use Rattle.cube_actions.specs.Stakes.{IsValid, cubeless, kind_at};
+
+use crate::kind::Kind;
+use crate::name::StakesName;
+use arrayvec::ArrayVec;
+use directed_fixed::{Fixed, Pair};
+use std::marker::Model;
+
+/// What a game is played for: 1 to 14 kinds of state, and a bound of all values.
+/// Kind numbers are in range, factors are 1, 2 or 4, and all pairs lie within the bound.
+#[derive(Drop)]
+pub struct Stakes {
+    kinds: ArrayVec<Kind, 14>,
+    bound: Fixed,
+    name: StakesName,
+}
+
+impl Model for Stakes {
+    ghost use Rattle.cube_actions.specs.Stakes.{Terms, IsValid};
+
+    ghost Value = { Terms };
+
+    ghost view = { λ a. record { kinds = a.kinds.items; bound = a.bound; name = a.name } };
+
+    ghost invariant = { λ a. IsValid (record { kinds = a.kinds.items; bound = a.bound; name = a.name }) };
+}
+
+impl Stakes {
+    /// A game without a cube: a single win is a point, a gammon two, a backgammon three.
+    pub fn cubeless() -> Stakes
+        ensures { result ≡ cubeless }
+    {
+        let mut kinds = ArrayVec::new();
+        kinds.push(Kind {
+            next: 0,
+            win: [
+                Pair::exactly(Fixed::whole(1)),
+                Pair::exactly(Fixed::whole(2)),
+                Pair::exactly(Fixed::whole(3)),
+            ],
+            double: None,
+        });
+        Stakes {
+            kinds,
+            bound: Fixed::whole(3),
+            name: StakesName::Cubeless,
+        }
+    }
+
+    /// How many kinds of state there are.
+    pub fn kinds(&self) -> usize
+        ensures kinds { result ≡ length self.now.kinds }
+        ensures valid { IsValid self.now }
+    {
+        self.kinds.len()
+    }
+
+    /// The kind of a number.
+    pub fn kind(&self, number: usize) -> &Kind
+        requires { number < length self.now.kinds }
+        ensures kind { result.now ≡ kind_at self.now number }
+        ensures valid { IsValid self.now }
+    {
+        &self.kinds[number]
+    }
+
+    /// The bound of all values, on both sides of 0.
+    pub fn bound(&self) -> Fixed
+        ensures bound { result ≡ self.now.bound }
+        ensures valid { IsValid self.now }
+    {
+        self.bound
+    }
+
+    /// Which stakes these are.
+    pub fn name(&self) -> StakesName
+        ensures { result ≡ self.now.name }
+    {
+        self.name
+    }
+}
