@@ -1,3 +1,3 @@
-mod Members
-mod EndsExact
-mod LongestLines
+pub mod Members
+pub mod EndsExact
+pub mod LongestLines

@@ -1,0 +1,176 @@
+-- Over words within the bound, a turn stays within it, its lower end at most its upper end.
+use Rattle.std.proofs.Common.{◌≡◌, ◌≢◌, ◌<◌, ◌≤◌, ◌+◌, ◌*◌, ◌^◌, ℕ, zero, suc, ℤ, pos, neg_ℤ, ◌≤ℤ◌, ◌+ℤ◌, ◌*ℤ◌, List, [], ◌∷◌, map, Option, Some, None, Bool, true, false, cond, length, sum, slice_index, slice_index_or, get_or, All, IfSome, ◌⊎◌, inl, inr, refl, sym, ap, subst, arith, ltb}
+use Rattle.std.proofs.lemmas.Bool.{cases_lt}
+use Rattle.std.proofs.lemmas.Bool.Decides.{nat_tests}
+use Rattle.std.specs.Int.{int_max, int_min}
+use Rattle.std.proofs.lemmas.Int.{ints, clamps}
+use Rattle.position_rank.specs.Board.{Board, IsPosition, IsLive, InPlay, above, swap}
+use Rattle.roll_table.specs.Rolls.{Dice, all_rolls}
+use Rattle.move_rules.specs.Sequences.{IsLegalEnd}
+use Rattle.move_rules.specs.Ends.{legal_ends}
+use Rattle.move_rules.proofs.Members.{Among, Among-Contains}
+use Rattle.move_rules.proofs.EndsExact.{legal_ends-sound}
+use Rattle.game_payoff.specs.declared.payoff.Won.{Won}
+use Rattle.game_payoff.specs.declared.payoff.Won.TheVariants.{Single, Gammon, Backgammon}
+use Rattle.game_payoff.specs.Points.{points}
+use Rattle.directed_fixed.specs.declared.bounds.End.{End}
+use Rattle.directed_fixed.specs.declared.bounds.End.TheVariants.{Lower, Upper}
+use Rattle.directed_fixed.specs.Bounds.{Bounds, other, at, IsWithin}
+use Rattle.directed_fixed.specs.Rounding.{floor_36, ceil_36, outwards}
+use Rattle.cube_actions.specs.declared.kind.Kind.{Kind}
+use Rattle.cube_actions.specs.declared.kind.Double.{Double}
+use Rattle.cube_actions.specs.declared.kind.Taken.{Taken}
+use Rattle.cube_actions.specs.declared.name.StakesName.{StakesName}
+use Rattle.cube_actions.specs.declared.name.StakesName.TheVariants.{Cubeless, Money, Jacoby, MoneyBeavers, JacobyBeavers, Match}
+use Rattle.cube_actions.specs.Stakes.{Terms, kind_at, no_kind, nothing, bound_of, IsValid, IsRightDouble, IsRightAnswer}
+use Rattle.turn_rule.specs.Turn.{Words, win, if_won, worth, greatest, sum_over, roll_value, least, doubled, or_double, turn, opening, rounds}
+use Rattle.turn_rule.specs.States.{IsState, pair_of, AreWithin}
+use Rattle.turn_rule.proofs.Integers.{le_refl, le_trans, neg_le, mul_mono, floor_36_below, floor_36_above}
+use Rattle.turn_rule.proofs.Greatest.{sum-mono, sum-upto, sum-from, total, total-all_rolls}
+
+-- every legal end of a live position is a position of as many checkers, and live for the other side if the game goes on
+abbrev pub StayLive : Type 0
+StayLive = (p : Board) (roll : Dice) (q : Board) → IsPosition p → IsLive p → IsLegalEnd p roll q → IsPosition q × (sum q.mover ≡ sum p.mover) × (InPlay q.mover → IsLive (swap q))
+
+-- the game has not ended exactly while the mover has a checker in play
+goes_on : (b c d : Bool) (x y z : Option Won) → cond b None (cond c (Some Single) (cond d (Some Backgammon) (Some Gammon))) ≡ None → b ≡ true
+goes_on true c d x y z h = refl
+goes_on false true d x y z h = absurd (grind arith)
+goes_on false false true x y z h = absurd (grind arith)
+goes_on false false false x y z h = absurd (grind arith)
+
+pub in_play : (q : Board) → points q ≡ None → InPlay q.mover
+in_play q h =
+    let t = goes_on (ltb (slice_index q.mover 0) (sum q.mover)) (ltb 0 (slice_index q.other 0)) (ltb 0 (above q.other 18)) None None None h in
+    let less : slice_index q.mover 0 < sum q.mover = grind (arith, nat_tests) in
+    λ e. absurd (omega arith)
+
+pub bound-positive : (stakes : Terms) → IsValid stakes → pos 0 ≤ℤ stakes.bound
+bound-positive stakes valid = rw valid.bound (named stakes.name) where
+  named : (name : StakesName) → pos 0 ≤ℤ bound_of name
+  named Cubeless = omega (arith, ints)
+  named Money = omega (arith, ints)
+  named Jacoby = omega (arith, ints)
+  named MoneyBeavers = omega (arith, ints)
+  named JacobyBeavers = omega (arith, ints)
+  named (Match score) = omega (arith, ints)
+
+nothing-within : (bound : ℤ) → pos 0 ≤ℤ bound → IsWithin bound nothing
+nothing-within bound z = record { from = omega (arith, ints); in_order = omega (arith, ints); to = z }
+
+at-within : (bound : ℤ) (wins : List Bounds) (i : ℕ) → pos 0 ≤ℤ bound → All (IsWithin bound) wins → IsWithin bound (slice_index_or wins i nothing)
+at-within bound wins i z all = elim (cases_lt i (length wins)) [ inl here ↦ all i nothing here | inr past ↦ rw (past_end wins i past) (nothing-within bound z) ] where
+  past_end : (xs : List Bounds) (i : ℕ) → length xs ≤ i → slice_index_or xs i nothing ≡ nothing
+  past_end [] i h = refl
+  past_end (x ∷ xs) zero h = absurd (omega arith)
+  past_end (x ∷ xs) (suc i) h = past_end xs i (omega arith)
+
+pub win-within : (bound : ℤ) (kind : Kind) → pos 0 ≤ℤ bound → All (IsWithin bound) kind.win → (won : Won) → IsWithin bound (win kind won)
+win-within bound kind z all Single = at-within bound kind.win 0 z all
+win-within bound kind z all Gammon = at-within bound kind.win 1 z all
+win-within bound kind z all Backgammon = at-within bound kind.win 2 z all
+
+min_left : (x y b : ℤ) → x ≤ℤ b → int_min x y ≤ℤ b
+min_left x y b h = omega (arith, ints, clamps)
+
+min_right : (x y b : ℤ) → y ≤ℤ b → int_min x y ≤ℤ b
+min_right x y b h = omega (arith, ints, clamps)
+
+min_mono : (a b c d : ℤ) → a ≤ℤ c → b ≤ℤ d → int_min a b ≤ℤ int_min c d
+min_mono a b c d h k = omega (arith, ints, clamps)
+
+max_mono : (a b c d : ℤ) → a ≤ℤ c → b ≤ℤ d → int_max a b ≤ℤ int_max c d
+max_mono a b c d h k = omega (arith, ints, clamps)
+
+max_upto : (a b c : ℤ) → a ≤ℤ c → b ≤ℤ c → int_max a b ≤ℤ c
+max_upto a b c h k = omega (arith, ints, clamps)
+
+max_from : (a b c : ℤ) → c ≤ℤ a → c ≤ℤ int_max a b
+max_from a b c h = omega (arith, ints, clamps)
+
+least-upto : (v b : ℤ) (vs : List ℤ) → v ≤ℤ b → least v vs ≤ℤ b
+least-upto v b [] h = h
+least-upto v b (w ∷ vs) h = min_right w (least v vs) b (least-upto v b vs h)
+
+least-mono : (X : Type 0) (f g : X → ℤ) (v w : ℤ) (xs : List X) → v ≤ℤ w → ((x : X) → Among x xs → f x ≤ℤ g x) → least v (map f xs) ≤ℤ least w (map g xs)
+least-mono X f g v w [] h k = h
+least-mono X f g v w (x ∷ xs) h k = min_mono _ _ _ _ (k x (inl refl)) (least-mono X f g v w xs h (λ y m. k y (inr m)))
+
+at_member : {X : Type 0} (P : X → Type 0) (xs : List X) → All P xs → (x : X) → Among x xs → P x
+at_member P [] all x m = absurd m
+at_member P (y ∷ ys) all x (inl e) = subst P (sym e) (all 0 y (omega arith))
+at_member P (y ∷ ys) all x (inr m) = at_member P ys (λ i d h. all (suc i) d (omega arith)) x m
+
+between : (bound low high : ℤ) → (pos 36 *ℤ neg_ℤ bound) ≤ℤ low → low ≤ℤ high → high ≤ℤ (pos 36 *ℤ bound) → IsWithin bound (record { lower = floor_36 (pos 1 *ℤ low); upper = ceil_36 (pos 1 *ℤ high) })
+between bound low high h k l = record {
+  from = omega (arith, ints, floor_36_above (pos 1 *ℤ low));
+  in_order = omega (arith, ints, floor_36_below (pos 1 *ℤ low), floor_36_below (neg_ℤ (pos 1 *ℤ high)));
+  to = omega (arith, ints, floor_36_above (neg_ℤ (pos 1 *ℤ high)));
+}
+
+rounded : (f : ℕ) (low high : ℤ) → low ≤ℤ high → floor_36 (pos f *ℤ low) ≤ℤ ceil_36 (pos f *ℤ high)
+rounded f low high h =
+    let times = mul_mono f low high h in
+    omega (arith, ints, times, floor_36_below (pos f *ℤ low), floor_36_below (neg_ℤ (pos f *ℤ high)))
+
+module _ (stay_live : StayLive) (checkers : ℕ) (stakes : Terms) (valid : IsValid stakes) where
+  -- after a play that doesn't end the game, the other side has a state of the same game
+  pub next_state : (p : Board) (k : ℕ) → IsState checkers stakes p k → (roll : Dice) (q : Board) → Among q (legal_ends p roll) → points q ≡ None → IsState checkers stakes (swap q) (kind_at stakes k).next
+  next_state p k state roll q m on =
+      let stays = stay_live p roll q state.position state.live (legal_ends-sound p roll q (Among-Contains q (legal_ends p roll) m)) in
+      let seen = stays.0 in
+      record {
+        position = record { mover = seen.other; other = seen.mover; same = sym seen.same };
+        many = omega (arith, seen.same, stays.1, state.many);
+        live = stays.2 (in_play q on);
+        kind = (valid.kinds k no_kind state.kind).next;
+      }
+
+  module _ (u : Words) (words : AreWithin checkers stakes u) (p : Board) where
+    ends_within : (k : ℕ) → IsState checkers stakes p k → (roll : Dice) (q : Board) → Among q (legal_ends p roll) → IsWithin stakes.bound (record { lower = worth Lower (kind_at stakes k) u q; upper = worth Upper (kind_at stakes k) u q })
+    ends_within k state roll q m = by_points (points q) refl where
+      by_points : (o : Option Won) → points q ≡ o → IsWithin stakes.bound (record { lower = if_won o (λ won. (win (kind_at stakes k) won).lower) (neg_ℤ (u Upper (swap q) (kind_at stakes k).next)); upper = if_won o (λ won. (win (kind_at stakes k) won).upper) (neg_ℤ (u Lower (swap q) (kind_at stakes k).next)) })
+      by_points None on =
+          let later = words (swap q) (kind_at stakes k).next (next_state p k state roll q m on) in
+          record { from = neg_le _ _ later.to; in_order = neg_le _ _ later.in_order; to = (let h = later.from in omega (arith, ints, h)) }
+      by_points (Some won) over = win-within stakes.bound (kind_at stakes k) (bound-positive stakes valid) (valid.kinds k no_kind state.kind).wins won
+
+    roll-within : (k : ℕ) → IsState checkers stakes p k → IsWithin stakes.bound (record { lower = roll_value Lower stakes u p k 1; upper = roll_value Upper stakes u p k 1 })
+    roll-within k state =
+        let positive = bound-positive stakes valid in
+        let negative : neg_ℤ stakes.bound ≤ℤ pos 0 = omega (arith, ints) in
+        let low = sum-from (worth Lower (kind_at stakes k) u) (neg_ℤ stakes.bound) negative p (λ roll q m. (ends_within k state roll q m).from) all_rolls in
+        let high = sum-upto (worth Upper (kind_at stakes k) u) stakes.bound positive p (λ roll q m. (ends_within k state roll q m).to) all_rolls in
+        let middle = sum-mono (worth Lower (kind_at stakes k) u) (worth Upper (kind_at stakes k) u) p (λ roll q m. (ends_within k state roll q m).in_order) all_rolls in
+        between stakes.bound _ _ (rw total-all_rolls at low) middle (rw total-all_rolls at high)
+
+    roll-in_order : (k factor : ℕ) → IsState checkers stakes p k → roll_value Lower stakes u p k factor ≤ℤ roll_value Upper stakes u p k factor
+    roll-in_order k factor state =
+        rounded factor _ _ (sum-mono (worth Lower (kind_at stakes k) u) (worth Upper (kind_at stakes k) u) p (λ roll q m. (ends_within k state roll q m).in_order) all_rolls)
+
+    doubled-in_order : (k : ℕ) → IsState checkers stakes p k → (double : Double) → IsRightDouble stakes double → doubled Lower stakes u p double ≤ℤ doubled Upper stakes u p double
+    doubled-in_order k state double right =
+        least-mono Taken (λ taken. roll_value Lower stakes u p taken.kind taken.factor) (λ taken. roll_value Upper stakes u p taken.kind taken.factor) double.pass.lower double.pass.upper double.answers.items right.pass.in_order
+        (λ taken m. roll-in_order taken.kind taken.factor (record { position = state.position; many = state.many; live = state.live; kind = (at_member (IsRightAnswer stakes) double.answers.items right.answers taken m).kind }))
+
+    or_double-within : (k : ℕ) → IsState checkers stakes p k → (double : Option Double) → IfSome double (IsRightDouble stakes) → (low high : ℤ) → IsWithin stakes.bound (record { lower = low; upper = high }) → IsWithin stakes.bound (record { lower = or_double Lower stakes u p low double; upper = or_double Upper stakes u p high double })
+    or_double-within k state None right low high h = h
+    or_double-within k state (Some double) right low high h = record {
+      from = max_from _ _ _ h.from;
+      in_order = max_mono _ _ _ _ h.in_order (doubled-in_order k state double right);
+      to = max_upto _ _ _ h.to (least-upto double.pass.upper stakes.bound (map (λ (taken : Taken). roll_value Upper stakes u p taken.kind taken.factor) double.answers.items) right.pass.to);
+    }
+
+  pub turn-within : (u : Words) → AreWithin checkers stakes u → AreWithin checkers stakes (turn stakes u)
+  unfolding turn
+  turn-within u words p k state = or_double-within u words p k state (kind_at stakes k).double (valid.kinds k no_kind state.kind).double _ _ (roll-within u words p k state)
+
+  opening-within : AreWithin checkers stakes (opening stakes)
+  opening-within p k state =
+      let positive = bound-positive stakes valid in
+      record { from = le_refl _; in_order = omega (arith, ints); to = le_refl _ }
+
+  pub rounds-within : (r : ℕ) → AreWithin checkers stakes (rounds stakes r)
+  unfolding rounds
+  rounds-within zero = opening-within
+  rounds-within (suc r) = turn-within (rounds stakes r) (rounds-within r)

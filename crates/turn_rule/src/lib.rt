@@ -1,0 +1,2 @@
+//! One turn of the game, and the words after rounds of turns.
+#![tactic(auto)]
