@@ -1,3 +1,4 @@
-mod Members
-mod EndsExact
+pub mod Members
+pub mod StayLive
+pub mod EndsExact
 mod LongestLines
