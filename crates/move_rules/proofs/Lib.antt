@@ -1,3 +1,4 @@
 pub mod Members
+pub mod StayLive
 pub mod EndsExact
-pub mod LongestLines
+mod LongestLines

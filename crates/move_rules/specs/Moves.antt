@@ -1,5 +1,5 @@
 -- One move of one checker by one die.
-use Rattle.std.specs.Prelude.{◌≡◌, ℕ, ◌+◌, ◌-◌, ◌<◌, ◌≤◌, ◌⊎◌, List, slice_index}
+use Rattle.std.specs.Prelude.{◌≡◌, ℕ, ◌-◌, ◌<◌, ◌≤◌, ◌⊎◌, slice_index}
 use Rattle.position_rank.specs.Board.{Board, moved, above, hit}
 
 -- the mover may move a checker from here: he has one here, and this is the bar or none is on the bar

@@ -1,6 +1,5 @@
 -- The order in which sequences are listed, and the list of plays.
-use Rattle.std.specs.Prelude.{◌≡◌, ◌<◌, ℕ, List, [], ◌∷◌, map, ◌⊎◌, All}
-use Rattle.arrayvec.specs.ArrayVec.{ArrayVec}
+use Rattle.std.specs.Prelude.{◌≡◌, ◌<◌, List, [], ◌∷◌, map, ◌⊎◌, All}
 use Rattle.position_rank.specs.Board.{Board}
 use Rattle.roll_table.specs.Rolls.{Dice}
 use Rattle.move_rules.specs.declared.play.Move.{Move}

@@ -5,5 +5,5 @@ mod laws;
 mod moves;
 mod play;
 
-pub use laws::legal_ends_are_exact;
+pub use laws::{legal_ends_are_exact, legal_ends_stay_live};
 pub use play::{Entry, Move, Play, PlayList};
