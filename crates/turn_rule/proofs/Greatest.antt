@@ -1,11 +1,12 @@
 -- The greatest value of a list, and sums over rolls.
-use Rattle.std.proofs.Common.{◌≡◌, ◌<◌, ◌+◌, ℕ, ℤ, pos, neg_ℤ, ◌≤ℤ◌, ◌+ℤ◌, ◌*ℤ◌, List, [], ◌∷◌, length, ◌⊎◌, inl, inr, refl, subst, sym, arith}
+use Rattle.std.proofs.Common.{◌≡◌, ◌<◌, ◌+◌, ℕ, ℤ, pos, neg_ℤ, ◌≤ℤ◌, ◌+ℤ◌, ◌*ℤ◌, List, [], ◌∷◌, length, map, ◌⊎◌, inl, inr, refl, subst, sym, arith}
 use Rattle.std.specs.Int.{int_max}
 use Rattle.std.proofs.lemmas.Int.{ints, clamps}
 use Rattle.position_rank.specs.Board.{Board}
-use Rattle.roll_table.specs.Rolls.{Dice, all_rolls}
+use Rattle.std.specs.List.{range_with_len}
+use Rattle.roll_table.specs.Rolls.{Dice, IsRoll, weighted_roll, all_rolls}
 use Rattle.move_rules.specs.Ends.{legal_ends}
-use Rattle.move_rules.proofs.Members.{Among}
+use Rattle.move_rules.proofs.Members.{Among, flat_map-cases, map-cases, range-cases}
 use Rattle.turn_rule.specs.Turn.{greatest, sum_over}
 use Rattle.turn_rule.proofs.Integers.{le_refl, max_mono, add_mono, mul_mono}
 
@@ -30,10 +31,30 @@ greatest-from f b z [] h = z
 greatest-from f b z (q ∷ []) h = h q (inl refl)
 greatest-from f b z (q ∷ r ∷ rest) h = max_from _ _ b (h q (inl refl))
 
-pub sum-mono : (f g : Board → ℤ) (p : Board) → ((roll : Dice) (q : Board) → Among q (legal_ends p roll) → f q ≤ℤ g q) → (rolls : List (Dice × ℕ)) → sum_over rolls f p ≤ℤ sum_over rolls g p
-sum-mono f g p h [] = le_refl (pos 0)
-sum-mono f g p h (roll ∷ rolls) =
-    add_mono _ _ _ _ (mul_mono roll.1 _ _ (greatest-mono f g (legal_ends p roll.0) (h roll.0))) (sum-mono f g p h rolls)
+-- each of some rolls is one of two dice
+abbrev pub AreRolls : List (Dice × ℕ) → Type 0
+AreRolls [] = Unit {0}
+AreRolls (roll ∷ rolls) = IsRoll roll.0 × AreRolls rolls
+
+all_right : (rolls : List (Dice × ℕ)) → ((roll : Dice × ℕ) → Among roll rolls → IsRoll roll.0) → AreRolls rolls
+all_right [] h = tt
+all_right (roll ∷ rolls) h = (h roll (inl refl), all_right rolls (λ r m. h r (inr m)))
+
+pub all_rolls-right : AreRolls all_rolls
+unfolding all_rolls
+all_rolls-right = all_right all_rolls right where
+  right : (roll : Dice × ℕ) → Among roll all_rolls → IsRoll roll.0
+  right roll m =
+      let a = flat_map-cases (λ high. map (weighted_roll high) (range_with_len 1 high)) roll (range_with_len 1 6) m in
+      let b = map-cases (weighted_roll a.0) roll (range_with_len 1 a.0) a.2 in
+      let high = range-cases 1 6 a.0 a.1 in
+      let low = range-cases 1 a.0 b.0 b.1 in
+      subst (λ (r : Dice × ℕ). IsRoll r.0) (sym b.2) (record { from = low.0; in_order = omega (arith, low.1); to = omega (arith, high.1) })
+
+pub sum-mono : (f g : Board → ℤ) (p : Board) → ((roll : Dice) (q : Board) → IsRoll roll → Among q (legal_ends p roll) → f q ≤ℤ g q) → (rolls : List (Dice × ℕ)) → AreRolls rolls → sum_over rolls f p ≤ℤ sum_over rolls g p
+sum-mono f g p h [] a = le_refl (pos 0)
+sum-mono f g p h (roll ∷ rolls) a =
+    add_mono _ _ _ _ (mul_mono roll.1 _ _ (greatest-mono f g (legal_ends p roll.0) (λ q. h roll.0 q a.0))) (sum-mono f g p h rolls a.1)
 
 -- in how many ways some rolls come together
 abbrev pub total : List (Dice × ℕ) → ℕ
@@ -47,12 +68,12 @@ total-all_rolls = refl
 spread : (w n : ℕ) (b : ℤ) → pos (w + n) *ℤ b ≡ pos w *ℤ b +ℤ pos n *ℤ b
 spread w n b = omega (arith, ints)
 
-pub sum-upto : (f : Board → ℤ) (b : ℤ) → pos 0 ≤ℤ b → (p : Board) → ((roll : Dice) (q : Board) → Among q (legal_ends p roll) → f q ≤ℤ b) → (rolls : List (Dice × ℕ)) → sum_over rolls f p ≤ℤ (pos (total rolls) *ℤ b)
-sum-upto f b z p h [] = omega (arith, ints)
-sum-upto f b z p h (roll ∷ rolls) =
-    rw spread (add_mono _ _ _ _ (mul_mono roll.1 _ _ (greatest-upto f b z (legal_ends p roll.0) (h roll.0))) (sum-upto f b z p h rolls))
+pub sum-upto : (f : Board → ℤ) (b : ℤ) → pos 0 ≤ℤ b → (p : Board) → ((roll : Dice) (q : Board) → IsRoll roll → Among q (legal_ends p roll) → f q ≤ℤ b) → (rolls : List (Dice × ℕ)) → AreRolls rolls → sum_over rolls f p ≤ℤ (pos (total rolls) *ℤ b)
+sum-upto f b z p h [] a = omega (arith, ints)
+sum-upto f b z p h (roll ∷ rolls) a =
+    rw spread (add_mono _ _ _ _ (mul_mono roll.1 _ _ (greatest-upto f b z (legal_ends p roll.0) (λ q. h roll.0 q a.0))) (sum-upto f b z p h rolls a.1))
 
-pub sum-from : (f : Board → ℤ) (b : ℤ) → b ≤ℤ pos 0 → (p : Board) → ((roll : Dice) (q : Board) → Among q (legal_ends p roll) → b ≤ℤ f q) → (rolls : List (Dice × ℕ)) → (pos (total rolls) *ℤ b) ≤ℤ sum_over rolls f p
-sum-from f b z p h [] = omega (arith, ints)
-sum-from f b z p h (roll ∷ rolls) =
-    rw spread (add_mono _ _ _ _ (mul_mono roll.1 _ _ (greatest-from f b z (legal_ends p roll.0) (h roll.0))) (sum-from f b z p h rolls))
+pub sum-from : (f : Board → ℤ) (b : ℤ) → b ≤ℤ pos 0 → (p : Board) → ((roll : Dice) (q : Board) → IsRoll roll → Among q (legal_ends p roll) → b ≤ℤ f q) → (rolls : List (Dice × ℕ)) → AreRolls rolls → (pos (total rolls) *ℤ b) ≤ℤ sum_over rolls f p
+sum-from f b z p h [] a = omega (arith, ints)
+sum-from f b z p h (roll ∷ rolls) a =
+    rw spread (add_mono _ _ _ _ (mul_mono roll.1 _ _ (greatest-from f b z (legal_ends p roll.0) (λ q. h roll.0 q a.0))) (sum-from f b z p h rolls a.1))

@@ -1,3 +1,4 @@
 pub mod Integers
 pub mod Greatest
 pub mod Within
+pub mod Agreement

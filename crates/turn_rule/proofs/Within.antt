@@ -5,11 +5,12 @@ use Rattle.std.proofs.lemmas.Bool.Decides.{nat_tests}
 use Rattle.std.specs.Int.{int_max, int_min}
 use Rattle.std.proofs.lemmas.Int.{ints, clamps}
 use Rattle.position_rank.specs.Board.{Board, IsPosition, IsLive, InPlay, above, swap}
-use Rattle.roll_table.specs.Rolls.{Dice, all_rolls}
+use Rattle.roll_table.specs.Rolls.{Dice, IsRoll, all_rolls}
 use Rattle.move_rules.specs.Sequences.{IsLegalEnd}
 use Rattle.move_rules.specs.Ends.{legal_ends}
 use Rattle.move_rules.proofs.Members.{Among, Among-Contains}
 use Rattle.move_rules.proofs.EndsExact.{legal_ends-sound}
+use Rattle.move_rules.proofs.StayLive.{legal_end-stays}
 use Rattle.game_payoff.specs.declared.payoff.Won.{Won}
 use Rattle.game_payoff.specs.declared.payoff.Won.TheVariants.{Single, Gammon, Backgammon}
 use Rattle.game_payoff.specs.Points.{points}
@@ -26,11 +27,7 @@ use Rattle.cube_actions.specs.Stakes.{Terms, kind_at, no_kind, nothing, bound_of
 use Rattle.turn_rule.specs.Turn.{Words, win, if_won, worth, greatest, sum_over, roll_value, least, doubled, or_double, turn, opening, rounds}
 use Rattle.turn_rule.specs.States.{IsState, pair_of, AreWithin}
 use Rattle.turn_rule.proofs.Integers.{le_refl, le_trans, neg_le, mul_mono, floor_36_below, floor_36_above}
-use Rattle.turn_rule.proofs.Greatest.{sum-mono, sum-upto, sum-from, total, total-all_rolls}
-
--- every legal end of a live position is a position of as many checkers, and live for the other side if the game goes on
-abbrev pub StayLive : Type 0
-StayLive = (p : Board) (roll : Dice) (q : Board) → IsPosition p → IsLive p → IsLegalEnd p roll q → IsPosition q × (sum q.mover ≡ sum p.mover) × (InPlay q.mover → IsLive (swap q))
+use Rattle.turn_rule.proofs.Greatest.{all_rolls-right, sum-mono, sum-upto, sum-from, total, total-all_rolls}
 
 -- the game has not ended exactly while the mover has a checker in play
 goes_on : (b c d : Bool) (x y z : Option Won) → cond b None (cond c (Some Single) (cond d (Some Backgammon) (Some Gammon))) ≡ None → b ≡ true
@@ -96,7 +93,7 @@ least-mono : (X : Type 0) (f g : X → ℤ) (v w : ℤ) (xs : List X) → v ≤�
 least-mono X f g v w [] h k = h
 least-mono X f g v w (x ∷ xs) h k = min_mono _ _ _ _ (k x (inl refl)) (least-mono X f g v w xs h (λ y m. k y (inr m)))
 
-at_member : {X : Type 0} (P : X → Type 0) (xs : List X) → All P xs → (x : X) → Among x xs → P x
+pub at_member : {X : Type 0} (P : X → Type 0) (xs : List X) → All P xs → (x : X) → Among x xs → P x
 at_member P [] all x m = absurd m
 at_member P (y ∷ ys) all x (inl e) = subst P (sym e) (all 0 y (omega arith))
 at_member P (y ∷ ys) all x (inr m) = at_member P ys (λ i d h. all (suc i) d (omega arith)) x m
@@ -113,11 +110,11 @@ rounded f low high h =
     let times = mul_mono f low high h in
     omega (arith, ints, times, floor_36_below (pos f *ℤ low), floor_36_below (neg_ℤ (pos f *ℤ high)))
 
-module _ (stay_live : StayLive) (checkers : ℕ) (stakes : Terms) (valid : IsValid stakes) where
+module _ (checkers : ℕ) (stakes : Terms) (valid : IsValid stakes) where
   -- after a play that doesn't end the game, the other side has a state of the same game
-  pub next_state : (p : Board) (k : ℕ) → IsState checkers stakes p k → (roll : Dice) (q : Board) → Among q (legal_ends p roll) → points q ≡ None → IsState checkers stakes (swap q) (kind_at stakes k).next
-  next_state p k state roll q m on =
-      let stays = stay_live p roll q state.position state.live (legal_ends-sound p roll q (Among-Contains q (legal_ends p roll) m)) in
+  pub next_state : (p : Board) (k : ℕ) → IsState checkers stakes p k → (roll : Dice) (q : Board) → IsRoll roll → Among q (legal_ends p roll) → points q ≡ None → IsState checkers stakes (swap q) (kind_at stakes k).next
+  next_state p k state roll q right m on =
+      let stays = legal_end-stays p roll q right state.position state.live (legal_ends-sound p roll q (Among-Contains q (legal_ends p roll) m)) in
       let seen = stays.0 in
       record {
         position = record { mover = seen.other; other = seen.mover; same = sym seen.same };
@@ -127,11 +124,11 @@ module _ (stay_live : StayLive) (checkers : ℕ) (stakes : Terms) (valid : IsVal
       }
 
   module _ (u : Words) (words : AreWithin checkers stakes u) (p : Board) where
-    ends_within : (k : ℕ) → IsState checkers stakes p k → (roll : Dice) (q : Board) → Among q (legal_ends p roll) → IsWithin stakes.bound (record { lower = worth Lower (kind_at stakes k) u q; upper = worth Upper (kind_at stakes k) u q })
-    ends_within k state roll q m = by_points (points q) refl where
+    ends_within : (k : ℕ) → IsState checkers stakes p k → (roll : Dice) (q : Board) → IsRoll roll → Among q (legal_ends p roll) → IsWithin stakes.bound (record { lower = worth Lower (kind_at stakes k) u q; upper = worth Upper (kind_at stakes k) u q })
+    ends_within k state roll q right m = by_points (points q) refl where
       by_points : (o : Option Won) → points q ≡ o → IsWithin stakes.bound (record { lower = if_won o (λ won. (win (kind_at stakes k) won).lower) (neg_ℤ (u Upper (swap q) (kind_at stakes k).next)); upper = if_won o (λ won. (win (kind_at stakes k) won).upper) (neg_ℤ (u Lower (swap q) (kind_at stakes k).next)) })
       by_points None on =
-          let later = words (swap q) (kind_at stakes k).next (next_state p k state roll q m on) in
+          let later = words (swap q) (kind_at stakes k).next (next_state p k state roll q right m on) in
           record { from = neg_le _ _ later.to; in_order = neg_le _ _ later.in_order; to = (let h = later.from in omega (arith, ints, h)) }
       by_points (Some won) over = win-within stakes.bound (kind_at stakes k) (bound-positive stakes valid) (valid.kinds k no_kind state.kind).wins won
 
@@ -139,14 +136,14 @@ module _ (stay_live : StayLive) (checkers : ℕ) (stakes : Terms) (valid : IsVal
     roll-within k state =
         let positive = bound-positive stakes valid in
         let negative : neg_ℤ stakes.bound ≤ℤ pos 0 = omega (arith, ints) in
-        let low = sum-from (worth Lower (kind_at stakes k) u) (neg_ℤ stakes.bound) negative p (λ roll q m. (ends_within k state roll q m).from) all_rolls in
-        let high = sum-upto (worth Upper (kind_at stakes k) u) stakes.bound positive p (λ roll q m. (ends_within k state roll q m).to) all_rolls in
-        let middle = sum-mono (worth Lower (kind_at stakes k) u) (worth Upper (kind_at stakes k) u) p (λ roll q m. (ends_within k state roll q m).in_order) all_rolls in
+        let low = sum-from (worth Lower (kind_at stakes k) u) (neg_ℤ stakes.bound) negative p (λ roll q right m. (ends_within k state roll q right m).from) all_rolls all_rolls-right in
+        let high = sum-upto (worth Upper (kind_at stakes k) u) stakes.bound positive p (λ roll q right m. (ends_within k state roll q right m).to) all_rolls all_rolls-right in
+        let middle = sum-mono (worth Lower (kind_at stakes k) u) (worth Upper (kind_at stakes k) u) p (λ roll q right m. (ends_within k state roll q right m).in_order) all_rolls all_rolls-right in
         between stakes.bound _ _ (rw total-all_rolls at low) middle (rw total-all_rolls at high)
 
     roll-in_order : (k factor : ℕ) → IsState checkers stakes p k → roll_value Lower stakes u p k factor ≤ℤ roll_value Upper stakes u p k factor
     roll-in_order k factor state =
-        rounded factor _ _ (sum-mono (worth Lower (kind_at stakes k) u) (worth Upper (kind_at stakes k) u) p (λ roll q m. (ends_within k state roll q m).in_order) all_rolls)
+        rounded factor _ _ (sum-mono (worth Lower (kind_at stakes k) u) (worth Upper (kind_at stakes k) u) p (λ roll q right m. (ends_within k state roll q right m).in_order) all_rolls all_rolls-right)
 
     doubled-in_order : (k : ℕ) → IsState checkers stakes p k → (double : Double) → IsRightDouble stakes double → doubled Lower stakes u p double ≤ℤ doubled Upper stakes u p double
     doubled-in_order k state double right =
