@@ -65,16 +65,7 @@ impl Position {
     pub fn is_live(&self) -> bool
         ensures { IsTrue result ↔ IsLive self.now }
     {
-        let checkers = self.mover.checkers();
-        if self.mover.count(0) == checkers || self.other.count(0) == checkers {
-            return false;
-        }
-        for point in 1..25 {
-            if self.mover.count(point) > 0 && self.other.count(25 - point) > 0 {
-                return false;
-            }
-        }
-        true
+        self.mover.is_in_play() && self.other.is_in_play() && self.mover.is_apart(&self.other)
     }
 
     /// How many of the mover's checkers stand on a place.
