@@ -4,6 +4,9 @@ ghost use Rattle.directed_fixed.specs.Bounds.{IsWithinUnits};
 
 use std::marker::Model;
 
+/// The units of one point.
+pub const ONE: i64 = 1 << 32;
+
 /// A value, in units of 2 ^ -32 of a point, at most 2 ^ 56 of them on either side of 0.
 #[derive(Clone, Copy, Debug, PartialEq, Eq, PartialOrd, Ord)]
 pub struct Fixed {
