@@ -1,5 +1,5 @@
 -- A side's checkers from the places where they stand.
-use Rattle.std.specs.Prelude.{◌≡◌, ℕ, ◌+◌, ◌≤◌, List, [], ◌∷◌, map, count_by, sum, drop, take, ◌==◌, nat_le, if◌then◌else◌}
+use Rattle.std.specs.Prelude.{◌≡◌, ℕ, ◌+◌, ◌-◌, ◌≤◌, List, [], ◌∷◌, map, count_by, sum, drop, take, ◌==◌, nat_le, if◌then◌else◌}
 use Rattle.std.specs.List.{range_with_len}
 
 -- 1 at the place of a checker, 0 at the others
@@ -9,6 +9,10 @@ at_place checker place = if checker == place then 1 else 0
 -- how often each place from 0 to 25 stands in the list
 unfoldable pub counts_of : List ℕ → List ℕ
 counts_of places = map (λ place. count_by (λ p. p == place) places) (range_with_len 0 26)
+
+-- one checker on each point from 24 down, so many in all
+abbrev pub start_counts : ℕ → List ℕ
+start_counts checkers = counts_of (range_with_len (25 - checkers) checkers)
 
 -- one to three places in falling order, and 0 where no checker is left
 pub record IsPacked (high middle low checkers : ℕ) : Type 0 where
