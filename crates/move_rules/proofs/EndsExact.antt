@@ -11,7 +11,8 @@ use Rattle.roll_table.specs.Rolls.{Dice, dice_of}
 use Rattle.move_rules.specs.Sequences.{IsSequence, CanPlay, IsLegal, IsLegalEnd}
 use Rattle.move_rules.specs.declared.play.Move.{Move}
 use Rattle.move_rules.specs.Ends.{can_run, can_bear_off, after_move, down_from, places, Line, before, lines_from, lines, all_lines, longest, can_play, right_die, legal_lines, legal_ends}
-use Rattle.move_rules.proofs.Members.{Among, Among-left, Among-right, Among-cases, Among-map, map-cases, Among-flat_map, flat_map-cases, Among-filter, filter-cases, Contains-Among, Among-Contains}
+use Rattle.move_rules.specs.Listing.{Among}
+use Rattle.move_rules.proofs.Members.{Among-left, Among-right, Among-cases, Among-map, map-cases, Among-flat_map, flat_map-cases, Among-filter, filter-cases, Contains-Among, Among-Contains}
 
 either : (a b : Bool) → (a || b) ≡ true → (a ≡ true) ⊎ (b ≡ true)
 either true b h = inl refl
@@ -86,31 +87,31 @@ after_move-sound p die from q low high e =
 
 -- ---- sequences of moves by dice in this order
 
-same_dice : (n d i x : ℕ) → slice_get (replicate n d) i ≡ Some x → (m : ℕ) × (n ≡ suc m) × (x ≡ d) × (remove (replicate n d) i ≡ replicate m d)
+pub same_dice : (n d i x : ℕ) → slice_get (replicate n d) i ≡ Some x → (m : ℕ) × (n ≡ suc m) × (x ≡ d) × (remove (replicate n d) i ≡ replicate m d)
 same_dice zero d i x e = absurd (grind arith)
 same_dice (suc n) d zero x e = (n, refl, grind arith, refl)
 same_dice (suc n) d (suc i) x e =
     let r = same_dice n d i x e in
     (n, refl, r.2, ap (λ (xs : List ℕ). d ∷ xs) r.3 ∙ ap (λ (k : ℕ). replicate k d) (sym r.1))
 
-of_down : (n i : ℕ) → Among i (down_from n) → (1 ≤ i) × (i ≤ n)
+pub of_down : (n i : ℕ) → Among i (down_from n) → (1 ≤ i) × (i ≤ n)
 of_down zero i h = absurd h
 of_down (suc n) i (inl e) = (omega arith, omega arith)
 of_down (suc n) i (inr h) = let r = of_down n i h in (r.0, omega (arith, r.1))
 
-to_down : (n i : ℕ) → 1 ≤ i → i ≤ n → Among i (down_from n)
+pub to_down : (n i : ℕ) → 1 ≤ i → i ≤ n → Among i (down_from n)
 to_down zero i low high = absurd (omega arith)
 to_down (suc n) i low high = elim (cases_lt i (suc n)) [ inl less ↦ inr (to_down n i low (omega (arith, less))) | inr more ↦ inl (omega (arith, more)) ]
 
-of_places : (i : ℕ) → Among i places → (1 ≤ i) × (i ≤ 25)
+pub of_places : (i : ℕ) → Among i places → (1 ≤ i) × (i ≤ 25)
 unfolding places
 of_places i h = of_down 25 i h
 
-to_places : (i : ℕ) → 1 ≤ i → i ≤ 25 → Among i places
+pub to_places : (i : ℕ) → 1 ≤ i → i ≤ 25 → Among i places
 unfolding places
 to_places i low high = to_down 25 i low high
 
-of_option : {X : Type 0} (x : X) (o : Option X) → Among x (option_to_list o) → o ≡ Some x
+pub of_option : {X : Type 0} (x : X) (o : Option X) → Among x (option_to_list o) → o ≡ Some x
 of_option x None h = absurd h
 of_option x (Some y) (inl e) = ap Some (sym e)
 of_option x (Some y) (inr h) = absurd h
@@ -129,7 +130,7 @@ lines-sound (die ∷ dice) p line (inr h) =
     let move = after_move-sound p die from c.0 here.0 here.1 (of_option c.0 (after_move p die from) c.1) in
     subst (λ (l : Line). IsSequence p (die ∷ dice) l.0 l.1) (sym b.2) (0, refl, c.0, move, lines-sound dice c.0 b.0 c.2)
 
-leaves_from : (p : Board) (die from : ℕ) (q : Board) → IsMove p die from q → (1 ≤ from) × (from ≤ 25)
+pub leaves_from : (p : Board) (die from : ℕ) (q : Board) → IsMove p die from q → (1 ≤ from) × (from ≤ 25)
 leaves_from p die from q (inl runs) = (runs.leaves.place, runs.leaves.within)
 leaves_from p die from q (inr off) = (off.leaves.place, off.leaves.within)
 
@@ -227,14 +228,14 @@ some_of : {X : Type 0} (o : Option X) → is_some o ≡ true → (x : X) × (o �
 some_of None h = absurd (grind arith)
 some_of (Some x) h = (x, refl)
 
-can_play-sound : (p : Board) (die : ℕ) → can_play p die ≡ true → CanPlay p die
+pub can_play-sound : (p : Board) (die : ℕ) → can_play p die ≡ true → CanPlay p die
 can_play-sound p die h =
     let r = any-true (λ (from : ℕ). is_some (after_move p die from)) places h in
     let within = of_places r.0 r.1 in
     let q = some_of (after_move p die r.0) r.2 in
     (r.0, q.0, after_move-sound p die r.0 q.0 within.0 within.1 q.1)
 
-can_play-complete : (p : Board) (die : ℕ) → CanPlay p die → can_play p die ≡ true
+pub can_play-complete : (p : Board) (die : ℕ) → CanPlay p die → can_play p die ≡ true
 can_play-complete p die (from, q, move) =
     let within = leaves_from p die from q move in
     true-any (λ (from : ℕ). is_some (after_move p die from)) from places (to_places from within.0 within.1) (rw (after_move-complete p die from q move) refl)

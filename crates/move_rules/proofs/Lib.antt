@@ -2,3 +2,9 @@ pub mod Members
 pub mod StayLive
 pub mod EndsExact
 mod LongestLines
+mod Added
+mod Counted
+mod Pairs
+mod FullLines
+mod RollLines
+mod FirstLines

@@ -122,6 +122,14 @@ move-stays : (p : Board) (die from : ℕ) (q : Board) → length p.mover ≡ 26 
 move-stays p die from q m o low (inl runs) = run-stays p die from q m o low runs
 move-stays p die from q m o low (inr off) = off-stays p die from q m off
 
+-- whatever the die
+pub mover-stays : (p : Board) (die from : ℕ) (q : Board) → length p.mover ≡ 26 → IsMove p die from q → (length q.mover ≡ 26) × (sum q.mover ≡ sum p.mover)
+mover-stays p die from q m (inl runs) =
+    let within : from < length p.mover = omega (arith, runs.leaves.within) in
+    let on : from - die < length p.mover = omega (arith, runs.leaves.within) in
+    subst (λ (b : Board). (length b.mover ≡ 26) × (sum b.mover ≡ sum p.mover)) (sym runs.after) (length-moved p.mover from (from - die) ∙ m, sum-moved p.mover from (from - die) within on runs.leaves.checker)
+mover-stays p die from q m (inr off) = let s = off-stays p die from q m off in (s.mover_places ∙ m, s.mover)
+
 -- ---- and what a sequence keeps
 
 Stays-refl : (p : Board) → Stays p p

@@ -2,3 +2,4 @@ pub mod Moves
 pub mod Sequences
 pub mod Ends
 pub mod Order
+pub mod Listing

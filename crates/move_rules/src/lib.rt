@@ -2,8 +2,10 @@
 #![tactic(auto)]
 
 mod laws;
+mod listing;
 mod moves;
 mod play;
 
 pub use laws::{legal_ends_are_exact, legal_ends_stay_live};
+pub use listing::plays;
 pub use play::{Entry, Move, Play, PlayList};
