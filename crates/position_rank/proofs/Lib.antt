@@ -3,3 +3,4 @@ pub mod Choose
 pub mod Made
 pub mod RankLaws
 pub mod Rising
+pub mod SameLayouts
