@@ -4,7 +4,7 @@ use Rattle.std.specs.Int.{int_max, int_min}
 use Rattle.position_rank.specs.Board.{Board, swap}
 use Rattle.roll_table.specs.Rolls.{Dice, IsRoll, all_rolls}
 use Rattle.move_rules.specs.Ends.{legal_ends}
-use Rattle.move_rules.proofs.Members.{Among}
+use Rattle.move_rules.specs.Listing.{Among}
 use Rattle.game_payoff.specs.declared.payoff.Won.{Won}
 use Rattle.game_payoff.specs.Points.{points}
 use Rattle.directed_fixed.specs.declared.bounds.End.{End}
@@ -36,9 +36,7 @@ sum-agree f g p h (roll ∷ rolls) a =
 least-agree : (X : Type 0) (f g : X → ℤ) (v : ℤ) (xs : List X) → ((x : X) → Among x xs → f x ≡ g x) → least v (map f xs) ≡ least v (map g xs)
 least-agree X f g v [] h = refl
 least-agree X f g v (x ∷ xs) h =
-    let here = h x (inl refl) in
-    let later = least-agree X f g v xs (λ y m. h y (inr m)) in
-    ap (λ (z : ℤ). int_min z (least v (map f xs))) here ∙ ap (λ (z : ℤ). int_min (g x) z) later
+    ap (λ (z : ℤ). least (int_min v z) (map f xs)) (h x (inl refl)) ∙ least-agree X f g (int_min v (g x)) xs (λ y m. h y (inr m))
 
 module _ (checkers : ℕ) (stakes : Terms) (valid : IsValid stakes) (u v : Words) (same : Agree checkers stakes u v) where
   worth-agree : (end : End) (p : Board) (k : ℕ) → IsState checkers stakes p k → (roll : Dice) (q : Board) → IsRoll roll → Among q (legal_ends p roll) → worth end (kind_at stakes k) u q ≡ worth end (kind_at stakes k) v q

@@ -1,14 +1,19 @@
 -- The greatest value of a list, and sums over rolls.
-use Rattle.std.proofs.Common.{◌≡◌, ◌<◌, ◌+◌, ℕ, ℤ, pos, neg_ℤ, ◌≤ℤ◌, ◌+ℤ◌, ◌*ℤ◌, List, [], ◌∷◌, length, map, ◌⊎◌, inl, inr, refl, subst, sym, arith}
+use Rattle.std.proofs.Common.{◌≡◌, ◌<◌, ◌≤◌, ◌+◌, ◌++◌, ◌∙◌, Bool, true, false, cond, eqb, ap, ℕ, zero, suc, get_or, take, drop, add-one, ◌*◌, ◌^◌, ℤ, pos, neg_ℤ, ◌≤ℤ◌, ◌+ℤ◌, ◌*ℤ◌, List, [], ◌∷◌, length, map, ◌⊎◌, inl, inr, refl, subst, sym, arith}
 use Rattle.std.specs.Int.{int_max}
 use Rattle.std.proofs.lemmas.Int.{ints, clamps}
 use Rattle.position_rank.specs.Board.{Board}
 use Rattle.std.specs.List.{range_with_len}
 use Rattle.roll_table.specs.Rolls.{Dice, IsRoll, weighted_roll, all_rolls}
 use Rattle.move_rules.specs.Ends.{legal_ends}
-use Rattle.move_rules.proofs.Members.{Among, flat_map-cases, map-cases, range-cases}
+use Rattle.move_rules.specs.Listing.{Among}
+use Rattle.move_rules.proofs.Members.{flat_map-cases, map-cases, range-cases}
+use Rattle.move_rules.specs.declared.play.Entry.{Entry}
+use Rattle.move_rules.specs.Order.{ends_of}
+use Rattle.std.proofs.lemmas.List.{take_more, map-append}
+use Rattle.directed_fixed.specs.Bounds.{IsWithinUnits}
 use Rattle.turn_rule.specs.Turn.{greatest, sum_over}
-use Rattle.turn_rule.proofs.Integers.{le_refl, max_mono, add_mono, mul_mono}
+use Rattle.turn_rule.proofs.Integers.{le_refl, le_trans, max_mono, add_mono, mul_mono}
 
 pub greatest-mono : (f g : Board → ℤ) (qs : List Board) → ((q : Board) → Among q qs → f q ≤ℤ g q) → greatest f qs ≤ℤ greatest g qs
 greatest-mono f g [] h = le_refl (pos 0)
@@ -77,3 +82,112 @@ pub sum-from : (f : Board → ℤ) (b : ℤ) → b ≤ℤ pos 0 → (p : Board) 
 sum-from f b z p h [] a = omega (arith, ints)
 sum-from f b z p h (roll ∷ rolls) a =
     rw spread (add_mono _ _ _ _ (mul_mono roll.1 _ _ (greatest-from f b z (legal_ends p roll.0) (λ q. h roll.0 q a.0))) (sum-from f b z p h rolls a.1))
+
+max_assoc : (a b c : ℤ) → int_max a (int_max b c) ≡ int_max (int_max a b) c
+max_assoc a b c = omega (arith, ints, clamps)
+
+pub greatest-append : (f : Board → ℤ) (q r : Board) (qs : List Board) → greatest f ((q ∷ qs) ++ r ∷ []) ≡ int_max (greatest f (q ∷ qs)) (f r)
+greatest-append f q r [] = refl
+greatest-append f q r (s ∷ qs) = ap (λ (z : ℤ). int_max (f q) z) (greatest-append f s r qs) ∙ max_assoc (f q) (greatest f (s ∷ qs)) (f r)
+
+-- one entry more
+pub greatest-more : (f : Board → ℤ) (entries : List Entry) (i : ℕ) (entry : Entry) → 1 ≤ i → i < length entries → entry ≡ get_or entries i entry → greatest f (ends_of (take (i + 1) entries)) ≡ int_max (greatest f (ends_of (take i entries))) (f entry.end)
+greatest-more f entries zero entry low high e = absurd (omega arith)
+greatest-more f [] (suc i) entry low high e = absurd (omega arith)
+greatest-more f (first ∷ rest) (suc i) entry low high e =
+    ap (λ (es : List Entry). greatest f (ends_of es)) (take_more (first ∷ rest) (suc i) entry high ∙ ap (λ (x : Entry). take (suc i) (first ∷ rest) ++ x ∷ []) (sym e))
+    ∙ (ap (greatest f) (map-append (λ (x : Entry). x.end) (take (suc i) (first ∷ rest)) (entry ∷ [])) ∙ greatest-append f first.end entry.end (ends_of (take i rest)))
+
+max_left : (x y : ℤ) → x ≤ℤ int_max x y
+max_left x y = omega (arith, ints, clamps)
+
+max_right : (x y : ℤ) → y ≤ℤ int_max x y
+max_right x y = omega (arith, ints, clamps)
+
+pub greatest-bound : (f : Board → ℤ) (q : Board) (qs : List Board) → Among q qs → f q ≤ℤ greatest f qs
+greatest-bound f q [] m = absurd m
+greatest-bound f q (r ∷ []) (inl e) = rw e (le_refl (f r))
+greatest-bound f q (r ∷ []) (inr m) = absurd m
+greatest-bound f q (r ∷ s ∷ qs) (inl e) = rw e (max_left (f r) (greatest f (s ∷ qs)))
+greatest-bound f q (r ∷ s ∷ qs) (inr m) = le_trans _ _ _ (greatest-bound f q (s ∷ qs) m) (max_right (f r) (greatest f (s ∷ qs)))
+
+greatest-least : (f : Board → ℤ) (b : ℤ) (q : Board) (qs : List Board) → ((r : Board) → Among r (q ∷ qs) → f r ≤ℤ b) → greatest f (q ∷ qs) ≤ℤ b
+greatest-least f b q [] h = h q (inl refl)
+greatest-least f b q (r ∷ qs) h = max_upto _ _ b (h q (inl refl)) (greatest-least f b r qs (λ x m. h x (inr m)))
+
+both_ways : (a b : ℤ) → a ≤ℤ b → b ≤ℤ a → a ≡ b
+both_ways a b h k = omega (arith, ints)
+
+-- lists with the same members have the same greatest value
+pub greatest-same : (f : Board → ℤ) (qs rs : List Board) → ((q : Board) → Among q qs → Among q rs) → ((r : Board) → Among r rs → Among r qs) → greatest f qs ≡ greatest f rs
+greatest-same f [] [] h k = refl
+greatest-same f [] (r ∷ rs) h k = absurd (k r (inl refl))
+greatest-same f (q ∷ qs) [] h k = absurd (h q (inl refl))
+greatest-same f (q ∷ qs) (r ∷ rs) h k =
+    both_ways _ _ (greatest-least f _ q qs (λ x m. greatest-bound f x (r ∷ rs) (h x m))) (greatest-least f _ r rs (λ x m. greatest-bound f x (q ∷ qs) (k x m)))
+
+-- no roll comes in more than two ways
+pub all_rolls-small : (roll : Dice × ℕ) → Among roll all_rolls → roll.1 ≤ 2
+unfolding all_rolls
+all_rolls-small roll m =
+    let a = flat_map-cases (λ high. map (weighted_roll high) (range_with_len 1 high)) roll (range_with_len 1 6) m in
+    let b = map-cases (weighted_roll a.0) roll (range_with_len 1 a.0) a.2 in
+    subst (λ (r : Dice × ℕ). r.1 ≤ 2) (sym b.2) (small (eqb a.0 b.0)) where
+  small : (b : Bool) → cond b 1 2 ≤ 2
+  small true = omega arith
+  small false = omega arith
+
+-- one roll more
+pub sum-step : (f : Board → ℤ) (p : Board) (rolls : List (Dice × ℕ)) (i : ℕ) (roll : Dice × ℕ) → i < length rolls → roll ≡ get_or rolls i roll → sum_over (drop i rolls) f p ≡ pos roll.1 *ℤ greatest f (legal_ends p roll.0) +ℤ sum_over (drop (suc i) rolls) f p
+sum-step f p [] i roll h e = absurd (omega arith)
+sum-step f p (r ∷ rolls) zero roll h e = rw e refl
+sum-step f p (r ∷ rolls) (suc i) roll h e = sum-step f p rolls i roll (omega arith) e
+
+joins : (a b c d w m : ℤ) → a +ℤ b ≡ c → b ≡ w +ℤ d → m ≡ a +ℤ w → m +ℤ d ≡ c
+joins a b c d w m h k l = omega (arith, ints)
+
+-- the sum so far, one roll more, and the rest
+pub sum-more : (f : Board → ℤ) (p : Board) (rolls : List (Dice × ℕ)) (i : ℕ) (roll : Dice × ℕ) (sum all best new : ℤ) → i < length rolls → roll ≡ get_or rolls i roll → sum +ℤ sum_over (drop i rolls) f p ≡ all → best ≡ greatest f (legal_ends p roll.0) → new ≡ sum +ℤ pos roll.1 *ℤ best → new +ℤ sum_over (drop (i + 1) rolls) f p ≡ all
+sum-more f p rolls i roll sum all best new h e so_far is added =
+    let step = sum-step f p rolls i roll h e in
+    rw (add-one i) (joins sum _ all _ (pos roll.1 *ℤ best) new so_far (rw is step) added)
+
+times_within : (w : ℕ) (v : ℤ) → w ≤ 2 → neg_ℤ (pos (2 ^ 36)) ≤ℤ v → v ≤ℤ pos (2 ^ 36) → (neg_ℤ (pos (2 ^ 37)) ≤ℤ (pos w *ℤ v)) × ((pos w *ℤ v) ≤ℤ pos (2 ^ 37))
+times_within zero v small low high = (omega (arith, ints), omega (arith, ints))
+times_within (suc zero) v small low high = (omega (arith, ints), omega (arith, ints))
+times_within (suc (suc zero)) v small low high = (omega (arith, ints), omega (arith, ints))
+times_within (suc (suc (suc w))) v small low high = absurd (omega arith)
+
+pub grows : (i w : ℕ) (sum v new : ℤ) → IsWithinUnits (pos (2 ^ 37 * i)) sum → w ≤ 2 → IsWithinUnits (pos (2 ^ 36)) v → new ≡ sum +ℤ pos w *ℤ v → IsWithinUnits (pos (2 ^ 37 * (i + 1))) new
+grows i w sum v new h small k added =
+    let product = times_within w v small k.from k.to in
+    record { from = omega (arith, ints, h.from, product.0); to = omega (arith, ints, h.to, product.1) }
+
+pub at_roll : (rolls : List (Dice × ℕ)) (i : ℕ) (roll : Dice × ℕ) → i < length rolls → roll ≡ get_or rolls i roll → Among roll rolls
+at_roll [] i roll h e = absurd (omega arith)
+at_roll (r ∷ rolls) zero roll h e = inl e
+at_roll (r ∷ rolls) (suc i) roll h e = inr (at_roll rolls i roll (omega arith) e)
+
+pub length-all_rolls : length all_rolls ≡ 21
+unfolding all_rolls
+length-all_rolls = refl
+
+-- one of the 21 rolls
+pub roll_at : (rolls : List (Dice × ℕ)) (i : ℕ) (roll : Dice × ℕ) → rolls ≡ all_rolls → i < 21 → roll ≡ get_or rolls i roll → (i < length all_rolls) × (roll ≡ get_or all_rolls i roll) × (roll.1 ≤ 2)
+roll_at rolls i roll same h e =
+    let here : i < length all_rolls = omega (arith, length-all_rolls) in
+    let at : roll ≡ get_or all_rolls i roll = subst (λ (xs : List (Dice × ℕ)). roll ≡ get_or xs i roll) same e in
+    (here, at, all_rolls-small roll (at_roll all_rolls i roll here at))
+
+all_dropped : (f : Board → ℤ) (p : Board) (rolls : List (Dice × ℕ)) (i : ℕ) → length rolls ≤ i → sum_over (drop i rolls) f p ≡ pos 0
+all_dropped f p [] zero h = refl
+all_dropped f p [] (suc i) h = refl
+all_dropped f p (roll ∷ rolls) zero h = absurd (omega arith)
+all_dropped f p (roll ∷ rolls) (suc i) h = all_dropped f p rolls i (omega arith)
+
+nothing_left : (a b c : ℤ) → a +ℤ b ≡ c → b ≡ pos 0 → a ≡ c
+nothing_left a b c h k = omega (arith, ints)
+
+-- no roll is left
+pub sum-end : (f : Board → ℤ) (p : Board) (i : ℕ) (sum all : ℤ) → 21 ≤ i → sum +ℤ sum_over (drop i all_rolls) f p ≡ all → sum ≡ all
+sum-end f p i sum all h so_far = nothing_left sum _ all so_far (all_dropped f p all_rolls i (omega (arith, length-all_rolls)))

@@ -61,8 +61,9 @@ regroup c d x =
     let times : c * (up (pos d *ℤ x) + d * down x) ≡ c * (down (pos d *ℤ x) + d * up x) = ap (λ (n : ℕ). c * n) product in
     omega (arith, ints, times)
 
-pub times_within : (w : ℕ) (v : ℤ) → w ≤ 2 → neg_ℤ (pos (2 ^ 36)) ≤ℤ v → v ≤ℤ pos (2 ^ 36) → (neg_ℤ (pos (2 ^ 37)) ≤ℤ (pos w *ℤ v)) × ((pos w *ℤ v) ≤ℤ pos (2 ^ 37))
-times_within zero v small low high = (omega (arith, ints), omega (arith, ints))
-times_within (suc zero) v small low high = (omega (arith, ints), omega (arith, ints))
-times_within (suc (suc zero)) v small low high = (omega (arith, ints), omega (arith, ints))
-times_within (suc (suc (suc w))) v small low high = absurd (omega arith)
+-- a whole quotient by 36 is the floor, or the ceiling
+pub floor_36-is : (z q : ℤ) → (pos 36 *ℤ q) ≤ℤ z → z <ℤ (pos 36 *ℤ q +ℤ pos 36) → q ≡ floor_36 z
+floor_36-is z q h k = omega (arith, ints, floor_36_below z, floor_36_above z)
+
+pub ceil_36-is : (z q : ℤ) → z ≤ℤ (pos 36 *ℤ q) → (pos 36 *ℤ q) <ℤ (z +ℤ pos 36) → q ≡ ceil_36 z
+ceil_36-is z q h k = omega (arith, ints, floor_36_below (neg_ℤ z), floor_36_above (neg_ℤ z))

@@ -2,3 +2,5 @@ pub mod Integers
 pub mod Greatest
 pub mod Within
 pub mod Agreement
+pub mod Best
+pub mod Least

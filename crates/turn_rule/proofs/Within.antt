@@ -8,7 +8,8 @@ use Rattle.position_rank.specs.Board.{Board, IsPosition, IsLive, InPlay, above, 
 use Rattle.roll_table.specs.Rolls.{Dice, IsRoll, all_rolls}
 use Rattle.move_rules.specs.Sequences.{IsLegalEnd}
 use Rattle.move_rules.specs.Ends.{legal_ends}
-use Rattle.move_rules.proofs.Members.{Among, Among-Contains}
+use Rattle.move_rules.specs.Listing.{Among}
+use Rattle.move_rules.proofs.Members.{Among-Contains}
 use Rattle.move_rules.proofs.EndsExact.{legal_ends-sound}
 use Rattle.move_rules.proofs.StayLive.{legal_end-stays}
 use Rattle.game_payoff.specs.declared.payoff.Won.{Won}
@@ -70,9 +71,6 @@ win-within bound kind z all Backgammon = at-within bound kind.win 2 z all
 min_left : (x y b : ℤ) → x ≤ℤ b → int_min x y ≤ℤ b
 min_left x y b h = omega (arith, ints, clamps)
 
-min_right : (x y b : ℤ) → y ≤ℤ b → int_min x y ≤ℤ b
-min_right x y b h = omega (arith, ints, clamps)
-
 min_mono : (a b c d : ℤ) → a ≤ℤ c → b ≤ℤ d → int_min a b ≤ℤ int_min c d
 min_mono a b c d h k = omega (arith, ints, clamps)
 
@@ -87,11 +85,11 @@ max_from a b c h = omega (arith, ints, clamps)
 
 least-upto : (v b : ℤ) (vs : List ℤ) → v ≤ℤ b → least v vs ≤ℤ b
 least-upto v b [] h = h
-least-upto v b (w ∷ vs) h = min_right w (least v vs) b (least-upto v b vs h)
+least-upto v b (w ∷ vs) h = least-upto (int_min v w) b vs (min_left v w b h)
 
 least-mono : (X : Type 0) (f g : X → ℤ) (v w : ℤ) (xs : List X) → v ≤ℤ w → ((x : X) → Among x xs → f x ≤ℤ g x) → least v (map f xs) ≤ℤ least w (map g xs)
 least-mono X f g v w [] h k = h
-least-mono X f g v w (x ∷ xs) h k = min_mono _ _ _ _ (k x (inl refl)) (least-mono X f g v w xs h (λ y m. k y (inr m)))
+least-mono X f g v w (x ∷ xs) h k = least-mono X f g (int_min v (f x)) (int_min w (g x)) xs (min_mono _ _ _ _ h (k x (inl refl))) (λ y m. k y (inr m))
 
 pub at_member : {X : Type 0} (P : X → Type 0) (xs : List X) → All P xs → (x : X) → Among x xs → P x
 at_member P [] all x m = absurd m
@@ -124,7 +122,7 @@ module _ (checkers : ℕ) (stakes : Terms) (valid : IsValid stakes) where
       }
 
   module _ (u : Words) (words : AreWithin checkers stakes u) (p : Board) where
-    ends_within : (k : ℕ) → IsState checkers stakes p k → (roll : Dice) (q : Board) → IsRoll roll → Among q (legal_ends p roll) → IsWithin stakes.bound (record { lower = worth Lower (kind_at stakes k) u q; upper = worth Upper (kind_at stakes k) u q })
+    pub ends_within : (k : ℕ) → IsState checkers stakes p k → (roll : Dice) (q : Board) → IsRoll roll → Among q (legal_ends p roll) → IsWithin stakes.bound (record { lower = worth Lower (kind_at stakes k) u q; upper = worth Upper (kind_at stakes k) u q })
     ends_within k state roll q right m = by_points (points q) refl where
       by_points : (o : Option Won) → points q ≡ o → IsWithin stakes.bound (record { lower = if_won o (λ won. (win (kind_at stakes k) won).lower) (neg_ℤ (u Upper (swap q) (kind_at stakes k).next)); upper = if_won o (λ won. (win (kind_at stakes k) won).upper) (neg_ℤ (u Lower (swap q) (kind_at stakes k).next)) })
       by_points None on =
@@ -141,7 +139,7 @@ module _ (checkers : ℕ) (stakes : Terms) (valid : IsValid stakes) where
         let middle = sum-mono (worth Lower (kind_at stakes k) u) (worth Upper (kind_at stakes k) u) p (λ roll q right m. (ends_within k state roll q right m).in_order) all_rolls all_rolls-right in
         between stakes.bound _ _ (rw total-all_rolls at low) middle (rw total-all_rolls at high)
 
-    roll-in_order : (k factor : ℕ) → IsState checkers stakes p k → roll_value Lower stakes u p k factor ≤ℤ roll_value Upper stakes u p k factor
+    pub roll-in_order : (k factor : ℕ) → IsState checkers stakes p k → roll_value Lower stakes u p k factor ≤ℤ roll_value Upper stakes u p k factor
     roll-in_order k factor state =
         rounded factor _ _ (sum-mono (worth Lower (kind_at stakes k) u) (worth Upper (kind_at stakes k) u) p (λ roll q right m. (ends_within k state roll q right m).in_order) all_rolls all_rolls-right)
 
@@ -171,3 +169,13 @@ module _ (checkers : ℕ) (stakes : Terms) (valid : IsValid stakes) where
   unfolding rounds
   rounds-within zero = opening-within
   rounds-within (suc r) = turn-within (rounds stakes r) (rounds-within r)
+
+pub bound-small : (stakes : Terms) → IsValid stakes → stakes.bound ≤ℤ pos (2 ^ 36)
+bound-small stakes valid = rw valid.bound (named stakes.name) where
+  named : (name : StakesName) → bound_of name ≤ℤ pos (2 ^ 36)
+  named Cubeless = omega (arith, ints)
+  named Money = omega (arith, ints)
+  named Jacoby = omega (arith, ints)
+  named MoneyBeavers = omega (arith, ints)
+  named JacobyBeavers = omega (arith, ints)
+  named (Match score) = omega (arith, ints)

@@ -54,7 +54,7 @@ roll_value end stakes u p k factor = outwards end (pos factor *ℤ sum_over all_
 -- the least of a value and some others
 abbrev pub least : ℤ → List ℤ → ℤ
 least value [] = value
-least value (v ∷ rest) = int_min v (least value rest)
+least value (v ∷ rest) = least (int_min value v) rest
 
 -- after a double the other side chooses what leaves the doubler least: to pass, or one of its answers
 abbrev pub doubled : End → Terms → Words → Board → Double → ℤ

@@ -1,2 +1,7 @@
 //! One turn of the game, and the words after rounds of turns.
 #![tactic(auto)]
+
+mod state;
+mod sums;
+mod table;
+mod turn;
