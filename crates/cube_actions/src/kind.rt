@@ -1,3 +1,5 @@
+ghost use Rattle.std.specs.Prelude.{◌≡◌};
+
 use arrayvec::ArrayVec;
 use directed_fixed::{Fixed, Pair};
 
@@ -34,6 +36,39 @@ impl Default for Kind {
             next: 0,
             win: [nothing; 3],
             double: None,
+        }
+    }
+}
+
+impl Double {
+    /// A double of the same pass and answers.
+    pub fn copied(&self) -> Double
+        ensures { (result.pass ≡ self.now.pass) × (result.answers.items ≡ self.now.answers.items) }
+    {
+        let mut answers = ArrayVec::new();
+        for taken in self.answers.as_slice() {
+            answers.push(*taken);
+        }
+        Double {
+            pass: self.pass,
+            answers,
+        }
+    }
+}
+
+impl Kind {
+    /// The same kind.
+    pub fn copied(&self) -> Kind
+        ensures { result ≡ self.now }
+    {
+        let double = match &self.double {
+            None => None,
+            Some(double) => Some(double.copied()),
+        };
+        Kind {
+            next: self.next,
+            win: self.win,
+            double,
         }
     }
 }

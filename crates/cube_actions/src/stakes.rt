@@ -79,4 +79,19 @@ impl Stakes {
     {
         self.name
     }
+
+    /// The same stakes.
+    pub fn copied(&self) -> Stakes
+        ensures { result ≡ self.now }
+    {
+        let mut kinds = ArrayVec::new();
+        for kind in self.kinds.as_slice() {
+            kinds.push(kind.copied());
+        }
+        Stakes {
+            kinds,
+            bound: self.bound,
+            name: self.name,
+        }
+    }
 }
