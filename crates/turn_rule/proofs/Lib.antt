@@ -4,3 +4,4 @@ pub mod Within
 pub mod Agreement
 pub mod Best
 pub mod Least
+pub mod TableLemmas

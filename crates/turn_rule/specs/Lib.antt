@@ -1,3 +1,4 @@
 pub mod Turn
 pub mod States
 pub mod Tables
+pub mod Rounds

@@ -3,5 +3,6 @@
 
 mod state;
 mod sums;
+mod sweep;
 mod table;
 mod turn;

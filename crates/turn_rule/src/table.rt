@@ -1,11 +1,12 @@
-ghost use Rattle.std.specs.Prelude.{◌≡◌, ◌<◌, ◌+◌, ◌*◌, ℕ, length, sum};
+ghost use Rattle.std.specs.Prelude.{◌≡◌, ◌<◌, ◌≤◌, ◌+◌, ◌*◌, ◌^◌, ℕ, IfOk, length, replicate, slice_set, sum};
 ghost use Rattle.position_rank.specs.Board.{Board};
 ghost use Rattle.directed_fixed.specs.declared.bounds.End.TheVariants.{Lower, Upper};
-ghost use Rattle.turn_rule.specs.Tables.{Pairs, IsFull, words_of};
+ghost use Rattle.turn_rule.specs.Tables.{Pairs, IsFull, squares_of, words_of};
 ghost use Rattle.turn_rule.specs.States.{pair_of};
 
 use directed_fixed::Pair;
-use position_rank::Position;
+use position_rank::{Position, layout_count};
+use std::alloc::{AllocError, Global};
 use std::marker::Model;
 
 /// A pair for each square and kind, by rising square rank and then kind.
@@ -33,5 +34,53 @@ impl Table {
         ensures { result ≡ pair_of (words_of self.now) position.now kind }
     {
         self.pairs[position.square_rank() as usize * self.kinds + kind]
+    }
+
+    /// How many checkers a side has.
+    pub(crate) fn checkers(&self) -> u8
+        ensures checkers { result ≡ self.now.checkers }
+        ensures full { IsFull self.now }
+    {
+        self.checkers
+    }
+
+    /// How many kinds there are.
+    pub(crate) fn kinds(&self) -> usize
+        ensures kinds { result ≡ self.now.kinds }
+        ensures full { IsFull self.now }
+        ensures small { length self.now.pairs < 2 ^ 63 }
+    {
+        let _many = self.pairs.len();
+        self.kinds
+    }
+
+    /// Puts another pair at a place.
+    #[inline]
+    pub(crate) fn set(&mut self, place: usize, pair: Pair)
+        requires { place < length self.old.pairs }
+        ensures { self.new ≡ record self.old { pairs = slice_set self.old.pairs place pair } }
+    {
+        self.pairs[place] = pair;
+    }
+
+    /// A table of one pair everywhere.
+    pub(crate) fn filled(
+        alloc: Global,
+        checkers: u8,
+        kinds: usize,
+        pair: Pair,
+    ) -> Result<Table, AllocError>
+        requires low { 1 ≤ checkers }
+        requires high { checkers ≤ 3 }
+        requires kinds { kinds ≤ 14 }
+        ensures { IfOk result (λ table. table ≡ record { checkers = checkers; kinds = kinds; pairs = replicate (squares_of checkers * kinds) pair }) }
+    {
+        let layouts = layout_count(checkers) as usize;
+        let pairs = vec![in alloc; pair; layouts * layouts * kinds]?;
+        Ok(Table {
+            checkers,
+            kinds,
+            pairs,
+        })
     }
 }

@@ -1,0 +1,42 @@
+-- Rounds of a whole table.
+use Rattle.std.specs.Prelude.{◌≡◌, ℕ, ◌<◌, ◌≤◌, ◌+◌, ◌*◌, List, length, replicate, slice_get, Some, neg_ℤ, sum}
+use Rattle.directed_fixed.specs.Bounds.{Bounds}
+use Rattle.position_rank.specs.Board.{Board, IsLayout}
+use Rattle.position_rank.specs.Ranks.{layouts, rank_of, square_rank_of}
+use Rattle.cube_actions.specs.Stakes.{Terms}
+use Rattle.turn_rule.specs.Turn.{Words, turn, rounds}
+use Rattle.turn_rule.specs.States.{IsState, pair_of, Agree}
+use Rattle.turn_rule.specs.Tables.{Pairs, words_of}
+
+-- a game's stakes and a table of its pairs
+pub record Game : Type 0 where
+  pub stakes : Terms
+  pub table : Pairs
+
+-- the pair of which only the bound is known
+abbrev pub opening_pair : Terms → Bounds
+opening_pair stakes = record { lower = neg_ℤ stakes.bound; upper = stakes.bound }
+
+-- in each state, the table has the words after so many rounds
+abbrev pub HasRounds : Game → ℕ → Type 0
+HasRounds game r = Agree game.table.checkers game.stakes (words_of game.table) (rounds game.stakes r)
+
+-- in each state, the new table has the turn over the old one
+abbrev pub IsTurned : Game → Game → Type 0
+IsTurned old new = Agree old.table.checkers old.stakes (words_of new.table) (turn old.stakes (words_of old.table))
+
+-- all layouts of so many checkers, by rising rank
+pub record AreLayouts (checkers : ℕ) (all : List (List ℕ)) : Type 0 where
+  pub many : length all ≡ layouts checkers
+  pub valid : (rank : ℕ) (layout : List ℕ) → slice_get all rank ≡ Some layout → IsLayout layout
+  pub checkers_of : (rank : ℕ) (layout : List ℕ) → slice_get all rank ≡ Some layout → sum layout ≡ checkers
+  pub ranks : (rank : ℕ) (layout : List ℕ) → slice_get all rank ≡ Some layout → rank_of layout ≡ rank
+
+-- in each state on the squares before this one, the new table has the turn over the old one
+abbrev pub IsTurnedBefore : Terms → Pairs → Pairs → ℕ → Type 0
+IsTurnedBefore stakes old new square = (p : Board) (k : ℕ) → IsState old.checkers stakes p k → square_rank_of p < square → pair_of (words_of new) p k ≡ pair_of (turn stakes (words_of old)) p k
+
+-- a table of the same game
+pub record AreAlike (old new : Pairs) : Type 0 where
+  pub checkers : new.checkers ≡ old.checkers
+  pub kinds : new.kinds ≡ old.kinds

@@ -1,0 +1,42 @@
+ghost use Rattle.std.specs.Prelude.{◌≡◌, ◌<◌, ◌*◌, ℕ, length, sum, slice_index_or};
+ghost use Rattle.position_rank.specs.Board.{IsPosition, IsLive};
+ghost use Rattle.position_rank.specs.Ranks.{square_rank_of};
+ghost use Rattle.directed_fixed.specs.declared.bounds.End.TheVariants.{Lower, Upper};
+ghost use Rattle.cube_actions.specs.Stakes.{nothing};
+ghost use Rattle.turn_rule.specs.Tables.{IsFull, words_of};
+ghost use Rattle.turn_rule.specs.Turn.{turn};
+ghost use Rattle.turn_rule.specs.States.{pair_of, AreWithin};
+ghost use Rattle.turn_rule.specs.Rounds.{AreAlike};
+
+use crate::state::turn_bounds;
+use crate::table::Table;
+use cube_actions::Stakes;
+use move_rules::PlayList;
+use position_rank::Position;
+
+/// Gives each kind of a live position its turn over the old table.
+fn sweep_square(
+    position: &Position,
+    stakes: &Stakes,
+    old: &Table,
+    new: &mut Table,
+    list: &mut PlayList,
+)
+    requires position { IsPosition position.now }
+    requires many { sum position.now.mover ≡ old.now.checkers }
+    requires live { IsLive position.now }
+    requires kinds { old.now.kinds ≡ length stakes.now.kinds }
+    requires within { AreWithin old.now.checkers stakes.now (words_of old.now) }
+    requires alike { AreAlike old.now new.old }
+    ensures alike { AreAlike old.now new.new }
+    ensures full { IsFull new.new }
+    ensures turned { (k : ℕ) → k < old.now.kinds → pair_of (words_of new.new) position.now k ≡ pair_of (turn stakes.now (words_of old.now)) position.now k }
+    ensures before { (place : ℕ) → place < square_rank_of position.now * old.now.kinds → slice_index_or new.new.pairs place nothing ≡ slice_index_or new.old.pairs place nothing }
+{
+    let kinds = new.kinds();
+    let first = position.square_rank() as usize * kinds;
+    for number in 0..kinds {
+        let bounds = turn_bounds(position, number, stakes, old, list);
+        new.set(first + number, bounds);
+    }
+}
