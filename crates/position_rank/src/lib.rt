@@ -4,6 +4,8 @@
 mod layout;
 mod position;
 mod rank;
+#[cfg(test)]
+mod tests;
 
 pub use layout::{BadLayout, Layout};
 pub use position::Position;
