@@ -51,7 +51,7 @@ choose-three (suc n) =
     rw same (rw last (omega (arith, choose-three-more n, choose-three n, two)))
 
 -- later places have more ways
-rises : (f : ℕ → ℕ) → ((n : ℕ) → f n ≤ f (suc n)) → (m n : ℕ) → m ≤ n → f m ≤ f n
+pub rises : (f : ℕ → ℕ) → ((n : ℕ) → f n ≤ f (suc n)) → (m n : ℕ) → m ≤ n → f m ≤ f n
 rises f step m zero h =
     let same : m ≡ 0 = omega arith in
     rw same (omega arith)

@@ -10,18 +10,18 @@ use Rattle.position_rank.proofs.Choose.{choose-one, choose-two, choose-three, ch
 use Rattle.position_rank.proofs.Rising.{often-cons, RiseFrom, rising_places-counts_of, counts_of-rising_places, rising_places-rise, rising_places-within, length-rising_places, counts_of-same}
 
 -- the ranks of one, two and three places in rising order
-ways-one : (x : ℕ) → sum_of_ways 1 (x ∷ []) ≡ x
+pub ways-one : (x : ℕ) → sum_of_ways 1 (x ∷ []) ≡ x
 ways-one x =
     let same : x + 1 - 1 ≡ x = omega arith in
     rw same (omega (arith, choose-one x))
 
-ways-two : (x y : ℕ) → sum_of_ways 1 (x ∷ y ∷ []) ≡ x + choose (y + 1) 2
+pub ways-two : (x y : ℕ) → sum_of_ways 1 (x ∷ y ∷ []) ≡ x + choose (y + 1) 2
 ways-two x y =
     let same : x + 1 - 1 ≡ x = omega arith in
     let second : y + 2 - 1 ≡ y + 1 = omega arith in
     rw (same, second) (omega (arith, choose-one x))
 
-ways-three : (x y z : ℕ) → sum_of_ways 1 (x ∷ y ∷ z ∷ []) ≡ x + choose (y + 1) 2 + choose (z + 2) 3
+pub ways-three : (x y z : ℕ) → sum_of_ways 1 (x ∷ y ∷ z ∷ []) ≡ x + choose (y + 1) 2 + choose (z + 2) 3
 ways-three x y z =
     let same : x + 1 - 1 ≡ x = omega arith in
     let second : y + 2 - 1 ≡ y + 1 = omega arith in

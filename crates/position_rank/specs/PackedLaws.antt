@@ -128,7 +128,7 @@ packed-above h m l c place packed =
     omega (arith, above-counts_of (take c (h ∷ m ∷ l ∷ [])) place (within-packed h m l c packed), count-packed (λ p. ltb place p) h m l c packed, off)
 
 -- the number of places from a on that are below h
-count-below : (n a h : ℕ) → h ≤ a + n → count_by (λ place. ltb place h) (range_with_len a n) ≡ h - a
+pub count-below : (n a h : ℕ) → h ≤ a + n → count_by (λ place. ltb place h) (range_with_len a n) ≡ h - a
 count-below zero a h high = omega arith
 count-below (suc n) a h high =
     let rest = count-below n (a + 1) h (omega arith) in
@@ -138,7 +138,7 @@ count-below (suc n) a h high =
       | inr above ↦ omega (arith, cons, rest, ap one (le-ltb a h above))
     ]
 
-count-same : (p q : ℕ → Bool) → ((x : ℕ) → p x ≡ q x) → (xs : List ℕ) → count_by p xs ≡ count_by q xs
+pub count-same : (p q : ℕ → Bool) → ((x : ℕ) → p x ≡ q x) → (xs : List ℕ) → count_by p xs ≡ count_by q xs
 count-same p q same [] = refl
 count-same p q same (x ∷ xs) = omega (arith, sum_by-cons (λ x. one (p x)) x xs, sum_by-cons (λ x. one (q x)) x xs, count-same p q same xs, ap one (same x))
 
