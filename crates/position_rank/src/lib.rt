@@ -2,9 +2,13 @@
 #![tactic(auto)]
 
 mod layout;
+mod live;
 mod position;
 mod rank;
+#[cfg(test)]
+mod tests;
 
 pub use layout::{BadLayout, Layout};
+pub use live::{live_count, live_rank, live_ranks_tell_positions, live_unrank};
 pub use position::Position;
 pub use rank::{layout_count, ranks_tell_layouts, square_ranks_tell_positions};
