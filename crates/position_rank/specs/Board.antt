@@ -27,6 +27,10 @@ swap p = record { mover = p.other; other = p.mover }
 abbrev pub InPlay : List ℕ → Type 0
 InPlay counts = slice_index counts 0 ≢ sum counts
 
+-- a checker of the other side on this place would stand on a point that this side holds
+abbrev pub IsMet : List ℕ → ℕ → Type 0
+IsMet counts place = (1 ≤ place) × (place ≤ 24) × (0 < slice_index counts (25 - place))
+
 -- no point is held by both sides
 abbrev pub AreApart : Board → Type 0
 AreApart p = (point : ℕ) → 1 ≤ point → point ≤ 24 → 0 < slice_index p.mover point → slice_index p.other (25 - point) ≡ 0

@@ -1,1 +1,4 @@
 pub mod Board
+pub mod Packed
+pub mod PackedLaws
+pub mod Ranks

@@ -3,6 +3,8 @@
 
 mod layout;
 mod position;
+mod rank;
 
-pub use layout::Layout;
+pub use layout::{BadLayout, Layout};
 pub use position::Position;
+pub use rank::{layout_count, ranks_tell_layouts, square_ranks_tell_positions};

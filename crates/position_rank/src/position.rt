@@ -1,7 +1,10 @@
-ghost use Rattle.std.specs.Prelude.{◌≡◌, ℕ, ◌+◌, ◌-◌, ◌<◌, ◌≤◌, ◌↔◌, IsTrue, IsSome, IsNone, IfSome, List, length, sum, slice_index};
+ghost use Rattle.std.specs.Prelude.{◌≡◌, ℕ, ◌+◌, ◌-◌, ◌*◌, ◌<◌, ◌≤◌, ◌↔◌, IsTrue, IsSome, IsNone, IfSome, List, length, sum, slice_index};
+ghost use Rattle.position_rank.specs.Packed.{start_counts};
+ghost use Rattle.position_rank.specs.Ranks.{layouts, square_rank_of};
 ghost use Rattle.position_rank.specs.Board.{Board, IsLayout, IsPosition, IsLive, swap, moved, above, hit};
 
 use crate::layout::Layout;
+use crate::rank::layout_count;
 use std::marker::Model;
 
 /// Where all the checkers stand, seen by the side that moves.
@@ -32,6 +35,32 @@ impl Position {
         } else {
             None
         }
+    }
+
+    /// One to three checkers of each side, one on each of its points from 24 down.
+    pub fn start(checkers: u8) -> Position
+        requires low { 1 ≤ checkers }
+        requires high { checkers ≤ 3 }
+        ensures start { result ≡ record { mover = start_counts checkers; other = start_counts checkers } }
+        ensures valid { IsPosition result }
+        ensures checkers { sum result.mover ≡ checkers }
+    {
+        let side = Layout::start(checkers);
+        Position {
+            mover: side,
+            other: side,
+        }
+    }
+
+    /// The position's number among all pairs of layouts of as many checkers, from 0.
+    #[inline]
+    pub fn square_rank(&self) -> u64
+        ensures rank { result ≡ square_rank_of self.now }
+        ensures below { result < layouts (sum self.now.mover) * layouts (sum self.now.mover) }
+        ensures valid { IsPosition self.now }
+    {
+        let layouts = u64::from(layout_count(self.checkers()));
+        u64::from(self.mover.rank()) * layouts + u64::from(self.other.rank())
     }
 
     /// The checkers of the side that moves.
@@ -65,16 +94,7 @@ impl Position {
     pub fn is_live(&self) -> bool
         ensures { IsTrue result ↔ IsLive self.now }
     {
-        let checkers = self.mover.checkers();
-        if self.mover.count(0) == checkers || self.other.count(0) == checkers {
-            return false;
-        }
-        for point in 1..25 {
-            if self.mover.count(point) > 0 && self.other.count(25 - point) > 0 {
-                return false;
-            }
-        }
-        true
+        self.mover.is_in_play() && self.other.is_in_play() && self.mover.is_apart(&self.other)
     }
 
     /// How many of the mover's checkers stand on a place.
