@@ -3,3 +3,8 @@ pub mod Choose
 pub mod Made
 pub mod RankLaws
 pub mod Rising
+mod TextBoards
+mod TextLists
+mod TextPrint
+mod TextReads
+mod TextSides

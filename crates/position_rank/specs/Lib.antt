@@ -2,3 +2,5 @@ pub mod Board
 pub mod Packed
 pub mod PackedLaws
 pub mod Ranks
+pub mod Text
+pub mod TextParts
