@@ -5,3 +5,8 @@ pub mod Made
 pub mod RankLaws
 pub mod Rising
 pub mod SameLayouts
+mod TextBoards
+mod TextLists
+mod TextPrint
+mod TextReads
+mod TextSides

@@ -3,3 +3,5 @@ pub mod LiveRanks
 pub mod Packed
 pub mod PackedLaws
 pub mod Ranks
+pub mod Text
+pub mod TextParts

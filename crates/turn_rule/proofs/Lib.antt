@@ -5,3 +5,4 @@ pub mod Agreement
 pub mod Best
 pub mod Least
 pub mod TableLemmas
+pub mod RowLemmas

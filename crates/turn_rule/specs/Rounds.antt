@@ -1,5 +1,5 @@
 -- Rounds of a whole table.
-use Rattle.std.specs.Prelude.{◌≡◌, ℕ, ◌<◌, ◌≤◌, ◌+◌, ◌*◌, List, length, replicate, slice_get, Some, neg_ℤ, sum}
+use Rattle.std.specs.Prelude.{◌≡◌, ℕ, ◌<◌, ◌≤◌, ◌+◌, ◌*◌, List, length, slice_index_or, neg_ℤ, sum}
 use Rattle.directed_fixed.specs.Bounds.{Bounds}
 use Rattle.position_rank.specs.Board.{Board, IsLayout}
 use Rattle.position_rank.specs.Ranks.{layouts, rank_of, square_rank_of}
@@ -25,12 +25,16 @@ HasRounds game r = Agree game.table.checkers game.stakes (words_of game.table) (
 abbrev pub IsTurned : Game → Game → Type 0
 IsTurned old new = Agree old.table.checkers old.stakes (words_of new.table) (turn old.stakes (words_of old.table))
 
+-- the layout of so many checkers with this rank
+pub record HasRank (checkers rank : ℕ) (layout : List ℕ) : Type 0 where
+  pub valid : IsLayout layout
+  pub many : sum layout ≡ checkers
+  pub ranked : rank_of layout ≡ rank
+
 -- all layouts of so many checkers, by rising rank
 pub record AreLayouts (checkers : ℕ) (all : List (List ℕ)) : Type 0 where
   pub many : length all ≡ layouts checkers
-  pub valid : (rank : ℕ) (layout : List ℕ) → slice_get all rank ≡ Some layout → IsLayout layout
-  pub checkers_of : (rank : ℕ) (layout : List ℕ) → slice_get all rank ≡ Some layout → sum layout ≡ checkers
-  pub ranks : (rank : ℕ) (layout : List ℕ) → slice_get all rank ≡ Some layout → rank_of layout ≡ rank
+  pub each : (rank : ℕ) (none : List ℕ) → rank < length all → HasRank checkers rank (slice_index_or all rank none)
 
 -- in each state on the squares before this one, the new table has the turn over the old one
 abbrev pub IsTurnedBefore : Terms → Pairs → Pairs → ℕ → Type 0

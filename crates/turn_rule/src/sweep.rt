@@ -1,18 +1,18 @@
-ghost use Rattle.std.specs.Prelude.{◌≡◌, ◌<◌, ◌*◌, ℕ, length, sum, slice_index_or};
-ghost use Rattle.position_rank.specs.Board.{IsPosition, IsLive};
-ghost use Rattle.position_rank.specs.Ranks.{square_rank_of};
+ghost use Rattle.std.specs.Prelude.{◌≡◌, ◌<◌, ◌+◌, ◌*◌, ℕ, length, sum, slice_index_or};
+ghost use Rattle.position_rank.specs.Board.{IsLayout, IsPosition, IsLive};
+ghost use Rattle.position_rank.specs.Ranks.{rank_of, square_rank_of};
 ghost use Rattle.directed_fixed.specs.declared.bounds.End.TheVariants.{Lower, Upper};
 ghost use Rattle.cube_actions.specs.Stakes.{nothing};
 ghost use Rattle.turn_rule.specs.Tables.{IsFull, words_of};
 ghost use Rattle.turn_rule.specs.Turn.{turn};
 ghost use Rattle.turn_rule.specs.States.{pair_of, AreWithin};
-ghost use Rattle.turn_rule.specs.Rounds.{AreAlike};
+ghost use Rattle.turn_rule.specs.Rounds.{AreAlike, AreLayouts, IsTurnedBefore};
 
 use crate::state::turn_bounds;
 use crate::table::Table;
 use cube_actions::Stakes;
 use move_rules::PlayList;
-use position_rank::Position;
+use position_rank::{Layout, Position};
 
 /// Gives each kind of a live position its turn over the old table.
 fn sweep_square(
@@ -38,5 +38,34 @@ fn sweep_square(
     for number in 0..kinds {
         let bounds = turn_bounds(position, number, stakes, old, list);
         new.set(first + number, bounds);
+    }
+}
+
+/// Gives each state with these checkers of the mover its turn over the old table.
+fn sweep_row(
+    mover: Layout,
+    layouts: &[Layout],
+    stakes: &Stakes,
+    old: &Table,
+    new: &mut Table,
+    list: &mut PlayList,
+)
+    requires all { AreLayouts old.now.checkers layouts.now }
+    requires mover { IsLayout mover }
+    requires many { sum mover ≡ old.now.checkers }
+    requires kinds { old.now.kinds ≡ length stakes.now.kinds }
+    requires within { AreWithin old.now.checkers stakes.now (words_of old.now) }
+    requires alike { AreAlike old.now new.old }
+    requires full { IsFull new.old }
+    requires before { IsTurnedBefore stakes.now old.now new.old (rank_of mover * length layouts.now) }
+    ensures alike { AreAlike old.now new.new }
+    ensures full { IsFull new.new }
+    ensures turned { IsTurnedBefore stakes.now old.now new.new (rank_of mover * length layouts.now + length layouts.now) }
+{
+    for other in layouts {
+        let position = Position::new(mover, *other).unwrap();
+        if position.is_live() {
+            sweep_square(&position, stakes, old, new, list);
+        }
     }
 }
