@@ -1,0 +1,14 @@
+-- A front and what is left.
+use Rattle.std.proofs.Common.{◌≡◌, ℕ, List, [], ◌++◌, take, drop, Option, Some, None, sym, refl, is_some, false}
+use Rattle.std.proofs.lemmas.List.{take-append-drop, append-nil}
+use Rattle.hyper_outside.specs.Calls.{front_of}
+
+-- what a failing call leaves out
+pub front-rest : (failing : Option ℕ) (bytes : List ℕ) → (rest : List ℕ) × (bytes ≡ front_of failing bytes ++ rest)
+front-rest None bytes = ([], sym (append-nil bytes))
+front-rest (Some n) bytes = (drop n bytes, sym (take-append-drop n bytes))
+
+-- a call that doesn't fail leaves out nothing
+pub front-whole : (failing : Option ℕ) (bytes : List ℕ) → is_some failing ≡ false → front_of failing bytes ≡ bytes
+front-whole None bytes none = refl
+front-whole (Some n) bytes none = cc

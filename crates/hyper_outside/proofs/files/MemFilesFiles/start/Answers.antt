@@ -1,0 +1,13 @@
+use Rattle.std.proofs.Common.{◌≡◌, List, [], sym, ◌∙◌, ap}
+use Rattle.hyper_outside.specs.Store.{Stock, held_bytes}
+use Rattle.hyper_outside.specs.MemFiles.{DemandingFiles}
+use Rattle.hyper_outside.proofs.Held.{held-with_bytes, held-others}
+use Rattle.hyper_outside.proofs.files.MemFilesFiles.start.Goals as goal
+
+pub returns-clause-starts : goal.returns-clause-starts
+returns-clause-starts c = ap (λ (s : Stock). held_bytes s.files c.args.name.now) c.start.ensures ∙ held-with_bytes _ c.args.name.now []
+
+pub returns-clause-others : goal.returns-clause-others
+returns-clause-others c = λ other differs.
+    ap (λ (s : Stock). held_bytes s.files other) c.start.ensures ∙ held-others _ c.args.name.now [] other differs
+    ∙ ap (λ (f : DemandingFiles). held_bytes f.stock.files other) c.self.view_is

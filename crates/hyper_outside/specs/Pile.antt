@@ -1,0 +1,44 @@
+-- Bytes in memory with room for more, and the sinks over them.
+use Rattle.std.specs.Prelude.{ℕ, ◌-◌, nat_lt, nat_le, Bool, ◌||◌, List, ◌++◌, length, is_some, if◌then◌else◌}
+use Rattle.hyper_outside.specs.Causes.{counted}
+use Rattle.hyper_outside.specs.Calls.{CallList, called, listed, front_of}
+
+-- the bytes, and how many more there is room for
+pub record Bytes : Type 0 where
+  pub bytes : List ℕ
+  pub room : ℕ
+
+-- with these bytes at the end
+abbrev pub more : Bytes → List ℕ → Bytes
+more pile added = record { bytes = pile.bytes ++ added; room = pile.room - length added }
+
+-- a sink that fails for want of room alone, with how often it failed
+pub record Honest : Type 0 where
+  pub pile : Bytes
+  pub faults : ℕ
+
+-- after a put of these bytes: where they don't fit nothing is added
+abbrev pub after_honest : Honest → List ℕ → Honest
+after_honest sink added =
+    if nat_le (length added) sink.pile.room then record { pile = more sink.pile added; faults = sink.faults }
+    else record { pile = sink.pile; faults = counted sink.faults }
+
+-- a sink that fails on demand too
+pub record Demanding : Type 0 where
+  pub pile : Bytes
+  pub calls : CallList
+  pub faults : ℕ
+
+-- a put of these bytes fails: it is listed, or there is no room for them
+abbrev pub put_fails : Demanding → List ℕ → Bool
+put_fails sink bytes = nat_lt sink.pile.room (length bytes) || is_some (listed (called sink.calls))
+
+-- what a put of these bytes adds: the front of a failing call that is listed, and nothing where there is no room for them
+abbrev pub after_put : Demanding → List ℕ → Demanding
+after_put sink bytes =
+    let calls = called sink.calls in
+    record {
+      pile = if nat_le (length bytes) sink.pile.room then more sink.pile (front_of (listed calls) bytes) else sink.pile;
+      calls = calls;
+      faults = if put_fails sink bytes then counted sink.faults else sink.faults;
+    }

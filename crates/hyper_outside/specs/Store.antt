@@ -1,0 +1,56 @@
+-- Files in memory, with room for more.
+use Rattle.std.specs.Prelude.{◌≡◌, ℕ, zero, suc, ◌+◌, ◌-◌, nat_lt, nat_le, Bool, ◌||◌, ◌&&◌, List, [], ◌∷◌, ◌++◌, length, Option, Some, None, is_some, unwrap_or, if◌then◌else◌}
+use Rattle.std.specs.Option.{option_map}
+use Rattle.std.specs.Str.{bytes_eq}
+
+-- a name with its bytes
+pub record File : Type 0 where
+  pub name : List ℕ
+  pub bytes : List ℕ
+
+-- the bytes under a name
+abbrev pub held_bytes : List File → List ℕ → Option (List ℕ)
+held_bytes [] name = None
+held_bytes (file ∷ files) name = if bytes_eq file.name name then Some file.bytes else held_bytes files name
+
+-- the files once these bytes stand under this name
+abbrev pub with_bytes : List File → List ℕ → List ℕ → List File
+with_bytes [] name bytes = record { name = name; bytes = bytes } ∷ []
+with_bytes (file ∷ files) name bytes =
+    if bytes_eq file.name name then record { name = file.name; bytes = bytes } ∷ files
+    else file ∷ with_bytes files name bytes
+
+-- where the name stands in the list
+abbrev pub place_of : List File → List ℕ → Option ℕ
+place_of [] name = None
+place_of (file ∷ files) name = if bytes_eq file.name name then Some zero else option_map suc (place_of files name)
+
+-- the files, how many new names there is a place for, and for how many more bytes there is room
+pub record Stock : Type 0 where
+  pub files : List File
+  pub places : ℕ
+  pub room : ℕ
+
+-- the bytes under a name, none where it isn't there
+abbrev pub bytes_of : Stock → List ℕ → List ℕ
+bytes_of stock name = unwrap_or (held_bytes stock.files name) []
+
+-- the name is there, or there is a place for it
+abbrev pub takes_name : Stock → List ℕ → Bool
+takes_name stock name = is_some (held_bytes stock.files name) || nat_lt 0 stock.places && nat_le (length name) 255
+
+-- and there is room for the bytes
+abbrev pub takes : Stock → List ℕ → ℕ → Bool
+takes stock name bytes = takes_name stock name && nat_le bytes stock.room
+
+-- once these bytes stand under this name
+abbrev pub stocked : Stock → List ℕ → List ℕ → Stock
+stocked stock name bytes = record {
+  files = with_bytes stock.files name bytes;
+  places = if is_some (held_bytes stock.files name) then stock.places else stock.places - 1;
+  room = stock.room + length (bytes_of stock name) - length bytes;
+}
+
+-- with places for more names and room for more bytes
+abbrev pub roomier : Stock → ℕ → ℕ → Stock
+roomier stock names bytes = record stock { places = stock.places + names; room = stock.room + bytes }

@@ -1,0 +1,182 @@
+ghost use Rattle.std.specs.Prelude.{◌≡◌, ℕ, ◌+◌, ◌≤◌, List, [], ◌∷◌, ◌++◌, IsTrue, not, true, min, length, take, drop, Option, IfOk, OnOk, OnErr, is_ok};
+ghost use Rattle.std.specs.Option.{option_copied, option_map};
+ghost use Rattle.hyper_outside.specs.Causes.{HasCause};
+ghost use Rattle.hyper_outside.specs.Files.{SameFiles, KeepsOthers, Reads, Starts, Appends, bytes_from};
+ghost use Rattle.hyper_outside.specs.Store.{held_bytes, stocked, roomier};
+ghost use Rattle.hyper_outside.specs.MemFiles.{is_listed, start_fails, append_fails, after_read, after_start, after_append};
+
+use crate::calls::{Calls, front};
+use crate::outside::{Failed, Files, NoMemory};
+use crate::store::Store;
+use std::alloc::Global;
+use std::marker::Model;
+
+/// Files in memory that fail on demand. They also fail where a name finds no place or bytes don't fit in the room that is left.
+#[derive(Drop)]
+pub struct MemFiles {
+    store: Store,
+    calls: Calls,
+    read_faults: u64,
+    write_faults: u64,
+}
+
+impl Model for MemFiles {
+    ghost use Rattle.hyper_outside.specs.MemFiles.{DemandingFiles};
+
+    ghost Value = { DemandingFiles };
+
+    ghost view = { λ f. record { stock = f.store; calls = f.calls; read_faults = f.read_faults; write_faults = f.write_faults } };
+}
+
+impl MemFiles {
+    /// No files, and no room.
+    pub fn new(alloc: Global) -> MemFiles
+        ensures { result ≡ record { stock = record { files = []; places = 0; room = 0 }; calls = record { made = 0; failing = [] }; read_faults = 0; write_faults = 0 } }
+    {
+        MemFiles {
+            store: Store::new(alloc),
+            calls: Calls::new(alloc),
+            read_faults: 0,
+            write_faults: 0,
+        }
+    }
+
+    /// Puts a file, and takes the room of it. After `NoMemory` the files are as before, and there may be more room.
+    pub fn with_file(&mut self, name: &str, bytes: &[u8]) -> Result<(), NoMemory>
+        ensures ok { OnOk result (self.new ≡ record self.old { stock = stocked (roomier self.old.stock 1 (length bytes.now)) name.now bytes.now }) }
+        ensures err { OnErr result (self.new ≡ record self.old { stock = record self.old.stock { places = self.new.stock.places; room = self.new.stock.room } }) }
+    {
+        self.store.put_file(name, bytes)
+    }
+
+    /// Takes room for so many names and bytes more. After `NoMemory` there may be more names' room.
+    pub fn room(&mut self, names: usize, bytes: usize) -> Result<(), NoMemory>
+        ensures ok { OnOk result (self.new ≡ record self.old { stock = roomier self.old.stock names bytes }) }
+        ensures err { OnErr result (self.new ≡ record self.old { stock = record self.old.stock { places = self.new.stock.places } }) }
+        ensures places { self.old.stock.places ≤ self.new.stock.places }
+    {
+        self.store.take_room(names, bytes)
+    }
+
+    /// Lists a call that is to fail, counted from 1 over all calls of `Files`, and how many bytes it still adds if it is an append.
+    pub fn fail_call(&mut self, call: u64, prefix: usize) -> Result<(), NoMemory>
+        ensures ok { OnOk result (self.new ≡ record self.old { calls = record self.old.calls { failing = self.old.calls.failing ++ (call, prefix) ∷ [] } }) }
+        ensures err { OnErr result (self.new ≡ self.old) }
+    {
+        self.calls.fail(call, prefix)
+    }
+
+    /// The bytes under a name.
+    pub fn held(&self, name: &str) -> Option<&[u8]>
+        ensures { option_copied result ≡ held_bytes self.now.stock.files name.now }
+    {
+        self.store.held(name)
+    }
+}
+
+impl Files for MemFiles {
+    ghost read_faults = { λ f. f.read_faults };
+
+    ghost write_faults = { λ f. f.write_faults };
+
+    ghost tells = { λ _. true };
+
+    ghost held = { λ f. held_bytes f.stock.files };
+
+    /// `Failed` exactly where the call is listed.
+    fn size(&mut self, name: &str) -> Result<Option<u64>, Failed>
+        ensures size { IfOk result (λ size. size ≡ option_map length (held_bytes self.old.stock.files name.now)) }
+        ensures cause { HasCause self.old.read_faults self.new.read_faults result }
+        ensures answer { is_ok result ≡ not (is_listed self.old) }
+        ensures after { self.new ≡ after_read self.old }
+    {
+        if self.calls.count().is_some() {
+            self.read_faults = self.read_faults.saturating_add(1);
+            return Err(Failed);
+        }
+        match self.store.held(name) {
+            Some(bytes) => Ok(Some(bytes.len() as u64)),
+            None => Ok(None),
+        }
+    }
+
+    /// `Failed` exactly where the call is listed. Otherwise it reads as many bytes as there are and fit.
+    fn read_at(&mut self, name: &str, at: u64, buf: &mut [u8]) -> Result<usize, Failed>
+        ensures within { IfOk result (λ count. count ≤ length buf.old) }
+        ensures reads { IfOk result (Reads (held_bytes self.old.stock.files name.now) at buf.old buf.new) }
+        ensures most { IfOk result (λ count. count ≡ min (length buf.old) (length (bytes_from at (held_bytes self.old.stock.files name.now)))) }
+        ensures failed { OnErr result (buf.new ≡ buf.old) }
+        ensures cause { HasCause self.old.read_faults self.new.read_faults result }
+        ensures answer { is_ok result ≡ not (is_listed self.old) }
+        ensures after { self.new ≡ after_read self.old }
+    {
+        if self.calls.count().is_some() {
+            self.read_faults = self.read_faults.saturating_add(1);
+            return Err(Failed);
+        }
+        Ok(copy_front(rest_from(self.store.held(name), at), buf))
+    }
+
+    /// `Failed` exactly where the call is listed or there is no place for the name.
+    fn start(&mut self, name: &str) -> Result<(), Failed>
+        ensures starts { Starts (held_bytes self.old.stock.files) (held_bytes self.new.stock.files) name.now result }
+        ensures others { KeepsOthers name.now (held_bytes self.old.stock.files) (held_bytes self.new.stock.files) }
+        ensures cause { HasCause self.old.write_faults self.new.write_faults result }
+        ensures answer { is_ok result ≡ not (start_fails self.old name.now) }
+        ensures after { self.new ≡ after_start self.old name.now }
+    {
+        if self.calls.count().is_some() {
+            self.write_faults = self.write_faults.saturating_add(1);
+            return Err(Failed);
+        }
+        if !self.store.takes_name(name) {
+            self.write_faults = self.write_faults.saturating_add(1);
+            return Err(Failed);
+        }
+        self.store.start(name);
+        Ok(())
+    }
+
+    /// `Failed` exactly where the call is listed, there is no place for the name or no room for the bytes. Where there is no place or
+    /// no room nothing is added.
+    fn append(&mut self, name: &str, bytes: &[u8]) -> Result<(), Failed>
+        ensures appends { Appends (held_bytes self.old.stock.files) (held_bytes self.new.stock.files) name.now bytes.now result }
+        ensures others { KeepsOthers name.now (held_bytes self.old.stock.files) (held_bytes self.new.stock.files) }
+        ensures cause { HasCause self.old.write_faults self.new.write_faults result }
+        ensures answer { is_ok result ≡ not (append_fails self.old name.now bytes.now) }
+        ensures after { self.new ≡ after_append self.old name.now bytes.now }
+    {
+        let failing = self.calls.count();
+        if !self.store.takes(name, bytes.len()) {
+            self.write_faults = self.write_faults.saturating_add(1);
+            return Err(Failed);
+        }
+        self.store.append(name, front(bytes, failing));
+        if failing.is_some() {
+            self.write_faults = self.write_faults.saturating_add(1);
+            return Err(Failed);
+        }
+        Ok(())
+    }
+}
+
+/// What can be read of a file from a place on.
+fn rest_from(file: Option<&[u8]>, at: u64) -> &[u8]
+    ensures { result.now ≡ bytes_from at (option_copied file.entry) }
+{
+    match file {
+        Some(bytes) if at < bytes.len() as u64 => &bytes[at as usize..],
+        _ => &[],
+    }
+}
+
+/// Copies as many bytes as fit to the front of a buffer, and answers how many.
+fn copy_front(bytes: &[u8], buf: &mut [u8]) -> usize
+    ensures count { result ≡ min (length buf.old) (length bytes.now) }
+    ensures front { take result buf.new ≡ take result bytes.now }
+    ensures rest { drop result buf.new ≡ drop result buf.old }
+{
+    let count = bytes.len().min(buf.len());
+    buf[..count].copy_from_slice(&bytes[..count]);
+    count
+}

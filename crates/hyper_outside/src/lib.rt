@@ -1,0 +1,18 @@
+//! What the solver reaches outside itself: files, the output, and a gate that workers pass.
+#![tactic(auto)]
+
+mod calls;
+mod files;
+mod gate;
+mod outside;
+mod pile;
+mod sinks;
+mod store;
+
+pub use files::MemFiles;
+pub use gate::{Gate, OpenGate};
+pub use outside::{BadWords, Failed, Files, NoMemory, Sink, WordsKind};
+pub use sinks::{HonestSink, MemSink, RealSink};
+
+#[cfg(test)]
+mod tests;

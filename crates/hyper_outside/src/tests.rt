@@ -1,0 +1,84 @@
+use super::*;
+use std::test::Fail;
+
+#[test]
+fn mem_sink_fails_on_demand(rt: HostRuntime) -> Result<(), Fail> {
+    // the call that is to fail, the front that it still adds, and what is there after puts of "ab", "cde" and "f"
+    let cases: [(u64, usize, &[u8]); 5] = [
+        (1, 1, b"acdef"),
+        (2, 0, b"abf"),
+        (2, 2, b"abcdf"),
+        (3, 1, b"abcdef"),
+        (4, 0, b"abcdef"),
+    ];
+    for (call, prefix, want) in cases.iter() {
+        let mut sink = MemSink::new(rt.alloc());
+        sink.room(6)?;
+        sink.fail_call(*call, *prefix)?;
+        assert_eq!(rt; sink.put(b"ab").is_err(), *call == 1);
+        assert_eq!(rt; sink.put(b"cde").is_err(), *call == 2);
+        assert_eq!(rt; sink.put(b"f").is_err(), *call == 3);
+        assert_eq!(rt; sink.put_bytes(), *want);
+    }
+    Ok(())
+}
+
+#[test]
+fn honest_sink_fails_when_full(rt: HostRuntime) -> Result<(), Fail> {
+    let mut sink = HonestSink::with_room(rt.alloc(), 4)?;
+    assert_eq!(rt; sink.put(b"abc"), Ok(()));
+    assert_eq!(rt; sink.put(b"de"), Err(Failed));
+    assert_eq!(rt; sink.put(b"f"), Ok(()));
+    assert_eq!(rt; sink.put(b""), Ok(()));
+    assert_eq!(rt; sink.put_bytes(), b"abcf".as_slice());
+    Ok(())
+}
+
+#[test]
+fn real_sink_writes_to_a_vec(rt: HostRuntime) -> Result<(), Fail> {
+    let mut written: Vec<u8> = Vec::new(rt.alloc());
+    let mut sink = RealSink::new(&mut written);
+    assert_eq!(rt; sink.put(b"ab"), Ok(()));
+    assert_eq!(rt; sink.put(b"c"), Ok(()));
+    OpenGate.pass(0, 0);
+    assert_eq!(rt; written.as_slice(), b"abc".as_slice());
+    Ok(())
+}
+
+#[test]
+fn mem_files_read_back(rt: HostRuntime) -> Result<(), Fail> {
+    let mut files = MemFiles::new(rt.alloc());
+    files.with_file("old", b"hello")?;
+    files.room(1, 4)?;
+    let mut buf = [b'.'; 4];
+    assert_eq!(rt; files.size("old"), Ok(Some(5)));
+    assert_eq!(rt; files.size("new"), Ok(None));
+    // from a place: how many bytes, and the buffer then
+    let reads: [(u64, usize, &[u8]); 4] = [
+        (0, 4, b"hell"),
+        (3, 2, b"loll"),
+        (5, 0, b"loll"),
+        (9, 0, b"loll"),
+    ];
+    for (at, count, want) in reads.iter() {
+        assert_eq!(rt; files.read_at("old", *at, &mut buf), Ok(*count));
+        assert_eq!(rt; buf.as_slice(), *want);
+    }
+    assert_eq!(rt; files.start("old"), Ok(()));
+    assert_eq!(rt; files.append("new", b"abcdef"), Ok(()));
+    assert_eq!(rt; files.append("more", b"x"), Err(Failed));
+    assert_eq!(rt; files.append("new", b"ghij"), Err(Failed));
+    files.fail_call(11, 1)?;
+    files.fail_call(12, 0)?;
+    files.fail_call(13, 0)?;
+    assert_eq!(rt; files.append("old", b"gh"), Err(Failed));
+    assert_eq!(rt; files.size("old"), Err(Failed));
+    assert_eq!(rt; files.start("old"), Err(Failed));
+    assert_eq!(rt; files.size("old"), Ok(Some(1)));
+    let old = files.held("old").unwrap_or(b"none");
+    assert_eq!(rt; old, b"g".as_slice());
+    let new = files.held("new").unwrap_or(b"none");
+    assert_eq!(rt; new, b"abcdef".as_slice());
+    assert!(rt; files.held("more").is_none());
+    Ok(())
+}
