@@ -1,4 +1,4 @@
-ghost use Rattle.std.specs.Prelude.{◌≡◌, ◌<◌, ℕ, length};
+ghost use Rattle.std.specs.Prelude.{◌≡◌, ◌<◌, ◌≤◌, ℕ, length};
 ghost use Rattle.cube_actions.specs.Stakes.{IsValid, cubeless, kind_at};
 
 use crate::kind::Kind;
@@ -51,6 +51,7 @@ impl Stakes {
     /// How many kinds of state there are.
     pub fn kinds(&self) -> usize
         ensures kinds { result ≡ length self.now.kinds }
+        ensures few { result ≤ 14 }
         ensures valid { IsValid self.now }
     {
         self.kinds.len()

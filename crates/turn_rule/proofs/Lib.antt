@@ -6,3 +6,4 @@ pub mod Best
 pub mod Least
 pub mod TableLemmas
 pub mod RowLemmas
+pub mod GameLemmas

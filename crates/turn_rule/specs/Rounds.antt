@@ -3,10 +3,10 @@ use Rattle.std.specs.Prelude.{◌≡◌, ℕ, ◌<◌, ◌≤◌, ◌+◌, ◌*�
 use Rattle.directed_fixed.specs.Bounds.{Bounds}
 use Rattle.position_rank.specs.Board.{Board, IsLayout}
 use Rattle.position_rank.specs.Ranks.{layouts, rank_of, square_rank_of}
-use Rattle.cube_actions.specs.Stakes.{Terms}
+use Rattle.cube_actions.specs.Stakes.{Terms, IsValid}
 use Rattle.turn_rule.specs.Turn.{Words, turn, rounds}
-use Rattle.turn_rule.specs.States.{IsState, pair_of, Agree}
-use Rattle.turn_rule.specs.Tables.{Pairs, words_of}
+use Rattle.turn_rule.specs.States.{IsState, AreWithin, pair_of, Agree}
+use Rattle.turn_rule.specs.Tables.{Pairs, IsFull, words_of}
 
 -- a game's stakes and a table of its pairs
 pub record Game : Type 0 where
@@ -44,3 +44,13 @@ IsTurnedBefore stakes old new square = (p : Board) (k : ℕ) → IsState old.che
 pub record AreAlike (old new : Pairs) : Type 0 where
   pub checkers : new.checkers ≡ old.checkers
   pub kinds : new.kinds ≡ old.kinds
+
+-- a table whose next round may be made: all layouts are at hand, and there is room for the next pairs
+pub record IsReady (stakes : Terms) (all : List (List ℕ)) (now next : Pairs) : Type 0 where
+  pub valid : IsValid stakes
+  pub kinds : now.kinds ≡ length stakes.kinds
+  pub within : AreWithin now.checkers stakes (words_of now)
+  pub layouts : AreLayouts now.checkers all
+  pub alike : AreAlike now next
+  pub full_now : IsFull now
+  pub full_next : IsFull next

@@ -69,3 +69,20 @@ fn sweep_row(
         }
     }
 }
+
+/// Gives every state its turn over the old table.
+pub(crate) fn sweep_rows(layouts: &[Layout], stakes: &Stakes, old: &Table, new: &mut Table)
+    requires all { AreLayouts old.now.checkers layouts.now }
+    requires kinds { old.now.kinds ≡ length stakes.now.kinds }
+    requires within { AreWithin old.now.checkers stakes.now (words_of old.now) }
+    requires alike { AreAlike old.now new.old }
+    requires full { IsFull new.old }
+    ensures alike { AreAlike old.now new.new }
+    ensures full { IsFull new.new }
+    ensures turned { IsTurnedBefore stakes.now old.now new.new (length layouts.now * length layouts.now) }
+{
+    let mut list = PlayList::new();
+    for mover in layouts {
+        sweep_row(*mover, layouts, stakes, old, new, &mut list);
+    }
+}

@@ -1,0 +1,88 @@
+ghost use Rattle.std.specs.Prelude.{◌≡◌, ◌<◌, ◌≤◌, ◌+◌, ℕ, IfOk, OnOk, length, sum};
+ghost use Rattle.directed_fixed.specs.declared.bounds.End.TheVariants.{Lower, Upper};
+ghost use Rattle.turn_rule.specs.Tables.{IsFull, squares_of, words_of};
+ghost use Rattle.turn_rule.specs.States.{IsState, AreWithin, pair_of};
+ghost use Rattle.turn_rule.specs.Rounds.{AreAlike, AreLayouts, HasRounds, IsTurned, IsTurnedBefore};
+
+use crate::sweep::sweep_rows;
+use crate::table::Table;
+use cube_actions::Stakes;
+use directed_fixed::Pair;
+use hyper_outside::NoMemory;
+use position_rank::{Layout, Position, layout_count};
+use std::alloc::Global;
+use std::marker::Model;
+use std::mem;
+
+/// A pair for each state of a game, after some rounds in which every state takes its turn over the pairs of the round before.
+#[derive(Drop)]
+pub struct PlainTable {
+    stakes: Stakes,
+    layouts: Vec<Layout>,
+    current: Table,
+    next: Table,
+}
+
+impl Model for PlainTable {
+    ghost use Rattle.turn_rule.specs.Rounds.{Game, IsReady};
+
+    ghost Value = { Game };
+
+    ghost view = { λ a. record { stakes = a.stakes; table = a.current } };
+
+    ghost invariant = { λ a. IsReady a.stakes a.layouts.items a.current a.next };
+}
+
+/// All layouts of so many checkers, by rising rank.
+fn all_layouts(alloc: Global, checkers: u8) -> Result<Vec<Layout>, NoMemory>
+    requires low { 1 ≤ checkers }
+    requires high { checkers ≤ 3 }
+    ensures { IfOk result (λ all. AreLayouts checkers all.items) }
+{
+    let mut all = Vec::new(alloc);
+    for rank in 0..layout_count(checkers) {
+        all.push(Layout::unrank(checkers, rank))?;
+    }
+    Ok(all)
+}
+
+impl PlainTable {
+    /// Before the first round, when only the bound is known of any state.
+    pub fn new(alloc: Global, checkers: u8, stakes: &Stakes) -> Result<PlainTable, NoMemory>
+        requires low { 1 ≤ checkers }
+        requires high { checkers ≤ 3 }
+        ensures game { IfOk result (λ table. (table.table.checkers ≡ checkers) × (table.stakes ≡ stakes.now)) }
+        ensures rounds { IfOk result (λ table. HasRounds table 0) }
+    {
+        let bound = stakes.bound();
+        let opening = Pair::new(bound.neg(), bound);
+        let layouts = all_layouts(alloc, checkers)?;
+        let current = Table::filled(alloc, checkers, stakes.kinds(), opening)?;
+        let next = Table::filled(alloc, checkers, stakes.kinds(), opening)?;
+        Ok(PlainTable {
+            stakes: stakes.copied(),
+            layouts,
+            current,
+            next,
+        })
+    }
+
+    /// One more round: every state takes its turn over the pairs that stood before.
+    pub fn sweep_all(&mut self)
+        ensures checkers { self.new.table.checkers ≡ self.old.table.checkers }
+        ensures stakes { self.new.stakes ≡ self.old.stakes }
+        ensures turned { IsTurned self.old self.new }
+        ensures rounds { (r : ℕ) → HasRounds self.old r → HasRounds self.new (r + 1) }
+    {
+        sweep_rows(&self.layouts, &self.stakes, &self.current, &mut self.next);
+        mem::swap(&mut self.current, &mut self.next);
+    }
+
+    /// The pair of a state.
+    pub fn pair(&self, position: &Position, kind: usize) -> Pair
+        requires { IsState self.now.table.checkers self.now.stakes position.now kind }
+        ensures { result ≡ pair_of (words_of self.now.table) position.now kind }
+    {
+        self.current.pair(position, kind)
+    }
+}
