@@ -26,9 +26,9 @@ loop-position-preserved c =
     let found = c.square_unrank-position.ensures in
     elim c.if-is_live.branch [
       | then-is_live+else-seen-rank w ↦ (
-        let more = live-counts c.args.checkers c.loop-position.square _ found.valid found.checkers found.rank (c.is_live.ensures.0 w.if-is_live.true) in
-        record { so_far = omega (arith, more, w.seen-is); few = omega (arith, w.seen-is, w.if-seen-rank.false) })
+          let more = live-counts c.args.checkers c.loop-position.square _ found.valid found.checkers found.rank (c.is_live.ensures.0 w.if-is_live.true) in
+          record { so_far = omega (arith, more, w.seen-is); few = omega (arith, w.seen-is, w.if-seen-rank.false) })
       | else-is_live w ↦ (
-        let same = dead-counts c.args.checkers c.loop-position.square _ found.valid found.checkers found.rank (iff_false c.is_live.ensures w.if-is_live.false) in
-        record { so_far = omega (arith, same, w.seen-is); few = omega (arith, w.seen-is) })
+          let same = dead-counts c.args.checkers c.loop-position.square _ found.valid found.checkers found.rank (iff_false c.is_live.ensures w.if-is_live.false) in
+          record { so_far = omega (arith, same, w.seen-is); few = omega (arith, w.seen-is) })
     ]
