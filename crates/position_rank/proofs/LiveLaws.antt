@@ -1,19 +1,19 @@
 -- Laws of live ranks.
-use Rattle.std.proofs.Common.{◌≡◌, ℕ, zero, suc, ◌+◌, ◌-◌, ◌*◌, ◌/◌, ◌%◌, ◌<◌, ◌≤◌, Bool, true, false, not, ◌&&◌, ◌||◌, List, [], ◌∷◌, length, get_or, sum, count_by, eqb, ltb, leb, All, refl, ap, sym, subst, ◌∙◌, inl, inr, arith, add-one}
-use Rattle.std.specs.List.{list_all, range_with_len}
-use Rattle.std.proofs.lemmas.Nat.{div-mul-add, mod-mul-add, div_below, mod_below, div-add-mod'}
+use Rattle.std.proofs.Common.{◌≡◌, ℕ, zero, suc, ◌+◌, ◌-◌, ◌*◌, ◌/◌, ◌%◌, ◌<◌, ◌≤◌, Bool, true, false, ◌&&◌, ◌||◌, List, [], ◌∷◌, length, get_or, sum, count_by, eqb, ltb, leb, All, refl, ap, sym, subst, ◌∙◌, inl, inr, arith, add-one}
+use Rattle.std.specs.List.{range_with_len}
+use Rattle.std.proofs.lemmas.Nat.{div-mul-add, mod-mul-add}
 use Rattle.std.proofs.lemmas.List.FromFn.{length-range_with_len, get_or-range_with_len}
 use Rattle.std.proofs.lemmas.List.Sums.{sum_by-cons, AllPass-from_list_all, list_all-from_AllPass}
 use Rattle.std.proofs.lemmas.List.Elements.{All-weaker}
-use Rattle.std.proofs.lemmas.Bool.{cases_lt, cases_order, cases_eq, and_parts, and_from, or_cases, or_left, or_right, not-true, not_from_false, eqb-true, eqb-false, eq-eqb, ne_eqb, false_from_ne_true, le-leb, lt-leb, lt-ltb, le-ltb}
+use Rattle.std.proofs.lemmas.Bool.{cases_lt, cases_order, and_parts, and_from, or_cases, or_left, or_right, not-true, not_from_false, eqb-true, eqb-false, eq-eqb, ne_eqb, false_from_ne_true, le-leb, lt-leb, lt-ltb, le-ltb}
 use Rattle.position_rank.specs.Board.{Board, IsLayout, IsPosition, IsLive, InPlay, AreApart}
 use Rattle.position_rank.specs.Packed.{counts_of}
 use Rattle.position_rank.specs.PackedLaws.{one, count-below, count-same}
 use Rattle.position_rank.specs.Ranks.{choose, layouts, rising_places, sum_of_ways, rank_of, square_rank_of}
 use Rattle.position_rank.specs.LiveRanks.{are_apart, is_in_play, is_live, highest_place, falling_places, layout_at, board_at, live_below, live_positions, live_rank_of}
 use Rattle.position_rank.proofs.Cells.{one-le}
-use Rattle.position_rank.proofs.Choose.{choose-none, choose-more, choose-one, choose-two-more, choose-three-more, rises, two-below, three-below}
-use Rattle.position_rank.proofs.Rising.{often, often-cons, RiseFrom, counts_of-rising_places, rising_places-rise, rising_places-within, length-rising_places, counts_of-same}
+use Rattle.position_rank.proofs.Choose.{choose-more, choose-one, rises, two-below, three-below}
+use Rattle.position_rank.proofs.Rising.{often-cons, RiseFrom, counts_of-rising_places, rising_places-rise, rising_places-within, length-rising_places, counts_of-same}
 use Rattle.position_rank.proofs.RankLaws.{layouts-one, layouts-two, layouts-three, ways-one, ways-two, ways-three, rank-below, square-below, positions-same}
 
 All-range : (a n : ℕ) → All (λ x. (a ≤ x) × (x < a + n)) (range_with_len a n)

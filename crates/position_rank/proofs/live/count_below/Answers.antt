@@ -1,5 +1,4 @@
-use Rattle.std.proofs.Common.{◌≡◌, ◌+◌, ◌≤◌, arith, sym, ◌∙◌}
-use Rattle.position_rank.specs.LiveRanks.{live_below}
+use Rattle.std.proofs.Common.{arith, sym}
 use Rattle.position_rank.proofs.LiveLaws.{live_below-none, live-counts, dead-counts}
 use Rattle.std.proofs.lemmas.Bool.{iff_false}
 use Rattle.position_rank.proofs.live.count_below.Goals as goal

@@ -1,7 +1,6 @@
-use Rattle.std.proofs.Common.{◌≡◌, ◌+◌, ◌-◌, ◌*◌, ◌<◌, ◌≤◌, arith, sym}
+use Rattle.std.proofs.Common.{◌*◌, ◌<◌, arith, sym}
 use Rattle.std.proofs.lemmas.Bool.{iff_false}
 use Rattle.position_rank.specs.Ranks.{layouts}
-use Rattle.position_rank.specs.LiveRanks.{live_below}
 use Rattle.position_rank.proofs.LiveLaws.{live_below-none, live-counts, dead-counts, square-left, square-size}
 use Rattle.position_rank.proofs.live.live_unrank.Goals as goal
 use Rattle.position_rank.proofs.live.live_unrank.Goals.{then-is_live+else-seen-rank, else-is_live}
