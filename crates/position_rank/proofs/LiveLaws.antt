@@ -1,19 +1,19 @@
 -- Laws of live ranks.
-use Rattle.std.proofs.Common.{◌≡◌, ℕ, zero, suc, ◌+◌, ◌-◌, ◌*◌, ◌/◌, ◌%◌, ◌<◌, ◌≤◌, Bool, true, false, not, ◌&&◌, ◌||◌, List, [], ◌∷◌, length, get_or, sum, count_by, eqb, ltb, leb, All, refl, ap, sym, subst, ◌∙◌, inl, inr, arith, add-one}
-use Rattle.std.specs.List.{list_all, range_with_len}
-use Rattle.std.proofs.lemmas.Nat.{div-mul-add, mod-mul-add, div_below, mod_below, div-add-mod'}
+use Rattle.std.proofs.Common.{◌≡◌, ℕ, zero, suc, ◌+◌, ◌-◌, ◌*◌, ◌/◌, ◌%◌, ◌<◌, ◌≤◌, Bool, true, false, ◌&&◌, ◌||◌, List, [], ◌∷◌, length, get_or, sum, count_by, eqb, ltb, leb, All, refl, ap, sym, subst, ◌∙◌, inl, inr, arith, add-one}
+use Rattle.std.specs.List.{range_with_len}
+use Rattle.std.proofs.lemmas.Nat.{div-mul-add, mod-mul-add}
 use Rattle.std.proofs.lemmas.List.FromFn.{length-range_with_len, get_or-range_with_len}
 use Rattle.std.proofs.lemmas.List.Sums.{sum_by-cons, AllPass-from_list_all, list_all-from_AllPass}
 use Rattle.std.proofs.lemmas.List.Elements.{All-weaker}
-use Rattle.std.proofs.lemmas.Bool.{cases_lt, cases_order, cases_eq, and_parts, and_from, or_cases, or_left, or_right, not-true, not_from_false, eqb-true, eqb-false, eq-eqb, ne_eqb, false_from_ne_true, le-leb, lt-leb, lt-ltb, le-ltb}
+use Rattle.std.proofs.lemmas.Bool.{cases_lt, cases_order, and_parts, and_from, or_cases, or_left, or_right, not-true, not_from_false, eqb-true, eqb-false, eq-eqb, ne_eqb, false_from_ne_true, le-leb, lt-leb, lt-ltb, le-ltb}
 use Rattle.position_rank.specs.Board.{Board, IsLayout, IsPosition, IsLive, InPlay, AreApart}
 use Rattle.position_rank.specs.Packed.{counts_of}
 use Rattle.position_rank.specs.PackedLaws.{one, count-below, count-same}
 use Rattle.position_rank.specs.Ranks.{choose, layouts, rising_places, sum_of_ways, rank_of, square_rank_of}
 use Rattle.position_rank.specs.LiveRanks.{are_apart, is_in_play, is_live, highest_place, falling_places, layout_at, board_at, live_below, live_positions, live_rank_of}
 use Rattle.position_rank.proofs.Cells.{one-le}
-use Rattle.position_rank.proofs.Choose.{choose-none, choose-more, choose-one, choose-two-more, choose-three-more, rises, two-below, three-below}
-use Rattle.position_rank.proofs.Rising.{often, often-cons, RiseFrom, counts_of-rising_places, rising_places-rise, rising_places-within, length-rising_places, counts_of-same}
+use Rattle.position_rank.proofs.Choose.{choose-more, choose-one, rises, two-below, three-below}
+use Rattle.position_rank.proofs.Rising.{often-cons, RiseFrom, counts_of-rising_places, rising_places-rise, rising_places-within, length-rising_places, counts_of-same}
 use Rattle.position_rank.proofs.RankLaws.{layouts-one, layouts-two, layouts-three, ways-one, ways-two, ways-three, rank-below, square-below, positions-same}
 
 All-range : (a n : ℕ) → All (λ x. (a ≤ x) × (x < a + n)) (range_with_len a n)
@@ -28,16 +28,16 @@ apart_at p point = eqb (get_or p.mover point 0) 0 || eqb (get_or p.other (25 - p
 apart_at-from : (p : Board) (point : ℕ) → apart_at p point ≡ true → 0 < get_or p.mover point 0 → get_or p.other (25 - point) 0 ≡ 0
 unfolding apart_at
 apart_at-from p point e held = elim (or_cases (eqb (get_or p.mover point 0) 0) (eqb (get_or p.other (25 - point) 0) 0) e) [
-    | inl none ↦ absurd (omega (arith, eqb-true (get_or p.mover point 0) 0 none))
-    | inr none ↦ eqb-true (get_or p.other (25 - point) 0) 0 none
-  ]
+  | inl none ↦ absurd (omega (arith, eqb-true (get_or p.mover point 0) 0 none))
+  | inr none ↦ eqb-true (get_or p.other (25 - point) 0) 0 none
+]
 
 from-apart_at : (p : Board) (point : ℕ) → (0 < get_or p.mover point 0 → get_or p.other (25 - point) 0 ≡ 0) → apart_at p point ≡ true
 unfolding apart_at
 from-apart_at p point apart = elim (cases_lt 0 (get_or p.mover point 0)) [
-    | inl held ↦ or_right (eqb (get_or p.mover point 0) 0) _ (eq-eqb (get_or p.other (25 - point) 0) 0 (apart held))
-    | inr none ↦ or_left _ (eqb (get_or p.other (25 - point) 0) 0) (eq-eqb (get_or p.mover point 0) 0 (omega arith))
-  ]
+  | inl held ↦ or_right (eqb (get_or p.mover point 0) 0) _ (eq-eqb (get_or p.other (25 - point) 0) 0 (apart held))
+  | inr none ↦ or_left _ (eqb (get_or p.other (25 - point) 0) 0) (eq-eqb (get_or p.mover point 0) 0 (omega arith))
+]
 
 apart-from : (p : Board) → are_apart p ≡ true → AreApart p
 unfolding are_apart apart_at
@@ -73,10 +73,10 @@ from-live p live =
 ways-rise : (others m n : ℕ) → m ≤ n → choose (m + suc others - 1) (suc others) ≤ choose (n + suc others - 1) (suc others)
 ways-rise others = rises (λ n. choose (n + suc others - 1) (suc others))
     (λ n.
-      let low : n + suc others - 1 ≡ n + others = omega arith in
-      let high : suc n + suc others - 1 ≡ n + others + 1 = omega arith in
-      let last : suc others ≡ others + 1 = omega arith in
-      rw (low, high) (rw last (omega (arith, choose-more (n + others) others))))
+    let low : n + suc others - 1 ≡ n + others = omega arith in
+    let high : suc n + suc others - 1 ≡ n + others + 1 = omega arith in
+    let last : suc others ≡ others + 1 = omega arith in
+    rw (low, high) (rw last (omega (arith, choose-more (n + others) others))))
 
 highest_place-is : (others h ways : ℕ) → h ≤ 25 → choose (h + suc others - 1) (suc others) ≤ ways → ways < choose (h + 1 + suc others - 1) (suc others) → highest_place (suc others) ways ≡ h
 unfolding highest_place
@@ -124,7 +124,7 @@ layout_at-rise (a ∷ b ∷ []) r all low short =
 layout_at-rise (a ∷ b ∷ d ∷ []) r all low short =
     rw (ways-three a b d, falling-three a b d r.1.0 r.1.1.0 (all 2 0 (omega arith)))
     (counts_of-same (d ∷ b ∷ a ∷ []) (a ∷ b ∷ d ∷ [])
-      (λ k within. omega (arith, often-cons k d (b ∷ a ∷ []), often-cons k b (a ∷ []), often-cons k a [], often-cons k a (b ∷ d ∷ []), often-cons k b (d ∷ []), often-cons k d [])))
+    (λ k within. omega (arith, often-cons k d (b ∷ a ∷ []), often-cons k b (a ∷ []), often-cons k a [], often-cons k a (b ∷ d ∷ []), often-cons k b (d ∷ []), often-cons k d [])))
 layout_at-rise (a ∷ b ∷ d ∷ p ∷ ps) r all low short = absurd (omega (arith, short))
 
 pub layout_at-rank : (counts : List ℕ) → IsLayout counts → layout_at (sum counts) (rank_of counts) ≡ counts
@@ -132,7 +132,7 @@ layout_at-rank counts is =
     let places = rising_places counts in
     let many : length places ≡ sum counts = length-rising_places counts in
     let at : layout_at (length places) (sum_of_ways 1 places) ≡ counts_of places =
-        layout_at-rise places (rising_places-rise counts) (rising_places-within counts is.places) (omega (arith, many, is.at_least_one)) (omega (arith, many, is.at_most_three)) in
+    layout_at-rise places (rising_places-rise counts) (rising_places-within counts is.places) (omega (arith, many, is.at_least_one)) (omega (arith, many, is.at_most_three)) in
     subst (λ (n : ℕ). layout_at n (rank_of counts) ≡ counts) many (at ∙ counts_of-rising_places counts is.places)
 
 -- a position stands at its square rank
@@ -200,19 +200,19 @@ live-order p q is live same less =
 -- live positions of as many checkers and of equal live rank are the same
 pub live-same : (p q : Board) → IsPosition p → IsPosition q → IsLive p → IsLive q → sum p.mover ≡ sum q.mover → live_rank_of p ≡ live_rank_of q → p ≡ q
 live-same p q is_p is_q live_p live_q same e = elim (cases_order (square_rank_of p) (square_rank_of q)) [
-    | inl equal ↦ positions-same p q is_p is_q same equal
-    | inr other ↦ elim other [
-      | inl less ↦ absurd (omega (arith, live-order p q is_p live_p same less))
-      | inr more ↦ absurd (omega (arith, live-order q p is_q live_q (sym same) more))
-    ]
+  | inl equal ↦ positions-same p q is_p is_q same equal
+  | inr other ↦ elim other [
+    | inl less ↦ absurd (omega (arith, live-order p q is_p live_p same less))
+    | inr more ↦ absurd (omega (arith, live-order q p is_q live_q (sym same) more))
   ]
+]
 
 -- a square whose live positions below are too few is in the square
 pub square-left : (checkers size square rank seen : ℕ) → rank < live_below checkers size → seen ≤ rank → seen ≡ live_below checkers square → square < size
 square-left checkers size square rank seen below few is = elim (cases_lt square size) [
-    | inl inside ↦ inside
-    | inr past ↦ absurd (omega (arith, live_below-rises checkers size square past))
-  ]
+  | inl inside ↦ inside
+  | inr past ↦ absurd (omega (arith, live_below-rises checkers size square past))
+]
 
 -- all pairs of layouts fit a word
 pub square-size : (checkers : ℕ) → 1 ≤ checkers → checkers ≤ 3 → layouts checkers * layouts checkers ≤ 10732176

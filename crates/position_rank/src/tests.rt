@@ -1,6 +1,8 @@
 use crate::layout::{BadLayout, Layout};
+use crate::live::{live_count, live_rank, live_unrank};
 use crate::position::Position;
 use crate::rank::layout_count;
+use std::process::Abort;
 
 #[test]
 fn places_make_layouts(rt: HostRuntime) {
@@ -46,13 +48,49 @@ fn positions_are_known(rt: HostRuntime) {
         (&[24, 23, 22], &[24, 23, 22], 2898 * 3277, true),
     ];
     for (mover, other, rank, live) in rows {
-        let mover = Layout::from_places(mover).expect(&rt, "one to three places");
-        let other = Layout::from_places(other).expect(&rt, "one to three places");
-        let position = Position::new(mover, other).expect(&rt, "as many checkers");
+        let position = position(&rt, mover, other);
         assert_eq!(rt; position.square_rank(), rank);
         assert_eq!(rt; position.is_live(), live);
-        assert!(rt; position.swap().mover() == other);
+        assert!(rt; position.swap().mover() == position.other());
     }
-    let side = Layout::from_places(&[24, 23, 22]).expect(&rt, "three places");
-    assert_eq!(rt; Position::new(side, side), Some(Position::start(3)));
+    assert_eq!(rt;
+        position(&rt, &[24, 23, 22], &[24, 23, 22]),
+        Position::start(3)
+    );
+}
+
+/// A position from both sides' places.
+fn position(rt: &impl Abort, mover: &[u8], other: &[u8]) -> Position {
+    let mover = Layout::from_places(mover).expect(rt, "one to three places");
+    let other = Layout::from_places(other).expect(rt, "one to three places");
+    Position::new(mover, other).expect(rt, "as many checkers")
+}
+
+#[test]
+fn live_ranks_are_the_known_ones(rt: HostRuntime) {
+    assert_eq!(rt; live_count(1), 601);
+    let count = live_count(2);
+    assert_eq!(rt; count, 106_552);
+    let rows: [(&[u8], &[u8], u64); 5] = [
+        (&[1], &[1], 0),
+        (&[6], &[1], 120),
+        (&[24], &[24], 574),
+        (&[25], &[25], 600),
+        (&[6, 0], &[1, 0], 6230),
+    ];
+    for (mover, other, rank) in rows {
+        let position = position(&rt, mover, other);
+        assert!(rt; position.is_live());
+        assert_eq!(rt; live_rank(&position), rank);
+    }
+    let last = position(&rt, &[25, 25], &[25, 25]);
+    assert!(rt; 106_551 < count);
+    assert_eq!(rt; live_unrank(2, 106_551), last);
+}
+
+#[test]
+fn the_start_has_its_live_rank(rt: HostRuntime) {
+    let start = Position::start(3);
+    assert!(rt; start.is_live());
+    assert_eq!(rt; live_rank(&start), 6_947_152);
 }

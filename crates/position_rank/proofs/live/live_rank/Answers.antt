@@ -1,5 +1,5 @@
-use Rattle.std.proofs.Common.{◌≡◌, ◌<◌, sym, ap, ◌∙◌, arith}
-use Rattle.position_rank.specs.LiveRanks.{live_below, live_positions, live_rank_of}
+use Rattle.std.proofs.Common.{◌≡◌, ◌∙◌}
+use Rattle.position_rank.specs.LiveRanks.{live_rank_of}
 use Rattle.position_rank.proofs.LiveLaws.{live-rank-in}
 use Rattle.position_rank.proofs.live.live_rank.Goals as goal
 

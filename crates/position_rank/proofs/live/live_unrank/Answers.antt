@@ -1,7 +1,6 @@
-use Rattle.std.proofs.Common.{◌≡◌, ◌+◌, ◌-◌, ◌*◌, ◌<◌, ◌≤◌, arith, sym}
+use Rattle.std.proofs.Common.{◌*◌, ◌<◌, arith, sym}
 use Rattle.std.proofs.lemmas.Bool.{iff_false}
 use Rattle.position_rank.specs.Ranks.{layouts}
-use Rattle.position_rank.specs.LiveRanks.{live_below}
 use Rattle.position_rank.proofs.LiveLaws.{live_below-none, live-counts, dead-counts, square-left, square-size}
 use Rattle.position_rank.proofs.live.live_unrank.Goals as goal
 use Rattle.position_rank.proofs.live.live_unrank.Goals.{then-is_live+else-seen-rank, else-is_live}
@@ -26,9 +25,9 @@ loop-position-preserved c =
     let found = c.square_unrank-position.ensures in
     elim c.if-is_live.branch [
       | then-is_live+else-seen-rank w ↦ (
-        let more = live-counts c.args.checkers c.loop-position.square _ found.valid found.checkers found.rank (c.is_live.ensures.0 w.if-is_live.true) in
-        record { so_far = omega (arith, more, w.seen-is); few = omega (arith, w.seen-is, w.if-seen-rank.false) })
+          let more = live-counts c.args.checkers c.loop-position.square _ found.valid found.checkers found.rank (c.is_live.ensures.0 w.if-is_live.true) in
+          record { so_far = omega (arith, more, w.seen-is); few = omega (arith, w.seen-is, w.if-seen-rank.false) })
       | else-is_live w ↦ (
-        let same = dead-counts c.args.checkers c.loop-position.square _ found.valid found.checkers found.rank (iff_false c.is_live.ensures w.if-is_live.false) in
-        record { so_far = omega (arith, same, w.seen-is); few = omega (arith, w.seen-is) })
+          let same = dead-counts c.args.checkers c.loop-position.square _ found.valid found.checkers found.rank (iff_false c.is_live.ensures w.if-is_live.false) in
+          record { so_far = omega (arith, same, w.seen-is); few = omega (arith, w.seen-is) })
     ]
