@@ -1,5 +1,5 @@
 -- Rolls of two dice.
-use Rattle.std.specs.Prelude.{ℕ, ◌<◌, ◌≤◌, ◌==◌, List, [], ◌∷◌, map, if◌then◌else◌}
+use Rattle.std.specs.Prelude.{ℕ, ◌≤◌, ◌==◌, not, List, [], ◌∷◌, map, filter, if◌then◌else◌}
 use Rattle.std.specs.List.{flat_map, range_with_len}
 
 -- the numbers thrown, the higher first
@@ -24,3 +24,7 @@ weighted_roll high low = (record { high = high; low = low }, if high == low then
 -- the 21 rolls with the ways in which they come, by rising high die and then rising low die
 unfoldable pub all_rolls : List (Dice × ℕ)
 all_rolls = flat_map (λ high. map (weighted_roll high) (range_with_len 1 high)) (range_with_len 1 6)
+
+-- the rolls of unequal dice, in the same order
+unfoldable pub opening_rolls : List Dice
+opening_rolls = filter (λ (roll : Dice). not (roll.high == roll.low)) (map (λ (weighted : Dice × ℕ). weighted.0) all_rolls)

@@ -1,6 +1,8 @@
-ghost use Rattle.std.specs.Prelude.{◌≡◌, ◌≤◌, ◌<◌, ℕ, max, min, IsSome, IfSome, ◌↔◌};
-ghost use Rattle.roll_table.specs.Rolls.{Dice, IsRoll, all_rolls};
+ghost use Rattle.std.specs.Prelude.{◌≡◌, ◌≤◌, ◌<◌, ℕ, max, min, IsSome, IfSome, IfOk, ◌↔◌};
+ghost use Rattle.roll_table.specs.Rolls.{Dice, IsRoll, all_rolls, opening_rolls};
+ghost use Rattle.roll_table.specs.Text.{read_text, roll_text};
 
+use arrayvec::ArrayString;
 use std::marker::Model;
 
 /// The numbers that two dice show, 1 to 6 each, in no order.
@@ -50,6 +52,42 @@ impl Roll {
     {
         self.low
     }
+
+    /// The roll that a text shows, as `41`: two digits from 1 to 6, the higher first.
+    pub fn read(text: &str) -> Result<Roll, BadRoll>
+        ensures text { result ≡ read_text text.now }
+        ensures valid { IfOk result IsRoll }
+    {
+        let &[first @ b'1'..=b'6', second @ b'1'..=b'6'] = text.as_bytes() else {
+            return Err(BadRoll::Shape);
+        };
+        if first < second {
+            return Err(BadRoll::Order);
+        }
+        Ok(Roll {
+            high: first - b'0',
+            low: second - b'0',
+        })
+    }
+
+    /// The digit of the higher number, and then that of the lower.
+    pub fn print(&self) -> ArrayString<2>
+        ensures { result.bytes ≡ roll_text self.now }
+    {
+        let mut text = ArrayString::new();
+        text.push(char::from(b'0' + self.high));
+        text.push(char::from(b'0' + self.low));
+        text
+    }
+}
+
+/// Why a text isn't that of a roll.
+#[derive(Clone, Copy, Debug, PartialEq, Eq)]
+pub enum BadRoll {
+    /// It isn't two digits from 1 to 6.
+    Shape = 1,
+    /// It is, and the first is smaller.
+    Order = 2,
 }
 
 /// The 21 rolls, each with the number of ways in which two dice show it, by rising higher and then rising lower number.
@@ -81,3 +119,30 @@ pub fn rolls() -> [(Roll, u64); 21]
         (Roll { high: 6, low: 6 }, 1),
     ]
 }
+
+/// The 15 rolls of unequal dice, in the same order.
+#[tactic(auto, unfolding(crate::specs::Rolls::all_rolls, crate::specs::Rolls::opening_rolls))]
+pub fn openings() -> [Roll; 15]
+    ensures { result ≡ opening_rolls }
+{
+    [
+        Roll { high: 2, low: 1 },
+        Roll { high: 3, low: 1 },
+        Roll { high: 3, low: 2 },
+        Roll { high: 4, low: 1 },
+        Roll { high: 4, low: 2 },
+        Roll { high: 4, low: 3 },
+        Roll { high: 5, low: 1 },
+        Roll { high: 5, low: 2 },
+        Roll { high: 5, low: 3 },
+        Roll { high: 5, low: 4 },
+        Roll { high: 6, low: 1 },
+        Roll { high: 6, low: 2 },
+        Roll { high: 6, low: 3 },
+        Roll { high: 6, low: 4 },
+        Roll { high: 6, low: 5 },
+    ]
+}
+
+#[cfg(test)]
+mod tests;
