@@ -8,3 +8,4 @@ mod Pairs
 mod FullLines
 mod RollLines
 mod FirstLines
+mod FaultLaws
