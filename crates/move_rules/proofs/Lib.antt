@@ -9,3 +9,4 @@ mod FullLines
 mod RollLines
 mod FirstLines
 pub mod SomeEnd
+mod FaultLaws

@@ -3,3 +3,4 @@ pub mod Sequences
 pub mod Ends
 pub mod Order
 pub mod Listing
+pub mod Faults

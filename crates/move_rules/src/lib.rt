@@ -1,11 +1,13 @@
 //! The rules of play: which plays a roll allows.
 #![tactic(auto)]
 
+mod applied;
 mod laws;
 mod listing;
 mod moves;
 mod play;
 
+pub use applied::{BadPlay, apply};
 pub use laws::{legal_ends_are_exact, legal_ends_stay_live};
 pub use listing::plays;
 pub use play::{Entry, Move, Play, PlayList};

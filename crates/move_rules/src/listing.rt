@@ -18,6 +18,7 @@ pub fn plays(position: &Position, roll: Roll, list: &mut PlayList)
     ensures distinct { AllPairs (λ one another. one ≢ another) (ends_of list.new.items) }
     ensures first { All (λ entry. IsFirst position.now roll entry.play.items entry.end) list.new.items }
     ensures in_order { AllPairs ComesBefore (plays_of list.new.items) }
+    ensures some { 0 < length list.new.items }
 {
     // No more than three places hold a checker of the mover, so the list has room.
     let checkers = position.checkers();

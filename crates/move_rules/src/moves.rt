@@ -8,7 +8,6 @@ use position_rank::Position;
 #[tactic(auto, unfolding(crate::specs::Ends::after_move))]
 pub fn after_move(position: &Position, die: u8, from: u8) -> Option<Position>
     requires die { 1 ≤ die }
-    requires most { die ≤ 6 }
     requires from { 1 ≤ from }
     requires place { from ≤ 25 }
     ensures { result ≡ after_move position.now die from }

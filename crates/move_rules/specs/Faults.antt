@@ -1,0 +1,89 @@
+-- What is wrong with a play.
+use Rattle.std.specs.Prelude.{◌≡◌, ◌≢◌, ℕ, ◌-◌, ◌<◌, ◌≤◌, ◌⊎◌, List, [], ◌∷◌, length, map, Some, slice_get, slice_index, remove, Contains}
+use Rattle.position_rank.specs.Board.{Board, above}
+use Rattle.roll_table.specs.Rolls.{Dice, dice_of}
+use Rattle.move_rules.specs.Moves.{IsMove}
+use Rattle.move_rules.specs.Sequences.{IsSequence, CanPlay}
+use Rattle.move_rules.specs.declared.play.Move.{Move}
+use Rattle.move_rules.specs.declared.applied.BadPlay.{BadPlay}
+use Rattle.move_rules.specs.declared.applied.BadPlay.TheVariants.{WrongDice, NoChecker, BarFirst, NotHome, Closed, HitMark, TooFew, HigherDie}
+
+-- the order in which faults are looked for
+abbrev pub number : BadPlay → ℕ
+number WrongDice = 1
+number NoChecker = 2
+number BarFirst = 3
+number NotHome = 4
+number Closed = 5
+number HitMark = 6
+number TooFew = 7
+number HigherDie = 8
+
+-- a move with these dice left has this fault
+abbrev pub HasFault : Board → List ℕ → Move → BadPlay → Type 0
+HasFault p dice move WrongDice = Contains dice move.die → ⊥
+HasFault p dice move NoChecker = (move.from < 1) ⊎ (25 < move.from) ⊎ (slice_index p.mover move.from ≡ 0)
+HasFault p dice move BarFirst = (move.from ≢ 25) × (0 < slice_index p.mover 25)
+HasFault p dice move NotHome = (move.from ≤ move.die) × ((0 < above p.mover 6) ⊎ ((move.from ≢ move.die) × (0 < above p.mover move.from)))
+HasFault p dice move Closed = (move.die < move.from) × (1 < slice_index p.other (25 - (move.from - move.die)))
+HasFault p dice move HitMark = ⊥
+HasFault p dice move TooFew = ⊥
+HasFault p dice move HigherDie = ⊥
+
+-- it has this fault, and none that is looked for before
+pub record IsFirstFault (p : Board) (dice : List ℕ) (move : Move) (fault : BadPlay) : Type 0 where
+  pub fault_is : HasFault p dice move fault
+  pub none_before : (earlier : BadPlay) → number earlier < number fault → HasFault p dice move earlier → ⊥
+
+-- the first wrong move has this fault
+abbrev pub IsFirstWrong : Board → List ℕ → List Move → BadPlay → Type 0
+IsFirstWrong p dice [] fault = ⊥
+IsFirstWrong p dice (move ∷ moves) fault =
+    IsFirstFault p dice move fault
+    ⊎ ((i : ℕ) × (slice_get dice i ≡ Some move.die)
+    × (next : Board) × IsMove p move.die move.from next × IsFirstWrong next (remove dice i) moves fault)
+
+-- all moves are right, and more of them can be made
+pub record IsTooFew (p : Board) (roll : Dice) (moves : List Move) : Type 0 where
+  pub end : Board
+  pub sequence : IsSequence p (dice_of roll) moves end
+  pub others : List Move
+  pub others_end : Board
+  pub other : IsSequence p (dice_of roll) others others_end
+  pub more : length moves < length others
+
+-- one move is all that can be made, and it was made by the lower die, though the higher can be played
+pub record IsLowerDie (p : Board) (roll : Dice) (moves : List Move) : Type 0 where
+  pub end : Board
+  pub sequence : IsSequence p (dice_of roll) moves end
+  pub longest : (others : List Move) (others_end : Board) → IsSequence p (dice_of roll) others others_end → length others ≤ length moves
+  pub unequal : roll.low < roll.high
+  pub lower : map (λ (move : Move). move.die) moves ≡ roll.low ∷ []
+  pub can : CanPlay p roll.high
+
+-- what is wrong with a play of a roll
+abbrev pub IsFault : Board → Dice → List Move → BadPlay → Type 0
+IsFault p roll moves WrongDice = IsFirstWrong p (dice_of roll) moves WrongDice
+IsFault p roll moves NoChecker = IsFirstWrong p (dice_of roll) moves NoChecker
+IsFault p roll moves BarFirst = IsFirstWrong p (dice_of roll) moves BarFirst
+IsFault p roll moves NotHome = IsFirstWrong p (dice_of roll) moves NotHome
+IsFault p roll moves Closed = IsFirstWrong p (dice_of roll) moves Closed
+IsFault p roll moves HitMark = ⊥
+IsFault p roll moves TooFew = IsTooFew p roll moves
+IsFault p roll moves HigherDie = IsLowerDie p roll moves
+
+-- the die of the first move, or 0 where there is none
+abbrev pub first_die : List Move → ℕ
+first_die [] = 0
+first_die (move ∷ moves) = move.die
+
+-- what is wrong with a sequence, beside a legal one
+abbrev pub DiffersBy : List Move → List Move → BadPlay → Type 0
+DiffersBy moves legal TooFew = length moves < length legal
+DiffersBy moves legal HigherDie = (length legal ≤ length moves) × (length moves ≡ 1) × (first_die moves < first_die legal)
+DiffersBy moves legal WrongDice = ⊥
+DiffersBy moves legal NoChecker = ⊥
+DiffersBy moves legal BarFirst = ⊥
+DiffersBy moves legal NotHome = ⊥
+DiffersBy moves legal Closed = ⊥
+DiffersBy moves legal HitMark = ⊥
