@@ -1,0 +1,77 @@
+ghost use Rattle.std.specs.Prelude.{◌≡◌, ◌≤◌, ◌++◌, ◌+◌, ℕ, codes, decimal, length};
+ghost use Rattle.std.specs.Fmt.{signed_decimal};
+ghost use Rattle.hyper_outside.specs.Causes.{HasCause};
+ghost use Rattle.hyper_outside.specs.Sink.{Puts};
+ghost use Rattle.position_rank.specs.Text.{position_text};
+ghost use Rattle.equity_report.specs.Reports.{line, points_text, units_text, bound_text};
+
+use arrayvec::ArrayString;
+use directed_fixed::{Pair, print_down, print_units, print_up};
+use hyper_outside::{Failed, Sink};
+use itoa::Buffer;
+use position_rank::{Position, print_position};
+
+/// A report of three lines, at most so long.
+type Report = ArrayString<256>;
+
+fn add_position(report: &mut Report, position: &Position)
+    requires { length report.old.bytes ≤ 0 }
+    ensures bytes { report.new.bytes ≡ report.old.bytes ++ line (codes "position") (position_text position.now) }
+    ensures length { length report.new.bytes ≤ 42 }
+{
+    report.push_str("position ");
+    report.push_str(print_position(position).as_str());
+    report.push_str("\n");
+}
+
+fn add_rounds(report: &mut Report, rounds: u32)
+    requires { length report.old.bytes ≤ 42 }
+    ensures bytes { report.new.bytes ≡ report.old.bytes ++ line (codes "rounds") (decimal rounds) }
+    ensures length { length report.new.bytes ≤ 60 }
+{
+    report.push_str("rounds ");
+    report.push_str(Buffer::new().format(rounds));
+    report.push_str("\n");
+}
+
+fn add_points(report: &mut Report, pair: Pair)
+    requires { length report.old.bytes ≤ 66 }
+    ensures bytes { report.new.bytes ≡ report.old.bytes ++ points_text pair }
+    ensures length { length report.new.bytes ≤ 131 }
+{
+    report.push_str(print_down(pair.lower()).as_str());
+    report.push_str(" ");
+    report.push_str(print_up(pair.upper()).as_str());
+}
+
+fn add_units(report: &mut Report, pair: Pair)
+    requires { length report.old.bytes ≤ 132 }
+    ensures bytes { report.new.bytes ≡ report.old.bytes ++ units_text pair }
+    ensures length { length report.new.bytes ≤ 197 }
+{
+    report.push_str(print_units(pair.lower()).as_str());
+    report.push_str(" ");
+    report.push_str(print_units(pair.upper()).as_str());
+}
+
+/// Puts a position's pair after so many rounds of a game without a cube, in three lines: the position, the rounds, and both ends in points,
+/// rounded outwards, and in units. `Failed` comes only where `put` failed; then a front of the text was put.
+pub fn write_bound<O: Sink>(
+    out: &mut O,
+    position: &Position,
+    rounds: u32,
+    pair: Pair,
+) -> Result<(), Failed>
+    ensures puts { Puts (O.told out.old) (O.told out.new) (bound_text position.now rounds pair) result }
+    ensures cause { HasCause (O.faults out.old) (O.faults out.new) result }
+{
+    let mut report = Report::new();
+    add_position(&mut report, position);
+    add_rounds(&mut report, rounds);
+    report.push_str("alone ");
+    add_points(&mut report, pair);
+    report.push_str(" ");
+    add_units(&mut report, pair);
+    report.push_str("\n");
+    out.put(report.as_str().as_bytes())
+}
