@@ -8,3 +8,4 @@ mod TextLists
 mod TextPrint
 mod TextReads
 mod TextSides
+mod TextRoundTrip

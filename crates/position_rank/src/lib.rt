@@ -9,4 +9,6 @@ mod text;
 pub use layout::{BadLayout, Layout};
 pub use position::Position;
 pub use rank::{layout_count, ranks_tell_layouts, square_ranks_tell_positions};
-pub use text::{BadPosition, MOST_CHECKERS, print_position, read_position};
+pub use text::{
+    BadPosition, MOST_CHECKERS, print_position, printed_positions_are_read, read_position,
+};
