@@ -1,5 +1,6 @@
 pub mod Cells
 pub mod Choose
+pub mod LiveLaws
 pub mod Made
 pub mod RankLaws
 pub mod Rising

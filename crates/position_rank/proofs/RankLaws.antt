@@ -1,27 +1,27 @@
 -- Laws of ranks.
-use Rattle.std.proofs.Common.{◌≡◌, ℕ, zero, suc, ◌+◌, ◌-◌, ◌*◌, ◌<◌, ◌≤◌, List, [], ◌∷◌, length, sum, eqb, All, refl, ap, sym, subst, ◌∙◌, inl, inr, arith}
+use Rattle.std.proofs.Common.{◌≡◌, ℕ, ◌+◌, ◌-◌, ◌*◌, ◌<◌, ◌≤◌, List, [], ◌∷◌, length, sum, All, refl, ap, sym, subst, ◌∙◌, inl, inr, arith}
 use Rattle.std.proofs.lemmas.Bool.{cases_lt, cases_order}
 use Rattle.std.proofs.lemmas.List.Elements.{All-cons, All-nil}
 use Rattle.position_rank.specs.Board.{Board, IsLayout, IsPosition}
 use Rattle.position_rank.specs.Packed.{counts_of, packed_counts, IsPacked}
-use Rattle.position_rank.specs.PackedLaws.{one, sum-packed}
+use Rattle.position_rank.specs.PackedLaws.{sum-packed}
 use Rattle.position_rank.specs.Ranks.{choose, layouts, rising_places, sum_of_ways, rank_of, square_rank_of}
-use Rattle.position_rank.proofs.Choose.{choose-none, choose-one, choose-two, choose-three, choose-two-more, choose-three-more, choose-two-rises, choose-three-rises, two-below, three-below, two-same, three-same}
-use Rattle.position_rank.proofs.Rising.{often, often-cons, RiseFrom, rising_places-counts_of, counts_of-rising_places, rising_places-rise, rising_places-within, length-rising_places, counts_of-same}
+use Rattle.position_rank.proofs.Choose.{choose-one, choose-two, choose-three, choose-two-more, choose-three-more, choose-two-rises, choose-three-rises, two-below, three-below, two-same, three-same}
+use Rattle.position_rank.proofs.Rising.{often-cons, RiseFrom, rising_places-counts_of, counts_of-rising_places, rising_places-rise, rising_places-within, length-rising_places, counts_of-same}
 
 -- the ranks of one, two and three places in rising order
-ways-one : (x : ℕ) → sum_of_ways 1 (x ∷ []) ≡ x
+pub ways-one : (x : ℕ) → sum_of_ways 1 (x ∷ []) ≡ x
 ways-one x =
     let same : x + 1 - 1 ≡ x = omega arith in
     rw same (omega (arith, choose-one x))
 
-ways-two : (x y : ℕ) → sum_of_ways 1 (x ∷ y ∷ []) ≡ x + choose (y + 1) 2
+pub ways-two : (x y : ℕ) → sum_of_ways 1 (x ∷ y ∷ []) ≡ x + choose (y + 1) 2
 ways-two x y =
     let same : x + 1 - 1 ≡ x = omega arith in
     let second : y + 2 - 1 ≡ y + 1 = omega arith in
     rw (same, second) (omega (arith, choose-one x))
 
-ways-three : (x y z : ℕ) → sum_of_ways 1 (x ∷ y ∷ z ∷ []) ≡ x + choose (y + 1) 2 + choose (z + 2) 3
+pub ways-three : (x y z : ℕ) → sum_of_ways 1 (x ∷ y ∷ z ∷ []) ≡ x + choose (y + 1) 2 + choose (z + 2) 3
 ways-three x y z =
     let same : x + 1 - 1 ≡ x = omega arith in
     let second : y + 2 - 1 ≡ y + 1 = omega arith in
@@ -40,14 +40,14 @@ rank-of_one h high =
 pub rank-of_two : (m h : ℕ) → m ≤ h → h ≤ 25 → rank_of (counts_of (m ∷ h ∷ [])) ≡ m + choose (h + 1) 2
 rank-of_two m h upper high =
     let places : rising_places (counts_of (m ∷ h ∷ [])) ≡ m ∷ h ∷ [] =
-        rising_places-counts_of (m ∷ h ∷ []) (omega arith, (upper, tt)) (within m (h ∷ []) (omega arith) (within h [] high (All-nil (λ (place : ℕ). place ≤ 25)))) in
+    rising_places-counts_of (m ∷ h ∷ []) (omega arith, (upper, tt)) (within m (h ∷ []) (omega arith) (within h [] high (All-nil (λ (place : ℕ). place ≤ 25)))) in
     rw places (ways-two m h)
 
 pub rank-of_three : (l m h : ℕ) → l ≤ m → m ≤ h → h ≤ 25 → rank_of (counts_of (l ∷ m ∷ h ∷ [])) ≡ l + choose (m + 1) 2 + choose (h + 2) 3
 rank-of_three l m h lower upper high =
     let places : rising_places (counts_of (l ∷ m ∷ h ∷ [])) ≡ l ∷ m ∷ h ∷ [] =
-        rising_places-counts_of (l ∷ m ∷ h ∷ []) (omega arith, (lower, (upper, tt)))
-        (within l (m ∷ h ∷ []) (omega arith) (within m (h ∷ []) (omega arith) (within h [] high (All-nil (λ (place : ℕ). place ≤ 25))))) in
+    rising_places-counts_of (l ∷ m ∷ h ∷ []) (omega arith, (lower, (upper, tt)))
+    (within l (m ∷ h ∷ []) (omega arith) (within m (h ∷ []) (omega arith) (within h [] high (All-nil (λ (place : ℕ). place ≤ 25))))) in
     rw places (ways-three l m h)
 
 -- the rank of packed places
@@ -65,8 +65,8 @@ rank-three : (h m l c : ℕ) → IsPacked h m l c → c ≡ 3 → rank_of (packe
 unfolding packed_counts
 rank-three h m l c packed three =
     let turned : counts_of (h ∷ m ∷ l ∷ []) ≡ counts_of (l ∷ m ∷ h ∷ []) =
-        counts_of-same (h ∷ m ∷ l ∷ []) (l ∷ m ∷ h ∷ [])
-        (λ k low. omega (arith, often-cons k h (m ∷ l ∷ []), often-cons k m (l ∷ []), often-cons k l [], often-cons k l (m ∷ h ∷ []), often-cons k m (h ∷ []), often-cons k h [])) in
+    counts_of-same (h ∷ m ∷ l ∷ []) (l ∷ m ∷ h ∷ [])
+    (λ k low. omega (arith, often-cons k h (m ∷ l ∷ []), often-cons k m (l ∷ []), often-cons k l [], often-cons k l (m ∷ h ∷ []), often-cons k m (h ∷ []), often-cons k h [])) in
     rw three (rw turned (rank-of_three l m h packed.lower packed.upper packed.within))
 
 -- ranks are below the number of layouts
@@ -145,8 +145,8 @@ ways-same (a ∷ b ∷ d ∷ p ∷ ps) (x ∷ y ∷ z ∷ qs) r s same short e =
 pub layouts-same : (a b : List ℕ) → IsLayout a → IsLayout b → sum a ≡ sum b → rank_of a ≡ rank_of b → a ≡ b
 layouts-same a b is_a is_b same e =
     let places : rising_places a ≡ rising_places b =
-        ways-same (rising_places a) (rising_places b) (rising_places-rise a) (rising_places-rise b)
-        (length-rising_places a ∙ (same ∙ sym (length-rising_places b))) (omega (arith, length-rising_places a, is_a.at_most_three)) e in
+    ways-same (rising_places a) (rising_places b) (rising_places-rise a) (rising_places-rise b)
+    (length-rising_places a ∙ (same ∙ sym (length-rising_places b))) (omega (arith, length-rising_places a, is_a.at_most_three)) e in
     sym (counts_of-rising_places a is_a.places) ∙ (ap counts_of places ∙ counts_of-rising_places b is_b.places)
 
 ways-below : (ps : List ℕ) → RiseFrom 0 ps → All (λ place. place ≤ 25) ps → 1 ≤ length ps → length ps ≤ 3 → sum_of_ways 1 ps < layouts (length ps)
@@ -168,12 +168,12 @@ times-more a x n h = grind arith
 -- two numbers below a bound are had back from their place in a square
 square-same : (n a b x y : ℕ) → b < n → y < n → a * n + b ≡ x * n + y → (a ≡ x) × (b ≡ y)
 square-same n a b x y low high e = elim (cases_order a x) [
-    | inl same ↦ (same, omega (arith, ap (λ k. k * n) same))
-    | inr other ↦ elim other [
-      | inl less ↦ absurd (omega (arith, times-more a x n less))
-      | inr more ↦ absurd (omega (arith, times-more x a n more))
-    ]
+  | inl same ↦ (same, omega (arith, ap (λ k. k * n) same))
+  | inr other ↦ elim other [
+    | inl less ↦ absurd (omega (arith, times-more a x n less))
+    | inr more ↦ absurd (omega (arith, times-more x a n more))
   ]
+]
 
 -- a number in a square is below its size
 pub square-below : (n a b : ℕ) → a < n → b < n → a * n + b < n * n
@@ -227,8 +227,8 @@ three-made r h w m v high to from e to_m from_m f =
     let low : r - w - v ≤ m = omega (arith, is_m, choose-two-more m) in
     let middle : m ≤ h = elim (cases_lt h m) [
       | inl past ↦ (
-        let same : h + 1 + 1 ≡ h + 2 = omega arith in
-        absurd (omega (arith, three-left r h w to from e, subst (λ (n : ℕ). choose n 2 ≤ choose (m + 1) 2) same (choose-two-rises (h + 1) m (omega arith)), above_m, is_m)))
+          let same : h + 1 + 1 ≡ h + 2 = omega arith in
+          absurd (omega (arith, three-left r h w to from e, subst (λ (n : ℕ). choose n 2 ≤ choose (m + 1) 2) same (choose-two-rises (h + 1) m (omega arith)), above_m, is_m)))
       | inr before ↦ before
     ] in
     (low, omega (arith, rank-of_three (r - w - v) m h low middle high, is, is_m, above, above_m))

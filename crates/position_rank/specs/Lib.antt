@@ -1,4 +1,5 @@
 pub mod Board
+pub mod LiveRanks
 pub mod Packed
 pub mod PackedLaws
 pub mod Ranks

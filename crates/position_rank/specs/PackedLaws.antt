@@ -1,15 +1,14 @@
 -- Laws of the counts of places. They show that a layout's places can be had back from its counts.
-use Rattle.std.proofs.Common.{◌≡◌, ◌≢◌, ℕ, zero, suc, ◌+◌, ◌-◌, ◌<◌, ◌≤◌, Bool, true, false, List, [], ◌∷◌, length, replicate, get_or, set, sum, drop, count_by, take, eqb, ltb, leb, cond, All, refl, ap, sym, subst, ◌∙◌, inl, inr, ⊎_elim, arith, length-set, length-drop, length-take, get_or-set_same, get_or-set_other}
-use Rattle.std.specs.List.{range_with_len, sum_by}
+use Rattle.std.proofs.Common.{◌≡◌, ℕ, zero, suc, ◌+◌, ◌-◌, ◌<◌, ◌≤◌, Bool, true, false, List, [], ◌∷◌, length, replicate, get_or, set, sum, drop, count_by, take, eqb, ltb, leb, cond, All, refl, ap, sym, subst, ◌∙◌, inl, inr, arith, length-set, length-drop, length-take, get_or-set_same, get_or-set_other}
+use Rattle.std.specs.List.{range_with_len}
 use Rattle.std.proofs.lemmas.List.{drop-set-lt, drop-set-add, drop-replicate, ext_get_or, get_or-drop}
 use Rattle.std.proofs.lemmas.List.FromFn.{length-map-range_with_len, get_or-map-range_with_len}
 use Rattle.std.proofs.lemmas.List.Sums.{sum_by-set, sum_by-cons}
 use Rattle.std.proofs.lemmas.List.Elements.{All-head, All-tail, All-take, All-cons, All-nil}
-use Rattle.std.proofs.lemmas.Grind.{common_steps}
-use Rattle.std.proofs.lemmas.Bool.{cases_eq, cases_lt, lt-ltb, le-ltb, eq-eqb, ne_eqb}
+use Rattle.std.proofs.lemmas.Bool.{cases_eq, cases_lt, lt-ltb, le-ltb}
 use Rattle.std.proofs.lemmas.Bool.Decides.{nat_tests}
 use Rattle.position_rank.specs.Packed.{counts_of, packed_counts, place_from_top, IsPacked}
-use Rattle.position_rank.specs.Board.{IsLayout, moved}
+use Rattle.position_rank.specs.Board.{IsLayout}
 
 pub length-counts_of : (places : List ℕ) → length (counts_of places) ≡ 26
 unfolding counts_of
@@ -129,7 +128,7 @@ packed-above h m l c place packed =
     omega (arith, above-counts_of (take c (h ∷ m ∷ l ∷ [])) place (within-packed h m l c packed), count-packed (λ p. ltb place p) h m l c packed, off)
 
 -- the number of places from a on that are below h
-count-below : (n a h : ℕ) → h ≤ a + n → count_by (λ place. ltb place h) (range_with_len a n) ≡ h - a
+pub count-below : (n a h : ℕ) → h ≤ a + n → count_by (λ place. ltb place h) (range_with_len a n) ≡ h - a
 count-below zero a h high = omega arith
 count-below (suc n) a h high =
     let rest = count-below n (a + 1) h (omega arith) in
@@ -139,7 +138,7 @@ count-below (suc n) a h high =
       | inr above ↦ omega (arith, cons, rest, ap one (le-ltb a h above))
     ]
 
-count-same : (p q : ℕ → Bool) → ((x : ℕ) → p x ≡ q x) → (xs : List ℕ) → count_by p xs ≡ count_by q xs
+pub count-same : (p q : ℕ → Bool) → ((x : ℕ) → p x ≡ q x) → (xs : List ℕ) → count_by p xs ≡ count_by q xs
 count-same p q same [] = refl
 count-same p q same (x ∷ xs) = omega (arith, sum_by-cons (λ x. one (p x)) x xs, sum_by-cons (λ x. one (q x)) x xs, count-same p q same xs, ap one (same x))
 

@@ -2,11 +2,17 @@
 #![tactic(auto)]
 
 mod layout;
+mod live;
 mod position;
 mod rank;
+#[cfg(test)]
+mod tests;
 mod text;
 
 pub use layout::{BadLayout, Layout};
+pub use live::{
+    live_count, live_rank, live_ranks_tell_positions, live_unrank, squares_hold_their_positions,
+};
 pub use position::Position;
 pub use rank::{layout_count, ranks_tell_layouts, square_ranks_tell_positions};
 pub use text::{

@@ -63,6 +63,22 @@ impl Position {
         u64::from(self.mover.rank()) * layouts + u64::from(self.other.rank())
     }
 
+    /// The position of one to three checkers a side with this square rank.
+    pub fn square_unrank(checkers: u8, square: u64) -> Position
+        requires low { 1 ≤ checkers }
+        requires high { checkers ≤ 3 }
+        requires square { square < layouts checkers * layouts checkers }
+        ensures rank { square_rank_of result ≡ square }
+        ensures checkers { sum result.mover ≡ checkers }
+        ensures valid { IsPosition result }
+    {
+        let layouts = u64::from(layout_count(checkers));
+        Position {
+            mover: Layout::unrank(checkers, (square / layouts) as u32),
+            other: Layout::unrank(checkers, (square % layouts) as u32),
+        }
+    }
+
     /// The checkers of the side that moves.
     pub fn mover(&self) -> Layout
         ensures mover { result ≡ self.now.mover }

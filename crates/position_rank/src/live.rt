@@ -1,0 +1,78 @@
+ghost use Rattle.std.specs.Prelude.{◌≡◌, ℕ, ◌+◌, ◌-◌, ◌*◌, ◌<◌, ◌≤◌, ◌↔◌, IsTrue, sum};
+ghost use Rattle.position_rank.specs.Board.{Board, IsPosition, IsLive};
+ghost use Rattle.position_rank.specs.Ranks.{layouts, square_rank_of};
+ghost use Rattle.position_rank.specs.LiveRanks.{is_live, board_at, live_below, live_positions, live_rank_of};
+
+use crate::position::Position;
+use crate::rank::layout_count;
+
+/// How many live positions there are of one to three checkers a side. It walks over all positions.
+pub fn live_count(checkers: u8) -> u64
+    requires low { 1 ≤ checkers }
+    requires high { checkers ≤ 3 }
+    ensures { result ≡ live_positions checkers }
+{
+    let layouts = u64::from(layout_count(checkers));
+    count_below(checkers, layouts * layouts)
+}
+
+/// A live position's number among those of as many checkers, from 0. It walks over all positions before.
+pub fn live_rank(position: &Position) -> u64
+    requires { IsLive position.now }
+    ensures rank { result ≡ live_rank_of position.now }
+    ensures below { result < live_positions (sum position.now.mover) }
+    ensures valid { IsPosition position.now }
+{
+    count_below(position.checkers(), position.square_rank())
+}
+
+/// The live position of one to three checkers a side with this live rank. It walks over all positions before.
+pub fn live_unrank(checkers: u8, rank: u64) -> Position
+    requires low { 1 ≤ checkers }
+    requires high { checkers ≤ 3 }
+    requires rank { rank < live_positions checkers }
+    ensures live { IsLive result }
+    ensures rank { live_rank_of result ≡ rank }
+    ensures checkers { sum result.mover ≡ checkers }
+    ensures valid { IsPosition result }
+{
+    let mut square = 0;
+    let mut seen = 0;
+    loop {
+        let position = Position::square_unrank(checkers, square);
+        if position.is_live() {
+            if seen == rank {
+                return position;
+            }
+            seen += 1;
+        }
+        square += 1;
+    }
+}
+
+/// How many live positions have a square rank below this one.
+fn count_below(checkers: u8, square: u64) -> u64
+    requires low { 1 ≤ checkers }
+    requires high { checkers ≤ 3 }
+    requires square { square ≤ layouts checkers * layouts checkers }
+    ensures { result ≡ live_below checkers square }
+{
+    let mut live = 0;
+    for below in 0..square {
+        if Position::square_unrank(checkers, below).is_live() {
+            live += 1;
+        }
+    }
+    live
+}
+
+/// Live positions of as many checkers and of equal live rank are the same.
+pub fn live_ranks_tell_positions()
+    ensures { (p q : Board) → IsPosition p → IsPosition q → IsLive p → IsLive q → sum p.mover ≡ sum q.mover → live_rank_of p ≡ live_rank_of q → p ≡ q }
+{}
+
+/// The position at a square is the one with that square rank, and the test for live positions is right.
+pub fn squares_hold_their_positions()
+    ensures at { (p : Board) → IsPosition p → board_at (sum p.mover) (square_rank_of p) ≡ p }
+    ensures live { (p : Board) → IsTrue (is_live p) ↔ IsLive p }
+{}
