@@ -10,3 +10,4 @@ mod TextLists
 mod TextPrint
 mod TextReads
 mod TextSides
+mod TextRoundTrip

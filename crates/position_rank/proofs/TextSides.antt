@@ -32,28 +32,28 @@ pub record IsRead (all : List (List ℕ)) (past : Bool) (mover other : List ℕ)
   pub mover_kept : length mover ≤ KEPT
   pub other_kept : length other ≤ KEPT
 
-before-slash : (w : List ℕ) (ws : List (List ℕ)) → is_slash w ≡ true → before (w ∷ ws) ≡ []
+pub before-slash : (w : List ℕ) (ws : List (List ℕ)) → is_slash w ≡ true → before (w ∷ ws) ≡ []
 before-slash w ws e = rw e refl
 
-after-slash : (w : List ℕ) (ws : List (List ℕ)) → is_slash w ≡ true → after (w ∷ ws) ≡ ws
+pub after-slash : (w : List ℕ) (ws : List (List ℕ)) → is_slash w ≡ true → after (w ∷ ws) ≡ ws
 after-slash w ws e = rw e refl
 
-before-word : (w : List ℕ) (ws : List (List ℕ)) → is_slash w ≡ false → before (w ∷ ws) ≡ w ∷ before ws
+pub before-word : (w : List ℕ) (ws : List (List ℕ)) → is_slash w ≡ false → before (w ∷ ws) ≡ w ∷ before ws
 before-word w ws e =
     let n = prefix_len (λ x. not (is_slash x)) ws in
     let next : 1 + n ≡ suc n = omega arith in
     rw e (rw next refl)
 
-after-word : (w : List ℕ) (ws : List (List ℕ)) → is_slash w ≡ false → after (w ∷ ws) ≡ after ws
+pub after-word : (w : List ℕ) (ws : List (List ℕ)) → is_slash w ≡ false → after (w ∷ ws) ≡ after ws
 after-word w ws e =
     let n = prefix_len (λ x. not (is_slash x)) ws in
     let next : 1 + n + 1 ≡ suc (n + 1) = omega arith in
     rw e (rw next refl)
 
-count-slash : (w : List ℕ) (ws : List (List ℕ)) → is_slash w ≡ true → count_by is_slash (w ∷ ws) ≡ 1 + count_by is_slash ws
+pub count-slash : (w : List ℕ) (ws : List (List ℕ)) → is_slash w ≡ true → count_by is_slash (w ∷ ws) ≡ 1 + count_by is_slash ws
 count-slash w ws e = sum_by-cons (λ x. cond (is_slash x) 1 0) w ws ∙ ap (λ b. cond b 1 0 + count_by is_slash ws) e
 
-count-word : (w : List ℕ) (ws : List (List ℕ)) → is_slash w ≡ false → count_by is_slash (w ∷ ws) ≡ 0 + count_by is_slash ws
+pub count-word : (w : List ℕ) (ws : List (List ℕ)) → is_slash w ≡ false → count_by is_slash (w ∷ ws) ≡ 0 + count_by is_slash ws
 count-word w ws e = sum_by-cons (λ x. cond (is_slash x) 1 0) w ws ∙ ap (λ b. cond b 1 0 + count_by is_slash ws) e
 
 take-onto : {X : Type 0} (n : ℕ) (xs ys : List X) → take n (take n xs ++ ys) ≡ take n (xs ++ ys)

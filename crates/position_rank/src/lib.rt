@@ -15,4 +15,6 @@ pub use live::{
 };
 pub use position::Position;
 pub use rank::{layout_count, ranks_tell_layouts, square_ranks_tell_positions};
-pub use text::{BadPosition, MOST_CHECKERS, print_position, read_position};
+pub use text::{
+    BadPosition, MOST_CHECKERS, print_position, printed_positions_are_read, read_position,
+};

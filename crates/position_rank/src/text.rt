@@ -1,6 +1,6 @@
-ghost use Rattle.std.specs.Prelude.{◌≡◌, ◌↔◌, ◌+◌, ◌*◌, ◌≤◌, ◌&&◌, ℕ, [], ◌∷◌, ◌++◌, All, IfOk, IfSome, IsSome, IsTrue, count_by, fold, length, map, sum, replicate, take};
+ghost use Rattle.std.specs.Prelude.{◌≡◌, ◌↔◌, ◌+◌, ◌*◌, ◌≤◌, ◌&&◌, ℕ, [], ◌∷◌, ◌++◌, All, Ok, IfOk, IfSome, IsSome, IsTrue, count_by, fold, length, map, sum, replicate, take};
 ghost use Rattle.std.specs.List.{before_first, after_first, filter_map};
-ghost use Rattle.position_rank.specs.Board.{IsPosition, IsLive};
+ghost use Rattle.position_rank.specs.Board.{Board, IsPosition, IsLive};
 ghost use Rattle.position_rank.specs.Text.{place, place_text, words, is_slash, have_shape, are_places, share_point, all_off, read_places, read_text, places_of, position_text};
 ghost use Rattle.position_rank.specs.TextParts.{add_word};
 
@@ -56,6 +56,11 @@ pub fn print_position(position: &Position) -> ArrayString<32>
     push_side(&mut text, &position.other());
     text
 }
+
+/// Reading what a live position prints gives the position back.
+pub fn printed_positions_are_read()
+    ensures { (p : Board) → IsPosition p → IsLive p → read_text (position_text p) ≡ Ok p }
+{}
 
 fn has_shape(text: &str) -> bool
     ensures { result ≡ have_shape (words text.now) }
