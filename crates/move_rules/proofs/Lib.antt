@@ -1,7 +1,6 @@
 pub mod Members
 pub mod StayLive
 pub mod EndsExact
-mod LongestLines
 mod Added
 mod Counted
 mod Pairs
@@ -9,3 +8,4 @@ mod FullLines
 mod RollLines
 mod FirstLines
 mod FaultLaws
+mod WrittenLaws
