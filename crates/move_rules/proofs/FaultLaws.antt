@@ -11,7 +11,7 @@ use Rattle.move_rules.specs.Moves.{IsMove, MayLeave}
 use Rattle.move_rules.specs.Sequences.{IsSequence, CanPlay, IsLegal}
 use Rattle.move_rules.specs.Ends.{Line, after_move}
 use Rattle.move_rules.specs.Listing.{full, or_else, double_lines, pair_lines, Among}
-use Rattle.move_rules.specs.Faults.{number, HasFault, IsFirstFault, IsFirstWrong, IsFault, DiffersBy, first_die}
+use Rattle.move_rules.specs.Faults.{number, HasFault, IsFirstFault, IsFirstWrong, IsWholeFault, DiffersBy, first_die}
 use Rattle.move_rules.specs.Order.{ends_of}
 use Rattle.move_rules.specs.declared.play.Entry.{Entry}
 use Rattle.move_rules.specs.declared.play.Move.{Move}
@@ -162,7 +162,7 @@ beside-ok p roll legal moves end q right l many die s = record {
 }
 
 pub beside-err : (p : Board) (roll : Dice) (legal moves : List Move) (end q : Board) (fault : BadPlay) → IsRoll roll → IsLegal p roll legal end → IsSequence p (dice_of roll) moves q
-    → DiffersBy moves legal fault → IsFault p roll moves fault
+    → DiffersBy moves legal fault → IsWholeFault p roll moves fault
 beside-err p roll legal moves end q WrongDice right l s h = absurd h
 beside-err p roll legal moves end q NoChecker right l s h = absurd h
 beside-err p roll legal moves end q BarFirst right l s h = absurd h
@@ -193,14 +193,21 @@ pub record GoesOn (p : Board) (dice : List ℕ) (moves : List Move) (now : Board
   pub sequence : (end : Board) → IsSequence now left rest end → IsSequence p dice moves end
   pub wrong : (fault : BadPlay) → IsFirstWrong now left rest fault → IsFirstWrong p dice moves fault
 
+pub All-remove : (xs : List ℕ) (j : ℕ) → All (λ die. 1 ≤ die) xs → All (λ die. 1 ≤ die) (remove xs j)
+All-remove xs j all = All-append (λ (die : ℕ). 1 ≤ die) (take j xs) (drop (suc j) xs) (All-take (λ (die : ℕ). 1 ≤ die) j xs all) (All-drop (λ (die : ℕ). 1 ≤ die) (suc j) xs all)
+
+pub dice-from : (roll : Dice) (left : List ℕ) → IsRoll roll → left ≡ dice_of roll → All (λ die. 1 ≤ die) left
+dice-from roll left right e =
+    subst (λ (x : List ℕ). All (λ die. 1 ≤ die) x) (sym e) (λ k d h. from_roll (get_or (dice_of roll) k d) (of_roll roll (get_or (dice_of roll) k d) (Among-at (dice_of roll) k d h))) where
+      from_roll : (die : ℕ) → (die ≡ roll.high) ⊎ (die ≡ roll.low) → 1 ≤ die
+      from_roll die h = omega (arith, h, right.from, right.in_order)
+
 pub begins : (p : Board) (roll : Dice) (left : List ℕ) (moves rest : List Move) → IsRoll roll → left ≡ dice_of roll → rest ≡ moves → GoesOn p (dice_of roll) moves p left rest
 begins p roll left moves rest right e f = record {
-  dice_from = subst (λ (x : List ℕ). All (λ die. 1 ≤ die) x) (sym e) (λ k d h. from_roll (get_or (dice_of roll) k d) (of_roll roll (get_or (dice_of roll) k d) (Among-at (dice_of roll) k d h)));
+  dice_from = dice-from roll left right e;
   sequence = λ end s. subst (λ (x : List ℕ). IsSequence p x moves end) e (subst (λ (x : List Move). IsSequence p left x end) f s);
   wrong = λ fault w. subst (λ (x : List ℕ). IsFirstWrong p x moves fault) e (subst (λ (x : List Move). IsFirstWrong p left x fault) f w);
-} where
-  from_roll : (die : ℕ) → (die ≡ roll.high) ⊎ (die ≡ roll.low) → 1 ≤ die
-  from_roll die h = omega (arith, h, right.from, right.in_order)
+}
 
 pub goes_on : (p : Board) (dice : List ℕ) (moves : List Move) (now : Board) (left : List ℕ) (rest : List Move) (move : Move) (more : List Move) (i : ℕ) (next : Board) (fewer : List ℕ)
     → GoesOn p dice moves now left rest → rest ≡ move ∷ more → slice_get left i ≡ Some move.die → fewer ≡ remove left i → IsMove now move.die move.from next → GoesOn p dice moves next fewer more
@@ -208,29 +215,16 @@ goes_on p dice moves now left rest move more i next fewer was e here f made = re
   dice_from = subst (λ (x : List ℕ). All (λ die. 1 ≤ die) x) (sym f) (All-remove left i was.dice_from);
   sequence = λ end s. was.sequence end (subst (λ (x : List Move). IsSequence now left x end) (sym e) (i, here, next, made, subst (λ (x : List ℕ). IsSequence next x more end) f s));
   wrong = λ fault w. was.wrong fault (subst (λ (x : List Move). IsFirstWrong now left x fault) (sym e) (inr (i, here, next, made, subst (λ (x : List ℕ). IsFirstWrong next x more fault) f w)));
-} where
-  All-remove : (xs : List ℕ) (j : ℕ) → All (λ die. 1 ≤ die) xs → All (λ die. 1 ≤ die) (remove xs j)
-  All-remove xs j all = All-append (λ (die : ℕ). 1 ≤ die) (take j xs) (drop (suc j) xs) (All-take (λ (die : ℕ). 1 ≤ die) j xs all) (All-drop (λ (die : ℕ). 1 ≤ die) (suc j) xs all)
+}
 
 pub goes_wrong : (p : Board) (dice : List ℕ) (moves : List Move) (now : Board) (left : List ℕ) (rest : List Move) (move : Move) (more : List Move) (fault : BadPlay)
     → GoesOn p dice moves now left rest → rest ≡ move ∷ more → IsFirstFault now left move fault → IsFirstWrong p dice moves fault
 goes_wrong p dice moves now left rest move more fault was e h = was.wrong fault (subst (λ (x : List Move). IsFirstWrong now left x fault) (sym e) (inl h))
 
--- faults of a whole play are no faults of a move
-move_fault : (p : Board) (dice : List ℕ) (moves : List Move) (fault : BadPlay) → ((q : Board) (left : List ℕ) (move : Move) → HasFault q left move fault → ⊥) → IsFirstWrong p dice moves fault → ⊥
-move_fault p dice [] fault none w = w
-move_fault p dice (move ∷ moves) fault none (inl h) = none p dice move h.fault_is
-move_fault p dice (move ∷ moves) fault none (inr (i, e, next, made, w)) = move_fault next (remove dice i) moves fault none w
-
-pub wrong-fault : (p : Board) (roll : Dice) (moves : List Move) (fault : BadPlay) → IsFirstWrong p (dice_of roll) moves fault → IsFault p roll moves fault
-wrong-fault p roll moves WrongDice w = w
-wrong-fault p roll moves NoChecker w = w
-wrong-fault p roll moves BarFirst w = w
-wrong-fault p roll moves NotHome w = w
-wrong-fault p roll moves Closed w = w
-wrong-fault p roll moves HitMark w = move_fault p (dice_of roll) moves HitMark (λ q left move h. h) w
-wrong-fault p roll moves TooFew w = absurd (move_fault p (dice_of roll) moves TooFew (λ q left move h. h) w)
-wrong-fault p roll moves HigherDie w = absurd (move_fault p (dice_of roll) moves HigherDie (λ q left move h. h) w)
-
 pub next-of : (moves : List Move) (i : ℕ) (d : Move) → i < length moves → drop i moves ≡ get_or moves i d ∷ drop (i + 1) moves
 next-of moves i d h = rw (add-one, drop-cons moves i d)
+
+pub Contains-got : (dice : List ℕ) (i die : ℕ) → slice_get dice i ≡ Some die → Contains dice die
+Contains-got [] i die e = absurd (grind arith)
+Contains-got (d ∷ dice) zero die e = (0, omega arith, (let same : d ≡ die = cc in same))
+Contains-got (d ∷ dice) (suc i) die e = let r = Contains-got dice i die e in (suc r.0, omega (arith, r.1), r.2)

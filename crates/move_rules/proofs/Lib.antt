@@ -1,7 +1,6 @@
 pub mod Members
 pub mod StayLive
 pub mod EndsExact
-mod LongestLines
 mod Added
 mod Counted
 mod Pairs
@@ -10,3 +9,4 @@ mod RollLines
 mod FirstLines
 pub mod SomeEnd
 mod FaultLaws
+mod WrittenLaws

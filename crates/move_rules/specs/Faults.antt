@@ -61,16 +61,20 @@ pub record IsLowerDie (p : Board) (roll : Dice) (moves : List Move) : Type 0 whe
   pub lower : map (λ (move : Move). move.die) moves ≡ roll.low ∷ []
   pub can : CanPlay p roll.high
 
--- what is wrong with a play of a roll
+-- all moves are right, and this is wrong with all of them together
+abbrev pub IsWholeFault : Board → Dice → List Move → BadPlay → Type 0
+IsWholeFault p roll moves TooFew = IsTooFew p roll moves
+IsWholeFault p roll moves HigherDie = IsLowerDie p roll moves
+IsWholeFault p roll moves WrongDice = ⊥
+IsWholeFault p roll moves NoChecker = ⊥
+IsWholeFault p roll moves BarFirst = ⊥
+IsWholeFault p roll moves NotHome = ⊥
+IsWholeFault p roll moves Closed = ⊥
+IsWholeFault p roll moves HitMark = ⊥
+
+-- what is wrong with a play of a roll: its first wrong move has this fault, or all of them together
 abbrev pub IsFault : Board → Dice → List Move → BadPlay → Type 0
-IsFault p roll moves WrongDice = IsFirstWrong p (dice_of roll) moves WrongDice
-IsFault p roll moves NoChecker = IsFirstWrong p (dice_of roll) moves NoChecker
-IsFault p roll moves BarFirst = IsFirstWrong p (dice_of roll) moves BarFirst
-IsFault p roll moves NotHome = IsFirstWrong p (dice_of roll) moves NotHome
-IsFault p roll moves Closed = IsFirstWrong p (dice_of roll) moves Closed
-IsFault p roll moves HitMark = ⊥
-IsFault p roll moves TooFew = IsTooFew p roll moves
-IsFault p roll moves HigherDie = IsLowerDie p roll moves
+IsFault p roll moves fault = IsFirstWrong p (dice_of roll) moves fault ⊎ IsWholeFault p roll moves fault
 
 -- the die of the first move, or 0 where there is none
 abbrev pub first_die : List Move → ℕ

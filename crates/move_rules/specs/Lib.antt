@@ -4,3 +4,4 @@ pub mod Ends
 pub mod Order
 pub mod Listing
 pub mod Faults
+pub mod Written

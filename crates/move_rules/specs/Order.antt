@@ -1,5 +1,5 @@
 -- The order in which sequences are listed, and the list of plays.
-use Rattle.std.specs.Prelude.{◌≡◌, ◌<◌, List, [], ◌∷◌, map, ◌⊎◌, All}
+use Rattle.std.specs.Prelude.{◌≡◌, ◌<◌, List, [], ◌∷◌, map, ◌⊎◌}
 use Rattle.position_rank.specs.Board.{Board}
 use Rattle.roll_table.specs.Rolls.{Dice}
 use Rattle.move_rules.specs.declared.play.Move.{Move}
@@ -18,11 +18,6 @@ ComesBefore (move ∷ moves) (other ∷ others) =
 pub record IsFirst (p : Board) (roll : Dice) (moves : List Move) (end : Board) : Type 0 where
   pub legal : IsLegal p roll moves end
   pub first : (others : List Move) → IsLegal p roll others end → ComesBefore others moves → ⊥
-
--- each sequence of a list comes before the ones behind it
-abbrev pub AreInOrder : List (List Move) → Type 0
-AreInOrder [] = Unit {0}
-AreInOrder (moves ∷ rest) = All (ComesBefore moves) rest × AreInOrder rest
 
 -- the ends of some entries
 abbrev pub ends_of : List Entry → List Board

@@ -3,7 +3,7 @@ ghost use Rattle.position_rank.specs.Board.{Board, above};
 ghost use Rattle.roll_table.specs.Rolls.{IsRoll, dice_of};
 ghost use Rattle.move_rules.specs.Moves.{IsMove};
 ghost use Rattle.move_rules.specs.Sequences.{IsSequence, IsLegal};
-ghost use Rattle.move_rules.specs.Faults.{IsFirstFault, IsFault, DiffersBy, first_die};
+ghost use Rattle.move_rules.specs.Faults.{IsFirstFault, IsFirstWrong, IsWholeFault, IsFault, DiffersBy, first_die};
 
 use crate::listing::plays;
 use crate::moves::after_move;
@@ -46,7 +46,7 @@ pub fn apply(position: &Position, roll: Roll, play: &Play) -> Result<Position, B
 /// The position after all moves, each of which has to be right.
 fn follow(position: &Position, roll: Roll, play: &Play) -> Result<Position, BadPlay>
     ensures ok { IfOk result (IsSequence position.now (dice_of roll) play.now.items) }
-    ensures err { IfErr result (IsFault position.now roll play.now.items) }
+    ensures err { IfErr result (IsFirstWrong position.now (dice_of roll) play.now.items) }
     ensures valid { IsRoll roll }
 {
     let mut dice = all_dice(roll);
@@ -57,7 +57,7 @@ fn follow(position: &Position, roll: Roll, play: &Play) -> Result<Position, BadP
     Ok(now)
 }
 
-fn all_dice(roll: Roll) -> ArrayVec<u8, 4>
+pub(crate) fn all_dice(roll: Roll) -> ArrayVec<u8, 4>
     ensures dice { result.items ≡ dice_of roll }
     ensures valid { IsRoll roll }
 {
@@ -72,7 +72,11 @@ fn all_dice(roll: Roll) -> ArrayVec<u8, 4>
 }
 
 /// The position after one move, by a die that is taken from those left.
-fn make(position: &Position, dice: &mut ArrayVec<u8, 4>, step: Move) -> Result<Position, BadPlay>
+pub(crate) fn make(
+    position: &Position,
+    dice: &mut ArrayVec<u8, 4>,
+    step: Move,
+) -> Result<Position, BadPlay>
     requires { All (λ die. 1 ≤ die) dice.old.items }
     ensures ok { IfOk result (λ next. (i : ℕ) × (slice_get dice.old.items i ≡ Some step.die) × (dice.new.items ≡ remove dice.old.items i) × IsMove position.now step.die step.from next) }
     ensures err { IfErr result (IsFirstFault position.now dice.old.items step) }
@@ -122,11 +126,11 @@ fn may_bear_off(position: &Position, step: Move) -> bool
 }
 
 /// Whether a sequence uses as many dice as can be, and where it can be the higher.
-fn judge(position: &Position, roll: Roll, play: &Play) -> Result<(), BadPlay>
+pub(crate) fn judge(position: &Position, roll: Roll, play: &Play) -> Result<(), BadPlay>
     requires valid { IsRoll roll }
     requires sequence { (end : Board) × IsSequence position.now (dice_of roll) play.now.items end }
     ensures ok { OnOk result ((end : Board) → IsSequence position.now (dice_of roll) play.now.items end → IsLegal position.now roll play.now.items end) }
-    ensures err { IfErr result (IsFault position.now roll play.now.items) }
+    ensures err { IfErr result (IsWholeFault position.now roll play.now.items) }
 {
     let mut list = PlayList::new();
     plays(position, roll, &mut list);

@@ -4,10 +4,14 @@
 mod applied;
 mod laws;
 mod listing;
+mod matched;
 mod moves;
 mod play;
+mod written;
 
 pub use applied::{BadPlay, apply};
 pub use laws::{legal_ends_are_exact, legal_ends_stay_live};
 pub use listing::plays;
+pub use matched::match_play;
 pub use play::{Entry, Move, Play, PlayList};
+pub use written::{Step, Written};

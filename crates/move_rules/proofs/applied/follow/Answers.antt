@@ -1,5 +1,5 @@
 use Rattle.std.proofs.lemmas.Result.{err_from_is_err_and}
-use Rattle.move_rules.proofs.FaultLaws.{goes_on, goes_wrong, wrong-fault, next-of}
+use Rattle.move_rules.proofs.FaultLaws.{goes_on, goes_wrong, next-of}
 use Rattle.move_rules.proofs.applied.follow.Goals as goal
 
 pub loop-step-preserved : goal.loop-step-preserved
@@ -11,5 +11,4 @@ pub returns-in_err-now-clause-err : goal.returns-in_err-now-clause-err
 returns-in_err-now-clause-err c =
     let p = err_from_is_err_and c.from_residual.result c.from_residual.ensures.1 in
     rw (p.1, p.2)
-    (wrong-fault _ _ _ _
-    (goes_wrong _ _ _ _ _ _ _ _ _ c.loop-step.invariant (next-of c.deref-step-items.result.now c.loop-step.step-index (record { from = 0; die = 0 }) c.loop-step-test.true) c.in_err-now.ensures.err))
+    (goes_wrong _ _ _ _ _ _ _ _ _ c.loop-step.invariant (next-of c.deref-step-items.result.now c.loop-step.step-index (record { from = 0; die = 0 }) c.loop-step-test.true) c.in_err-now.ensures.err)
