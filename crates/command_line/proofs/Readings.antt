@@ -1,15 +1,15 @@
 -- What words are read as.
-use Rattle.std.proofs.Common.{◌≡◌, ◌≢◌, ℕ, ◌<◌, ◌==◌, Bool, true, false, not, List, [], ◌∷◌, length, map, slice_index_or, get_or, Option, Some, None, Ok, Err, codes, string_bytes, sym, refl, ◌∙◌, ap, inl, inr, arith}
+use Rattle.std.proofs.Common.{◌≡◌, ◌≢◌, ℕ, ◌<◌, ◌==◌, Bool, true, false, not, List, [], ◌∷◌, length, slice_index_or, get_or, Some, None, Ok, codes, string_bytes, refl, inl, inr}
 use Rattle.std.specs.List.{list_any, position}
 use Rattle.std.specs.Str.{bytes_eq}
 use Rattle.std.specs.declared.string.String.{String}
 use Rattle.std.specs.declared.alloc.Global.{Global}
 use Rattle.std.proofs.lemmas.List.{length-map}
 use Rattle.std.proofs.lemmas.Bool.Decides.{eqb_tells}
-use Rattle.hyper_outside.specs.declared.outside.WordsKind.TheVariants.{Command, Word, Form, Value}
+use Rattle.hyper_outside.specs.declared.outside.WordsKind.TheVariants.{Word, Form, Value}
 use Rattle.command_line.specs.declared.values.TheConstants.{MOST_CHECKERS, MOST_ROUNDS}
 use Rattle.command_line.specs.Reading.{bytes_of}
-use Rattle.command_line.specs.Words.{Asked, is_option, is_faulty, number_within, refused, place_at, values, arguments, reading}
+use Rattle.command_line.specs.Words.{is_option, is_faulty, number_within, refused, place_at, values, arguments, reading}
 use Rattle.command_line.proofs.Mapped.{position-map, list_any-map, get_or-map}
 
 -- an option

@@ -1,5 +1,5 @@
 -- A front and what is left.
-use Rattle.std.proofs.Common.{◌≡◌, ℕ, List, [], ◌++◌, take, drop, Option, Some, None, sym, refl, is_some, false}
+use Rattle.std.proofs.Common.{◌≡◌, ℕ, List, [], ◌++◌, drop, Option, Some, None, sym, refl, is_some, false}
 use Rattle.std.proofs.lemmas.List.{take-append-drop, append-nil}
 use Rattle.hyper_outside.specs.Calls.{front_of}
 

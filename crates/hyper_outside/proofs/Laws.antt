@@ -1,5 +1,5 @@
 -- One put after another is one put of the joined bytes.
-use Rattle.std.proofs.Common.{◌≡◌, ℕ, List, [], ◌++◌, Option, Some, None, Result, Ok, Err, IsOk, IsErr, sym, refl, ◌∙◌, ap, subst, append_assoc, rules}
+use Rattle.std.proofs.Common.{ℕ, List, ◌++◌, Option, Some, None, Result, Ok, Err, IsOk, IsErr, sym, ◌∙◌, ap, subst, append_assoc, rules}
 use Rattle.hyper_outside.specs.Sink.{Puts}
 
 -- the same after bytes that were put before

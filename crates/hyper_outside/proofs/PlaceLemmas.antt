@@ -1,16 +1,16 @@
 -- Places in memory keep their memory.
-use Rattle.std.proofs.Common.{◌≡◌, ℕ, zero, suc, ◌+◌, ◌-◌, ◌<◌, ◌≤◌, IsTrue, List, [], ◌∷◌, ◌++◌, length, map, get_or, set, sum_by, All, Option, Some, None, Result, IsOk, is_ok, cond, option_to_list, sym, refl, ◌∙◌, ap, subst, arith, length-append, vec_len, vec_capacity}
+use Rattle.std.proofs.Common.{◌≡◌, ℕ, zero, suc, ◌+◌, ◌-◌, ◌<◌, ◌≤◌, List, [], ◌∷◌, ◌++◌, length, get_or, set, sum_by, All, sym, refl, ◌∙◌, ap, subst, arith, vec_len, vec_capacity}
 use Rattle.std.specs.List.{AllZip}
 use Rattle.std.specs.Vec.{with_item}
 use Rattle.std.specs.declared.vec.Vec.{Vec}
 use Rattle.std.specs.declared.alloc.Global.{Global}
 use Rattle.std.proofs.lemmas.List.{map-set, length-map, map-append}
 use Rattle.std.proofs.lemmas.List.Sums.{sum_by-set, get_or-le-sum_by, sum_by-append}
-use Rattle.std.proofs.lemmas.List.Elements.{All-set, All-get_or, All-head, All-tail, All-cons, All-nil, All-push}
+use Rattle.std.proofs.lemmas.List.Elements.{All-set, All-get_or, All-head, All-tail, All-cons, All-push}
 use Rattle.hyper_outside.specs.declared.store.Place.{Place}
 use Rattle.hyper_outside.specs.declared.store.Store.TheInside.{Inside}
 use Rattle.hyper_outside.specs.Places.{file_of, files_of, HasMemory, HasRoom, IsSpare, IsGrown}
-use Rattle.hyper_outside.specs.Store.{File, Stock, held_bytes, takes, takes_name}
+use Rattle.hyper_outside.specs.Store.{File}
 use Rattle.hyper_outside.proofs.Stocks.{get_or-files}
 
 -- a place as it was

@@ -1,15 +1,14 @@
 -- What a change of one place in memory makes of the files.
-use Rattle.std.proofs.Common.{◌≡◌, ◌≢◌, ℕ, zero, suc, ◌+◌, ◌-◌, ◌<◌, ◌≤◌, Bool, true, false, not, cond, ◌&&◌, IsTrue, List, [], ◌∷◌, ◌++◌, length, map, get_or, set, sum_by, All, nat_lt, nat_le, Option, Some, None, Result, Ok, Err, IsOk, OnOk, sym, refl, ◌∙◌, ap, subst, rules, arith, length-append, add-zero, unwrap_or, inl, inr, vec_len, vec_capacity}
+use Rattle.std.proofs.Common.{◌≡◌, ℕ, zero, suc, ◌+◌, ◌-◌, ◌<◌, ◌≤◌, Bool, true, false, not, cond, ◌&&◌, IsTrue, List, [], ◌∷◌, ◌++◌, length, get_or, set, nat_lt, nat_le, Option, Some, None, Result, Ok, Err, IsOk, OnOk, sym, refl, ◌∙◌, ap, arith, length-append, add-zero, unwrap_or, inl, inr}
 use Rattle.std.specs.Str.{bytes_eq}
 use Rattle.std.specs.List.{position}
 use Rattle.std.specs.Option.{option_map}
-use Rattle.std.proofs.lemmas.List.{map-set, length-map, append-nil}
+use Rattle.std.proofs.lemmas.List.{map-set, length-map}
 use Rattle.std.proofs.lemmas.Bool.{cases_lt, lt-ltb, le-ltb, le-leb}
-use Rattle.std.proofs.lemmas.Grind.{common_steps}
 use Rattle.hyper_outside.specs.declared.store.Place.{Place}
 use Rattle.hyper_outside.specs.Places.{file_of, files_of}
 use Rattle.hyper_outside.specs.Store.{File, Stock, held_bytes, with_bytes, place_of, bytes_of, stocked, takes, takes_name, roomier}
-use Rattle.hyper_outside.proofs.Held.{StandsAt, stands-at, held-with_bytes, with_bytes-twice, StandsNowhere, stands-nowhere}
+use Rattle.hyper_outside.proofs.Held.{stands-at, held-with_bytes, with_bytes-twice, stands-nowhere}
 
 -- one more in front of a search
 in_front : (b : Bool) (n m : ℕ) (o : Option ℕ) → cond (nat_lt n m) (Some n) None ≡ o

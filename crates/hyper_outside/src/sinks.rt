@@ -1,4 +1,5 @@
 ghost use Rattle.std.specs.Prelude.{◌≡◌, ℕ, ◌+◌, ◌≤◌, ◌↔◌, nat_le, not, List, [], ◌∷◌, ◌++◌, length, Some, None, IfOk, OnOk, OnErr, is_ok};
+ghost use Rattle.std.specs.Io.KnownBytes.{Appends};
 ghost use Rattle.hyper_outside.specs.Causes.{HasCause};
 ghost use Rattle.hyper_outside.specs.Sink.{Puts};
 ghost use Rattle.hyper_outside.specs.Pile.{after_honest, put_fails, after_put};
@@ -150,7 +151,11 @@ pub struct RealSink<W> {
 }
 
 impl<W> RealSink<W> {
-    pub fn new(inner: W) -> Self {
+    /// A sink that writes to this writer, with no fault yet.
+    pub fn new(inner: W) -> Self
+        ensures inner { result.inner ≡ inner }
+        ensures faults { result.faults ≡ 0 }
+    {
         RealSink { inner, faults: 0 }
     }
 }
@@ -160,7 +165,12 @@ impl<W: Write> Sink for RealSink<W> {
 
     ghost faults = { λ s. s.faults };
 
-    fn put(&mut self, bytes: &[u8]) -> Result<(), Failed> {
+    /// Hands the bytes to the writer. `Failed` comes where the writer failed.
+    fn put(&mut self, bytes: &[u8]) -> Result<(), Failed>
+        ensures puts { Puts None None bytes.now result }
+        ensures cause { HasCause self.old.faults self.new.faults result }
+        ensures written { OnOk result (Appends (W.contents self.old.inner) (W.contents self.new.inner) bytes.now) }
+    {
         match self.inner.write_all(bytes) {
             Ok(()) => Ok(()),
             Err(_) => {

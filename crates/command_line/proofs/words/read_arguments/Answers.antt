@@ -1,8 +1,8 @@
-use Rattle.std.proofs.Common.{◌≡◌, ◌≢◌, ◌<◌, List, [], slice_index_or, true, false, sym, refl, ◌∙◌, ap, arith}
+use Rattle.std.proofs.Common.{[], slice_index_or, sym, ◌∙◌, ap, arith}
 use Rattle.command_line.specs.declared.values.TheConstants.{MOST_CHECKERS, MOST_ROUNDS}
 use Rattle.command_line.specs.Reading.{bytes_of}
 use Rattle.command_line.specs.Words.{number_within}
-use Rattle.command_line.proofs.Readings.{option-refused, count-refused, three-arguments, word-at, checkers-refused, rounds-refused, values-asked}
+use Rattle.command_line.proofs.Readings.{option-refused, three-arguments, word-at, checkers-refused, rounds-refused}
 use Rattle.command_line.proofs.words.read_arguments.Goals as goal
 
 pub returns-then-has_option : goal.returns-then-has_option

@@ -1,4 +1,4 @@
-use Rattle.std.proofs.Common.{◌≡◌, List, ◌∷◌, true, codes, string_bytes, sym, ◌∙◌, ap, subst}
+use Rattle.std.proofs.Common.{codes, string_bytes, sym, ◌∙◌, ap, subst}
 use Rattle.std.specs.Str.{bytes_eq}
 use Rattle.hyper_outside.specs.declared.outside.WordsKind.TheVariants.{Word}
 use Rattle.command_line.specs.Reading.{Gives, bytes_of}

@@ -1,6 +1,6 @@
-use Rattle.std.proofs.Common.{◌≡◌, ◌<◌, length, refl, arith, rules}
+use Rattle.std.proofs.Common.{◌<◌, length, refl, arith}
 use Rattle.std.proofs.lemmas.List.Elements.{AllWithin-none, AllWithin-more_set, All-from_all_within}
-use Rattle.hyper_outside.specs.Places.{IsGrown, HasMemory}
+use Rattle.hyper_outside.specs.Places.{HasMemory}
 use Rattle.hyper_outside.proofs.PlaceLemmas.{all-same, all-set}
 use Rattle.hyper_outside.proofs.store.grow.Goals as goal
 

@@ -1,4 +1,4 @@
-use Rattle.std.proofs.Common.{◌≡◌, List, [], ◌++◌, Some, inr, sym, ◌∙◌, ap}
+use Rattle.std.proofs.Common.{◌++◌, Some, inr, sym, ◌∙◌, ap}
 use Rattle.hyper_outside.specs.Calls.{front_of}
 use Rattle.hyper_outside.specs.Store.{Stock, held_bytes, bytes_of}
 use Rattle.hyper_outside.specs.MemFiles.{DemandingFiles}

@@ -1,4 +1,4 @@
-use Rattle.std.proofs.Common.{◌≡◌, List, [], sym, ◌∙◌, ap}
+use Rattle.std.proofs.Common.{[], ◌∙◌, ap}
 use Rattle.hyper_outside.specs.Store.{Stock, held_bytes}
 use Rattle.hyper_outside.specs.MemFiles.{DemandingFiles}
 use Rattle.hyper_outside.proofs.Held.{held-with_bytes, held-others}

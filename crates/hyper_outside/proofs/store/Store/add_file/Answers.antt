@@ -1,9 +1,9 @@
-use Rattle.std.proofs.Common.{◌≡◌, ℕ, List, [], ◌∷◌, ◌++◌, ◌+◌, ◌-◌, ◌<◌, ◌≤◌, All, IfSome, length, not, true, is_ok, IsOk, map, sym, refl, ◌∙◌, ap, subst, arith, vec_len, vec_capacity}
+use Rattle.std.proofs.Common.{◌≡◌, [], ◌∷◌, ◌++◌, ◌+◌, IfSome, length, not, true, is_ok, refl, ◌∙◌, ap, subst, arith, vec_len}
 use Rattle.std.proofs.lemmas.List.{map-append}
 use Rattle.std.proofs.lemmas.List.Elements.{All-pop}
 use Rattle.hyper_outside.specs.declared.store.Place.{Place}
 use Rattle.hyper_outside.specs.Places.{file_of, files_of, IsSpare}
-use Rattle.hyper_outside.specs.Store.{File, Stock}
+use Rattle.hyper_outside.specs.Store.{Stock}
 use Rattle.hyper_outside.proofs.Stocks.{stock-is}
 use Rattle.hyper_outside.proofs.PlaceLemmas.{pushed-room}
 use Rattle.hyper_outside.proofs.store.Store.add_file.Goals as goal

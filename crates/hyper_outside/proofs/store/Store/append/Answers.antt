@@ -1,7 +1,7 @@
-use Rattle.std.proofs.Common.{◌≡◌, ℕ, List, ◌++◌, ◌+◌, ◌-◌, ◌<◌, ◌≤◌, IsOk, IsTrue, length, sym, refl, ◌∙◌, ap, rules, arith, length-append, add-zero, vec_len, vec_capacity}
+use Rattle.std.proofs.Common.{◌≡◌, ◌++◌, ◌+◌, ◌-◌, ◌≤◌, IsOk, length, sym, refl, ◌∙◌, ap, arith, length-append, vec_len, vec_capacity}
 use Rattle.hyper_outside.specs.declared.store.Place.{Place}
 use Rattle.hyper_outside.specs.Places.{files_of}
-use Rattle.hyper_outside.specs.Store.{Stock, held_bytes, place_of, takes_name, stocked, bytes_of}
+use Rattle.hyper_outside.specs.Store.{Stock, place_of, stocked, bytes_of}
 use Rattle.hyper_outside.proofs.Stocks.{placed-within, placed, appended-there, appended-new, takes-new, takes-both, on-ok}
 use Rattle.hyper_outside.proofs.PlaceLemmas.{bytes-fit, memory-at, changed-room}
 use Rattle.hyper_outside.proofs.store.Store.append.Goals as goal

@@ -1,4 +1,4 @@
-use Rattle.std.proofs.Common.{◌≡◌, Some, sym, ◌∙◌, ap, rules, arith}
+use Rattle.std.proofs.Common.{Some, sym, ◌∙◌, ap, arith}
 use Rattle.hyper_outside.specs.Store.{Stock, held_bytes, place_of}
 use Rattle.hyper_outside.proofs.Held.{stands-nowhere}
 use Rattle.hyper_outside.proofs.Stocks.{placed-within, placed}

@@ -1,4 +1,4 @@
-use Rattle.std.proofs.Common.{◌≡◌, ◌∙◌, ap}
+use Rattle.std.proofs.Common.{◌∙◌, ap}
 use Rattle.hyper_outside.specs.Store.{Stock, place_of}
 use Rattle.hyper_outside.proofs.Stocks.{position-places}
 use Rattle.hyper_outside.proofs.store.Store.place_of.Goals as goal

@@ -1,4 +1,4 @@
-use Rattle.std.proofs.Common.{◌≡◌, ℕ, List, [], ◌++◌, ◌+◌, ◌-◌, ◌<◌, ◌≤◌, IsTrue, length, sym, refl, ◌∙◌, ap, subst, arith}
+use Rattle.std.proofs.Common.{◌++◌, ◌≤◌, IsTrue, length, sym, ◌∙◌, ap, subst, arith}
 use Rattle.hyper_outside.specs.Store.{Stock, stocked, bytes_of, takes}
 use Rattle.hyper_outside.proofs.Stocks.{takes-there, takes-started, stocked-started, stocked-new, on-ok-then}
 use Rattle.hyper_outside.proofs.store.Store.put_file.Goals as goal

@@ -1,7 +1,7 @@
-use Rattle.std.proofs.Common.{◌≡◌, ℕ, List, [], ◌++◌, ◌+◌, ◌-◌, ◌<◌, ◌≤◌, IsOk, IsTrue, length, sym, refl, ◌∙◌, ap, rules, arith, vec_len, vec_capacity}
+use Rattle.std.proofs.Common.{◌≡◌, [], ◌+◌, IsOk, length, sym, refl, ◌∙◌, ap, arith}
 use Rattle.hyper_outside.specs.declared.store.Place.{Place}
 use Rattle.hyper_outside.specs.Places.{files_of}
-use Rattle.hyper_outside.specs.Store.{Stock, held_bytes, place_of, takes_name, stocked}
+use Rattle.hyper_outside.specs.Store.{Stock, place_of, stocked}
 use Rattle.hyper_outside.proofs.Stocks.{placed-within, placed, stocked-there, stocked-new, takes-new, on-ok}
 use Rattle.hyper_outside.proofs.PlaceLemmas.{bytes-fit, changed-room}
 use Rattle.hyper_outside.proofs.store.Store.start.Goals as goal

@@ -1,10 +1,10 @@
-use Rattle.std.proofs.Common.{◌≡◌, ℕ, List, ◌+◌, ◌≤◌, All, length, sym, refl, ◌∙◌, ap, subst, rules, arith, vec_len, vec_capacity}
+use Rattle.std.proofs.Common.{◌≡◌, List, length, ◌∙◌, ap, subst, arith}
 use Rattle.std.specs.List.{AllZip}
 use Rattle.hyper_outside.specs.declared.store.Place.{Place}
-use Rattle.hyper_outside.specs.Places.{files_of, IsGrown, IsSpare, HasMemory, HasRoom}
-use Rattle.hyper_outside.specs.Store.{Stock, roomier}
+use Rattle.hyper_outside.specs.Places.{files_of, IsGrown, IsSpare}
+use Rattle.hyper_outside.specs.Store.{Stock}
 use Rattle.hyper_outside.proofs.Stocks.{roomier-is}
-use Rattle.hyper_outside.proofs.PlaceLemmas.{all-files, all-keep, keeps-spare, keeps-memory, grown-room, spare-more, spare-less}
+use Rattle.hyper_outside.proofs.PlaceLemmas.{all-files, all-keep, keeps-spare, grown-room, spare-more, spare-less}
 use Rattle.hyper_outside.proofs.store.Store.take_room.Goals as goal
 
 pub invariant_of-self-in_err-grow : goal.invariant_of-self-in_err-grow

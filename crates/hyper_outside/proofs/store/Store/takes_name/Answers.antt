@@ -1,4 +1,4 @@
-use Rattle.std.proofs.Common.{◌≡◌, ◌≢◌, ◌<◌, ◌≤◌, not, length, sym, refl, ◌∙◌, ap, rules, arith, vec_len}
+use Rattle.std.proofs.Common.{◌≡◌, ◌≢◌, not, length, sym, ◌∙◌, ap, arith, vec_len}
 use Rattle.std.proofs.lemmas.Bool.{eqb-true, eqb-false}
 use Rattle.hyper_outside.specs.Store.{Stock}
 use Rattle.hyper_outside.proofs.Stocks.{takes-there, takes-placed, takes-full}
