@@ -23,7 +23,13 @@ fn tells_how_a_game_was_won(rt: HostRuntime) {
         assert_eq!(rt; points(&position(&rt, &[mover], &[other])), won);
     }
     assert_eq!(rt; points(&position(&rt, &[0, 0], &[1, 0])), Some(Won::Single));
-    assert_eq!(rt; points(&position(&rt, &[0, 0], &[19, 3])), Some(Won::Backgammon));
-    assert_eq!(rt; points(&position(&rt, &[0, 0, 0], &[25, 25, 0])), Some(Won::Single));
+    assert_eq!(rt;
+        points(&position(&rt, &[0, 0], &[19, 3])),
+        Some(Won::Backgammon)
+    );
+    assert_eq!(rt;
+        points(&position(&rt, &[0, 0, 0], &[25, 25, 0])),
+        Some(Won::Single)
+    );
     assert_eq!(rt; points(&position(&rt, &[24, 0, 0], &[25, 25, 25])), None);
 }
