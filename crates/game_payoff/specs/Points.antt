@@ -1,5 +1,5 @@
 -- What a game that has ended is worth.
-use Rattle.std.specs.Prelude.{Option, Some, None, sum, drop, slice_index, nat_lt, if◌then◌else◌}
+use Rattle.std.specs.Prelude.{Option, Some, None, sum, slice_index, nat_lt, if◌then◌else◌}
 use Rattle.game_payoff.specs.declared.payoff.Won.{Won}
 use Rattle.game_payoff.specs.declared.payoff.Won.TheVariants.{Single, Gammon, Backgammon}
 use Rattle.position_rank.specs.Board.{Board, above}

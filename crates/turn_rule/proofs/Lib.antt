@@ -2,6 +2,7 @@ pub mod Integers
 pub mod Greatest
 pub mod Within
 pub mod Agreement
+pub mod Monotone
 pub mod Best
 pub mod Least
 pub mod TableLemmas

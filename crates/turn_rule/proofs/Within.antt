@@ -87,7 +87,7 @@ least-upto : (v b : ℤ) (vs : List ℤ) → v ≤ℤ b → least v vs ≤ℤ b
 least-upto v b [] h = h
 least-upto v b (w ∷ vs) h = least-upto (int_min v w) b vs (min_left v w b h)
 
-least-mono : (X : Type 0) (f g : X → ℤ) (v w : ℤ) (xs : List X) → v ≤ℤ w → ((x : X) → Among x xs → f x ≤ℤ g x) → least v (map f xs) ≤ℤ least w (map g xs)
+pub least-mono : (X : Type 0) (f g : X → ℤ) (v w : ℤ) (xs : List X) → v ≤ℤ w → ((x : X) → Among x xs → f x ≤ℤ g x) → least v (map f xs) ≤ℤ least w (map g xs)
 least-mono X f g v w [] h k = h
 least-mono X f g v w (x ∷ xs) h k = least-mono X f g (int_min v (f x)) (int_min w (g x)) xs (min_mono _ _ _ _ h (k x (inl refl))) (λ y m. k y (inr m))
 
@@ -160,7 +160,7 @@ module _ (checkers : ℕ) (stakes : Terms) (valid : IsValid stakes) where
   unfolding turn
   turn-within u words p k state = or_double-within u words p k state (kind_at stakes k).double (valid.kinds k no_kind state.kind).double _ _ (roll-within u words p k state)
 
-  opening-within : AreWithin checkers stakes (opening stakes)
+  pub opening-within : AreWithin checkers stakes (opening stakes)
   opening-within p k state =
       let positive = bound-positive stakes valid in
       record { from = le_refl _; in_order = omega (arith, ints); to = le_refl _ }

@@ -1,6 +1,7 @@
 //! One turn of the game, and the words after rounds of turns.
 #![tactic(auto)]
 
+mod laws;
 mod plain_table;
 mod state;
 mod sums;
@@ -8,4 +9,9 @@ mod sweep;
 mod table;
 mod turn;
 
+pub use laws::{
+    doubled_examples, rounded_examples, rounds_stay_within_the_bound, rounds_tighten,
+    tighter_words_tighten_turns, turns_look_at_states_alone, turns_stay_within_the_bound,
+    worked_examples,
+};
 pub use plain_table::PlainTable;
