@@ -1,0 +1,33 @@
+-- What a refusal that is put says of the one that is due.
+use Rattle.std.proofs.Common.{◌≡◌, ℕ, List, Ok, Err, Result, IfErr, sym, subst, arith}
+use Rattle.equity_report.specs.declared.refusal.Refusal.{Refusal}
+use Rattle.equity_report.specs.declared.refusal.Refusal.TheVariants.{Words, Position, Write, Memory, Base}
+use Rattle.equity_report.specs.Refusals.{status_of, refusal_text}
+use Rattle.hyper_app.specs.declared.task.Task.{Task}
+use Rattle.hyper_app.specs.Runs.{Reads}
+
+-- status 8 is that of want of memory alone
+pub memory-text : (W : List ℕ → Type 0) (refusal : Refusal) → status_of refusal ≡ 8 → W (refusal_text refusal) → W (refusal_text Memory)
+memory-text W (Words bad) e w = absurd (omega arith)
+memory-text W (Position bad) e w = absurd (omega arith)
+memory-text W Write e w = absurd (omega arith)
+memory-text W Memory e w = w
+memory-text W (Base wanted found) e w = absurd (omega arith)
+
+of_memory : (W : List ℕ → Type 0) (refusal : Refusal) → 8 ≡ status_of refusal → W (refusal_text Memory) → W (refusal_text refusal)
+of_memory W (Words bad) e w = absurd (omega arith)
+of_memory W (Position bad) e w = absurd (omega arith)
+of_memory W Write e w = absurd (omega arith)
+of_memory W Memory e w = w
+of_memory W (Base wanted found) e w = absurd (omega arith)
+
+abbrev Due : (W : List ℕ → Type 0) (status : ℕ) → Result Task Refusal → Type 0
+Due W status expected = IfErr expected (λ refusal. status ≡ status_of refusal → W (refusal_text refusal))
+
+pub due-text : (W : List ℕ → Type 0) (expected : Result Task Refusal) (refusal : Refusal) (status : ℕ) → Reads expected (Err refusal) → status ≡ status_of refusal → W (refusal_text refusal) → IfErr expected (λ due. status ≡ status_of due → W (refusal_text due))
+due-text W expected (Words bad) status reads is w = subst (Due W status) (sym reads) (λ _. w)
+due-text W expected (Position bad) status reads is w = subst (Due W status) (sym reads) (λ _. w)
+due-text W expected Write status reads is w = subst (Due W status) (sym reads) (λ _. w)
+due-text W (Ok task) Memory status reads is w = tt
+due-text W (Err due) Memory status reads is w = λ e. of_memory W due (omega (arith, e, is)) w
+due-text W expected (Base wanted found) status reads is w = subst (Due W status) (sym reads) (λ _. w)

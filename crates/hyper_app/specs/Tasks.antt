@@ -1,0 +1,36 @@
+-- What a program's words ask for, and what is reported.
+use Rattle.std.specs.Prelude.{ℕ, ◌==◌, List, sum, Result, Ok, Err, if◌then◌else◌}
+use Rattle.hyper_app.specs.declared.task.Task.{Task}
+use Rattle.position_rank.specs.Board.{Board}
+use Rattle.position_rank.specs.declared.text.BadPosition.{BadPosition}
+use Rattle.position_rank.specs.Text.{read_text}
+use Rattle.hyper_outside.specs.declared.outside.BadWords.{BadWords}
+use Rattle.command_line.specs.Words.{Asked, reading}
+use Rattle.cube_actions.specs.Stakes.{cubeless}
+use Rattle.turn_rule.specs.Turn.{rounds}
+use Rattle.turn_rule.specs.States.{pair_of}
+use Rattle.equity_report.specs.declared.refusal.Refusal.{Refusal}
+use Rattle.equity_report.specs.declared.refusal.Refusal.TheVariants.{Words, Position, Base}
+use Rattle.equity_report.specs.Reports.{bound_text}
+
+-- the position has as many checkers a side as the words ask for
+abbrev pub fitting : ℕ → ℕ → Board → Result Task Refusal
+fitting checkers rounds p =
+    if sum p.mover == checkers then Ok (record { position = p; rounds = rounds })
+    else Err (Base checkers (sum p.mover))
+
+abbrev pub with_position : Asked → Result Board BadPosition → Result Task Refusal
+with_position asked (Ok p) = fitting asked.checkers asked.rounds p
+with_position asked (Err bad) = Err (Position bad)
+
+abbrev pub with_words : Result Asked BadWords → Result Task Refusal
+with_words (Ok asked) = with_position asked (read_text asked.position)
+with_words (Err bad) = Err (Words bad)
+
+-- the words are read first, then the position, and then the numbers of checkers are compared
+abbrev pub task_of : List (List ℕ) → Result Task Refusal
+task_of words = with_words (reading words)
+
+-- the pair of the position after so many rounds of a game without a cube
+abbrev pub report : Task → List ℕ
+report t = bound_text t.position t.rounds (pair_of (rounds cubeless t.rounds) t.position 0)

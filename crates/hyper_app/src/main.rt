@@ -1,0 +1,7 @@
+//! The hypergammon solver.
+#![tactic(auto)]
+
+mod task;
+mod top;
+
+fn main() {}

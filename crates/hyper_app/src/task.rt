@@ -1,0 +1,54 @@
+ghost use Rattle.std.specs.Prelude.{◌≡◌, ℕ, IfOk};
+ghost use Rattle.position_rank.specs.Board.{IsPosition, IsLive};
+ghost use Rattle.command_line.specs.Reading.{bytes_of};
+ghost use Rattle.hyper_app.specs.Tasks.{fitting, task_of};
+ghost use Rattle.hyper_app.specs.Runs.{Reads};
+
+use command_line::{Command, WordsStop, read_words};
+use equity_report::Refusal;
+use position_rank::{Position, read_position};
+use std::alloc::Global;
+
+/// A position whose pair is asked for, and after how many rounds.
+#[derive(Clone, Copy, Debug, PartialEq, Eq)]
+pub struct Task {
+    pub position: Position,
+    pub rounds: u32,
+}
+
+/// Reads the words, then the position, and compares the numbers of checkers.
+pub fn read_task(alloc: Global, words: &[String]) -> Result<Task, Refusal>
+    ensures reads { Reads (task_of (bytes_of words.now)) result }
+    ensures position { IfOk result (λ task. IsPosition task.position) }
+    ensures live { IfOk result (λ task. IsLive task.position) }
+{
+    match read_words(alloc, words) {
+        Ok(
+            Command::Bound {
+                checkers,
+                rounds,
+                position,
+            },
+        ) => match read_position(position.as_str()) {
+            Ok(position) => fitting(checkers, rounds, position),
+            Err(bad) => Err(Refusal::Position(bad)),
+        },
+        Err(WordsStop::Bad(bad)) => Err(Refusal::Words(bad)),
+        Err(WordsStop::NoMemory) => Err(Refusal::Memory),
+    }
+}
+
+/// A position's number of checkers is compared with that of the words.
+fn fitting(checkers: u8, rounds: u32, position: Position) -> Result<Task, Refusal>
+    ensures { result ≡ fitting checkers rounds position }
+{
+    let found = position.checkers();
+    if found == checkers {
+        Ok(Task { position, rounds })
+    } else {
+        Err(Refusal::Base {
+            wanted: checkers,
+            found,
+        })
+    }
+}
