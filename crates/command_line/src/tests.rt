@@ -41,7 +41,7 @@ fn words_are_refused_in_order(rt: HostRuntime) -> Result<(), Fail> {
             WordsKind::Value,
             2,
         ),
-        (&["bound", "2", "0", "6 / 1"], WordsKind::Value, 1),
+        (&["bound", "4", "0", "6 / 1"], WordsKind::Value, 1),
         (&["bound", "01", "1", "x"], WordsKind::Value, 1),
     ];
     for (words, kind, place) in cases.iter() {

@@ -2,7 +2,7 @@ ghost use Rattle.std.specs.Prelude.{◌≡◌, ℕ, ◌≤◌, List, IfSome};
 ghost use Rattle.command_line.specs.Words.{is_option, is_faulty, number_within};
 
 /// The most checkers per side.
-pub const MOST_CHECKERS: u8 = 1;
+pub const MOST_CHECKERS: u8 = 3;
 
 /// The most rounds.
 pub const MOST_ROUNDS: u32 = 4096;

@@ -19,7 +19,7 @@ pub enum Refusal {
     Write,
     /// There was no memory.
     Memory,
-    /// The position has another number of checkers per side than the words ask for.
+    /// The position wants another number of checkers a side than is found in the words.
     Base { wanted: u8, found: u8 },
 }
 

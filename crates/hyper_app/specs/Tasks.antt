@@ -17,7 +17,7 @@ use Rattle.equity_report.specs.Reports.{bound_text}
 abbrev pub fitting : ℕ → ℕ → Board → Result Task Refusal
 fitting checkers rounds p =
     if sum p.mover == checkers then Ok (record { position = p; rounds = rounds })
-    else Err (Base checkers (sum p.mover))
+    else Err (Base (sum p.mover) checkers)
 
 abbrev pub with_position : Asked → Result Board BadPosition → Result Task Refusal
 with_position asked (Ok p) = fitting asked.checkers asked.rounds p

@@ -38,17 +38,17 @@ pub fn read_task(alloc: Global, words: &[String]) -> Result<Task, Refusal>
     }
 }
 
-/// A position's number of checkers is compared with that of the words.
+/// The position's number of checkers is wanted, and the words' is what is found.
 fn fitting(checkers: u8, rounds: u32, position: Position) -> Result<Task, Refusal>
     ensures { result ≡ fitting checkers rounds position }
 {
-    let found = position.checkers();
-    if found == checkers {
+    let wanted = position.checkers();
+    if wanted == checkers {
         Ok(Task { position, rounds })
     } else {
         Err(Refusal::Base {
-            wanted: checkers,
-            found,
+            wanted,
+            found: checkers,
         })
     }
 }
