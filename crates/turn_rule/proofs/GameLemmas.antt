@@ -44,9 +44,9 @@ opening-rounds stakes checkers kinds same end p k state =
     let full = replicate-full checkers kinds (opening_pair stakes) in
     let here = state-place table stakes full same p k state in
     ap (at end) (all_same (squares_of checkers * kinds) (place_of kinds p k) (opening_pair stakes) (subst (λ (n : ℕ). place_of kinds p k < n) full here)) ∙ by_end end where
-  by_end : (end : End) → at end (opening_pair stakes) ≡ opening stakes end p k
-  by_end Lower = refl
-  by_end Upper = refl
+      by_end : (end : End) → at end (opening_pair stakes) ≡ opening stakes end p k
+      by_end Lower = refl
+      by_end Upper = refl
 
 pub agree-within : (checkers : ℕ) (stakes : Terms) (u v : Words) → Agree checkers stakes u v → AreWithin checkers stakes v → AreWithin checkers stakes u
 agree-within checkers stakes u v same within p k state =
@@ -61,9 +61,9 @@ pub all-turned : (stakes : Terms) (old new : Pairs) (squares : ℕ) → squares 
 all-turned stakes old new squares all turned end p k state =
     let pair = turned p k state (subst (λ (n : ℕ). square_rank_of p < n) (sym all) (square-below p old.checkers state.position state.many)) in
     by_end end pair where
-  by_end : (end : End) → pair_of (words_of new) p k ≡ pair_of (turn stakes (words_of old)) p k → words_of new end p k ≡ turn stakes (words_of old) end p k
-  by_end Lower e = ap (λ (b : Bounds). b.lower) e
-  by_end Upper e = ap (λ (b : Bounds). b.upper) e
+      by_end : (end : End) → pair_of (words_of new) p k ≡ pair_of (turn stakes (words_of old)) p k → words_of new end p k ≡ turn stakes (words_of old) end p k
+      by_end Lower e = ap (λ (b : Bounds). b.lower) e
+      by_end Upper e = ap (λ (b : Bounds). b.upper) e
 
 pub turned-within : (stakes : Terms) (old new : Pairs) → IsValid stakes → AreWithin old.checkers stakes (words_of old) → Agree old.checkers stakes (words_of new) (turn stakes (words_of old)) → AreWithin old.checkers stakes (words_of new)
 turned-within stakes old new valid within turned =

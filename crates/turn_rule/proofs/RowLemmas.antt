@@ -49,4 +49,4 @@ pub square-at : (p : Board) (mover other : List ℕ) (checkers n i : ℕ) → p 
 square-at p mover other checkers n i e many all ranked =
     ap square_rank_of e
     ∙ (ap (λ (s : ℕ). rank_of mover * layouts s + rank_of other) many
-        ∙ (ap (λ (m : ℕ). rank_of mover * m + rank_of other) (sym all) ∙ ap (λ (r : ℕ). rank_of mover * n + r) ranked))
+    ∙ (ap (λ (m : ℕ). rank_of mover * m + rank_of other) (sym all) ∙ ap (λ (r : ℕ). rank_of mover * n + r) ranked))

@@ -43,11 +43,11 @@ sweep-step old start p turned number new place pair swept at here is = record {
   alike = record { checkers = swept.alike.checkers; kinds = swept.alike.kinds };
   full = length-set new.pairs place pair ∙ swept.full;
   so_far = below_more (λ k. pair_of (words_of (record new { pairs = set new.pairs place pair })) p k ≡ turned k) number
-    (λ k h. let apart : place_of new.kinds p k ≢ place = omega (arith, at) in kept new place (place_of new.kinds p k) pair apart ∙ swept.so_far k h)
-    (subst (λ (i : ℕ). get_or (set new.pairs place pair) i nothing ≡ turned number) at (written new place pair here ∙ is));
+      (λ k h. let apart : place_of new.kinds p k ≢ place = omega (arith, at) in kept new place (place_of new.kinds p k) pair apart ∙ swept.so_far k h)
+      (subst (λ (i : ℕ). get_or (set new.pairs place pair) i nothing ≡ turned number) at (written new place pair here ∙ is));
   before = λ other h.
-    let apart : other ≢ place = omega (arith, at, swept.alike.kinds, ap (λ (n : ℕ). square_rank_of p * n) swept.alike.kinds) in
-    kept new place other pair apart ∙ swept.before other h;
+      let apart : other ≢ place = omega (arith, at, swept.alike.kinds, ap (λ (n : ℕ). square_rank_of p * n) swept.alike.kinds) in
+      kept new place other pair apart ∙ swept.before other h;
 }
 
 -- a pair by its two ends
