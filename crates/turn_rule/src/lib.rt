@@ -7,6 +7,8 @@ mod state;
 mod sums;
 mod sweep;
 mod table;
+#[cfg(test)]
+mod tests;
 mod turn;
 
 pub use laws::{
