@@ -13,7 +13,7 @@ mod turn;
 
 pub use laws::{
     doubled_examples, rounded_examples, rounds_stay_within_the_bound, rounds_tighten,
-    tighter_words_tighten_turns, turns_look_at_states_alone, turns_stay_within_the_bound,
-    worked_examples,
+    table_examples, tighter_words_tighten_turns, turns_look_at_states_alone,
+    turns_stay_within_the_bound, worked_examples,
 };
 pub use plain_table::PlainTable;
