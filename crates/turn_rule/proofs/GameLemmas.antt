@@ -1,5 +1,5 @@
 -- Whole tables: the opening one, and one that was turned.
-use Rattle.std.proofs.Common.{◌≡◌, ◌<◌, ◌≤◌, ◌+◌, ◌*◌, ℕ, zero, suc, List, [], ◌∷◌, length, replicate, get_or, sum, sym, ap, subst, ◌∙◌, refl, add-one, arith}
+use Rattle.std.proofs.Common.{◌≡◌, ◌<◌, ◌+◌, ◌*◌, ℕ, zero, suc, length, replicate, get_or, sum, sym, ap, subst, ◌∙◌, refl, add-one, arith}
 use Rattle.std.proofs.lemmas.Nat.{mul-add-lt}
 use Rattle.position_rank.specs.Board.{Board, IsPosition}
 use Rattle.position_rank.specs.Ranks.{layouts, rank_of, square_rank_of}
@@ -11,7 +11,7 @@ use Rattle.cube_actions.specs.Stakes.{Terms, IsValid, nothing}
 use Rattle.turn_rule.specs.Turn.{Words, turn, opening, rounds}
 use Rattle.turn_rule.specs.Tables.{Pairs, IsFull, words_of, place_of, squares_of}
 use Rattle.turn_rule.specs.States.{IsState, AreWithin, Agree, pair_of}
-use Rattle.turn_rule.specs.Rounds.{Game, HasRounds, IsTurned, IsTurnedBefore, opening_pair}
+use Rattle.turn_rule.specs.Rounds.{Game, HasRounds, IsTurnedBefore, opening_pair}
 use Rattle.turn_rule.proofs.TableLemmas.{place-within}
 use Rattle.turn_rule.proofs.Within.{turn-within, rounds-within}
 use Rattle.turn_rule.proofs.Agreement.{turn-agree}

@@ -1,12 +1,12 @@
 -- One square more.
-use Rattle.std.proofs.Common.{◌≡◌, ◌<◌, ◌≤◌, ◌+◌, ◌*◌, ℕ, List, length, get_or, slice_index_or, sum, sym, ap, subst, ◌∙◌, ◌⊎◌, inl, inr, arith}
+use Rattle.std.proofs.Common.{◌≡◌, ◌<◌, ◌+◌, ◌*◌, ℕ, List, length, slice_index_or, sum, sym, ap, subst, ◌∙◌, inl, inr, arith}
 use Rattle.std.proofs.lemmas.Bool.{cases_lt}
 use Rattle.position_rank.specs.Board.{Board, IsPosition, IsLive}
 use Rattle.position_rank.specs.Ranks.{layouts, rank_of, square_rank_of}
 use Rattle.position_rank.proofs.RankLaws.{positions-same}
 use Rattle.cube_actions.specs.Stakes.{Terms, nothing}
 use Rattle.turn_rule.specs.Turn.{turn}
-use Rattle.turn_rule.specs.Tables.{Pairs, words_of, place_of}
+use Rattle.turn_rule.specs.Tables.{Pairs, words_of}
 use Rattle.turn_rule.specs.States.{IsState, pair_of}
 use Rattle.turn_rule.specs.Rounds.{IsTurnedBefore, AreAlike}
 use Rattle.turn_rule.proofs.TableLemmas.{earlier-place}

@@ -1,11 +1,9 @@
 -- Places of a table, and what a write leaves.
-use Rattle.std.proofs.Common.{◌≡◌, ◌≢◌, ◌<◌, ◌≤◌, ◌+◌, ◌*◌, ℕ, ℤ, List, length, get_or, slice_index_or, set, subst, length-set, sym, ap, ◌∙◌, refl, arith, get_or-set_same, get_or-set_other}
+use Rattle.std.proofs.Common.{◌≡◌, ◌≢◌, ◌<◌, ◌+◌, ◌*◌, ℕ, ℤ, length, get_or, slice_index_or, set, subst, length-set, ap, ◌∙◌, refl, arith, get_or-set_same, get_or-set_other}
 use Rattle.std.proofs.lemmas.Nat.{mul-add-lt}
 use borrow.Author.Count.{below_more}
-use Rattle.std.proofs.Math.Nat.{mul-le-mul_right}
 use Rattle.position_rank.specs.Board.{Board}
 use Rattle.position_rank.specs.Ranks.{square_rank_of}
-use Rattle.directed_fixed.specs.declared.bounds.End.TheVariants.{Lower, Upper}
 use Rattle.directed_fixed.specs.Bounds.{Bounds}
 use Rattle.cube_actions.specs.Stakes.{nothing}
 use Rattle.turn_rule.specs.Tables.{Pairs, IsFull, words_of, place_of, squares_of}
