@@ -93,7 +93,7 @@ fn check_fault(
 }
 
 #[test]
-fn refuses_plays(rt: HostRuntime) -> Result<(), Fail> {
+fn refuses_wrong_moves(rt: HostRuntime) -> Result<(), Fail> {
     check_fault(
         &rt,
         (&[2], &[24]),
@@ -129,6 +129,11 @@ fn refuses_plays(rt: HostRuntime) -> Result<(), Fail> {
         &[step(25, 1)],
         BadPlay::Closed,
     )?;
+    Ok(())
+}
+
+#[test]
+fn refuses_plays_of_too_few_dice_or_the_lower(rt: HostRuntime) -> Result<(), Fail> {
     check_fault(&rt, (&[2], &[24]), (2, 1), &[step(2, 2)], BadPlay::TooFew)?;
     check_fault(
         &rt,
