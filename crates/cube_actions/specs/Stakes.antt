@@ -1,6 +1,5 @@
 -- What a game is played for.
 use Rattle.std.specs.Prelude.{◌≡◌, ◌<◌, ◌^◌, ◌*◌, ℕ, ℤ, pos, ◌⊎◌, List, [], ◌∷◌, None, All, IfSome, length, replicate, slice_index_or}
-use Rattle.arrayvec.specs.ArrayVec.{ArrayVec}
 use Rattle.directed_fixed.specs.Bounds.{Bounds, IsWithin}
 use Rattle.cube_actions.specs.declared.kind.Kind.{Kind}
 use Rattle.cube_actions.specs.declared.kind.Double.{Double}

@@ -1,4 +1,5 @@
 ghost use Rattle.std.specs.Prelude.{◌≡◌};
+ghost use Rattle.cube_actions.specs.Stakes.{no_kind};
 
 use arrayvec::ArrayVec;
 use directed_fixed::{Fixed, Pair};
@@ -27,7 +28,7 @@ pub struct Kind {
 }
 
 impl Default for Kind {
-    ghost is_default = { λ _. Unit {0} };
+    ghost is_default = { λ kind. kind ≡ no_kind };
 
     /// A kind that wins nothing.
     fn default() -> Self {

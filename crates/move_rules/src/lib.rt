@@ -7,6 +7,8 @@ mod listing;
 mod matched;
 mod moves;
 mod play;
+#[cfg(test)]
+mod tests;
 mod written;
 
 pub use applied::{BadPlay, apply};

@@ -89,7 +89,8 @@ fn live_ranks_are_the_known_ones(rt: HostRuntime) {
 }
 
 #[test]
-fn the_start_has_its_live_rank(rt: HostRuntime) {
+fn positions_of_three_checkers_are_counted(rt: HostRuntime) {
+    assert_eq!(rt; live_count(3), 7_953_353);
     let start = Position::start(3);
     assert!(rt; start.is_live());
     assert_eq!(rt; live_rank(&start), 6_947_152);

@@ -1,5 +1,5 @@
 -- A turn looks only at words of states.
-use Rattle.std.proofs.Common.{◌≡◌, ℕ, zero, suc, ℤ, pos, neg_ℤ, ◌+ℤ◌, ◌*ℤ◌, List, [], ◌∷◌, map, Option, Some, None, IfSome, inl, inr, refl, ap, ◌∙◌}
+use Rattle.std.proofs.Common.{◌≡◌, ℕ, ℤ, pos, neg_ℤ, ◌+ℤ◌, ◌*ℤ◌, List, [], ◌∷◌, map, Option, Some, None, IfSome, inl, inr, refl, ap, ◌∙◌}
 use Rattle.std.specs.Int.{int_max, int_min}
 use Rattle.position_rank.specs.Board.{Board, swap}
 use Rattle.roll_table.specs.Rolls.{Dice, IsRoll, all_rolls}
@@ -13,7 +13,7 @@ use Rattle.directed_fixed.specs.Rounding.{outwards}
 use Rattle.cube_actions.specs.declared.kind.Double.{Double}
 use Rattle.cube_actions.specs.declared.kind.Taken.{Taken}
 use Rattle.cube_actions.specs.Stakes.{Terms, kind_at, no_kind, IsValid, IsRightDouble, IsRightAnswer}
-use Rattle.turn_rule.specs.Turn.{Words, win, if_won, worth, greatest, sum_over, roll_value, least, doubled, or_double, turn, rounds}
+use Rattle.turn_rule.specs.Turn.{Words, win, if_won, worth, greatest, sum_over, roll_value, least, or_double, turn}
 use Rattle.turn_rule.specs.States.{IsState, Agree}
 use Rattle.turn_rule.proofs.Greatest.{AreRolls, all_rolls-right}
 use Rattle.turn_rule.proofs.Within.{next_state, at_member}

@@ -2,7 +2,7 @@
 use Rattle.std.proofs.Common.{◌≡◌, ◌<◌, ◌^◌, ◌↔◌, ℕ, zero, suc, ℤ, pos, neg_ℤ, ◌≤ℤ◌, List, [], ◌∷◌, None, length, sum, slice_index_or, inl, inr, refl, arith}
 use Rattle.std.specs.List.{Contains}
 use Rattle.std.proofs.lemmas.Int.{ints}
-use Rattle.position_rank.specs.Board.{Board, swap}
+use Rattle.position_rank.specs.Board.{Board}
 use Rattle.roll_table.specs.Rolls.{Dice, IsRoll}
 use Rattle.move_rules.specs.declared.play.Entry.{Entry}
 use Rattle.move_rules.specs.Order.{ends_of}

@@ -1,5 +1,5 @@
 -- Whole tables: the opening one, and one that was turned.
-use Rattle.std.proofs.Common.{◌≡◌, ◌<◌, ◌≤◌, ◌+◌, ◌*◌, ℕ, zero, suc, List, [], ◌∷◌, length, replicate, get_or, sum, sym, ap, subst, ◌∙◌, refl, add-one, arith}
+use Rattle.std.proofs.Common.{◌≡◌, ◌<◌, ◌+◌, ◌*◌, ℕ, zero, suc, length, replicate, get_or, sum, sym, ap, subst, ◌∙◌, refl, add-one, arith}
 use Rattle.std.proofs.lemmas.Nat.{mul-add-lt}
 use Rattle.position_rank.specs.Board.{Board, IsPosition}
 use Rattle.position_rank.specs.Ranks.{layouts, rank_of, square_rank_of}
@@ -11,7 +11,7 @@ use Rattle.cube_actions.specs.Stakes.{Terms, IsValid, nothing}
 use Rattle.turn_rule.specs.Turn.{Words, turn, opening, rounds}
 use Rattle.turn_rule.specs.Tables.{Pairs, IsFull, words_of, place_of, squares_of}
 use Rattle.turn_rule.specs.States.{IsState, AreWithin, Agree, pair_of}
-use Rattle.turn_rule.specs.Rounds.{Game, HasRounds, IsTurned, IsTurnedBefore, opening_pair}
+use Rattle.turn_rule.specs.Rounds.{Game, HasRounds, IsTurnedBefore, opening_pair}
 use Rattle.turn_rule.proofs.TableLemmas.{place-within}
 use Rattle.turn_rule.proofs.Within.{turn-within, rounds-within}
 use Rattle.turn_rule.proofs.Agreement.{turn-agree}
@@ -44,9 +44,9 @@ opening-rounds stakes checkers kinds same end p k state =
     let full = replicate-full checkers kinds (opening_pair stakes) in
     let here = state-place table stakes full same p k state in
     ap (at end) (all_same (squares_of checkers * kinds) (place_of kinds p k) (opening_pair stakes) (subst (λ (n : ℕ). place_of kinds p k < n) full here)) ∙ by_end end where
-  by_end : (end : End) → at end (opening_pair stakes) ≡ opening stakes end p k
-  by_end Lower = refl
-  by_end Upper = refl
+      by_end : (end : End) → at end (opening_pair stakes) ≡ opening stakes end p k
+      by_end Lower = refl
+      by_end Upper = refl
 
 pub agree-within : (checkers : ℕ) (stakes : Terms) (u v : Words) → Agree checkers stakes u v → AreWithin checkers stakes v → AreWithin checkers stakes u
 agree-within checkers stakes u v same within p k state =
@@ -61,9 +61,9 @@ pub all-turned : (stakes : Terms) (old new : Pairs) (squares : ℕ) → squares 
 all-turned stakes old new squares all turned end p k state =
     let pair = turned p k state (subst (λ (n : ℕ). square_rank_of p < n) (sym all) (square-below p old.checkers state.position state.many)) in
     by_end end pair where
-  by_end : (end : End) → pair_of (words_of new) p k ≡ pair_of (turn stakes (words_of old)) p k → words_of new end p k ≡ turn stakes (words_of old) end p k
-  by_end Lower e = ap (λ (b : Bounds). b.lower) e
-  by_end Upper e = ap (λ (b : Bounds). b.upper) e
+      by_end : (end : End) → pair_of (words_of new) p k ≡ pair_of (turn stakes (words_of old)) p k → words_of new end p k ≡ turn stakes (words_of old) end p k
+      by_end Lower e = ap (λ (b : Bounds). b.lower) e
+      by_end Upper e = ap (λ (b : Bounds). b.upper) e
 
 pub turned-within : (stakes : Terms) (old new : Pairs) → IsValid stakes → AreWithin old.checkers stakes (words_of old) → Agree old.checkers stakes (words_of new) (turn stakes (words_of old)) → AreWithin old.checkers stakes (words_of new)
 turned-within stakes old new valid within turned =

@@ -1,5 +1,5 @@
 -- The greatest value of a list, and sums over rolls.
-use Rattle.std.proofs.Common.{◌≡◌, ◌<◌, ◌≤◌, ◌+◌, ◌++◌, ◌∙◌, Bool, true, false, cond, eqb, ap, ℕ, zero, suc, get_or, take, drop, add-one, ◌*◌, ◌^◌, ℤ, pos, neg_ℤ, ◌≤ℤ◌, ◌+ℤ◌, ◌*ℤ◌, List, [], ◌∷◌, length, map, ◌⊎◌, inl, inr, refl, subst, sym, arith}
+use Rattle.std.proofs.Common.{◌≡◌, ◌<◌, ◌≤◌, ◌+◌, ◌++◌, ◌∙◌, Bool, true, false, cond, eqb, ap, ℕ, zero, suc, get_or, take, drop, add-one, ◌*◌, ◌^◌, ℤ, pos, neg_ℤ, ◌≤ℤ◌, ◌+ℤ◌, ◌*ℤ◌, List, [], ◌∷◌, length, map, inl, inr, refl, subst, sym, arith}
 use Rattle.std.specs.Int.{int_max}
 use Rattle.std.proofs.lemmas.Int.{ints, clamps}
 use Rattle.position_rank.specs.Board.{Board}
@@ -133,9 +133,9 @@ all_rolls-small roll m =
     let a = flat_map-cases (λ high. map (weighted_roll high) (range_with_len 1 high)) roll (range_with_len 1 6) m in
     let b = map-cases (weighted_roll a.0) roll (range_with_len 1 a.0) a.2 in
     subst (λ (r : Dice × ℕ). r.1 ≤ 2) (sym b.2) (small (eqb a.0 b.0)) where
-  small : (b : Bool) → cond b 1 2 ≤ 2
-  small true = omega arith
-  small false = omega arith
+      small : (b : Bool) → cond b 1 2 ≤ 2
+      small true = omega arith
+      small false = omega arith
 
 -- one roll more
 pub sum-step : (f : Board → ℤ) (p : Board) (rolls : List (Dice × ℕ)) (i : ℕ) (roll : Dice × ℕ) → i < length rolls → roll ≡ get_or rolls i roll → sum_over (drop i rolls) f p ≡ pos roll.1 *ℤ greatest f (legal_ends p roll.0) +ℤ sum_over (drop (suc i) rolls) f p

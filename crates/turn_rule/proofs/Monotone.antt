@@ -1,6 +1,5 @@
 -- Tighter words give a tighter turn.
-use Rattle.std.proofs.Common.{◌≡◌, ◌<◌, ℕ, zero, suc, ℤ, pos, neg_ℤ, ◌≤ℤ◌, ◌+ℤ◌, ◌*ℤ◌, List, [], ◌∷◌, map, Option, Some, None, IfSome, inl, inr, refl}
-use Rattle.std.specs.Int.{int_max, int_min}
+use Rattle.std.proofs.Common.{◌≡◌, ℕ, zero, suc, ℤ, ◌≤ℤ◌, Option, Some, None, IfSome, refl}
 use Rattle.position_rank.specs.Board.{Board, swap}
 use Rattle.roll_table.specs.Rolls.{Dice, IsRoll, all_rolls}
 use Rattle.move_rules.specs.Ends.{legal_ends}
@@ -9,14 +8,14 @@ use Rattle.game_payoff.specs.declared.payoff.Won.{Won}
 use Rattle.game_payoff.specs.Points.{points}
 use Rattle.directed_fixed.specs.declared.bounds.End.{End}
 use Rattle.directed_fixed.specs.declared.bounds.End.TheVariants.{Lower, Upper}
-use Rattle.directed_fixed.specs.Bounds.{other, at, IsTight}
+use Rattle.directed_fixed.specs.Bounds.{other, at}
 use Rattle.directed_fixed.specs.Rounding.{outwards}
 use Rattle.cube_actions.specs.declared.kind.Double.{Double}
 use Rattle.cube_actions.specs.declared.kind.Taken.{Taken}
 use Rattle.cube_actions.specs.Stakes.{Terms, kind_at, no_kind, IsValid, IsRightDouble, IsRightAnswer}
-use Rattle.turn_rule.specs.Turn.{Words, win, if_won, worth, greatest, sum_over, roll_value, least, doubled, or_double, turn, opening, rounds}
+use Rattle.turn_rule.specs.Turn.{Words, win, if_won, worth, roll_value, or_double, turn, opening, rounds}
 use Rattle.turn_rule.specs.States.{IsState, AreTightWords}
-use Rattle.turn_rule.proofs.Integers.{le_refl, neg_le, max_mono, min_mono, mul_mono, floor_36_mono, ceil_36_mono}
+use Rattle.turn_rule.proofs.Integers.{le_refl, neg_le, max_mono, mul_mono, floor_36_mono, ceil_36_mono}
 use Rattle.turn_rule.proofs.Greatest.{sum-mono, all_rolls-right}
 use Rattle.turn_rule.proofs.Within.{next_state, at_member, least-mono, turn-within, opening-within}
 

@@ -1,12 +1,12 @@
 -- One square more.
-use Rattle.std.proofs.Common.{◌≡◌, ◌<◌, ◌≤◌, ◌+◌, ◌*◌, ℕ, List, length, get_or, slice_index_or, sum, sym, ap, subst, ◌∙◌, ◌⊎◌, inl, inr, arith}
+use Rattle.std.proofs.Common.{◌≡◌, ◌<◌, ◌+◌, ◌*◌, ℕ, List, length, slice_index_or, sum, sym, ap, subst, ◌∙◌, inl, inr, arith}
 use Rattle.std.proofs.lemmas.Bool.{cases_lt}
 use Rattle.position_rank.specs.Board.{Board, IsPosition, IsLive}
 use Rattle.position_rank.specs.Ranks.{layouts, rank_of, square_rank_of}
 use Rattle.position_rank.proofs.RankLaws.{positions-same}
 use Rattle.cube_actions.specs.Stakes.{Terms, nothing}
 use Rattle.turn_rule.specs.Turn.{turn}
-use Rattle.turn_rule.specs.Tables.{Pairs, words_of, place_of}
+use Rattle.turn_rule.specs.Tables.{Pairs, words_of}
 use Rattle.turn_rule.specs.States.{IsState, pair_of}
 use Rattle.turn_rule.specs.Rounds.{IsTurnedBefore, AreAlike}
 use Rattle.turn_rule.proofs.TableLemmas.{earlier-place}
@@ -49,4 +49,4 @@ pub square-at : (p : Board) (mover other : List ℕ) (checkers n i : ℕ) → p 
 square-at p mover other checkers n i e many all ranked =
     ap square_rank_of e
     ∙ (ap (λ (s : ℕ). rank_of mover * layouts s + rank_of other) many
-        ∙ (ap (λ (m : ℕ). rank_of mover * m + rank_of other) (sym all) ∙ ap (λ (r : ℕ). rank_of mover * n + r) ranked))
+    ∙ (ap (λ (m : ℕ). rank_of mover * m + rank_of other) (sym all) ∙ ap (λ (r : ℕ). rank_of mover * n + r) ranked))

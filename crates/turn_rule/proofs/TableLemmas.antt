@@ -1,11 +1,9 @@
 -- Places of a table, and what a write leaves.
-use Rattle.std.proofs.Common.{◌≡◌, ◌≢◌, ◌<◌, ◌≤◌, ◌+◌, ◌*◌, ℕ, ℤ, List, length, get_or, slice_index_or, set, subst, length-set, sym, ap, ◌∙◌, refl, arith, get_or-set_same, get_or-set_other}
+use Rattle.std.proofs.Common.{◌≡◌, ◌≢◌, ◌<◌, ◌+◌, ◌*◌, ℕ, ℤ, length, get_or, slice_index_or, set, subst, length-set, ap, ◌∙◌, refl, arith, get_or-set_same, get_or-set_other}
 use Rattle.std.proofs.lemmas.Nat.{mul-add-lt}
 use borrow.Author.Count.{below_more}
-use Rattle.std.proofs.Math.Nat.{mul-le-mul_right}
 use Rattle.position_rank.specs.Board.{Board}
 use Rattle.position_rank.specs.Ranks.{square_rank_of}
-use Rattle.directed_fixed.specs.declared.bounds.End.TheVariants.{Lower, Upper}
 use Rattle.directed_fixed.specs.Bounds.{Bounds}
 use Rattle.cube_actions.specs.Stakes.{nothing}
 use Rattle.turn_rule.specs.Tables.{Pairs, IsFull, words_of, place_of, squares_of}
@@ -43,11 +41,11 @@ sweep-step old start p turned number new place pair swept at here is = record {
   alike = record { checkers = swept.alike.checkers; kinds = swept.alike.kinds };
   full = length-set new.pairs place pair ∙ swept.full;
   so_far = below_more (λ k. pair_of (words_of (record new { pairs = set new.pairs place pair })) p k ≡ turned k) number
-    (λ k h. let apart : place_of new.kinds p k ≢ place = omega (arith, at) in kept new place (place_of new.kinds p k) pair apart ∙ swept.so_far k h)
-    (subst (λ (i : ℕ). get_or (set new.pairs place pair) i nothing ≡ turned number) at (written new place pair here ∙ is));
+      (λ k h. let apart : place_of new.kinds p k ≢ place = omega (arith, at) in kept new place (place_of new.kinds p k) pair apart ∙ swept.so_far k h)
+      (subst (λ (i : ℕ). get_or (set new.pairs place pair) i nothing ≡ turned number) at (written new place pair here ∙ is));
   before = λ other h.
-    let apart : other ≢ place = omega (arith, at, swept.alike.kinds, ap (λ (n : ℕ). square_rank_of p * n) swept.alike.kinds) in
-    kept new place other pair apart ∙ swept.before other h;
+      let apart : other ≢ place = omega (arith, at, swept.alike.kinds, ap (λ (n : ℕ). square_rank_of p * n) swept.alike.kinds) in
+      kept new place other pair apart ∙ swept.before other h;
 }
 
 -- a pair by its two ends

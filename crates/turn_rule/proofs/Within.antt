@@ -1,12 +1,11 @@
 -- Over words within the bound, a turn stays within it, its lower end at most its upper end.
-use Rattle.std.proofs.Common.{◌≡◌, ◌≢◌, ◌<◌, ◌≤◌, ◌+◌, ◌*◌, ◌^◌, ℕ, zero, suc, ℤ, pos, neg_ℤ, ◌≤ℤ◌, ◌+ℤ◌, ◌*ℤ◌, List, [], ◌∷◌, map, Option, Some, None, Bool, true, false, cond, length, sum, slice_index, slice_index_or, get_or, All, IfSome, ◌⊎◌, inl, inr, refl, sym, ap, subst, arith, ltb}
+use Rattle.std.proofs.Common.{◌≡◌, ◌<◌, ◌≤◌, ◌^◌, ℕ, zero, suc, ℤ, pos, neg_ℤ, ◌≤ℤ◌, ◌*ℤ◌, List, [], ◌∷◌, map, Option, Some, None, Bool, true, false, cond, length, sum, slice_index, slice_index_or, All, IfSome, inl, inr, refl, sym, subst, arith, ltb}
 use Rattle.std.proofs.lemmas.Bool.{cases_lt}
 use Rattle.std.proofs.lemmas.Bool.Decides.{nat_tests}
 use Rattle.std.specs.Int.{int_max, int_min}
 use Rattle.std.proofs.lemmas.Int.{ints, clamps}
-use Rattle.position_rank.specs.Board.{Board, IsPosition, IsLive, InPlay, above, swap}
+use Rattle.position_rank.specs.Board.{Board, InPlay, above, swap}
 use Rattle.roll_table.specs.Rolls.{Dice, IsRoll, all_rolls}
-use Rattle.move_rules.specs.Sequences.{IsLegalEnd}
 use Rattle.move_rules.specs.Ends.{legal_ends}
 use Rattle.move_rules.specs.Listing.{Among}
 use Rattle.move_rules.proofs.Members.{Among-Contains}
@@ -15,20 +14,19 @@ use Rattle.move_rules.proofs.StayLive.{legal_end-stays}
 use Rattle.game_payoff.specs.declared.payoff.Won.{Won}
 use Rattle.game_payoff.specs.declared.payoff.Won.TheVariants.{Single, Gammon, Backgammon}
 use Rattle.game_payoff.specs.Points.{points}
-use Rattle.directed_fixed.specs.declared.bounds.End.{End}
 use Rattle.directed_fixed.specs.declared.bounds.End.TheVariants.{Lower, Upper}
-use Rattle.directed_fixed.specs.Bounds.{Bounds, other, at, IsWithin}
-use Rattle.directed_fixed.specs.Rounding.{floor_36, ceil_36, outwards}
+use Rattle.directed_fixed.specs.Bounds.{Bounds, IsWithin}
+use Rattle.directed_fixed.specs.Rounding.{floor_36, ceil_36}
 use Rattle.cube_actions.specs.declared.kind.Kind.{Kind}
 use Rattle.cube_actions.specs.declared.kind.Double.{Double}
 use Rattle.cube_actions.specs.declared.kind.Taken.{Taken}
 use Rattle.cube_actions.specs.declared.name.StakesName.{StakesName}
 use Rattle.cube_actions.specs.declared.name.StakesName.TheVariants.{Cubeless, Money, Jacoby, MoneyBeavers, JacobyBeavers, Match}
 use Rattle.cube_actions.specs.Stakes.{Terms, kind_at, no_kind, nothing, bound_of, IsValid, IsRightDouble, IsRightAnswer}
-use Rattle.turn_rule.specs.Turn.{Words, win, if_won, worth, greatest, sum_over, roll_value, least, doubled, or_double, turn, opening, rounds}
-use Rattle.turn_rule.specs.States.{IsState, pair_of, AreWithin}
-use Rattle.turn_rule.proofs.Integers.{le_refl, le_trans, neg_le, mul_mono, floor_36_below, floor_36_above}
-use Rattle.turn_rule.proofs.Greatest.{all_rolls-right, sum-mono, sum-upto, sum-from, total, total-all_rolls}
+use Rattle.turn_rule.specs.Turn.{Words, win, if_won, worth, roll_value, least, doubled, or_double, turn, opening, rounds}
+use Rattle.turn_rule.specs.States.{IsState, AreWithin}
+use Rattle.turn_rule.proofs.Integers.{le_refl, neg_le, mul_mono, floor_36_below, floor_36_above}
+use Rattle.turn_rule.proofs.Greatest.{all_rolls-right, sum-mono, sum-upto, sum-from, total-all_rolls}
 
 -- the game has not ended exactly while the mover has a checker in play
 goes_on : (b c d : Bool) (x y z : Option Won) → cond b None (cond c (Some Single) (cond d (Some Backgammon) (Some Gammon))) ≡ None → b ≡ true

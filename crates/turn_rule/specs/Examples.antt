@@ -1,5 +1,5 @@
 -- A game of worked examples.
-use Rattle.std.specs.Prelude.{ℕ, ℤ, pos, neg_ℤ, [], ◌∷◌, Some}
+use Rattle.std.specs.Prelude.{ℕ, pos, neg_ℤ, [], ◌∷◌, Some}
 use Rattle.directed_fixed.specs.Bounds.{Bounds}
 use Rattle.cube_actions.specs.declared.kind.Kind.{Kind}
 use Rattle.cube_actions.specs.declared.name.StakesName.TheVariants.{Money}

@@ -1,10 +1,10 @@
 -- Rounds of a whole table.
-use Rattle.std.specs.Prelude.{◌≡◌, ℕ, ◌<◌, ◌≤◌, ◌+◌, ◌*◌, List, length, slice_index_or, neg_ℤ, sum}
+use Rattle.std.specs.Prelude.{◌≡◌, ℕ, ◌<◌, List, length, slice_index_or, neg_ℤ, sum}
 use Rattle.directed_fixed.specs.Bounds.{Bounds}
 use Rattle.position_rank.specs.Board.{Board, IsLayout}
 use Rattle.position_rank.specs.Ranks.{layouts, rank_of, square_rank_of}
 use Rattle.cube_actions.specs.Stakes.{Terms, IsValid}
-use Rattle.turn_rule.specs.Turn.{Words, turn, rounds}
+use Rattle.turn_rule.specs.Turn.{turn, rounds}
 use Rattle.turn_rule.specs.States.{IsState, AreWithin, pair_of, Agree}
 use Rattle.turn_rule.specs.Tables.{Pairs, IsFull, words_of}
 

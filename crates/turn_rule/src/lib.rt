@@ -7,11 +7,13 @@ mod state;
 mod sums;
 mod sweep;
 mod table;
+#[cfg(test)]
+mod tests;
 mod turn;
 
 pub use laws::{
     doubled_examples, rounded_examples, rounds_stay_within_the_bound, rounds_tighten,
-    tighter_words_tighten_turns, turns_look_at_states_alone, turns_stay_within_the_bound,
-    worked_examples,
+    table_examples, tighter_words_tighten_turns, turns_look_at_states_alone,
+    turns_stay_within_the_bound, worked_examples,
 };
 pub use plain_table::PlainTable;

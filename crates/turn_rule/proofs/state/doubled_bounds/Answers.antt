@@ -1,4 +1,4 @@
-use Rattle.std.proofs.Common.{◌≡◌, ◌<◌, ℤ, length, get_or, refl, ap, subst, ◌∙◌, rules, arith}
+use Rattle.std.proofs.Common.{◌<◌, ℤ, length, get_or, refl, ap, ◌∙◌}
 use Rattle.std.specs.Int.{int_min}
 use Rattle.directed_fixed.specs.declared.bounds.End.{End}
 use Rattle.directed_fixed.specs.declared.bounds.End.TheVariants.{Lower, Upper}

@@ -1,10 +1,9 @@
-use Rattle.std.proofs.Common.{◌≡◌, ◌<◌, ◌≤◌, ℤ, pos, ◌+ℤ◌, drop, length, get_or, sym, subst, ap, ◌∙◌, FitsSigned, w64, rules, arith}
-use Rattle.std.proofs.lemmas.Int.{to_z-of_z, ints}
-use Rattle.directed_fixed.specs.Bounds.{IsWithinUnits}
+use Rattle.std.proofs.Common.{◌∙◌, FitsSigned, w64, rules, arith}
+use Rattle.std.proofs.lemmas.Int.{to_z-of_z}
 use Rattle.directed_fixed.specs.declared.bounds.End.TheVariants.{Lower, Upper}
-use Rattle.roll_table.specs.Rolls.{Dice, all_rolls}
+use Rattle.roll_table.specs.Rolls.{all_rolls}
 use Rattle.cube_actions.specs.Stakes.{kind_at}
-use Rattle.turn_rule.specs.Turn.{worth, sum_over}
+use Rattle.turn_rule.specs.Turn.{worth}
 use Rattle.turn_rule.specs.Tables.{words_of}
 use Rattle.turn_rule.proofs.Greatest.{roll_at, grows, sum-more, sum-end}
 use Rattle.turn_rule.proofs.sums.roll_sums.Goals as goal

@@ -1,4 +1,4 @@
-use Rattle.std.proofs.Common.{◌≡◌, ◌<◌, ◌≤◌, ◌+◌, ◌*◌, ℕ, length, sum, sym, subst, arith}
+use Rattle.std.proofs.Common.{◌≡◌, ◌+◌, ◌*◌, length, sum, sym, subst, arith}
 use Rattle.position_rank.specs.Ranks.{rank_of, square_rank_of}
 use Rattle.turn_rule.specs.Rounds.{HasRank}
 use Rattle.turn_rule.proofs.RowLemmas.{dead-step, live-step, square-at}

@@ -1,4 +1,4 @@
-use Rattle.std.proofs.Common.{◌≡◌, ◌<◌, ◌+◌, ◌*◌, ◌≤◌, ℕ, length, ap, sym, refl, ◌∙◌, subst, arith}
+use Rattle.std.proofs.Common.{◌≡◌, ◌<◌, ◌+◌, ◌*◌, refl}
 use Rattle.turn_rule.specs.Tables.{squares_of}
 use Rattle.turn_rule.proofs.TableLemmas.{place-within, sweep-step, both_ends}
 use Rattle.turn_rule.proofs.sweep.sweep_square.Goals as goal

@@ -1,4 +1,3 @@
-use Rattle.std.proofs.Common.{ℕ}
 use Rattle.turn_rule.specs.Turn.{turn}
 use Rattle.turn_rule.specs.Tables.{words_of}
 use Rattle.turn_rule.specs.States.{pair_of}

@@ -1,4 +1,3 @@
-use Rattle.std.proofs.Common.{◌≡◌, ap, arith}
 use Rattle.directed_fixed.specs.declared.bounds.End.TheVariants.{Lower, Upper}
 use Rattle.turn_rule.specs.Turn.{worth}
 use Rattle.turn_rule.specs.Tables.{words_of}

@@ -1,4 +1,3 @@
-use Rattle.std.proofs.Common.{◌≡◌, arith}
 use Rattle.turn_rule.proofs.GameLemmas.{opening-rounds}
 use Rattle.turn_rule.proofs.plain_table.PlainTable.new.Goals as goal
 

@@ -1,5 +1,4 @@
-use Rattle.std.proofs.Common.{◌≡◌, ◌*◌, ℕ, List, length, sym, ap, ◌∙◌}
-use Rattle.turn_rule.specs.Tables.{squares_of}
+use Rattle.std.proofs.Common.{◌*◌, ℕ, length, sym, ap, ◌∙◌}
 use Rattle.turn_rule.proofs.GameLemmas.{all-turned, turned-within, one-round}
 use Rattle.turn_rule.proofs.plain_table.PlainTable.sweep_all.Goals as goal
 
