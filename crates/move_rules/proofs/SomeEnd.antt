@@ -18,23 +18,33 @@ first_die false high low = refl
 -- the one move by the higher die
 by_higher : (p : Board) (roll : Dice) → CanPlay p roll.high → longest (all_lines p roll) ≡ 1 → (q : Board) × IsLegalEnd p roll q
 by_higher p roll (from, q, move) one =
-    let moves : List Move = record { from = from; die = roll.high } ∷ [] in
-    (q, (moves, record {
-      sequence = (0, first_die (eqb roll.high roll.low) roll.high roll.low, q, move, refl);
-      longest = λ others end s. omega (arith, one, longest-bound (others, end) (all_lines p roll) (all_lines-complete p roll others end s));
-      higher = λ _ _ _. refl;
-    }))
+    let moves : List Move = record { from = from; die = roll.high } ∷ [] in (
+      q,
+      (
+        moves,
+        record {
+          sequence = (0, first_die (eqb roll.high roll.low) roll.high roll.low, q, move, refl);
+          longest = λ others end s. omega (arith, one, longest-bound (others, end) (all_lines p roll) (all_lines-complete p roll others end s));
+          higher = λ _ _ _. refl;
+        },
+      ),
+    )
 
 pub some_legal_end : (p : Board) (roll : Dice) → (q : Board) × IsLegalEnd p roll q
 some_legal_end p roll = choose (can_play p roll.high) refl (cases_eq (longest (all_lines p roll)) 1) where
   any : ((length_one : longest (all_lines p roll) ≡ 1) → CanPlay p roll.high → ⊥) → (q : Board) × IsLegalEnd p roll q
   any never =
-      let best = longest-reached ([], p) (all_lines p roll) (all_lines-complete p roll [] p refl) in
-      (best.0.1, (best.0.0, record {
-        sequence = all_lines-sound p roll best.0 best.1;
-        longest = λ others end s. omega (arith, best.2, longest-bound (others, end) (all_lines p roll) (all_lines-complete p roll others end s));
-        higher = λ one apart can. absurd (never (sym best.2 ∙ one) can);
-      }))
+      let best = longest-reached ([], p) (all_lines p roll) (all_lines-complete p roll [] p refl) in (
+        best.0.1,
+        (
+          best.0.0,
+          record {
+            sequence = all_lines-sound p roll best.0 best.1;
+            longest = λ others end s. omega (arith, best.2, longest-bound (others, end) (all_lines p roll) (all_lines-complete p roll others end s));
+            higher = λ one apart can. absurd (never (sym best.2 ∙ one) can);
+          },
+        ),
+      )
 
   choose : (can : Bool) → can_play p roll.high ≡ can → (longest (all_lines p roll) ≡ 1) ⊎ (longest (all_lines p roll) ≢ 1) → (q : Board) × IsLegalEnd p roll q
   choose true e (inl one) = by_higher p roll (can_play-sound p roll.high e) one

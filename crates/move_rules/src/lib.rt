@@ -2,6 +2,7 @@
 #![tactic(auto)]
 
 mod applied;
+mod examples;
 mod laws;
 mod listing;
 mod matched;
@@ -10,6 +11,7 @@ mod play;
 mod written;
 
 pub use applied::{BadPlay, apply};
+pub use examples::{worked_examples, worked_moves};
 pub use laws::{legal_ends_are_exact, legal_ends_stay_live};
 pub use listing::plays;
 pub use matched::match_play;
