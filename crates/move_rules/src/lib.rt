@@ -7,6 +7,7 @@ mod laws;
 mod listing;
 mod matched;
 mod moves;
+mod notation;
 mod play;
 mod written;
 
@@ -15,5 +16,6 @@ pub use examples::{worked_examples, worked_moves};
 pub use laws::{legal_ends_are_exact, legal_ends_stay_live};
 pub use listing::plays;
 pub use matched::match_play;
+pub use notation::{print_play, printed_plays_are_read, read_play, texts_tell_plays};
 pub use play::{Entry, Move, Play, PlayList};
 pub use written::{Step, Written};
