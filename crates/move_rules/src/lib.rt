@@ -9,6 +9,8 @@ mod matched;
 mod moves;
 mod notation;
 mod play;
+#[cfg(test)]
+mod tests;
 mod written;
 
 pub use applied::{BadPlay, apply};
