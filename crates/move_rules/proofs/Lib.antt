@@ -10,3 +10,6 @@ mod FirstLines
 pub mod SomeEnd
 mod FaultLaws
 mod WrittenLaws
+mod NotationWords
+mod NotationTexts
+mod NotationPrints

@@ -5,3 +5,5 @@ pub mod Order
 pub mod Listing
 pub mod Faults
 pub mod Written
+pub mod Examples
+pub mod Notation

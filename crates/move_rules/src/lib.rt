@@ -2,18 +2,22 @@
 #![tactic(auto)]
 
 mod applied;
+mod examples;
 mod laws;
 mod listing;
 mod matched;
 mod moves;
+mod notation;
 mod play;
 #[cfg(test)]
 mod tests;
 mod written;
 
 pub use applied::{BadPlay, apply};
+pub use examples::{worked_examples, worked_moves};
 pub use laws::{legal_ends_are_exact, legal_ends_stay_live};
 pub use listing::plays;
 pub use matched::match_play;
+pub use notation::{print_play, printed_plays_are_read, read_play, texts_tell_plays};
 pub use play::{Entry, Move, Play, PlayList};
 pub use written::{Step, Written};

@@ -72,7 +72,7 @@ fn match_step(
 }
 
 /// Whether a move comes to a point that one checker of the other side holds.
-fn hits(position: &Position, made: Move) -> bool
+pub(crate) fn hits(position: &Position, made: Move) -> bool
     requires { made.from ≤ 25 }
     ensures { IsTrue result ↔ IsHit position.now made }
 {

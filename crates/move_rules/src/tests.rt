@@ -1,219 +1,114 @@
-ghost use Rattle.std.specs.Prelude.{◌≤◌, ◌<◌};
+mod known;
+mod trial;
 
-use crate::{BadPlay, Move, Play, PlayList, Step, Written, apply, match_play, plays};
-use position_rank::{Layout, Position};
-use roll_table::Roll;
-use std::process::Abort;
-use std::test::Fail;
+use crate::listing::plays;
+use crate::notation::{print_play, read_play};
+use crate::play::PlayList;
+use position_rank::read_position;
+use roll_table::{Roll, rolls};
+use trial::{first_of_each_end, in_counts};
 
-/// That these dice give so many plays, of which the first makes these moves and leaves these places.
-fn check(
-    rt: &impl Abort,
-    sides: (&[u8], &[u8]),
-    dice: (u8, u8),
-    count: usize,
-    first: &[Move],
-    left: (&[u8], &[u8]),
-) -> Result<(), Fail> {
-    let position = Position::new(
-        Layout::from_places(sides.0)?,
-        Layout::from_places(sides.1)?,
-    ).ok_or("uneven sides")?;
-    let end = Position::new(Layout::from_places(left.0)?, Layout::from_places(left.1)?).ok_or(
-        "uneven ends",
-    )?;
-    let roll = Roll::new(dice.0, dice.1).ok_or("no roll")?;
-    let mut list = PlayList::new();
-    plays(&position, roll, &mut list);
-    assert_eq!(rt; list.len(), count);
-    assert!(rt; count > 0);
-    assert!(rt; list[0].play.as_slice() == first);
-    assert!(rt; list[0].end == end);
-    Ok(())
-}
-
-fn step(from: u8, die: u8) -> Move {
-    Move { from, die }
-}
-
+/// The list of plays is that of a second program, for each of the 21 rolls.
 #[test]
-fn lists_plays(rt: HostRuntime) -> Result<(), Fail> {
-    check(
-        &rt,
-        (&[2], &[24]),
-        (2, 1),
-        1,
-        &[step(2, 1), step(1, 2)],
-        (&[0], &[25]),
-    )?;
-    check(
-        &rt,
-        (&[20, 0], &[13, 13]),
-        (5, 3),
-        1,
-        &[step(20, 5)],
-        (&[15, 0], &[13, 13]),
-    )?;
-    check(
-        &rt,
-        (&[25, 6], &[1, 1]),
-        (1, 1),
-        1,
-        &[],
-        (&[25, 6], &[1, 1]),
-    )?;
-    check(&rt, (&[1], &[1]), (3, 2), 1, &[step(1, 3)], (&[0], &[1]))?;
-    check(
-        &rt,
-        (&[24, 23, 22], &[24, 23, 22]),
-        (6, 6),
-        12,
-        &[step(24, 6), step(23, 6), step(22, 6), step(18, 6)],
-        (&[17, 16, 12], &[24, 23, 22]),
-    )?;
-    Ok(())
-}
-
-/// That this play is refused with this fault.
-fn check_fault(
-    rt: &impl Abort,
-    sides: (&[u8], &[u8]),
-    dice: (u8, u8),
-    moves: &[Move],
-    fault: BadPlay,
-) -> Result<(), Fail> {
-    let position = Position::new(
-        Layout::from_places(sides.0)?,
-        Layout::from_places(sides.1)?,
-    ).ok_or("uneven sides")?;
-    let roll = Roll::new(dice.0, dice.1).ok_or("no roll")?;
-    let play = Play::try_from(moves).ok().ok_or("too many moves")?;
-    assert!(rt; apply(&position, roll, &play) == Err(fault));
-    Ok(())
-}
-
-#[test]
-fn refuses_wrong_moves(rt: HostRuntime) -> Result<(), Fail> {
-    check_fault(
-        &rt,
-        (&[2], &[24]),
-        (2, 1),
-        &[step(2, 3)],
-        BadPlay::WrongDice,
-    )?;
-    check_fault(
-        &rt,
-        (&[2], &[24]),
-        (2, 1),
-        &[step(3, 2)],
-        BadPlay::NoChecker,
-    )?;
-    check_fault(
-        &rt,
-        (&[25, 6], &[1, 1]),
-        (1, 1),
-        &[step(6, 1)],
-        BadPlay::BarFirst,
-    )?;
-    check_fault(
-        &rt,
-        (&[7, 2], &[1, 1]),
-        (2, 1),
-        &[step(2, 2)],
-        BadPlay::NotHome,
-    )?;
-    check_fault(
-        &rt,
-        (&[25, 6], &[1, 1]),
-        (1, 1),
-        &[step(25, 1)],
-        BadPlay::Closed,
-    )?;
-    Ok(())
-}
-
-#[test]
-fn refuses_plays_of_too_few_dice_or_the_lower(rt: HostRuntime) -> Result<(), Fail> {
-    check_fault(&rt, (&[2], &[24]), (2, 1), &[step(2, 2)], BadPlay::TooFew)?;
-    check_fault(
-        &rt,
-        (&[20, 0], &[13, 13]),
-        (5, 3),
-        &[step(20, 3)],
-        BadPlay::HigherDie,
-    )?;
-    Ok(())
-}
-
-/// That the one written step of this play is made by this die, or refused with this fault.
-fn check_step(
-    rt: &impl Abort,
-    sides: (&[u8], &[u8]),
-    dice: (u8, u8),
-    written: Step,
-    answer: Result<u8, BadPlay>,
-) -> Result<(), Fail> {
-    let position = Position::new(
-        Layout::from_places(sides.0)?,
-        Layout::from_places(sides.1)?,
-    ).ok_or("uneven sides")?;
-    let roll = Roll::new(dice.0, dice.1).ok_or("no roll")?;
-    let mut steps = Written::new();
-    steps.push(written);
-    match match_play(&position, roll, &steps) {
-        Ok(entry) => {
-            assert_eq!(rt; entry.play.len(), 1);
-            assert!(rt; answer == Ok(entry.play[0].die));
+fn plays_are_those_found_by_trial(rt: HostRuntime) {
+    let positions = [
+        "24 / 24",
+        "bar / 4",
+        "2 / 24",
+        "1 / 1",
+        "20 off / 13 13",
+        "bar 6 / 1 1",
+        "bar bar / 6 6",
+        "6 4 2 / 1 1 1",
+        "5 3 1 / bar 21 23",
+        "24 23 22 / 24 23 22",
+        "bar 24 7 / 22 22 5",
+        "6 6 6 / 23 23 20",
+        "8 3 off / 20 20 off",
+        "bar bar bar / 3 3 1",
+        "7 off off / 1 off off",
+    ];
+    for text in positions {
+        let position = read_position(text).expect(&rt, "a position");
+        for (roll, _) in rolls() {
+            let mut list = PlayList::new();
+            plays(&position, roll, &mut list);
+            let tried = first_of_each_end(&rt, in_counts(&position), roll.high(), roll.low());
+            assert_eq!(rt; list.len(), tried.len(), "at {text} with {roll:?}");
+            for (entry, sequence) in list.iter().zip(tried.iter()) {
+                assert!(rt; sequence.is(&entry.play), "at {text} with {roll:?}");
+                assert_eq!(rt;
+                    in_counts(&entry.end),
+                    sequence.left,
+                    "at {text} with {roll:?}"
+                );
+            }
         }
-        Err(fault) => assert!(rt; answer == Err(fault)),
     }
-    Ok(())
-}
-
-fn mark(from: u8, to: u8, hit: bool) -> Step
-    requires within { from ≤ 25 }
-    requires falls { to < from }
-{
-    Step { from, to, hit }
 }
 
 #[test]
-fn matches_steps(rt: HostRuntime) -> Result<(), Fail> {
-    check_step(&rt, (&[1], &[1]), (3, 2), mark(1, 0, false), Ok(3))?;
-    check_step(
-        &rt,
-        (&[1], &[1]),
-        (3, 2),
-        mark(1, 0, true),
-        Err(BadPlay::HitMark),
-    )?;
-    check_step(
-        &rt,
-        (&[2], &[24]),
-        (2, 1),
-        mark(2, 0, false),
-        Err(BadPlay::TooFew),
-    )?;
-    check_step(
-        &rt,
-        (&[20, 0], &[13, 13]),
-        (5, 3),
-        mark(20, 15, false),
-        Ok(5),
-    )?;
-    check_step(
-        &rt,
-        (&[20, 0], &[13, 13]),
-        (5, 3),
-        mark(20, 17, false),
-        Err(BadPlay::HigherDie),
-    )?;
-    check_step(
-        &rt,
-        (&[25, 6], &[1, 1]),
-        (1, 1),
-        mark(25, 24, false),
-        Err(BadPlay::Closed),
-    )?;
-    Ok(())
+fn plays_are_printed(rt: HostRuntime) {
+    let rows: [(&str, &str, &[&str]); 5] = [
+        ("bar 6 / 1 1", "11", &["-"]),
+        ("bar / 4", "41", &["bar/21* 21/20", "bar/24 24/20"]),
+        ("1 / 1", "32", &["1/off"]),
+        ("2 / 24", "21", &["2/1* 1/off"]),
+        ("24 / 2", "66", &["24/18 18/12 12/6 6/off"]),
+    ];
+    for (position, roll, texts) in rows {
+        let position = read_position(position).expect(&rt, "a position");
+        let roll = Roll::read(roll).expect(&rt, "a roll");
+        let mut list = PlayList::new();
+        plays(&position, roll, &mut list);
+        assert_eq!(rt; list.len(), texts.len());
+        for (entry, text) in list.iter().zip(texts) {
+            assert_eq!(rt; print_play(&position, &entry.play).as_str(), *text);
+        }
+    }
+}
+
+#[test]
+fn texts_of_plays_are_read(rt: HostRuntime) {
+    let rows: [(&str, Option<&[(u8, u8, bool)]>); 20] = [
+        ("-", Some(&[])),
+        ("bar/21* 21/20", Some(&[(25, 21, true), (21, 20, false)])),
+        ("1/off", Some(&[(1, 0, false)])),
+        ("bar/off", Some(&[(25, 0, false)])),
+        ("24/1*", Some(&[(24, 1, true)])),
+        (
+            "6/off 5/off 4/off 3/off",
+            Some(&[(6, 0, false), (5, 0, false), (4, 0, false), (3, 0, false)]),
+        ),
+        ("6/off 5/off 4/off 3/off 2/off", None),
+        ("", None),
+        (" ", None),
+        ("- -", None),
+        ("24/18/12", None),
+        ("24/18(2)", None),
+        ("24/18  18/12", None),
+        ("24/18 ", None),
+        ("6/6", None),
+        ("6/8", None),
+        ("off/3", None),
+        ("6/bar", None),
+        ("06/4", None),
+        ("6/off*", None),
+    ];
+    for (text, steps) in rows {
+        match (read_play(text), steps) {
+            (Some(written), Some(steps)) => {
+                assert_eq!(rt; written.len(), steps.len(), "at {text}");
+                for (step, (from, to, hit)) in written.iter().zip(steps) {
+                    assert_eq!(rt;
+                        (step.from, step.to, step.hit),
+                        (*from, *to, *hit),
+                        "at {text}"
+                    );
+                }
+            }
+            (None, None) => {}
+            _ => assert!(rt; false, "at {text}"),
+        }
+    }
 }

@@ -1,0 +1,136 @@
+ghost use Rattle.std.specs.Prelude.{◌≡◌, ℕ, ◌+◌, ◌++◌, ◌-◌, ◌≤◌, true, false, List, length, All, MatchOption};
+ghost use Rattle.roll_table.specs.Rolls.{IsRoll, dice_of};
+ghost use Rattle.position_rank.specs.Board.{Board};
+ghost use Rattle.position_rank.specs.Text.{place, place_text};
+ghost use Rattle.position_rank.specs.TextParts.{add_word};
+ghost use Rattle.move_rules.specs.Ends.{after_move};
+ghost use Rattle.move_rules.specs.Notation.{mark, step_word, word_of, HitsPoint, IsPlayText, is_hit, next_board, play_text, CanFollow, AreStepsOf};
+
+use crate::matched::hits;
+use crate::moves::after_move;
+use crate::play::{Move, Play};
+use crate::written::{Step, Written};
+use arrayvec::ArrayString;
+use itoa::Buffer;
+use position_rank::Position;
+
+/// The steps of a play's text, as `bar/20* 6/off`, or none for `-`. `None` exactly where it is no such text.
+pub fn read_play(text: &str) -> Option<Written>
+    ensures { MatchOption result ((steps : List Step) → IsPlayText text.now steps → ⊥) (λ written. IsPlayText text.now written.items) }
+{
+    let mut written = Written::new();
+    if text == "-" {
+        return Some(written);
+    }
+    for word in text.split(' ') {
+        if written.is_full() {
+            return None;
+        }
+        written.push(read_step(word)?);
+    }
+    Some(written)
+}
+
+/// The text of a play that can be made from this position, as `bar/20* 6/off`, or `-` for no moves.
+pub fn print_play(position: &Position, play: &Play) -> ArrayString<48>
+    requires { CanFollow position.now play.now.items }
+    ensures { result.bytes ≡ play_text position.now play.now.items }
+{
+    let mut text = ArrayString::new();
+    if play.is_empty() {
+        text.push('-');
+    }
+    let mut now = *position;
+    for step in play.iter() {
+        push_word(&mut text, step_name(&now, *step).as_str());
+        now = after(&now, *step);
+    }
+    text
+}
+
+/// No text is that of two plays.
+pub fn texts_tell_plays()
+    ensures { (text : List ℕ) (steps others : List Step) → IsPlayText text steps → IsPlayText text others → steps ≡ others }
+{}
+
+/// The text of a play of at most four moves is that of its steps, which is what reading it gives.
+pub fn printed_plays_are_read()
+    ensures { (p : Board) (moves : List Move) → CanFollow p moves → length moves ≤ 4 → (steps : List Step) × AreStepsOf p moves steps × IsPlayText (play_text p moves) steps }
+{}
+
+fn read_step(word: &str) -> Option<Step>
+    ensures { MatchOption result ((step : Step) → HitsPoint step → word.now ≡ word_of step → ⊥) (λ step. HitsPoint step × (word.now ≡ word_of step)) }
+{
+    let (from, rest) = word.split_once('/')?;
+    let (to, hit) = cut_mark(rest);
+    let from = read_place(from)?;
+    let to = read_place(to)?;
+    if to >= from || (hit && to == 0) {
+        return None;
+    }
+    Some(Step { from, to, hit })
+}
+
+/// A text without the star at its end, and whether it had one.
+fn cut_mark(text: &str) -> (&str, bool)
+    ensures cut { text.now ≡ result.0.now ++ mark result.1 }
+    ensures none { result.1 ≡ false → (front : List ℕ) → text.now ≡ front ++ mark true → ⊥ }
+{
+    match text.strip_suffix('*') {
+        Some(front) => (front, true),
+        None => (text, false),
+    }
+}
+
+fn read_place(word: &str) -> Option<u8>
+    ensures { result ≡ place word.now }
+{
+    (0..26).find(|place| place_name(*place).as_str() == word)
+}
+
+fn place_name(place: u8) -> ArrayString<3>
+    ensures text { result.bytes ≡ place_text place }
+    ensures short { length result.bytes ≤ 3 }
+{
+    let mut name = ArrayString::new();
+    match place {
+        0 => name.push_str("off"),
+        25 => name.push_str("bar"),
+        _ => name.push_str(Buffer::new().format(place)),
+    }
+    name
+}
+
+fn step_name(position: &Position, step: Move) -> ArrayString<8>
+    requires { step.from ≤ 25 }
+    ensures { result.bytes ≡ step_word step.from (step.from - step.die) (is_hit position.now step) }
+{
+    let mut name = ArrayString::new();
+    name.push_str(place_name(step.from).as_str());
+    name.push('/');
+    name.push_str(place_name(step.from.saturating_sub(step.die)).as_str());
+    if hits(position, step) {
+        name.push('*');
+    }
+    name
+}
+
+/// The position after a move, or the same where it can't be made.
+fn after(position: &Position, step: Move) -> Position
+    requires die { 1 ≤ step.die }
+    requires from { 1 ≤ step.from }
+    requires place { step.from ≤ 25 }
+    ensures { result ≡ next_board position.now step }
+{
+    after_move(position, step.die, step.from).unwrap_or(*position)
+}
+
+fn push_word(text: &mut ArrayString<48>, word: &str)
+    requires { length text.old.bytes + 1 + length word.now ≤ 48 }
+    ensures { text.new.bytes ≡ add_word text.old.bytes word.now }
+{
+    if !text.is_empty() {
+        text.push(' ');
+    }
+    text.push_str(word);
+}
