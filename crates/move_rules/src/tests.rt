@@ -68,34 +68,36 @@ fn plays_are_printed(rt: HostRuntime) {
     }
 }
 
+// Texts, each with its steps: from, to and whether the step hits.
+const TEXTS: [(&str, Option<&[(u8, u8, bool)]>); 20] = [
+    ("-", Some(&[])),
+    ("bar/21* 21/20", Some(&[(25, 21, true), (21, 20, false)])),
+    ("1/off", Some(&[(1, 0, false)])),
+    ("bar/off", Some(&[(25, 0, false)])),
+    ("24/1*", Some(&[(24, 1, true)])),
+    (
+        "6/off 5/off 4/off 3/off",
+        Some(&[(6, 0, false), (5, 0, false), (4, 0, false), (3, 0, false)]),
+    ),
+    ("6/off 5/off 4/off 3/off 2/off", None),
+    ("", None),
+    (" ", None),
+    ("- -", None),
+    ("24/18/12", None),
+    ("24/18(2)", None),
+    ("24/18  18/12", None),
+    ("24/18 ", None),
+    ("6/6", None),
+    ("6/8", None),
+    ("off/3", None),
+    ("6/bar", None),
+    ("06/4", None),
+    ("6/off*", None),
+];
+
 #[test]
 fn texts_of_plays_are_read(rt: HostRuntime) {
-    let rows: [(&str, Option<&[(u8, u8, bool)]>); 20] = [
-        ("-", Some(&[])),
-        ("bar/21* 21/20", Some(&[(25, 21, true), (21, 20, false)])),
-        ("1/off", Some(&[(1, 0, false)])),
-        ("bar/off", Some(&[(25, 0, false)])),
-        ("24/1*", Some(&[(24, 1, true)])),
-        (
-            "6/off 5/off 4/off 3/off",
-            Some(&[(6, 0, false), (5, 0, false), (4, 0, false), (3, 0, false)]),
-        ),
-        ("6/off 5/off 4/off 3/off 2/off", None),
-        ("", None),
-        (" ", None),
-        ("- -", None),
-        ("24/18/12", None),
-        ("24/18(2)", None),
-        ("24/18  18/12", None),
-        ("24/18 ", None),
-        ("6/6", None),
-        ("6/8", None),
-        ("off/3", None),
-        ("6/bar", None),
-        ("06/4", None),
-        ("6/off*", None),
-    ];
-    for (text, steps) in rows {
+    for (text, steps) in TEXTS {
         match (read_play(text), steps) {
             (Some(written), Some(steps)) => {
                 assert_eq!(rt; written.len(), steps.len(), "at {text}");
@@ -108,7 +110,7 @@ fn texts_of_plays_are_read(rt: HostRuntime) {
                 }
             }
             (None, None) => {}
-            _ => assert!(rt; false, "at {text}"),
+            _ => panic!(rt; "at {text}"),
         }
     }
 }
