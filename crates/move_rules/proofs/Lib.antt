@@ -13,3 +13,4 @@ mod WrittenLaws
 mod NotationWords
 mod NotationTexts
 mod NotationPrints
+mod NoFault

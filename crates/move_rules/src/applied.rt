@@ -1,4 +1,4 @@
-ghost use Rattle.std.specs.Prelude.{◌≡◌, ◌≢◌, IsTrue, ℕ, ◌+◌, ◌-◌, ◌≤◌, ◌<◌, ◌⊎◌, ◌↔◌, List, [], ◌∷◌, length, Some, All, Contains, IfOk, IfErr, OnOk, MatchOption, slice_get, slice_index, remove};
+ghost use Rattle.std.specs.Prelude.{◌≡◌, ◌≢◌, IsTrue, ℕ, ◌+◌, ◌-◌, ◌≤◌, ◌<◌, ◌⊎◌, ◌↔◌, List, [], ◌∷◌, length, Some, All, Contains, IfOk, IfErr, IsOk, OnOk, MatchOption, slice_get, slice_index, remove};
 ghost use Rattle.position_rank.specs.Board.{Board, above};
 ghost use Rattle.roll_table.specs.Rolls.{IsRoll, dice_of};
 ghost use Rattle.move_rules.specs.Moves.{IsMove};
@@ -37,6 +37,7 @@ pub enum BadPlay {
 pub fn apply(position: &Position, roll: Roll, play: &Play) -> Result<Position, BadPlay>
     ensures ok { IfOk result (IsLegal position.now roll play.now.items) }
     ensures err { IfErr result (IsFault position.now roll play.now.items) }
+    ensures legal { (end : Board) → IsLegal position.now roll play.now.items end → IsOk result }
 {
     let end = follow(position, roll, play)?;
     judge(position, roll, play)?;

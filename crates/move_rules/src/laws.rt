@@ -1,8 +1,13 @@
-ghost use Rattle.std.specs.Prelude.{◌≡◌, ◌↔◌, Contains, sum};
+ghost use Rattle.std.specs.Prelude.{◌≡◌, ◌↔◌, Contains, List, sum};
 ghost use Rattle.position_rank.specs.Board.{Board, IsPosition, IsLive, InPlay, swap};
-ghost use Rattle.roll_table.specs.Rolls.{Dice, IsRoll};
+ghost use Rattle.roll_table.specs.Rolls.{Dice, IsRoll, dice_of};
 ghost use Rattle.move_rules.specs.Ends.{legal_ends};
-ghost use Rattle.move_rules.specs.Sequences.{IsLegalEnd};
+ghost use Rattle.move_rules.specs.Faults.{IsFault};
+ghost use Rattle.move_rules.specs.Sequences.{IsLegal, IsLegalEnd};
+ghost use Rattle.move_rules.specs.Written.{IsWritten, IsWrittenFault};
+ghost use Rattle.move_rules.specs.declared.play.Move.{Move};
+ghost use Rattle.move_rules.specs.declared.written.Step.{Step};
+ghost use Rattle.move_rules.specs.declared.applied.BadPlay.{BadPlay};
 
 /// The list of the legal ends has every legal end and no other.
 pub fn legal_ends_are_exact()
@@ -13,4 +18,15 @@ pub fn legal_ends_are_exact()
 pub fn legal_ends_stay_live()
     ensures { (p : Board) (roll : Dice) (q : Board) → IsRoll roll → IsPosition p → IsLive p → IsLegalEnd p roll q
         → IsPosition q × (sum q.mover ≡ sum p.mover) × (InPlay q.mover → IsLive (swap q)) }
+{}
+
+/// A legal play has no fault.
+pub fn legal_plays_have_no_fault()
+    ensures { (p : Board) (roll : Dice) (moves : List Move) (q : Board) (fault : BadPlay) → IsLegal p roll moves q → IsFault p roll moves fault → ⊥ }
+{}
+
+/// Steps that are written for a legal play have no fault.
+pub fn written_legal_plays_have_no_fault()
+    ensures { (p : Board) (roll : Dice) (steps : List Step) (moves : List Move) (q : Board) (fault : BadPlay)
+        → IsWritten p (dice_of roll) steps moves q → IsLegal p roll moves q → IsWrittenFault p roll steps fault → ⊥ }
 {}

@@ -15,7 +15,10 @@ mod written;
 
 pub use applied::{BadPlay, apply};
 pub use examples::{worked_examples, worked_moves};
-pub use laws::{legal_ends_are_exact, legal_ends_stay_live};
+pub use laws::{
+    legal_ends_are_exact, legal_ends_stay_live, legal_plays_have_no_fault,
+    written_legal_plays_have_no_fault,
+};
 pub use listing::plays;
 pub use matched::match_play;
 pub use notation::{print_play, printed_plays_are_read, read_play, texts_tell_plays};
