@@ -1,5 +1,5 @@
 -- The texts of plays.
-use Rattle.std.proofs.Common.{◌≡◌, ◌≢◌, ◌≤◌, ◌<◌, ◌+◌, ◌-◌, ℕ, zero, suc, Bool, true, false, not, eqb, nat_eq, IsTrue, List, [], ◌∷◌, ◌++◌, length, map, take, codes, get_or, count_by, lit<, refl, sym, ap, subst, ◌∙◌, arith}
+use Rattle.std.proofs.Common.{◌≡◌, ◌≤◌, ◌<◌, ◌+◌, ℕ, Bool, true, false, not, eqb, nat_eq, List, [], ◌∷◌, ◌++◌, length, map, take, codes, get_or, refl, sym, ap, subst, ◌∙◌, arith}
 use mathlib.Core.HLevel.{is_prop→PathP}
 use native.Mathlib.Bridge.{le_prop}
 use Rattle.std.proofs.lemmas.Bool.Decides.{nat_tests}
@@ -7,9 +7,9 @@ use Rattle.std.proofs.lemmas.List.{append-nil, length-map, get_or-map, take_all,
 use Rattle.std.proofs.lemmas.List.Elements.{All-get_or, All-push, All-nil}
 use Rattle.std.proofs.lemmas.List.Splits.{slice_split_none, slice_split_at, join_with_byte-slice_split, length-slice_split}
 use Rattle.std.specs.Cmp.Lexicographic.{pointwise}
-use Rattle.std.specs.List.{All, slice_split, join_with_byte}
+use Rattle.std.specs.List.{All, join_with_byte}
 use Rattle.position_rank.specs.Text.{place_text, words}
-use Rattle.move_rules.specs.Notation.{mark, step_word, word_of, play_of_words, HitsPoint, IsPlayText}
+use Rattle.move_rules.specs.Notation.{mark, word_of, play_of_words, HitsPoint, IsPlayText}
 use Rattle.move_rules.specs.declared.written.Step.{Step}
 use Rattle.move_rules.proofs.NotationWords.{lacks, lacks-append, lacks-middle, all-lack, not-true, both-true, read-back, step_word-cut, cut-mark, place-same}
 

@@ -1,16 +1,15 @@
 -- The words of steps.
-use Rattle.std.proofs.Common.{◌≡◌, ◌≢◌, ◌≤◌, ◌<◌, ◌+◌, ◌-◌, ℕ, zero, suc, Bool, true, false, not, cond, ◌&&◌, eqb, nat_eq, IsTrue, List, [], ◌∷◌, ◌++◌, length, map, codes, get_or, Option, Some, None, find, ◌⊎◌, inl, inr, Bor, lit<, refl, sym, ap, subst, ◌∙◌, arith, append_assoc}
+use Rattle.std.proofs.Common.{◌≡◌, ◌≢◌, ◌≤◌, ◌<◌, ◌+◌, ℕ, zero, suc, Bool, true, false, not, cond, ◌&&◌, eqb, nat_eq, List, [], ◌∷◌, ◌++◌, length, codes, get_or, Option, Some, None, find, ◌⊎◌, inl, inr, Bor, lit<, refl, sym, ap, subst, ◌∙◌, arith, append_assoc}
 use Rattle.std.proofs.lemmas.Bool.{cases_lt}
 use Rattle.std.proofs.lemmas.Bool.Decides.{nat_tests}
 use Rattle.std.proofs.lemmas.List.{append-nil, append_cancel_right}
-use Rattle.std.proofs.lemmas.List.Splits.{slice_split_none, slice_split_at, join_with_byte-slice_split}
 use Rattle.std.proofs.lemmas.Str.Pattern.{IsSplitOnceResult, split_after, split_parts}
 use Rattle.std.specs.Cmp.Lexicographic.{pointwise}
 use Rattle.std.specs.Fmt.{digits}
-use Rattle.std.specs.List.{All, list_all, range_with_len, slice_split, join_with_byte}
+use Rattle.std.specs.List.{All, list_all, range_with_len}
 use Rattle.std.specs.Option.{MatchOption}
-use Rattle.position_rank.specs.Text.{place, place_text, words}
-use Rattle.move_rules.specs.Notation.{mark, step_word, word_of, play_of_words}
+use Rattle.position_rank.specs.Text.{place, place_text}
+use Rattle.move_rules.specs.Notation.{mark, step_word, word_of}
 use Rattle.move_rules.specs.declared.written.Step.{Step}
 
 -- ---- the text of each place

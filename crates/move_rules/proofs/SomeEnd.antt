@@ -1,13 +1,11 @@
 -- Every roll has a legal sequence.
-use Rattle.std.proofs.Common.{◌≡◌, ◌≢◌, ◌≤◌, ℕ, Bool, true, false, eqb, cond, List, [], ◌∷◌, length, map, Some, ◌⊎◌, inl, inr, refl, sym, ◌∙◌, arith}
+use Rattle.std.proofs.Common.{◌≡◌, ◌≢◌, ℕ, Bool, true, false, eqb, cond, List, [], ◌∷◌, Some, ◌⊎◌, inl, inr, refl, sym, ◌∙◌, arith}
 use Rattle.std.proofs.lemmas.Bool.{cases_eq}
-use Rattle.std.proofs.lemmas.Bool.Decides.{nat_tests}
-use Rattle.std.specs.List.{slice_get, remove}
+use Rattle.std.specs.List.{slice_get}
 use Rattle.position_rank.specs.Board.{Board}
-use Rattle.roll_table.specs.Rolls.{Dice, dice_of}
+use Rattle.roll_table.specs.Rolls.{Dice}
 use Rattle.move_rules.specs.declared.play.Move.{Move}
-use Rattle.move_rules.specs.Moves.{IsMove}
-use Rattle.move_rules.specs.Sequences.{IsSequence, CanPlay, IsLegal, IsLegalEnd}
+use Rattle.move_rules.specs.Sequences.{CanPlay, IsLegalEnd}
 use Rattle.move_rules.specs.Ends.{all_lines, can_play, longest}
 use Rattle.move_rules.proofs.EndsExact.{all_lines-sound, all_lines-complete, longest-bound, longest-reached, can_play-sound, can_play-complete}
 

@@ -1,7 +1,8 @@
-ghost use Rattle.std.specs.Prelude.{◌≡◌, [], ◌∷◌};
+ghost use Rattle.std.specs.Prelude.{◌≡◌, [], ◌∷◌, codes};
 ghost use Rattle.position_rank.specs.Board.{Board, swap};
 ghost use Rattle.move_rules.specs.Moves.{IsMove};
 ghost use Rattle.move_rules.specs.Ends.{legal_lines, legal_ends};
+ghost use Rattle.move_rules.specs.Notation.{play_text};
 ghost use Rattle.move_rules.specs.Examples.{board, roll, by, off, bar};
 
 /// Rolls whose legal sequences can be found by hand.
@@ -28,4 +29,12 @@ pub fn worked_moves()
     ensures not_with_one_behind { (q : Board) → IsMove (board (4 ∷ 2 ∷ []) (1 ∷ 1 ∷ [])) 3 2 q → ⊥ }
     ensures not_with_one_outside { (q : Board) → IsMove (board (7 ∷ 2 ∷ []) (1 ∷ 1 ∷ [])) 2 2 q → ⊥ }
     ensures sides_exchanged { swap (board (6 ∷ off ∷ []) (bar ∷ 3 ∷ [])) ≡ board (bar ∷ 3 ∷ []) (6 ∷ off ∷ []) }
+{}
+
+/// Plays and their texts.
+pub fn worked_texts()
+    ensures no_moves { play_text (board (6 ∷ []) (1 ∷ [])) [] ≡ codes "-" }
+    ensures hits_on_entering { play_text (board (bar ∷ []) (4 ∷ [])) (by 4 25 ∷ by 1 21 ∷ []) ≡ codes "bar/21* 21/20" }
+    ensures hits_with_the_second { play_text (board (24 ∷ []) (4 ∷ [])) (by 1 24 ∷ by 2 23 ∷ []) ≡ codes "24/23 23/21*" }
+    ensures bears_off_from_below { play_text (board (2 ∷ 1 ∷ []) (1 ∷ 1 ∷ [])) (by 6 2 ∷ by 1 1 ∷ []) ≡ codes "2/off 1/off" }
 {}

@@ -14,7 +14,7 @@ mod tests;
 mod written;
 
 pub use applied::{BadPlay, apply};
-pub use examples::{worked_examples, worked_moves};
+pub use examples::{worked_examples, worked_moves, worked_texts};
 pub use laws::{
     legal_ends_are_exact, legal_ends_stay_live, legal_plays_have_no_fault,
     written_legal_plays_have_no_fault,

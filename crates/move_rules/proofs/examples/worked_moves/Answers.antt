@@ -1,5 +1,5 @@
 -- By computation of what the move leaves.
-use Rattle.std.proofs.Common.{◌≡◌, ℕ, [], ◌∷◌, Some, None, refl, sym, ◌∙◌, lit<, arith}
+use Rattle.std.proofs.Common.{◌≡◌, ℕ, [], ◌∷◌, Some, None, refl, arith}
 use Rattle.position_rank.specs.Board.{Board}
 use Rattle.position_rank.specs.Packed.{counts_of}
 use Rattle.move_rules.specs.Moves.{IsMove}

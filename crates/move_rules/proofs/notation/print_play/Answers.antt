@@ -1,8 +1,7 @@
-use Rattle.std.proofs.Common.{◌≡◌, ◌∷◌, ◌<◌, ◌≤◌, ◌+◌, [], drop, length, rules, lit<, refl, sym, ap, ◌∙◌, arith}
+use Rattle.std.proofs.Common.{◌≡◌, rules, lit<, refl, arith}
 use Rattle.std.proofs.lemmas.Bool.Decides.{nat_tests}
-use Rattle.move_rules.specs.declared.play.Move.{Move}
 use Rattle.move_rules.proofs.FaultLaws.{next-of}
-use Rattle.move_rules.proofs.NotationPrints.{begins-with, print-start, print-one, print-ends}
+use Rattle.move_rules.proofs.NotationPrints.{begins-with, print-start, print-one}
 use Rattle.move_rules.proofs.notation.print_play.Goals as goal
 use Rattle.move_rules.proofs.notation.print_play.Goals.{then-is_empty, else-is_empty}
 
