@@ -1,7 +1,7 @@
 -- A legal play has no fault, and a written play that is one has none.
-use Rattle.std.proofs.Common.{◌≡◌, ◌≢◌, ◌<◌, ◌≤◌, ◌+◌, ◌-◌, ◌⊎◌, ◌↔◌, IsTrue, ℕ, zero, suc, max, Bool, true, false, cond, eqb, List, [], ◌∷◌, length, replicate, map, get_or, sum, Some, All, inl, inr, refl, sym, ap, subst, ◌∙◌, arith}
+use Rattle.std.proofs.Common.{◌≡◌, ◌≢◌, ◌<◌, ◌≤◌, ◌⊎◌, ◌↔◌, IsTrue, ℕ, zero, suc, max, Bool, true, false, cond, eqb, List, [], ◌∷◌, length, replicate, map, get_or, Some, inl, inr, refl, sym, ap, subst, ◌∙◌, arith}
 use Rattle.std.proofs.lemmas.Bool.Decides.{nat_tests}
-use Rattle.std.specs.List.{slice_get, remove, Contains}
+use Rattle.std.specs.List.{slice_get, remove}
 use Rattle.position_rank.specs.Board.{Board, above}
 use Rattle.roll_table.specs.Rolls.{Dice, dice_of}
 use Rattle.move_rules.specs.declared.play.Move.{Move}
@@ -9,9 +9,8 @@ use Rattle.move_rules.specs.declared.written.Step.{Step}
 use Rattle.move_rules.specs.declared.applied.BadPlay.{BadPlay}
 use Rattle.move_rules.specs.declared.applied.BadPlay.TheVariants.{WrongDice, NoChecker, BarFirst, NotHome, Closed, HitMark, TooFew, HigherDie}
 use Rattle.move_rules.specs.Moves.{MayLeave, IsMove}
-use Rattle.move_rules.specs.Sequences.{IsSequence, CanPlay, IsLegal}
-use Rattle.move_rules.specs.Ends.{after_move}
-use Rattle.move_rules.specs.Faults.{HasFault, IsFirstFault, IsFirstWrong, IsTooFew, IsLowerDie, IsWholeFault, IsFault}
+use Rattle.move_rules.specs.Sequences.{IsSequence, IsLegal}
+use Rattle.move_rules.specs.Faults.{HasFault, IsFirstWrong, IsWholeFault, IsFault}
 use Rattle.move_rules.specs.Written.{TakesLastOff, IsSmallest, IsDieOf, IsHit, IsStep, IsWritten, IsWrongStep, IsWrongWritten, IsWrittenFault}
 use Rattle.move_rules.proofs.EndsExact.{after_move-complete, same_dice}
 use Rattle.move_rules.proofs.FaultLaws.{Contains-got}

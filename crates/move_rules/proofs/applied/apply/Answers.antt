@@ -1,4 +1,4 @@
-use Rattle.std.proofs.Common.{inl, inr}
+use Rattle.std.proofs.Common.{inl}
 use Rattle.move_rules.proofs.NoFault.{legal-right, legal-whole}
 use Rattle.move_rules.proofs.applied.apply.Goals as goal
 
