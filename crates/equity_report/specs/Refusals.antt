@@ -5,7 +5,6 @@ use Rattle.hyper_outside.specs.declared.outside.WordsKind.{WordsKind}
 use Rattle.hyper_outside.specs.declared.outside.WordsKind.TheVariants as kinds
 use Rattle.position_rank.specs.declared.text.BadPosition.{BadPosition}
 use Rattle.position_rank.specs.declared.text.BadPosition.TheVariants.{Shape, Place, Count, SharedPoint, Over}
-use Rattle.cube_actions.specs.declared.name.StakesName.{StakesName}
 use Rattle.equity_report.specs.declared.refusal.Refusal.{Refusal}
 use Rattle.equity_report.specs.declared.refusal.Refusal.TheVariants.{Words, Position, Write, Memory, Base}
 use Rattle.equity_report.specs.Reports.{line}

@@ -1,5 +1,5 @@
 -- The texts of reports. Each line ends with a line feed, the byte 10.
-use Rattle.std.specs.Prelude.{ℕ, List, [], ◌∷◌, ◌++◌, codes, decimal}
+use Rattle.std.specs.Prelude.{ℕ, List, ◌++◌, codes, decimal}
 use Rattle.std.specs.Fmt.{signed_decimal}
 use Rattle.position_rank.specs.Board.{Board}
 use Rattle.position_rank.specs.Text.{position_text}

@@ -1,4 +1,4 @@
-use Rattle.std.proofs.Common.{◌≡◌, List, ℕ, sym, ◌∙◌}
+use Rattle.std.proofs.Common.{List, ℕ, sym, ◌∙◌}
 use Rattle.command_line.specs.Reading.{bytes_of}
 use Rattle.hyper_app.specs.Tasks.{task_of}
 use Rattle.hyper_app.specs.Runs.{WasPut}

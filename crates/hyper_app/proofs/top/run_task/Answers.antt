@@ -1,4 +1,4 @@
-use Rattle.std.proofs.Common.{◌≡◌, Err, rules}
+use Rattle.std.proofs.Common.{Err, rules}
 use Rattle.hyper_app.proofs.top.run_task.Goals as goal
 
 pub returns-in-Err-clause-write : goal.returns-in-Err-clause-write
