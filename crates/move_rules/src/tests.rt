@@ -36,7 +36,7 @@ fn plays_are_those_found_by_trial(rt: HostRuntime) {
             let tried = first_of_each_end(&rt, in_counts(&position), roll.high(), roll.low());
             assert_eq!(rt; list.len(), tried.len(), "at {text} with {roll:?}");
             for (entry, sequence) in list.iter().zip(tried.iter()) {
-                assert!(rt; sequence.is(&entry.play), "at {text} with {roll:?}");
+                assert!(rt; sequence.is_made_by(&entry.play), "at {text} with {roll:?}");
                 assert_eq!(rt;
                     in_counts(&entry.end),
                     sequence.left,

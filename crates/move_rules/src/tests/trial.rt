@@ -8,23 +8,24 @@ use std::process::Abort;
 
 /// How many checkers stand on each place, each side in its own numbering.
 #[derive(Clone, Copy, Debug, Default, PartialEq, Eq)]
-pub struct Counts {
+pub(super) struct Counts {
     mover: [u8; 26],
     other: [u8; 26],
 }
 
 /// Some moves, and what they leave.
 #[derive(Clone, Copy, Debug, Default)]
-pub struct Sequence {
+pub(super) struct Sequence {
     moves: [Move; 4],
     len: usize,
-    pub left: Counts,
+    pub(super) left: Counts,
 }
 
-pub type Sequences = ArrayVec<Sequence, 128>;
+pub(super) type Sequences = ArrayVec<Sequence, 128>;
 
 impl Sequence {
-    pub fn is(&self, play: &Play) -> bool {
+    /// Whether a play makes these moves.
+    pub(super) fn is_made_by(&self, play: &Play) -> bool {
         play.len() == self.len
             && play
                 .iter()
@@ -37,7 +38,7 @@ impl Sequence {
     }
 }
 
-pub fn in_counts(position: &Position) -> Counts {
+pub(super) fn in_counts(position: &Position) -> Counts {
     let mut counts = Counts::default();
     for place in 0..26 {
         counts.mover[place as usize] = position.mover_at(place);
@@ -47,7 +48,7 @@ pub fn in_counts(position: &Position) -> Counts {
 }
 
 /// The first legal sequence to each end.
-pub fn first_of_each_end(rt: &impl Abort, start: Counts, high: u8, low: u8) -> Sequences {
+pub(super) fn first_of_each_end(rt: &impl Abort, start: Counts, high: u8, low: u8) -> Sequences {
     let mut firsts = Sequences::new();
     for sequence in &legal(rt, start, high, low) {
         if !firsts.iter().any(|first| first.left == sequence.left) {
