@@ -1,6 +1,8 @@
 //! The hypergammon solver.
 #![tactic(auto)]
 
+ghost use Rattle.std.specs.Prelude.{◌≡◌};
+
 mod task;
 #[cfg(test)]
 mod tests;
@@ -23,7 +25,9 @@ fn words_of<R: Env + AllocGlobal>(rt: &R) -> io::Result<Vec<String>> {
 }
 
 /// Puts the refusal of words that aren't text, whose place can't be told, and answers its status.
-fn refuse_bytes(rt: &impl Print) -> u8 {
+fn refuse_bytes(rt: &impl Print) -> u8
+    ensures { result ≡ 1 }
+{
     let refusal = Refusal::Words(BadWords {
         kind: WordsKind::Word,
         place: 0,
