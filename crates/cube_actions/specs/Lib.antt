@@ -1,2 +1,9 @@
+pub mod Ladder
+pub mod MatchExamples
+pub mod MatchKinds
+pub mod Matches
+pub mod Money
+pub mod Names
 pub mod Scores
 pub mod Stakes
+pub mod Starts

@@ -3,16 +3,31 @@
 
 mod kind;
 mod laws;
+mod match_kind;
+mod match_laws;
 mod name;
+mod name_laws;
+mod names;
 mod phase;
 mod score;
+mod score_order;
+mod side;
 mod stakes;
+mod starts;
 #[cfg(test)]
 mod tests;
 
 pub use kind::{Double, Kind, Taken};
 pub use laws::{bound_examples, cubeless_example, score_examples};
-pub use name::{KindName, Side, StakesName};
+pub use match_laws::{
+    cubes_come_of_the_score, kind_count_examples, ladder_examples, ladders_are_exact,
+    match_examples, wins_lead_down_the_ladder,
+};
+pub use name::{KindName, StakesName};
+pub use name_laws::{names_tell_kinds, printed_kinds_are_read, read_kinds_are_printed};
 pub use phase::Phase;
 pub use score::{BadScore, Score};
+pub use score_order::ladder;
+pub use side::Side;
 pub use stakes::Stakes;
+pub use starts::Starts;

@@ -1,4 +1,5 @@
 use crate::score::Score;
+use crate::side::Side;
 
 /// Which stakes a game is played for.
 #[derive(Clone, Copy, Debug, PartialEq, Eq)]
@@ -11,17 +12,11 @@ pub enum StakesName {
     Match(Score),
 }
 
-/// A side of a match: near is the one that needs at most what the other needs.
-#[derive(Clone, Copy, Debug, PartialEq, Eq)]
-pub enum Side {
-    Near,
-    Far,
-}
-
 /// Where the cube is, seen by the side that moves.
-#[derive(Clone, Copy, Debug, PartialEq, Eq)]
+#[derive(Clone, Copy, Debug, Default, PartialEq, Eq)]
 pub enum KindName {
     /// There is no cube.
+    #[default]
     Alone,
     Centred,
     Mine,

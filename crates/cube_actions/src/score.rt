@@ -1,7 +1,11 @@
 ghost use Rattle.std.specs.Prelude.{◌≡◌, ◌↔◌, IsOk, IfOk, IsErrOf};
-ghost use Rattle.cube_actions.specs.Scores.{AreNeeds, IsPhaseOf};
+ghost use Rattle.cube_actions.specs.Scores.{AreNeeds, IsPhaseOf, IsScore, last_game, needs, same_score};
 
 use crate::phase::Phase;
+use crate::side::Side;
+use arrayvec::ArrayString;
+use itoa::Buffer;
+use std::marker::Model;
 
 /// The points that the two sides of a match still need, 1 to 5, the smaller number first.
 #[derive(Clone, Copy, Debug, PartialEq, Eq)]
@@ -9,8 +13,18 @@ pub struct Score {
     pub near: u8,
     pub far: u8,
     pub phase: Phase,
-    ghost needs: { AreNeeds near far },
-    ghost fits: { IsPhaseOf near far phase },
+}
+
+impl Model for Score {
+    ghost use Rattle.cube_actions.specs.Scores.{Standing, IsScore};
+
+    ghost Value = { Standing };
+
+    ghost view = { λ a. record { near = a.near; far = a.far; phase = a.phase } };
+
+    ghost invariant = { λ a. IsScore (record { near = a.near; far = a.far; phase = a.phase }) };
+
+    ghost inverse = { λ s. record { near = s.near; far = s.far; phase = s.phase } };
 }
 
 /// Why numbers and a phase are no score.
@@ -22,12 +36,27 @@ pub enum BadScore {
     Phase = 2,
 }
 
+impl Default for Score {
+    ghost is_default = { λ score. score ≡ last_game };
+
+    /// Both sides need a point.
+    fn default() -> Self {
+        Score {
+            near: 1,
+            far: 1,
+            phase: Phase::Post,
+        }
+    }
+}
+
 impl Score {
+    ghost use Rattle.cube_actions.specs.Names.{score_text};
+
     /// Both sides need two points or more before the Crawford game, one side one and the other more in it, one side one after it.
     pub fn new(near: u8, far: u8, phase: Phase) -> Result<Score, BadScore>
         ensures ok { IsOk result ↔ (AreNeeds near far × IsPhaseOf near far phase) }
         ensures range { IsErrOf result BadScore.Range ↔ (AreNeeds near far → ⊥) }
-        ensures value { IfOk result (λ score. (score.near ≡ near) × (score.far ≡ far) × (score.phase ≡ phase)) }
+        ensures value { IfOk result (λ score. score ≡ record { near = near; far = far; phase = phase }) }
     {
         if near < 1 || near > far || far > 5 {
             return Err(BadScore::Range);
@@ -42,5 +71,36 @@ impl Score {
         } else {
             Err(BadScore::Phase)
         }
+    }
+
+    /// How many points a side still needs, 1 to 5.
+    pub fn needs(self, side: Side) -> u8
+        ensures needs { result ≡ needs self side }
+        ensures valid { IsScore self }
+    {
+        match side {
+            Side::Near => self.near,
+            Side::Far => self.far,
+        }
+    }
+
+    /// Whether the two are the same score.
+    pub(crate) fn is(self, other: Score) -> bool
+        ensures { result ≡ same_score self other }
+    {
+        self == other
+    }
+
+    /// The points needed and a letter for the phase, `n`, `c` or `p`, as `1.3.c`.
+    pub fn print(&self) -> ArrayString<8>
+        ensures { result.bytes ≡ score_text self.now }
+    {
+        let mut text = ArrayString::new();
+        text.push_str(Buffer::new().format(self.near));
+        text.push('.');
+        text.push_str(Buffer::new().format(self.far));
+        text.push('.');
+        text.push_str(self.phase.letter());
+        text
     }
 }

@@ -7,6 +7,10 @@ use arrayvec::ArrayVec;
 use directed_fixed::{Fixed, Pair};
 use std::marker::Model;
 
+mod kind_names;
+mod matches;
+mod money;
+
 /// What a game is played for: 1 to 14 kinds of state, and a bound of all values.
 /// Kind numbers are in range, factors are 1, 2 or 4, and all pairs lie within the bound.
 #[derive(Drop)]
@@ -17,16 +21,19 @@ pub struct Stakes {
 }
 
 impl Model for Stakes {
-    ghost use Rattle.cube_actions.specs.Stakes.{Terms, IsValid};
+    ghost use Rattle.cube_actions.specs.Names.{AreStakes};
+    ghost use Rattle.cube_actions.specs.Stakes.{Terms};
 
     ghost Value = { Terms };
 
     ghost view = { λ a. record { kinds = a.kinds.items; bound = a.bound; name = a.name } };
 
-    ghost invariant = { λ a. IsValid (record { kinds = a.kinds.items; bound = a.bound; name = a.name }) };
+    ghost invariant = { λ a. AreStakes (record { kinds = a.kinds.items; bound = a.bound; name = a.name }) };
 }
 
 impl Stakes {
+    ghost use Rattle.cube_actions.specs.Names.{names_of};
+
     /// A game without a cube: a single win is a point, a gammon two, a backgammon three.
     pub fn cubeless() -> Stakes
         ensures { result ≡ cubeless }
@@ -52,6 +59,7 @@ impl Stakes {
     pub fn kinds(&self) -> usize
         ensures kinds { result ≡ length self.now.kinds }
         ensures few { result ≤ 14 }
+        ensures named { result ≡ length (names_of self.now.name) }
         ensures valid { IsValid self.now }
     {
         self.kinds.len()

@@ -1,6 +1,17 @@
 use super::*;
-use directed_fixed::Fixed;
+use directed_fixed::{Fixed, Pair};
 use std::process::Abort;
+
+mod matches;
+mod money;
+mod names;
+
+const ONE: i64 = 4_294_967_296;
+
+/// The ends of a pair, in units.
+fn units(pair: Pair) -> (i64, i64) {
+    (pair.lower().units(), pair.upper().units())
+}
 
 #[test]
 fn tells_scores(rt: HostRuntime) {
@@ -24,21 +35,5 @@ fn tells_scores(rt: HostRuntime) {
             }
             Err(why) => assert_eq!(rt; Some(why), bad),
         }
-    }
-}
-
-#[test]
-fn a_game_without_a_cube(rt: HostRuntime) {
-    let stakes = Stakes::cubeless().copied();
-    assert_eq!(rt; stakes.name(), StakesName::Cubeless);
-    assert_eq!(rt; stakes.bound(), Fixed::whole(3));
-    assert_eq!(rt; stakes.kinds(), 1);
-    let kind = stakes.kind(0);
-    assert_eq!(rt; kind.next, 0);
-    assert!(rt; kind.double.is_none());
-    let units = [4_294_967_296, 8_589_934_592, 12_884_901_888];
-    for i in 0..3 {
-        assert_eq!(rt; kind.win[i].lower().units(), units[i]);
-        assert_eq!(rt; kind.win[i].upper().units(), units[i]);
     }
 }

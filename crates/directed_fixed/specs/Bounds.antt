@@ -1,5 +1,5 @@
 -- Values are whole numbers of units, 2 ^ 32 units to a point. A pair has a lower and an upper bound of a value.
-use Rattle.std.specs.Prelude.{ℤ, neg_ℤ, ◌≤ℤ◌}
+use Rattle.std.specs.Prelude.{ℤ, pos, neg_ℤ, ◌≤ℤ◌}
 use Rattle.directed_fixed.specs.declared.bounds.End.{End}
 use Rattle.directed_fixed.specs.declared.bounds.End.TheVariants.{Lower, Upper}
 
@@ -7,6 +7,14 @@ use Rattle.directed_fixed.specs.declared.bounds.End.TheVariants.{Lower, Upper}
 pub record Bounds : Type 0 where
   pub lower : ℤ
   pub upper : ℤ
+
+-- both bounds 0
+abbrev pub at_zero : Bounds
+at_zero = record { lower = pos 0; upper = pos 0 }
+
+-- what the pair is for the other side, which loses what the one wins
+abbrev pub negated : Bounds → Bounds
+negated pair = record { lower = neg_ℤ pair.upper; upper = neg_ℤ pair.lower }
 
 -- the other end of a pair
 abbrev pub other : End → End

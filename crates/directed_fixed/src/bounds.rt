@@ -30,8 +30,19 @@ impl Model for Pair {
     ghost inverse = { λ b. record { lower = b.lower; upper = b.upper } };
 }
 
+impl Default for Pair {
+    ghost use Rattle.directed_fixed.specs.Bounds.{at_zero};
+
+    ghost is_default = { λ pair. pair ≡ at_zero };
+
+    /// Both ends 0.
+    fn default() -> Self {
+        Pair::exactly(Fixed::whole(0))
+    }
+}
+
 impl Pair {
-    ghost use Rattle.directed_fixed.specs.Bounds.{Bounds};
+    ghost use Rattle.directed_fixed.specs.Bounds.{Bounds, negated};
 
     /// The pair of these two ends.
     pub fn new(lower: Fixed, upper: Fixed) -> Pair
@@ -65,5 +76,15 @@ impl Pair {
         ensures in_order { self.lower ≤ℤ self.upper }
     {
         self.upper
+    }
+
+    /// The pair of the other side, for which the value counts the other way: the ends negated and exchanged.
+    pub fn neg(self) -> Pair
+        ensures { result ≡ negated self }
+    {
+        Pair {
+            lower: self.upper.neg(),
+            upper: self.lower.neg(),
+        }
     }
 }

@@ -56,3 +56,11 @@ fn words_keep_values(rt: HostRuntime) {
         (-2, -1, 2)
     );
 }
+
+#[test]
+fn pairs_turn_to_the_other_side(rt: HostRuntime) {
+    let pair = Pair::new(fixed(&rt, -100), fixed(&rt, 230)).neg();
+    assert_eq!(rt; (pair.lower().units(), pair.upper().units()), (-230, 100));
+    let nothing = Pair::default();
+    assert_eq!(rt; (nothing.lower().units(), nothing.upper().units()), (0, 0));
+}
