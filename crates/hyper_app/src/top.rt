@@ -10,6 +10,7 @@ ghost use Rattle.equity_report.specs.declared.refusal.Refusal.TheVariants.{Memor
 ghost use Rattle.equity_report.specs.Refusals.{status_of, refusal_text};
 ghost use Rattle.hyper_app.specs.Tasks.{task_of, report};
 ghost use Rattle.hyper_app.specs.Runs.{Ends, IsPut, WasPut, FailedThenPut};
+ghost use Rattle.hyper_app.specs.Truth.{PutsEnclosingPair};
 
 use crate::task::{Task, read_task};
 use cube_actions::Stakes;
@@ -52,6 +53,7 @@ fn run_task<O: Sink>(alloc: Global, task: &Task, out: &mut O) -> u8
     requires live { IsLive task.now.position }
     ensures ends { Ends (Ok task.now) result }
     ensures report { result ≡ 0 → IsPut (O.told out.old) (O.told out.new) (report task.now) }
+    ensures truth { result ≡ 0 → PutsEnclosingPair (O.told out.old) (O.told out.new) task.now }
     ensures memory { result ≡ 8 → WasPut (O.told out.old) (O.told out.new) (O.faults out.old) (O.faults out.new) (refusal_text Memory) }
     ensures write { result ≡ 7 → FailedThenPut (O.told out.old) (O.told out.new) (O.faults out.old) (O.faults out.new) (report task.now) (refusal_text Write) }
     ensures cause { result ≡ 7 → Rose (O.faults out.old) (O.faults out.new) }
@@ -67,10 +69,11 @@ fn run_task<O: Sink>(alloc: Global, task: &Task, out: &mut O) -> u8
 
 /// Runs the program on the words after its name, over these files, this output and this gate, and answers its status.
 ///
-/// At status 0 the report was put. Else the line of one refusal was put, or a front of it where that failed: 1 comes where the words are
-/// outside their form, 2 where the position's text is, 10 where the position has another number of checkers per side than the words ask
-/// for, each only where the ones before don't come; 7 only where the output failed, after a front of the report; 8 where there was no
-/// memory. No file is changed.
+/// At status 0 the report was put: of a pair that encloses what the position is worth exactly in every game of at least as many turns as
+/// there were rounds, however its unfinished end is scored. Else the line of one refusal was put, or a front of it where that failed: 1 comes
+/// where the words are outside their form, 2 where the position's text is, 10 where the position has another number of checkers per side
+/// than the words ask for, each only where the ones before don't come; 7 only where the output failed, after a front of the report; 8 where
+/// there was no memory. No file is changed.
 pub fn run<R: Threads + Sync, F: Files, O: Sink, G: Gate + Sync>(
     rt: &R,
     alloc: Global,
@@ -81,6 +84,7 @@ pub fn run<R: Threads + Sync, F: Files, O: Sink, G: Gate + Sync>(
 ) -> u8
     ensures ends { Ends (task_of (bytes_of words.now)) result }
     ensures report { result ≡ 0 → IfOk (task_of (bytes_of words.now)) (λ task. IsPut (O.told out.old) (O.told out.new) (report task)) }
+    ensures truth { result ≡ 0 → IfOk (task_of (bytes_of words.now)) (λ task. PutsEnclosingPair (O.told out.old) (O.told out.new) task) }
     ensures refusal { IfErr (task_of (bytes_of words.now)) (λ refusal. result ≡ status_of refusal → WasPut (O.told out.old) (O.told out.new) (O.faults out.old) (O.faults out.new) (refusal_text refusal)) }
     ensures memory { result ≡ 8 → WasPut (O.told out.old) (O.told out.new) (O.faults out.old) (O.faults out.new) (refusal_text Memory) }
     ensures write { result ≡ 7 → IfOk (task_of (bytes_of words.now)) (λ task. FailedThenPut (O.told out.old) (O.told out.new) (O.faults out.old) (O.faults out.new) (report task) (refusal_text Write)) }

@@ -11,7 +11,7 @@ mod store;
 
 pub use files::MemFiles;
 pub use gate::{Gate, OpenGate};
-pub use outside::{BadWords, Failed, Files, NoMemory, Sink, WordsKind};
+pub use outside::{BadWords, Failed, Files, LookStop, NoMemory, PageFault, Sink, WordsKind};
 pub use sinks::{HonestSink, MemSink, RealSink};
 
 #[cfg(test)]

@@ -26,6 +26,30 @@ impl<T: Drop> From<AllocFailed<T>> for NoMemory {
     }
 }
 
+/// What is wrong with a page of a file of pairs.
+#[derive(Clone, Copy, Debug, PartialEq, Eq)]
+pub enum PageFault {
+    /// The file ends before it.
+    Short,
+    /// Its digest isn't that of its bytes.
+    PageDigest,
+    /// A word is out of range.
+    Word,
+    /// A lower word is above its upper word.
+    Crossed,
+}
+
+/// Why a word could not be looked up.
+#[derive(Clone, Copy, Debug, PartialEq, Eq)]
+pub enum LookStop {
+    /// A call of the outside failed.
+    ReadFault,
+    /// The page of the word isn't right, at this place of the file.
+    BadPage { fault: PageFault, at: u64 },
+    /// There was no memory.
+    NoMemory,
+}
+
 /// What is wrong with a program's words.
 #[derive(Clone, Copy, Debug, PartialEq, Eq)]
 pub enum WordsKind {

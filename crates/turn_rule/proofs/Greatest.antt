@@ -1,5 +1,5 @@
 -- The greatest value of a list, and sums over rolls.
-use Rattle.std.proofs.Common.{◌≡◌, ◌<◌, ◌≤◌, ◌+◌, ◌++◌, ◌∙◌, Bool, true, false, cond, eqb, ap, ℕ, zero, suc, get_or, take, drop, add-one, ◌*◌, ◌^◌, ℤ, pos, neg_ℤ, ◌≤ℤ◌, ◌+ℤ◌, ◌*ℤ◌, List, [], ◌∷◌, length, map, inl, inr, refl, subst, sym, arith}
+use Rattle.std.proofs.Common.{◌≡◌, ◌<◌, ◌≤◌, ◌+◌, ◌++◌, ◌∙◌, Bool, true, false, cond, eqb, ap, ℕ, zero, suc, get_or, ℤ, pos, ◌≤ℤ◌, ◌+ℤ◌, ◌*ℤ◌, List, [], ◌∷◌, length, map, inl, inr, refl, subst, sym, arith}
 use Rattle.std.specs.Int.{int_max}
 use Rattle.std.proofs.lemmas.Int.{ints, clamps}
 use Rattle.position_rank.specs.Board.{Board}
@@ -8,10 +8,6 @@ use Rattle.roll_table.specs.Rolls.{Dice, IsRoll, weighted_roll, all_rolls}
 use Rattle.move_rules.specs.Ends.{legal_ends}
 use Rattle.move_rules.specs.Listing.{Among}
 use Rattle.move_rules.proofs.Members.{flat_map-cases, map-cases, range-cases}
-use Rattle.move_rules.specs.declared.play.Entry.{Entry}
-use Rattle.move_rules.specs.Order.{ends_of}
-use Rattle.std.proofs.lemmas.List.{take_more, map-append}
-use Rattle.directed_fixed.specs.Bounds.{IsWithinUnits}
 use Rattle.turn_rule.specs.Turn.{greatest, sum_over}
 use Rattle.turn_rule.proofs.Integers.{le_refl, le_trans, max_mono, add_mono, mul_mono}
 
@@ -90,14 +86,6 @@ pub greatest-append : (f : Board → ℤ) (q r : Board) (qs : List Board) → gr
 greatest-append f q r [] = refl
 greatest-append f q r (s ∷ qs) = ap (λ (z : ℤ). int_max (f q) z) (greatest-append f s r qs) ∙ max_assoc (f q) (greatest f (s ∷ qs)) (f r)
 
--- one entry more
-pub greatest-more : (f : Board → ℤ) (entries : List Entry) (i : ℕ) (entry : Entry) → 1 ≤ i → i < length entries → entry ≡ get_or entries i entry → greatest f (ends_of (take (i + 1) entries)) ≡ int_max (greatest f (ends_of (take i entries))) (f entry.end)
-greatest-more f entries zero entry low high e = absurd (omega arith)
-greatest-more f [] (suc i) entry low high e = absurd (omega arith)
-greatest-more f (first ∷ rest) (suc i) entry low high e =
-    ap (λ (es : List Entry). greatest f (ends_of es)) (take_more (first ∷ rest) (suc i) entry high ∙ ap (λ (x : Entry). take (suc i) (first ∷ rest) ++ x ∷ []) (sym e))
-    ∙ (ap (greatest f) (map-append (λ (x : Entry). x.end) (take (suc i) (first ∷ rest)) (entry ∷ [])) ∙ greatest-append f first.end entry.end (ends_of (take i rest)))
-
 max_left : (x y : ℤ) → x ≤ℤ int_max x y
 max_left x y = omega (arith, ints, clamps)
 
@@ -137,32 +125,6 @@ all_rolls-small roll m =
       small true = omega arith
       small false = omega arith
 
--- one roll more
-pub sum-step : (f : Board → ℤ) (p : Board) (rolls : List (Dice × ℕ)) (i : ℕ) (roll : Dice × ℕ) → i < length rolls → roll ≡ get_or rolls i roll → sum_over (drop i rolls) f p ≡ pos roll.1 *ℤ greatest f (legal_ends p roll.0) +ℤ sum_over (drop (suc i) rolls) f p
-sum-step f p [] i roll h e = absurd (omega arith)
-sum-step f p (r ∷ rolls) zero roll h e = rw e refl
-sum-step f p (r ∷ rolls) (suc i) roll h e = sum-step f p rolls i roll (omega arith) e
-
-joins : (a b c d w m : ℤ) → a +ℤ b ≡ c → b ≡ w +ℤ d → m ≡ a +ℤ w → m +ℤ d ≡ c
-joins a b c d w m h k l = omega (arith, ints)
-
--- the sum so far, one roll more, and the rest
-pub sum-more : (f : Board → ℤ) (p : Board) (rolls : List (Dice × ℕ)) (i : ℕ) (roll : Dice × ℕ) (sum all best new : ℤ) → i < length rolls → roll ≡ get_or rolls i roll → sum +ℤ sum_over (drop i rolls) f p ≡ all → best ≡ greatest f (legal_ends p roll.0) → new ≡ sum +ℤ pos roll.1 *ℤ best → new +ℤ sum_over (drop (i + 1) rolls) f p ≡ all
-sum-more f p rolls i roll sum all best new h e so_far is added =
-    let step = sum-step f p rolls i roll h e in
-    rw (add-one i) (joins sum _ all _ (pos roll.1 *ℤ best) new so_far (rw is step) added)
-
-times_within : (w : ℕ) (v : ℤ) → w ≤ 2 → neg_ℤ (pos (2 ^ 36)) ≤ℤ v → v ≤ℤ pos (2 ^ 36) → (neg_ℤ (pos (2 ^ 37)) ≤ℤ (pos w *ℤ v)) × ((pos w *ℤ v) ≤ℤ pos (2 ^ 37))
-times_within zero v small low high = (omega (arith, ints), omega (arith, ints))
-times_within (suc zero) v small low high = (omega (arith, ints), omega (arith, ints))
-times_within (suc (suc zero)) v small low high = (omega (arith, ints), omega (arith, ints))
-times_within (suc (suc (suc w))) v small low high = absurd (omega arith)
-
-pub grows : (i w : ℕ) (sum v new : ℤ) → IsWithinUnits (pos (2 ^ 37 * i)) sum → w ≤ 2 → IsWithinUnits (pos (2 ^ 36)) v → new ≡ sum +ℤ pos w *ℤ v → IsWithinUnits (pos (2 ^ 37 * (i + 1))) new
-grows i w sum v new h small k added =
-    let product = times_within w v small k.from k.to in
-    record { from = omega (arith, ints, h.from, product.0); to = omega (arith, ints, h.to, product.1) }
-
 pub at_roll : (rolls : List (Dice × ℕ)) (i : ℕ) (roll : Dice × ℕ) → i < length rolls → roll ≡ get_or rolls i roll → Among roll rolls
 at_roll [] i roll h e = absurd (omega arith)
 at_roll (r ∷ rolls) zero roll h e = inl e
@@ -178,16 +140,3 @@ roll_at rolls i roll same h e =
     let here : i < length all_rolls = omega (arith, length-all_rolls) in
     let at : roll ≡ get_or all_rolls i roll = subst (λ (xs : List (Dice × ℕ)). roll ≡ get_or xs i roll) same e in
     (here, at, all_rolls-small roll (at_roll all_rolls i roll here at))
-
-all_dropped : (f : Board → ℤ) (p : Board) (rolls : List (Dice × ℕ)) (i : ℕ) → length rolls ≤ i → sum_over (drop i rolls) f p ≡ pos 0
-all_dropped f p [] zero h = refl
-all_dropped f p [] (suc i) h = refl
-all_dropped f p (roll ∷ rolls) zero h = absurd (omega arith)
-all_dropped f p (roll ∷ rolls) (suc i) h = all_dropped f p rolls i (omega arith)
-
-nothing_left : (a b c : ℤ) → a +ℤ b ≡ c → b ≡ pos 0 → a ≡ c
-nothing_left a b c h k = omega (arith, ints)
-
--- no roll is left
-pub sum-end : (f : Board → ℤ) (p : Board) (i : ℕ) (sum all : ℤ) → 21 ≤ i → sum +ℤ sum_over (drop i all_rolls) f p ≡ all → sum ≡ all
-sum-end f p i sum all h so_far = nothing_left sum _ all so_far (all_dropped f p all_rolls i (omega (arith, length-all_rolls)))

@@ -1,9 +1,12 @@
--- A game of worked examples.
-use Rattle.std.specs.Prelude.{ℕ, pos, neg_ℤ, [], ◌∷◌, Some}
+-- Games and scorings of worked examples.
+use Rattle.std.specs.Prelude.{ℕ, ℤ, pos, neg_ℤ, [], ◌∷◌, Some, None}
+use Rattle.game_payoff.specs.declared.payoff.Won.{Won}
+use Rattle.game_payoff.specs.declared.payoff.Won.TheVariants.{Single, Gammon, Backgammon}
 use Rattle.directed_fixed.specs.Bounds.{Bounds}
 use Rattle.cube_actions.specs.declared.kind.Kind.{Kind}
-use Rattle.cube_actions.specs.declared.name.StakesName.TheVariants.{Money}
+use Rattle.cube_actions.specs.declared.name.StakesName.TheVariants.{Cubeless, Money}
 use Rattle.cube_actions.specs.Stakes.{Terms, exactly, points}
+use Rattle.turn_rule.specs.Exact.{Scoring}
 
 -- each win is a point, and the mover may always double: a pass costs the other side a point, and if it takes the double, the roll counts twice
 abbrev pub always_double : Kind
@@ -16,6 +19,13 @@ always_double = record {
 abbrev pub doubling_game : Terms
 doubling_game = record { kinds = always_double ∷ []; bound = points 3; name = Money }
 
+-- a game without a cube in which of a gammon only this is known, that it wins one to three points
+abbrev pub vague_gammon : Kind
+vague_gammon = record { next = 0; win = exactly 1 ∷ record { lower = points 1; upper = points 3 } ∷ exactly 3 ∷ []; double = None }
+
+abbrev pub vague_game : Terms
+vague_game = record { kinds = vague_gammon ∷ []; bound = points 3; name = Cubeless }
+
 -- these bounds, both above zero, and both below it
 abbrev pub gains : ℕ → ℕ → Bounds
 gains lower upper = record { lower = pos lower; upper = pos upper }
@@ -26,3 +36,13 @@ losses lower upper = record { lower = neg_ℤ (pos lower); upper = neg_ℤ (pos 
 -- a loss and a gain
 abbrev pub between : ℕ → ℕ → Bounds
 between loss gain = record { lower = neg_ℤ (pos loss); upper = pos gain }
+
+-- so many points for a single win, a gammon and a backgammon
+abbrev pub win_points : ℕ → ℕ → ℕ → Won → ℤ
+win_points single gammon backgammon Single = pos single
+win_points single gammon backgammon Gammon = pos gammon
+win_points single gammon backgammon Backgammon = pos backgammon
+
+-- over a scale of 1, such wins, a pass of one point, and an unfinished end that is worth so much to whose turn it is
+abbrev pub scored : (Won → ℤ) → ℤ → Scoring
+scored wins unfinished = record { scale = 1; win = λ k won. wins won; pass = λ k. pos 1; unfinished = λ p k. unfinished }

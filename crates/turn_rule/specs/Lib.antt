@@ -2,4 +2,11 @@ pub mod Turn
 pub mod States
 pub mod Tables
 pub mod Rounds
+pub mod Lefts
+pub mod Looks
+pub mod Found
+pub mod Rolled
+pub mod Exact
+pub mod Truth
 pub mod Examples
+pub mod TestPairs

@@ -1,10 +1,11 @@
 -- A table of pairs, one for each square and kind.
-use Rattle.std.specs.Prelude.{◌≡◌, ℕ, ◌+◌, ◌*◌, List, length, slice_index_or}
+use Rattle.std.specs.Prelude.{◌≡◌, ℕ, ◌+◌, ◌*◌, ℤ, true, None, List, length, slice_index_or}
 use Rattle.position_rank.specs.Board.{Board}
 use Rattle.position_rank.specs.Ranks.{layouts, square_rank_of}
 use Rattle.directed_fixed.specs.Bounds.{Bounds, at}
 use Rattle.cube_actions.specs.Stakes.{nothing}
 use Rattle.turn_rule.specs.Turn.{Words}
+use Rattle.turn_rule.specs.Looks.{Source}
 
 -- the pairs of a game of so many checkers a side and so many kinds, by rising square rank and then kind
 pub record Pairs : Type 0 where
@@ -27,3 +28,7 @@ place_of kinds p k = square_rank_of p * kinds + k
 -- the words of a table
 abbrev pub words_of : Pairs → Words
 words_of table end p k = at end (slice_index_or table.pairs (place_of table.kinds p k) nothing)
+
+-- where a table's words are looked up: each look-up is answered, by the table's word
+abbrev pub read_from : Pairs → ℤ → Source
+read_from table bound = record { checkers = table.checkers; kinds = table.kinds; bound = bound; sure = true; tells = true; floor = words_of table; damage = λ p k. None }

@@ -1,19 +1,38 @@
 //! One turn of the game, and the words after rounds of turns.
 #![tactic(auto)]
 
+mod bounds;
+mod ends;
+mod exact_laws;
 mod laws;
+mod left;
+mod look_laws;
+mod pairs;
+mod plain_reader;
 mod plain_table;
-mod state;
-mod sums;
+mod sum;
 mod sweep;
 mod table;
 #[cfg(test)]
 mod tests;
-mod turn;
+mod value;
+mod worth;
 
+pub use bounds::{roll_bounds, turn_bounds};
+pub use ends::RollEnds;
+pub use exact_laws::{
+    bound_of_examples, consistent_words_enclose, exact_doubled_examples, exact_examples,
+    exact_values_stay_within_the_bound, rounds_are_consistent, rounds_are_sound,
+    rounds_enclose_longer_games, scoring_examples, sound_examples, tighter_examples,
+    tighter_stakes_tighten_rounds, tighter_stakes_tighten_turns, turns_enclose_one_turn_more,
+    words_no_tighter_than_a_round_are_sound,
+};
 pub use laws::{
     doubled_examples, rounded_examples, rounds_stay_within_the_bound, rounds_tighten,
     table_examples, tighter_words_tighten_turns, turns_look_at_states_alone,
     turns_stay_within_the_bound, worked_examples,
 };
+pub use look_laws::{one_list_gives_the_roll, one_list_gives_the_turn, sure_sources_answer};
+pub use pairs::Pairs;
+pub use plain_reader::PlainReader;
 pub use plain_table::PlainTable;

@@ -1,9 +1,12 @@
 ghost use Rattle.std.specs.Prelude.{◌≡◌, ◌<◌, ◌≤◌, ◌+◌, ℕ, IfOk, OnOk, length, sum};
 ghost use Rattle.directed_fixed.specs.declared.bounds.End.TheVariants.{Lower, Upper};
-ghost use Rattle.turn_rule.specs.Tables.{IsFull, squares_of, words_of};
+ghost use Rattle.turn_rule.specs.Tables.{IsFull, squares_of, words_of, read_from};
 ghost use Rattle.turn_rule.specs.States.{IsState, AreWithin, pair_of};
+ghost use Rattle.turn_rule.specs.Looks.{AreStakesOf};
 ghost use Rattle.turn_rule.specs.Rounds.{AreAlike, AreLayouts, HasRounds, IsTurned, IsTurnedBefore};
 
+use crate::pairs::Pairs;
+use crate::plain_reader::PlainReader;
 use crate::sweep::sweep_rows;
 use crate::table::Table;
 use cube_actions::Stakes;
@@ -76,6 +79,15 @@ impl PlainTable {
     {
         sweep_rows(&self.layouts, &self.stakes, &self.current, &mut self.next);
         mem::swap(&mut self.current, &mut self.next);
+    }
+
+    /// Looks the pairs up one end at a time. The reader is sure, and its floor and its notes are the table's words.
+    pub fn reader(&self) -> PlainReader<'_>
+        ensures source { ⟦<PlainReader<'static> as Pairs>⟧.source result ≡ read_from self.now.table self.now.stakes.bound }
+        ensures notes { ⟦<PlainReader<'static> as Pairs>⟧.notes result ≡ words_of self.now.table }
+        ensures stakes { AreStakesOf (⟦<PlainReader<'static> as Pairs>⟧.source result) self.now.stakes }
+    {
+        PlainReader::of(&self.current, self.stakes.bound())
     }
 
     /// The pair of a state.

@@ -5,14 +5,28 @@ ghost use Rattle.directed_fixed.specs.declared.bounds.End.TheVariants.{Lower, Up
 ghost use Rattle.cube_actions.specs.Stakes.{nothing};
 ghost use Rattle.turn_rule.specs.Tables.{IsFull, words_of};
 ghost use Rattle.turn_rule.specs.Turn.{turn};
-ghost use Rattle.turn_rule.specs.States.{pair_of, AreWithin};
+ghost use Rattle.turn_rule.specs.States.{IsState, pair_of, AreWithin};
 ghost use Rattle.turn_rule.specs.Rounds.{AreAlike, AreLayouts, IsTurnedBefore};
 
-use crate::state::turn_bounds;
+use crate::ends::RollEnds;
+use crate::plain_reader::PlainReader;
 use crate::table::Table;
 use cube_actions::Stakes;
+use directed_fixed::Pair;
 use move_rules::PlayList;
 use position_rank::{Layout, Position};
+
+/// What a state is worth before its turn, over the table's words.
+fn turn_over(ends: &RollEnds, stakes: &Stakes, number: usize, table: &Table) -> Pair
+    requires state { IsState table.now.checkers stakes.now ends.now number }
+    requires kinds { table.now.kinds ≡ length stakes.now.kinds }
+    requires within { AreWithin table.now.checkers stakes.now (words_of table.now) }
+    ensures { result ≡ pair_of (turn stakes.now (words_of table.now)) ends.now number }
+{
+    let mut reader = PlainReader::of(table, stakes.bound());
+    let bounds = ends.turn_bounds(stakes, number, &mut reader);
+    bounds.unwrap()
+}
 
 /// Gives each kind of a live position its turn over the old table.
 fn sweep_square(
@@ -20,6 +34,7 @@ fn sweep_square(
     stakes: &Stakes,
     old: &Table,
     new: &mut Table,
+    ends: &mut RollEnds,
     list: &mut PlayList,
 )
     requires position { IsPosition position.now }
@@ -33,10 +48,11 @@ fn sweep_square(
     ensures turned { (k : ℕ) → k < old.now.kinds → pair_of (words_of new.new) position.now k ≡ pair_of (turn stakes.now (words_of old.now)) position.now k }
     ensures before { (place : ℕ) → place < square_rank_of position.now * old.now.kinds → slice_index_or new.new.pairs place nothing ≡ slice_index_or new.old.pairs place nothing }
 {
+    ends.fill(position, list);
     let kinds = new.kinds();
     let first = position.square_rank() as usize * kinds;
     for number in 0..kinds {
-        let bounds = turn_bounds(position, number, stakes, old, list);
+        let bounds = turn_over(ends, stakes, number, old);
         new.set(first + number, bounds);
     }
 }
@@ -48,6 +64,7 @@ fn sweep_row(
     stakes: &Stakes,
     old: &Table,
     new: &mut Table,
+    ends: &mut RollEnds,
     list: &mut PlayList,
 )
     requires all { AreLayouts old.now.checkers layouts.now }
@@ -65,7 +82,7 @@ fn sweep_row(
     for other in layouts {
         let position = Position::new(mover, *other).unwrap();
         if position.is_live() {
-            sweep_square(&position, stakes, old, new, list);
+            sweep_square(&position, stakes, old, new, ends, list);
         }
     }
 }
@@ -82,7 +99,8 @@ pub(crate) fn sweep_rows(layouts: &[Layout], stakes: &Stakes, old: &Table, new: 
     ensures turned { IsTurnedBefore stakes.now old.now new.new (length layouts.now * length layouts.now) }
 {
     let mut list = PlayList::new();
+    let mut ends = RollEnds::of(&Position::start(1), &mut list);
     for mover in layouts {
-        sweep_row(*mover, layouts, stakes, old, new, &mut list);
+        sweep_row(*mover, layouts, stakes, old, new, &mut ends, &mut list);
     }
 }

@@ -1,5 +1,6 @@
 ghost use Rattle.std.specs.Prelude.{◌≡◌, ◌<◌, ◌≤◌, ◌+◌, ◌*◌, ◌^◌, ℕ, IfOk, length, replicate, slice_set, sum};
-ghost use Rattle.position_rank.specs.Board.{Board};
+ghost use Rattle.position_rank.specs.Board.{Board, IsPosition};
+ghost use Rattle.position_rank.specs.Ranks.{square_rank_of};
 ghost use Rattle.directed_fixed.specs.declared.bounds.End.TheVariants.{Lower, Upper};
 ghost use Rattle.turn_rule.specs.Tables.{Pairs, IsFull, squares_of, words_of};
 ghost use Rattle.turn_rule.specs.States.{pair_of};
@@ -33,7 +34,19 @@ impl Table {
         requires kind { kind < self.now.kinds }
         ensures { result ≡ pair_of (words_of self.now) position.now kind }
     {
-        self.pairs[position.square_rank() as usize * self.kinds + kind]
+        self.pair_at(position, position.square_rank(), kind)
+    }
+
+    /// `pair` of a position whose square rank is at hand.
+    #[inline]
+    pub(crate) fn pair_at(&self, position: &Position, square: u64, kind: usize) -> Pair
+        requires valid { IsPosition position.now }
+        requires checkers { sum position.now.mover ≡ self.now.checkers }
+        requires square { square ≡ square_rank_of position.now }
+        requires kind { kind < self.now.kinds }
+        ensures { result ≡ pair_of (words_of self.now) position.now kind }
+    {
+        self.pairs[square as usize * self.kinds + kind]
     }
 
     /// How many checkers a side has.

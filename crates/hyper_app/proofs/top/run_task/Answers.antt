@@ -1,7 +1,12 @@
 use Rattle.std.proofs.Common.{Err, rules}
+use Rattle.hyper_app.proofs.Enclosed.{report-truth}
 use Rattle.hyper_app.proofs.top.run_task.Goals as goal
 
 pub returns-in-Err-clause-write : goal.returns-in-Err-clause-write
 returns-in-Err-clause-write g c = λ _.
     let puts = rw c.in-Ok.ensures at c.in-Err.ensures.puts in
     (g.O.Sink.told c.write_bound.new.out, g.O.Sink.faults c.write_bound.new.out, Err c.in-Err.field-0, search rules, puts, c.in-Err.ensures.cause, c.refuse-in-Err.ensures.told)
+
+pub returns-in-Ok-write_bound-clause-truth : goal.returns-in-Ok-write_bound-clause-truth
+returns-in-Ok-write_bound-clause-truth g c = λ _.
+    report-truth (g.O.Sink.told c.args.out.now) (g.O.Sink.told c.write_bound.new.out) c.args.task.now c.in-Ok.pair c.requires.position c.requires.live c.in-Ok.ensures c.in-Ok-write_bound.field-0 c.in-Ok-write_bound.ensures.puts

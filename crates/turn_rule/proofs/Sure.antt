@@ -1,0 +1,28 @@
+-- Over a sure source each look-up is answered, and where its floor and its notes are one list, the answer is exact.
+use Rattle.std.proofs.Common.{◌≡◌, ℕ, ℤ, ◌≤ℤ◌, IsTrue, Result, Ok, Err, refl, subst}
+use Rattle.std.specs.Result.{IsOk}
+use Rattle.directed_fixed.specs.declared.bounds.End.{End}
+use Rattle.directed_fixed.specs.declared.bounds.End.TheVariants.{Lower, Upper}
+use Rattle.directed_fixed.specs.Bounds.{Bounds}
+use Rattle.hyper_outside.specs.declared.outside.LookStop.{LookStop}
+use Rattle.hyper_outside.specs.declared.outside.LookStop.TheVariants.{ReadFault, BadPage, NoMemory}
+use Rattle.turn_rule.specs.Turn.{Words}
+use Rattle.turn_rule.specs.Looks.{Source, Damage, States, MayStop, Looked, IsPairOf}
+use Rattle.turn_rule.proofs.Tight.{tight-both}
+use Rattle.turn_rule.proofs.TableLemmas.{both_ends}
+
+never_stops : (s : Source) (a b : ℕ) (meant : Damage → Type 0) (stop : LookStop) → IsTrue s.sure → MayStop s a b meant stop → ⊥
+never_stops s a b meant ReadFault sure stopped = cc (sure, stopped.0)
+never_stops s a b meant (BadPage fault at) sure stopped = cc (sure, stopped.0)
+never_stops s a b meant NoMemory sure stopped = cc (sure, stopped)
+
+pub sure-answer : {A : Type 0} (s : Source) (u v : Words) (a b : ℕ) (meant : Damage → Type 0) (right : A → Type 0) (result : Result A LookStop) → IsTrue s.sure → Looked s u v a b meant right result → IsOk result
+sure-answer s u v a b meant right (Ok x) sure looked = refl
+sure-answer s u v a b meant right (Err stop) sure looked = absurd (never_stops s a b meant stop sure looked.stop)
+
+pub exact-pair : (s : Source) (noted : Words) (states : States) (bound : ℤ) (value : End → Words → ℤ) (pair : Bounds) → IsTrue s.tells → s.floor ≡ noted → IsPairOf s noted states bound value pair
+    → pair ≡ record { lower = value Lower noted; upper = value Upper noted }
+exact-pair s noted states bound value pair tells same is =
+    both_ends pair _ _
+    (tight-both Lower pair.lower (value Lower noted) (subst (λ (u : Words). value Lower u ≤ℤ pair.lower) same (is.lower_floor tells)) (is.lower_notes tells))
+    (tight-both Upper pair.upper (value Upper noted) (subst (λ (u : Words). pair.upper ≤ℤ value Upper u) same (is.upper_floor tells)) (is.upper_notes tells))

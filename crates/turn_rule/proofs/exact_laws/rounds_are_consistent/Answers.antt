@@ -1,0 +1,5 @@
+use Rattle.turn_rule.proofs.Enclosing.{rounds-consistent}
+use Rattle.turn_rule.proofs.exact_laws.rounds_are_consistent.Goals as goal
+
+pub returns : goal.returns
+returns c = λ checkers stakes valid r. rounds-consistent checkers stakes valid r

@@ -1,0 +1,79 @@
+ghost use Rattle.std.specs.Prelude.{◌≡◌};
+ghost use Rattle.position_rank.specs.Board.{Board, swap};
+ghost use Rattle.position_rank.specs.Ranks.{square_rank_of};
+ghost use Rattle.game_payoff.specs.Points.{points};
+
+use game_payoff::{Won, points};
+use position_rank::Position;
+use std::marker::Model;
+
+/// The end of a play, with what is asked of it in each kind: how the game was won, and the position as the other side sees it.
+#[derive(Drop)]
+pub(crate) struct Left {
+    won: Option<Won>,
+    theirs: Position,
+    square: u64,
+}
+
+impl Model for Left {
+    ghost use Rattle.position_rank.specs.Board.{Board};
+    ghost use Rattle.turn_rule.specs.Lefts.{seen, IsLeftRight};
+
+    ghost Value = { Board };
+
+    ghost view = { λ a. seen a.theirs };
+
+    ghost invariant = { λ a. IsLeftRight a.won a.theirs a.square };
+}
+
+impl Default for Left {
+    ghost is_default = { λ left. Unit {0} };
+
+    /// One checker of each side on its point 24.
+    #[inline]
+    fn default() -> Self {
+        Left {
+            won: None,
+            theirs: Position::start(1),
+            square: 648,
+        }
+    }
+}
+
+impl Left {
+    /// What stands after a play that ends so.
+    pub(crate) fn of(end: &Position) -> Left
+        ensures { result ≡ end.now }
+    {
+        let theirs = end.swap();
+        Left {
+            won: points(end),
+            theirs,
+            square: theirs.square_rank(),
+        }
+    }
+
+    /// How the mover has won.
+    #[inline]
+    pub(crate) fn won(&self) -> Option<Won>
+        ensures { result ≡ points self.now }
+    {
+        self.won
+    }
+
+    /// The position as the other side sees it.
+    #[inline]
+    pub(crate) fn theirs(&self) -> &Position
+        ensures { result.now ≡ swap self.now }
+    {
+        &self.theirs
+    }
+
+    /// The square rank of that.
+    #[inline]
+    pub(crate) fn square(&self) -> u64
+        ensures { result ≡ square_rank_of (swap self.now) }
+    {
+        self.square
+    }
+}

@@ -1,0 +1,129 @@
+ghost use Rattle.std.specs.Prelude.{◌≡◌, ◌<◌, ◌≤◌, ◌^◌, ◌⊎◌, ℕ, ℤ, pos, ◌*ℤ◌, ◌≤ℤ◌, IfOk, length};
+ghost use Rattle.std.specs.Int.{int_max, int_min};
+ghost use Rattle.directed_fixed.specs.Bounds.{IsWithinUnits};
+ghost use Rattle.directed_fixed.specs.Rounding.{floor_36, ceil_36, outwards};
+ghost use Rattle.cube_actions.specs.Stakes.{IsRightDouble, IsValid};
+ghost use Rattle.turn_rule.specs.Turn.{Words, roll_value, doubled, turn};
+ghost use Rattle.turn_rule.specs.States.{IsStateOf};
+ghost use Rattle.turn_rule.specs.Looks.{AreStakesOf, MayFollow, MayFollowTurn};
+ghost use Rattle.turn_rule.specs.Found.{Finds, MayFollowAnswer};
+
+use crate::ends::RollEnds;
+use crate::pairs::Pairs;
+use crate::worth::end_of;
+use cube_actions::{Double, Stakes};
+use directed_fixed::{End, Fixed, ceil_div, floor_div};
+use hyper_outside::LookStop;
+
+#[inline]
+fn product(factor: u8, sum: Fixed) -> i64
+    requires factor { factor ≤ 4 }
+    requires sum { IsWithinUnits (pos (2 ^ 42)) sum }
+    ensures product { result ≡ (pos factor *ℤ sum) }
+    ensures small { IsWithinUnits (pos (2 ^ 44)) result }
+{
+    i64::from(factor) * sum.units()
+}
+
+/// A 36th of a sum that counts so many times, rounded down.
+#[inline]
+fn mean_down(factor: u8, sum: Fixed) -> Fixed
+    requires factor { factor ≤ 4 }
+    requires sum { IsWithinUnits (pos (2 ^ 42)) sum }
+    ensures { result ≡ floor_36 (pos factor *ℤ sum) }
+{
+    Fixed::new(floor_div(product(factor, sum), 36)).unwrap()
+}
+
+/// A 36th of a sum that counts so many times, rounded up.
+#[inline]
+fn mean_up(factor: u8, sum: Fixed) -> Fixed
+    requires factor { factor ≤ 4 }
+    requires sum { IsWithinUnits (pos (2 ^ 42)) sum }
+    ensures { result ≡ ceil_36 (pos factor *ℤ sum) }
+{
+    Fixed::new(ceil_div(product(factor, sum), 36)).unwrap()
+}
+
+/// A 36th of a sum that counts so many times, rounded to one end of a pair.
+#[inline]
+fn mean_of(end: End, factor: u8, sum: Fixed) -> Fixed
+    requires factor { factor ≤ 4 }
+    requires sum { IsWithinUnits (pos (2 ^ 42)) sum }
+    ensures { result ≡ outwards end (pos factor *ℤ sum) }
+{
+    match end {
+        End::Lower => mean_down(factor, sum),
+        End::Upper => mean_up(factor, sum),
+    }
+}
+
+/// What rolling in a kind is worth that counts so many times, at one end.
+pub(crate) fn roll_at<P: Pairs>(
+    end: End,
+    ends: &RollEnds,
+    stakes: &Stakes,
+    number: usize,
+    factor: u8,
+    pairs: &mut P,
+) -> Result<Fixed, LookStop>
+    requires stakes { AreStakesOf (P.source pairs.old) stakes.now }
+    requires state { IsStateOf (P.source pairs.old).checkers (P.source pairs.old).kinds ends.now number }
+    requires factor { factor ≤ 4 }
+    ensures found { Finds end (P.source pairs.old) (P.notes pairs.old) (P.notes pairs.new) (P.faults pairs.old) (P.faults pairs.new) (MayFollow stakes.now ends.now number) (pos factor *ℤ (P.source pairs.old).bound) (λ u. roll_value end stakes.now u ends.now number factor) result }
+    ensures source { P.source pairs.new ≡ P.source pairs.old }
+    ensures stays { P.stays pairs.new ≡ P.stays pairs.old }
+    ensures valid { IsValid stakes.now }
+{
+    let sum = ends.sum_at(end, stakes, number, pairs)?;
+    Ok(mean_of(end, factor, sum))
+}
+
+/// What a double is worth at one end: the least of a pass and of the other answers.
+fn doubled_at<P: Pairs>(
+    end: End,
+    ends: &RollEnds,
+    stakes: &Stakes,
+    double: &Double,
+    pairs: &mut P,
+) -> Result<Fixed, LookStop>
+    requires stakes { AreStakesOf (P.source pairs.old) stakes.now }
+    requires states { (k : ℕ) → k < (P.source pairs.old).kinds → IsStateOf (P.source pairs.old).checkers (P.source pairs.old).kinds ends.now k }
+    requires right { IsRightDouble stakes.now double.now }
+    ensures found { Finds end (P.source pairs.old) (P.notes pairs.old) (P.notes pairs.new) (P.faults pairs.old) (P.faults pairs.new) (MayFollowAnswer stakes.now ends.now double.now.answers.items) (pos 4 *ℤ (P.source pairs.old).bound) (λ u. doubled end stakes.now u ends.now double.now) result }
+    ensures most { IfOk result (λ value. value ≤ℤ (P.source pairs.old).bound) }
+    ensures source { P.source pairs.new ≡ P.source pairs.old }
+    ensures stays { P.stays pairs.new ≡ P.stays pairs.old }
+{
+    let mut least = end_of(end, double.pass);
+    for taken in double.answers.as_slice() {
+        let value = roll_at(end, ends, stakes, taken.kind, taken.factor, pairs)?;
+        least = least.min(value);
+    }
+    Ok(least)
+}
+
+/// What a state is worth before its turn, at one end.
+pub(crate) fn turn_at<P: Pairs>(
+    end: End,
+    ends: &RollEnds,
+    stakes: &Stakes,
+    number: usize,
+    pairs: &mut P,
+) -> Result<Fixed, LookStop>
+    requires stakes { AreStakesOf (P.source pairs.old) stakes.now }
+    requires state { IsStateOf (P.source pairs.old).checkers (P.source pairs.old).kinds ends.now number }
+    ensures found { Finds end (P.source pairs.old) (P.notes pairs.old) (P.notes pairs.new) (P.faults pairs.old) (P.faults pairs.new) (MayFollowTurn stakes.now ends.now number) (P.source pairs.old).bound (λ u. turn stakes.now u end ends.now number) result }
+    ensures source { P.source pairs.new ≡ P.source pairs.old }
+    ensures stays { P.stays pairs.new ≡ P.stays pairs.old }
+    ensures valid { IsValid stakes.now }
+{
+    let plain = roll_at(end, ends, stakes, number, 1, pairs)?;
+    match &stakes.kind(number).double {
+        None => Ok(plain),
+        Some(double) => {
+            let doubled = doubled_at(end, ends, stakes, double, pairs)?;
+            Ok(plain.max(doubled))
+        }
+    }
+}

@@ -1,0 +1,114 @@
+ghost use Rattle.std.specs.Prelude.{◌≡◌, ◌<◌, ℕ, None, All, length};
+ghost use Rattle.std.specs.List.{Contains};
+ghost use Rattle.position_rank.specs.Board.{Board, swap};
+ghost use Rattle.position_rank.specs.Ranks.{square_rank_of};
+ghost use Rattle.game_payoff.specs.declared.payoff.Won.{Won};
+ghost use Rattle.game_payoff.specs.Points.{points};
+ghost use Rattle.directed_fixed.specs.Bounds.{Bounds, IsWithin, at, other};
+ghost use Rattle.turn_rule.specs.Turn.{Words, win, worth, greatest};
+ghost use Rattle.turn_rule.specs.States.{IsStateOf};
+ghost use Rattle.turn_rule.specs.Looks.{Looked, HasDamage, IsAnswer, IsLeft};
+ghost use Rattle.turn_rule.specs.Found.{IsSame, Finds, LeavesState, MayLeave};
+
+use crate::left::Left;
+use crate::pairs::Pairs;
+use cube_actions::Kind;
+use directed_fixed::{End, Fixed, Pair};
+use game_payoff::Won;
+use hyper_outside::LookStop;
+use position_rank::Position;
+
+/// The other end of a pair.
+#[inline]
+fn other(end: End) -> End
+    ensures { result ≡ other end }
+{
+    match end {
+        End::Lower => End::Upper,
+        End::Upper => End::Lower,
+    }
+}
+
+/// One end of a pair.
+#[inline]
+pub(crate) fn end_of(end: End, pair: Pair) -> Fixed
+    ensures { result ≡ at end pair }
+{
+    match end {
+        End::Lower => pair.lower(),
+        End::Upper => pair.upper(),
+    }
+}
+
+/// What a win is worth in a kind.
+#[inline]
+fn win_of(kind: &Kind, won: Won) -> Pair
+    ensures { result ≡ win kind.now won }
+{
+    match won {
+        Won::Single => kind.win[0],
+        Won::Gammon => kind.win[1],
+        Won::Backgammon => kind.win[2],
+    }
+}
+
+/// The word of a state at one end, whose position has this square rank.
+#[inline]
+fn word_of<P: Pairs>(
+    end: End,
+    position: &Position,
+    square: u64,
+    kind: usize,
+    pairs: &mut P,
+) -> Result<Fixed, LookStop>
+    requires state { IsStateOf (P.source pairs.old).checkers (P.source pairs.old).kinds position.now kind }
+    requires square { square ≡ square_rank_of position.now }
+    ensures found { Finds end (P.source pairs.old) (P.notes pairs.old) (P.notes pairs.new) (P.faults pairs.old) (P.faults pairs.new) (IsSame position.now kind) (P.source pairs.old).bound (λ u. u end position.now kind) result }
+    ensures source { P.source pairs.new ≡ P.source pairs.old }
+    ensures stays { P.stays pairs.new ≡ P.stays pairs.old }
+{
+    match end {
+        End::Lower => pairs.lower_at(position, square, kind),
+        End::Upper => pairs.upper_at(position, square, kind),
+    }
+}
+
+/// What the mover has after his play, at one end: his win, or what the other side hasn't.
+/// A lower bound of the one side is an upper bound of the other.
+#[inline]
+fn worth_at<P: Pairs>(end: End, left: &Left, kind: &Kind, pairs: &mut P) -> Result<Fixed, LookStop>
+    requires state { LeavesState (P.source pairs.old) kind.now.next left.now }
+    requires wins { (won : Won) → IsWithin (P.source pairs.old).bound (win kind.now won) }
+    ensures found { Finds end (P.source pairs.old) (P.notes pairs.old) (P.notes pairs.new) (P.faults pairs.old) (P.faults pairs.new) (IsLeft kind.now.next left.now) (P.source pairs.old).bound (λ u. worth end kind.now u left.now) result }
+    ensures source { P.source pairs.new ≡ P.source pairs.old }
+    ensures stays { P.stays pairs.new ≡ P.stays pairs.old }
+{
+    match left.won() {
+        Some(won) => Ok(end_of(end, win_of(kind, won))),
+        None => {
+            let theirs = word_of(other(end), left.theirs(), left.square(), kind.next, pairs)?;
+            Ok(theirs.neg())
+        }
+    }
+}
+
+/// What the best of some plays is worth, at one end.
+pub(crate) fn best_at<P: Pairs>(
+    end: End,
+    ends: &[Left],
+    kind: &Kind,
+    pairs: &mut P,
+) -> Result<Fixed, LookStop>
+    requires some { 0 < length ends.now }
+    requires states { All (LeavesState (P.source pairs.old) kind.now.next) ends.now }
+    requires wins { (won : Won) → IsWithin (P.source pairs.old).bound (win kind.now won) }
+    ensures found { Finds end (P.source pairs.old) (P.notes pairs.old) (P.notes pairs.new) (P.faults pairs.old) (P.faults pairs.new) (MayLeave kind.now.next ends.now) (P.source pairs.old).bound (λ u. greatest (worth end kind.now u) ends.now) result }
+    ensures source { P.source pairs.new ≡ P.source pairs.old }
+    ensures stays { P.stays pairs.new ≡ P.stays pairs.old }
+{
+    let mut best = worth_at(end, &ends[0], kind, pairs)?;
+    for i in 1..ends.len() {
+        best = best.max(worth_at(end, &ends[i], kind, pairs)?);
+    }
+    Ok(best)
+}
