@@ -1,0 +1,12 @@
+//! Claims of blocks for rounds: each block is claimed at most once a round, by one atomic step.
+#![tactic(auto)]
+
+mod claims;
+mod laws;
+#[cfg(test)]
+mod tests;
+mod views;
+
+pub use claims::{ClaimSeat, Claims};
+pub use laws::{claims_are_kept, each_claim_has_one_seat};
+pub use views::{Claim, ClaimView, Note};
