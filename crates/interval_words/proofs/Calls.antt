@@ -1,0 +1,133 @@
+-- The calls of a board over its table.
+use Rattle.std.proofs.Common.{◌≡◌, ◌<◌, ◌+◌, ◌*◌, ◌^◌, ℕ, ℤ, pos, ◌+ℤ◌, ◌-ℤ◌, [], ◌++◌, length, Option, Some, IsSome, IfSome, arith, refl, sym, ap, subst, ◌∙◌}
+use Rattle.std.proofs.lemmas.Int.{ints}
+use mathlib.Core.Option.{none}
+use Rattle.atomic_table.specs.Table.{Me, step, Allows}
+use Rattle.atomic_table.specs.Seated.{TableId}
+use Rattle.position_rank.specs.Board.{Board}
+use Rattle.directed_fixed.specs.declared.bounds.End.{End}
+use Rattle.directed_fixed.specs.Bounds.{IsTight, IsWithinUnits}
+use Rattle.turn_rule.specs.States.{IsState}
+use Rattle.interval_words.specs.declared.view.Game.{Game}
+use Rattle.interval_words.specs.declared.view.View.{View}
+use Rattle.interval_words.specs.Numbers.{state_of, states_in, word_of, value_of, tightest_word}
+use Rattle.interval_words.specs.Core.{IsGame, AreTighter, AreReached, kinds_of, words_in, noted, known, first_view, with_note, settled, joined}
+use Rattle.interval_words.specs.Events.{IsLoose, IsRoundDone}
+use Rattle.interval_words.specs.Seats.{Sitting, IsNumber, MayTighten, AreKnown, Knows, noting, settling}
+use Rattle.interval_words.specs.Rule.{Holds, IsFresh, Reads, Tightens, Settles}
+use Rattle.position_rank.specs.LiveRanks.{live_rank_of, live_positions}
+use Rattle.cube_actions.specs.Stakes.{Terms}
+use Rattle.interval_words.proofs.SomeState.{some-state}
+use Rattle.interval_words.proofs.Places.{state-in, word-in}
+use Rattle.turn_rule.specs.Turn.{Words, rounds, opening}
+use Rattle.interval_words.proofs.TurnLaws.{rounds-later, rounds-none}
+use Rattle.interval_words.proofs.Ends.{tight-refl}
+use Rattle.interval_words.proofs.Views.{noted-append}
+use Rattle.interval_words.proofs.Steps.{tighter-trans}
+use Rattle.interval_words.proofs.Allowed.{one-game, known-notes, reads, tightens, settles}
+
+abbrev Mine : Type 0
+Mine = Me (Unit {0}) View
+
+pub value_of-word : (word : ℕ) (value : ℤ) → pos word ≡ value +ℤ pos (2 ^ 36) → value_of word ≡ value
+unfolding value_of
+value_of-word word value is = omega (arith, ints, is)
+
+-- a state's words stand on the board
+pub number-in : (game : Game) (state : ℕ) → IsNumber game state → state < states_in game.checkers (kinds_of game)
+number-in game state is = rw is.number (state-in game.checkers (kinds_of game) is.position is.kind is.is)
+
+pub place-in : (game : Game) (end : End) (state : ℕ) → IsNumber game state → word_of end state < words_in game
+place-in game end state is = word-in game.checkers (kinds_of game) end state _ (number-in game state is)
+
+module _ (key game : Game) (same : key ≡ game) (slots id : ℕ) (me : Mine) (view : View) (mine : me.0 ≡ view) (alive : view.game ≡ Some game) where
+  named : me.0.game ≡ Some game
+  named = ap (λ (v : View). v.game) mine ∙ alive
+
+  pub reads-at : (end : End) (state place : ℕ) → place ≡ word_of end state → IsNumber game state → Allows (Holds key) slots id me place (λ n. n) (Reads (step slots place 0 0 none) me)
+  reads-at end state place at is =
+      let here : place ≡ word_of end (state_of (kinds_of game) is.position is.kind) = at ∙ ap (word_of end) is.number in
+      subst (λ (g : Game). Allows (Holds g) slots id me place (λ n. n) (Reads (step slots place 0 0 none) me)) (sym same)
+      (subst (λ (i : ℕ). Allows (Holds game) slots id me i (λ n. n) (Reads (step slots i 0 0 none) me)) (sym here) (reads game slots id me named end is.position is.kind is.is))
+
+  pub tightens-at : (end : End) (state place word : ℕ) (value : ℤ) → place ≡ word_of end state → pos word ≡ value +ℤ pos (2 ^ 36) → MayTighten end game view state value → Allows (Holds key) slots id me place (λ n. tightest_word end n word) (Tightens (step slots place word 0 none) me)
+  tightens-at end state place word value at is may =
+      let here : place ≡ word_of end (state_of (kinds_of game) may.position may.kind) = at ∙ ap (word_of end) may.number in
+      let loose : IsLoose game me.0 end may.position may.kind (value_of word) = subst (λ (v : View). IsLoose game v end may.position may.kind (value_of word)) (sym mine) (subst (λ (z : ℤ). IsLoose game view end may.position may.kind z) (sym (value_of-word word value is)) may.loose) in
+      subst (λ (g : Game). Allows (Holds g) slots id me place (λ n. tightest_word end n word) (Tightens (step slots place word 0 none) me)) (sym same)
+      (subst (λ (i : ℕ). Allows (Holds game) slots id me i (λ n. tightest_word end n word) (Tightens (step slots i word 0 none) me)) (sym here) (tightens game slots id me named end may.position may.kind word loose))
+
+  pub settles-at : IsRoundDone game view → Allows (Holds key) slots id me 0 (λ n. n) (Settles (step slots 0 0 0 none) me)
+  settles-at done =
+      subst (λ (g : Game). Allows (Holds g) slots id me 0 (λ n. n) (Settles (step slots 0 0 0 none) me)) (sym same)
+      (settles game slots id me named (subst (λ (v : View). IsRoundDone game v) (sym mine) done))
+
+-- the seat after a step that notes a value
+pub noting-at : (seat : Sitting) (table later : TableId) (me next : Mine) (place word : ℕ) (found value : ℤ) → record { table = table; view = me.0 } ≡ seat → later ≡ table → next ≡ (with_note me.0 place found, me.1) → place ≡ word → found ≡ value → record { table = later; view = next.0 } ≡ noting seat word value
+noting-at seat table later me next place word found value is table_is next_is place_is found_is =
+    let tables : later ≡ seat.table = table_is ∙ ap (λ (s : Sitting). s.table) is in
+    let views : next.0 ≡ with_note seat.view word value = ap (λ (m : Mine). m.0) next_is ∙ (λ i. with_note ((ap (λ (s : Sitting). s.view) is) i) (place_is i) (found_is i)) in
+    λ i. record { table = tables i; view = views i }
+
+-- the seat after a round
+pub settled-at : (seat : Sitting) (table later : TableId) (me next : Mine) → record { table = table; view = me.0 } ≡ seat → later ≡ table → next ≡ (settled me.0, me.1) → record { table = later; view = next.0 } ≡ settling seat
+settled-at seat table later me next is table_is next_is =
+    let tables : later ≡ seat.table = table_is ∙ ap (λ (s : Sitting). s.table) is in
+    let views : next.0 ≡ settled seat.view = ap (λ (m : Mine). m.0) next_is ∙ ap (λ (s : Sitting). settled s.view) is in
+    λ i. record { table = tables i; view = views i }
+
+-- there is a first word
+pub word-zero : (game : Game) → IsGame game → 0 < words_in game
+word-zero game is = omega (arith, some-state game.checkers (kinds_of game) is.low is.high is.stakes.some)
+
+-- a state's number, as it is computed
+pub number-is : (kinds : ℕ) (p : Board) (k rank many : ℕ) → rank ≡ live_rank_of p → many ≡ kinds → rank * many + k ≡ state_of kinds p k
+unfolding state_of
+number-is kinds p k rank many ranked same = rw (ranked, same) refl
+
+pub count-is : (checkers kinds live many : ℕ) → live ≡ live_positions checkers → many ≡ kinds → live * many ≡ states_in checkers kinds
+unfolding states_in
+count-is checkers kinds live many counted same = rw (counted, same) refl
+
+-- what was found at a word is the value of a seat's read
+pub read-value : (o : Option ℤ) (word : ℕ) (value : ℤ) → IfSome o (λ v. v ≡ pos word -ℤ pos (2 ^ 36)) → o ≡ Some value → value_of word ≡ value
+unfolding value_of
+read-value o word value is found = sym (subst (λ (r : Option ℤ). IfSome r (λ v. v ≡ pos word -ℤ pos (2 ^ 36))) found is)
+
+module _ (game : Game) (me : Mine) (view : View) (mine : me.0 ≡ view) (alive : view.game ≡ Some game) (end : End) (state place found : ℕ) (at : place ≡ word_of end state) (fresh : IsFresh me.0 place (value_of found)) where
+  found-within : IsNumber game state → IsWithinUnits game.stakes.bound (value_of found)
+  found-within is = fresh.within game end is.position is.kind (ap (λ (v : View). v.game) mine ∙ alive) is.is (at ∙ ap (word_of end) is.number)
+
+  pub read-some : IsNumber game state → (bound : ℤ) (o : Option ℤ) → bound ≡ game.stakes.bound → (IsWithinUnits bound (pos found -ℤ pos (2 ^ 36)) → IsSome o) → IsSome o
+  unfolding value_of
+  read-some is bound o same tells = tells (subst (λ (b : ℤ). IsWithinUnits b (pos found -ℤ pos (2 ^ 36))) (sym same) (found-within is))
+
+  pub read-within : IsNumber game state → (value : ℤ) → value_of found ≡ value → IsWithinUnits game.stakes.bound value
+  read-within is value same = subst (λ (z : ℤ). IsWithinUnits game.stakes.bound z) same (found-within is)
+
+  pub read-tight : (value : ℤ) → value_of found ≡ value → (p : Board) (k : ℕ) → IsState game.checkers game.stakes p k → state ≡ state_of (kinds_of game) p k → IsTight end value (known game view end p k)
+  read-tight value same p k is number =
+      subst (λ (z : ℤ). IsTight end z (known game view end p k)) same
+      (subst (λ (v : View). IsTight end (value_of found) (known game v end p k)) mine (fresh.tight game end p k (ap (λ (v : View). v.game) mine ∙ alive) is (at ∙ ap (word_of end) number)))
+
+-- what two seats know is known to the one that took in the other
+pub knows-joined : (game : Game) → IsGame game → (view other : View) → view.game ≡ Some game → other.game ≡ Some game → Knows view → Knows other → Knows (joined view other)
+knows-joined game is view other names also knows those = record { notes = λ named e. subst (λ (g : Game). AreKnown g (view.notes ++ other.notes)) (one-game view game named names e) (known-notes game is (view.notes ++ other.notes) both) } where
+  both : AreReached game (noted game (view.notes ++ other.notes))
+  both =
+      let one = (knows.notes game names).reached in
+      let two = (those.notes game also).reached in
+      let all : Words = rounds game.stakes (one.0 + two.0) in
+      let swapped : two.0 + one.0 ≡ one.0 + two.0 = omega arith in
+      let left : AreTighter game all (rounds game.stakes one.0) = rounds-later game.checkers game.stakes is.stakes one.0 two.0 in
+      let right : AreTighter game all (rounds game.stakes two.0) = subst (λ (n : ℕ). AreTighter game (rounds game.stakes n) (rounds game.stakes two.0)) swapped (rounds-later game.checkers game.stakes is.stakes two.0 one.0) in
+      (one.0 + two.0, noted-append game all view.notes other.notes (tighter-trans game all _ _ left one.1) (tighter-trans game all _ _ right two.1))
+
+-- a first view tells nothing
+pub knows-first : (game : Game) → IsGame game → Knows (first_view game)
+knows-first game is = record { notes = λ named e. subst (λ (g : Game). AreKnown g []) (one-game (first_view game) game named refl e) (known-notes game is [] (0, subst (λ (u : Words). AreTighter game u (opening game.stakes)) (sym (rounds-none game.stakes)) (λ end p k state. tight-refl end _))) }
+
+-- how many words there are, as it is counted
+pub words-as-counted : (checkers : ℕ) (stakes : Terms) (states : ℕ) → states ≡ live_positions checkers * length stakes.kinds → 2 * states ≡ words_in (record { checkers = checkers; stakes = stakes })
+unfolding states_in
+words-as-counted checkers stakes states many = ap (λ (n : ℕ). 2 * n) many

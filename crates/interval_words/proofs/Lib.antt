@@ -1,0 +1,14 @@
+pub mod IndexLemmas
+pub mod Ends
+pub mod TurnLaws
+pub mod Places
+pub mod Views
+pub mod Steps
+pub mod EventLaws
+pub mod Allowed
+pub mod SomeState
+pub mod Calls
+pub mod Lists
+pub mod EachNumber
+pub mod Closing
+pub mod NearExample

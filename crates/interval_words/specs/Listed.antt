@@ -1,0 +1,58 @@
+-- Words that stand in a list.
+use Rattle.std.specs.Prelude.{◌≡◌, ◌<◌, ℕ, ℤ, ◌-ℤ◌, ◌≤ℤ◌, List, length, slice_index, true, None}
+use Rattle.directed_fixed.specs.declared.bounds.End.TheVariants.{Lower, Upper}
+use Rattle.directed_fixed.specs.Bounds.{Bounds, IsWithin}
+use Rattle.turn_rule.specs.Turn.{Words, rounds}
+use Rattle.turn_rule.specs.Truth.{AreSound, AreConsistent}
+use Rattle.turn_rule.specs.Looks.{Source}
+use Rattle.interval_words.specs.declared.view.Game.{Game}
+use Rattle.interval_words.specs.Numbers.{states_in, word_of, words_of, value_of}
+use Rattle.interval_words.specs.Core.{AreTighter, kinds_of, words_in}
+
+-- the words of a game after some rounds, two for each state by its number, the lower one first
+pub record Listed : Type 0 where
+  pub game : Game
+  pub rounds : ℕ
+  pub list : List ℕ
+
+abbrev pub words_in_list : Listed → Words
+words_in_list words = words_of (kinds_of words.game) words.list
+
+-- both words of the state with this number
+abbrev pub pair_at : List ℕ → ℕ → Bounds
+pair_at list state = record { lower = value_of (slice_index list (word_of Lower state)); upper = value_of (slice_index list (word_of Upper state)) }
+
+abbrev pub width : Bounds → ℤ
+width pair = pair.upper -ℤ pair.lower
+
+-- how many states a game has
+abbrev pub states_of : Game → ℕ
+states_of game = states_in game.checkers (kinds_of game)
+
+-- there are two words for each state, within the bound, the lower one at most the upper one
+pub record AreRight (words : Listed) : Type 0 where
+  pub long : length words.list ≡ words_in words.game
+  pub within : (state : ℕ) → state < states_of words.game → IsWithin words.game.stakes.bound (pair_at words.list state)
+
+-- no state's pair is wider, and some state's is as wide
+pub record IsWidest (words : Listed) (widest : ℤ) : Type 0 where
+  pub each : (state : ℕ) → state < states_of words.game → width (pair_at words.list state) ≤ℤ widest
+  pub reached : (state : ℕ) × (state < states_of words.game) × (widest ≡ width (pair_at words.list state))
+
+-- the words are sound, consistent, and at least as tight as those after so many rounds
+pub record AreClosed (words : Listed) : Type 0 where
+  pub sound : AreSound words.game.checkers words.game.stakes (words_in_list words)
+  pub consistent : AreConsistent words.game.checkers words.game.stakes (words_in_list words)
+  pub tight : AreTighter words.game (words_in_list words) (rounds words.game.stakes words.rounds)
+
+-- where these words are looked up: each look-up is answered, and no state is damaged
+abbrev pub source_of : Listed → Source
+source_of words = record {
+  checkers = words.game.checkers;
+  kinds = kinds_of words.game;
+  bound = words.game.stakes.bound;
+  sure = true;
+  tells = true;
+  floor = words_in_list words;
+  damage = λ _ _. None;
+}

@@ -1,0 +1,70 @@
+-- A board, and seats at it.
+use Rattle.std.specs.Prelude.{◌≡◌, ◌<◌, ◌^◌, ℕ, ℤ, List, Some}
+use Rattle.position_rank.specs.Board.{Board}
+use Rattle.atomic_table.specs.Seated.{TableId}
+use Rattle.directed_fixed.specs.declared.bounds.End.{End}
+use Rattle.turn_rule.specs.States.{IsState, AreWithin}
+use Rattle.interval_words.specs.declared.view.Game.{Game}
+use Rattle.interval_words.specs.declared.view.Note.{Note}
+use Rattle.interval_words.specs.declared.view.View.{View}
+use Rattle.interval_words.specs.Numbers.{state_of}
+use Rattle.interval_words.specs.Core.{IsGame, AreReached, kinds_of, words_in, noted, with_note, settled, joined}
+use Rattle.interval_words.specs.Events.{IsLoose}
+
+-- a board: which table it is, and its game
+pub record Standing : Type 0 where
+  pub table : TableId
+  pub game : Game
+
+-- a seat: the table that it is at, and what it knows
+pub record Sitting : Type 0 where
+  pub table : TableId
+  pub view : View
+
+-- the seat is at this board, and its view is of the board's game
+pub record SitsAt (board : Standing) (seat : Sitting) : Type 0 where
+  pub table : seat.table ≡ board.table
+  pub game : seat.view.game ≡ Some board.game
+
+-- the seat with one note more
+abbrev pub noting : Sitting → ℕ → ℤ → Sitting
+noting seat word value = record seat { view = with_note seat.view word value }
+
+-- the seat after one round more
+abbrev pub settling : Sitting → Sitting
+settling seat = record seat { view = settled seat.view }
+
+-- the seat that took in another
+abbrev pub joining : Sitting → Sitting → Sitting
+joining seat other = record seat { view = joined seat.view other.view }
+
+-- this is the number of a state of the game
+pub record IsNumber (game : Game) (state : ℕ) : Type 0 where
+  pub position : Board
+  pub kind : ℕ
+  pub is : IsState game.checkers game.stakes position kind
+  pub number : state ≡ state_of (kinds_of game) position kind
+
+-- this is the number of a state, for which the value is loose enough: within the bound, and no tighter than the turn over what the notes tell
+pub record MayTighten (end : End) (game : Game) (view : View) (state : ℕ) (value : ℤ) : Type 0 where
+  pub position : Board
+  pub kind : ℕ
+  pub number : state ≡ state_of (kinds_of game) position kind
+  pub loose : IsLoose game view end position kind value
+
+-- what notes tell is within the bound, lower at most upper, and no tighter than the words after some number of rounds
+pub record AreKnown (game : Game) (notes : List Note) : Type 0 where
+  pub within : AreWithin game.checkers game.stakes (noted game notes)
+  pub reached : AreReached game (noted game notes)
+
+-- what every seat keeps of its notes
+pub record Knows (view : View) : Type 0 where
+  pub notes : (game : Game) → view.game ≡ Some game → AreKnown game view.notes
+
+-- what a board keeps: its table is that of its game
+pub record Stands (table : TableId) (key game : Game) : Type 0 where
+  pub valid : IsGame game
+  pub same : key ≡ game
+  pub wide : table.words ≡ words_in game
+  pub small : words_in game < 2 ^ 40
+  pub bare : table.slots ≡ 0

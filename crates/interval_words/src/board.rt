@@ -1,0 +1,315 @@
+ghost use Rattle.std.specs.Prelude.{◌≡◌, ◌<◌, ◌≤◌, ◌^◌, ℕ, pos, ◌≤ℤ◌, IfOk};
+ghost use Rattle.position_rank.specs.Board.{Board as Places};
+ghost use Rattle.position_rank.specs.Ranks.{square_rank_of};
+ghost use Rattle.directed_fixed.specs.declared.bounds.End.TheVariants.{Lower, Upper};
+ghost use Rattle.directed_fixed.specs.Bounds.{IsTight, IsWithinUnits};
+ghost use Rattle.turn_rule.specs.States.{IsState};
+ghost use Rattle.interval_words.specs.Numbers.{state_of, states_in, word_of, AreOpeningWords};
+ghost use Rattle.interval_words.specs.Core.{kinds_of, known, first_view};
+ghost use Rattle.interval_words.specs.Events.{IsRoundDone};
+ghost use Rattle.interval_words.specs.Listed.{AreClosed};
+ghost use Rattle.std.specs.Slots.{slots_items, slots_len, IsFull};
+ghost use Rattle.interval_words.specs.Seats.{Sitting, SitsAt, IsNumber, MayTighten, Knows, noting, settling, joining};
+
+use crate::live_index::LiveIndex;
+use crate::number::{state_count, state_number, state_number_at};
+use crate::rule::{Copying, CoreRule, Joining, Reading, Settling, Tightening};
+use crate::view::{Game, View};
+use crate::words::Closed;
+use atomic_table::{Seat, Table};
+use cube_actions::Stakes;
+use directed_fixed::{End, Fixed, from_word, to_word};
+use hyper_outside::NoMemory;
+use position_rank::Position;
+use std::alloc::{AllocError, Global};
+use std::marker::Model;
+
+/// A lower and an upper word for each state of a game, which many threads read and tighten at once, each with a seat of its own.
+/// No call waits for another. Between any two of their steps every word is sound.
+#[derive(Drop)]
+pub struct Board {
+    table: Table<(), View, Game, CoreRule, Global>,
+    stakes: Stakes,
+    index: LiveIndex,
+}
+
+impl Model for Board {
+    ghost use Rattle.interval_words.specs.Seats.{Standing, Stands};
+
+    ghost Value = { Standing };
+
+    ghost view = { λ b. record { table = b.table.shared.table_id; game = record { checkers = b.index; stakes = b.stakes } } };
+
+    ghost invariant = { λ b. Stands b.table.shared.table_id b.table.shared.key (record { checkers = b.index; stakes = b.stakes }) };
+}
+
+/// A place at a board. It has no bytes; contracts see what its owner knows of the words: the notes of what was read or written with it
+/// since the last round that was settled, and the number of rounds settled.
+#[derive(Drop)]
+pub struct BoardSeat {
+    seat: Seat<(), View>,
+}
+
+impl Model for BoardSeat {
+    ghost use Rattle.std.specs.Prelude.{◌≡◌, []};
+    ghost use Rattle.interval_words.specs.Seats.{Sitting, Knows};
+
+    ghost Value = { Sitting };
+
+    ghost view = { λ s. record { table = s.seat.table_id; view = s.seat.me.0 } };
+
+    ghost invariant = { λ s. (s.seat.me.1 ≡ []) × Knows s.seat.me.0 };
+}
+
+impl BoardSeat {
+    /// What every seat keeps of its notes.
+    pub fn knows(&self)
+        ensures { Knows self.now.view }
+    {
+        let _seat = &self.seat;
+    }
+}
+
+/// The lower and the upper word of each of so many states, of which only the bound is known.
+fn opening_words(alloc: Global, states: usize, bound: Fixed) -> Result<Vec<u64>, AllocError>
+    requires small { states < 2 ^ 40 }
+    requires from { pos 0 ≤ℤ bound }
+    requires to { bound ≤ℤ pos (2 ^ 36) }
+    ensures { IfOk result (λ words. AreOpeningWords bound states words.items) }
+{
+    let lower = to_word(bound.neg());
+    let upper = to_word(bound);
+    let mut words = Vec::with_capacity(alloc, 2 * states)?;
+    for _ in 0..states {
+        words.push(lower)?;
+        words.push(upper)?;
+    }
+    Ok(words)
+}
+
+/// The words of a table at its end, in a list.
+fn last_words(
+    alloc: Global,
+    last: &atomic_table::Closed<(), Global>,
+    many: usize,
+) -> Result<Vec<u64>, AllocError>
+    requires many { many ≡ slots_len last.now.words }
+    requires full { IsFull last.now.words }
+    ensures { IfOk result (λ list. list.items ≡ slots_items last.now.words) }
+{
+    let mut list = Vec::with_capacity(alloc, many)?;
+    for place in 0..many {
+        list.push(last.word(place))?;
+    }
+    Ok(list)
+}
+
+impl Board {
+    /// A board for one to three checkers a side on which only the bound is known of any state, and its first seat, which knows nothing
+    /// and has settled no round. `NoMemory` only where there was no memory for the words or the index of positions.
+    pub fn new(alloc: Global, checkers: u8, stakes: &Stakes) -> Result<(Board, BoardSeat), NoMemory>
+        requires low { 1 ≤ checkers }
+        requires high { checkers ≤ 3 }
+        ensures game { IfOk result (λ made. made.0.game ≡ record { checkers = checkers; stakes = stakes.now }) }
+        ensures seat { IfOk result (λ made. made.1 ≡ record { table = made.0.table; view = first_view made.0.game }) }
+    {
+        let index = LiveIndex::new(alloc, checkers)?;
+        let words = opening_words(alloc, state_count(&index, stakes), stakes.bound())?;
+        let game = Game {
+            checkers,
+            stakes: stakes.copied(),
+        };
+        let (table, seat) = Table::of_words(alloc, &words, &game)?;
+        let Game {
+            checkers: _,
+            stakes,
+        } = game;
+        Ok((
+            Board {
+                table,
+                stakes,
+                index,
+            },
+            BoardSeat { seat },
+        ))
+    }
+
+    /// How many checkers a side has.
+    pub fn checkers(&self) -> u8
+        ensures checkers { result ≡ self.now.game.checkers }
+        ensures low { 1 ≤ result }
+        ensures high { result ≤ 3 }
+    {
+        self.index.checkers()
+    }
+
+    /// What the game is played for.
+    pub fn stakes(&self) -> &Stakes
+        ensures { result.now ≡ self.now.game.stakes }
+    {
+        &self.stakes
+    }
+
+    /// The index of the game's positions.
+    pub fn index(&self) -> &LiveIndex
+        ensures { result.now ≡ self.now.game.checkers }
+    {
+        &self.index
+    }
+
+    /// The number of a state, from 0: the position's live rank times the number of kinds, and the kind.
+    #[inline]
+    pub fn number(&self, position: &Position, kind: usize) -> u64
+        requires { IsState self.now.game.checkers self.now.game.stakes position.now kind }
+        ensures number { result ≡ state_of (kinds_of self.now.game) position.now kind }
+        ensures below { result < states_in self.now.game.checkers (kinds_of self.now.game) }
+        ensures state { IsNumber self.now.game result }
+    {
+        state_number(&self.index, &self.stakes, position, kind)
+    }
+
+    /// `number` of a position whose square rank is at hand.
+    #[inline]
+    pub fn number_at(&self, position: &Position, square: u64, kind: usize) -> u64
+        requires state { IsState self.now.game.checkers self.now.game.stakes position.now kind }
+        requires square { square ≡ square_rank_of position.now }
+        ensures number { result ≡ state_of (kinds_of self.now.game) position.now kind }
+        ensures below { result < states_in self.now.game.checkers (kinds_of self.now.game) }
+        ensures state { IsNumber self.now.game result }
+    {
+        state_number_at(&self.index, &self.stakes, position, square, kind)
+    }
+
+    /// Where a word of the state with this number stands.
+    #[inline]
+    fn place(&self, end: End, state: u64) -> usize
+        requires { IsNumber self.now.game state }
+        ensures place { result ≡ word_of end state }
+        ensures below { result < self.now.table.words }
+    {
+        let _table = &self.table;
+        match end {
+            End::Lower => 2 * state as usize,
+            End::Upper => 2 * state as usize + 1,
+        }
+    }
+
+    /// A word of the state with this number.
+    #[inline]
+    fn read(&self, seat: &mut BoardSeat, end: End, state: u64) -> Fixed
+        requires seat { SitsAt self.now seat.old }
+        requires state { IsNumber self.now.game state }
+        ensures seat { seat.new ≡ noting seat.old (word_of end state) result }
+        ensures knows { Knows seat.new.view }
+        ensures within { IsWithinUnits self.now.game.stakes.bound result }
+        ensures tight { (p : Places) (k : ℕ) → IsState self.now.game.checkers self.now.game.stakes p k → state ≡ state_of (kinds_of self.now.game) p k → IsTight end result (known self.now.game seat.old.view end p k) }
+    {
+        let place = self.place(end, state);
+        let word = self.table.shared.load::<Reading>(&mut seat.seat, place);
+        from_word(word, self.stakes.bound()).unwrap()
+    }
+
+    /// The lower word of the state with this number, as it is at one moment. It is noted.
+    #[inline]
+    pub fn read_lower(&self, seat: &mut BoardSeat, state: u64) -> Fixed
+        requires seat { SitsAt self.now seat.old }
+        requires state { IsNumber self.now.game state }
+        ensures seat { seat.new ≡ noting seat.old (word_of Lower state) result }
+        ensures knows { Knows seat.new.view }
+        ensures within { IsWithinUnits self.now.game.stakes.bound result }
+        ensures tight { (p : Places) (k : ℕ) → IsState self.now.game.checkers self.now.game.stakes p k → state ≡ state_of (kinds_of self.now.game) p k → IsTight Lower result (known self.now.game seat.old.view Lower p k) }
+    {
+        self.read(seat, End::Lower, state)
+    }
+
+    /// The upper word of the state with this number, as it is at one moment. It is noted.
+    #[inline]
+    pub fn read_upper(&self, seat: &mut BoardSeat, state: u64) -> Fixed
+        requires seat { SitsAt self.now seat.old }
+        requires state { IsNumber self.now.game state }
+        ensures seat { seat.new ≡ noting seat.old (word_of Upper state) result }
+        ensures knows { Knows seat.new.view }
+        ensures within { IsWithinUnits self.now.game.stakes.bound result }
+        ensures tight { (p : Places) (k : ℕ) → IsState self.now.game.checkers self.now.game.stakes p k → state ≡ state_of (kinds_of self.now.game) p k → IsTight Upper result (known self.now.game seat.old.view Upper p k) }
+    {
+        self.read(seat, End::Upper, state)
+    }
+
+    /// Raises the lower word of the state with this number to a value, unless it is as high already. The value is noted.
+    pub fn raise(&self, seat: &mut BoardSeat, state: u64, value: Fixed)
+        requires seat { SitsAt self.now seat.old }
+        requires value { MayTighten Lower self.now.game seat.old.view state value }
+        ensures seat { seat.new ≡ noting seat.old (word_of Lower state) value }
+        ensures knows { Knows seat.new.view }
+    {
+        let shared = &self.table.shared;
+        let place = self.place(End::Lower, state);
+        let word = to_word(value);
+        shared.fetch_max::<Tightening>(&mut seat.seat, place, word);
+    }
+
+    /// Lowers the upper word of the state with this number to a value, unless it is as low already. The value is noted.
+    pub fn lower(&self, seat: &mut BoardSeat, state: u64, value: Fixed)
+        requires seat { SitsAt self.now seat.old }
+        requires value { MayTighten Upper self.now.game seat.old.view state value }
+        ensures seat { seat.new ≡ noting seat.old (word_of Upper state) value }
+        ensures knows { Knows seat.new.view }
+    {
+        let shared = &self.table.shared;
+        let place = self.place(End::Upper, state);
+        let word = to_word(value);
+        shared.fetch_min::<Tightening>(&mut seat.seat, place, word);
+    }
+
+    /// Ends a round of the seat, for which it knows each word to be at least as tight as after one round more than it has settled.
+    /// The notes are dropped.
+    pub fn settle(&self, seat: &mut BoardSeat)
+        requires seat { SitsAt self.now seat.old }
+        requires round { IsRoundDone self.now.game seat.old.view }
+        ensures seat { seat.new ≡ settling seat.old }
+    {
+        self.table.shared.load::<Settling>(&mut seat.seat, 0);
+    }
+
+    /// A second seat that knows the same.
+    pub fn split(&self, seat: &mut BoardSeat) -> BoardSeat
+        requires { SitsAt self.now seat.old }
+        ensures seat { seat.new ≡ seat.old }
+        ensures copy { result ≡ seat.old }
+    {
+        BoardSeat {
+            seat: self.table.shared.split_seat::<Copying>(&mut seat.seat),
+        }
+    }
+
+    /// Gives the seat the notes of another too, and the larger number of rounds settled.
+    pub fn join(&self, seat: &mut BoardSeat, other: BoardSeat)
+        requires seat { SitsAt self.now seat.old }
+        requires other { SitsAt self.now other }
+        ensures { seat.new ≡ joining seat.old other }
+    {
+        let shared = &self.table.shared;
+        shared.join_seat::<Joining>(&mut seat.seat, other.seat);
+    }
+
+    /// The board's words at the end, after the rounds that the seat has settled. For a while they stand in memory twice. After `NoMemory`
+    /// the board and the seat are gone.
+    pub fn close(self, alloc: Global, seat: BoardSeat, rounds: u32) -> Result<Closed, NoMemory>
+        requires seat { SitsAt self seat }
+        requires rounds { rounds ≡ seat.view.base }
+        ensures game { IfOk result (λ closed. closed.game ≡ self.game) }
+        ensures rounds { IfOk result (λ closed. closed.rounds ≡ rounds) }
+        ensures closed { IfOk result AreClosed }
+    {
+        let Board {
+            table,
+            stakes,
+            index,
+        } = self;
+        let many = table.word_count();
+        let last = table.close_with(seat.seat);
+        let list = last_words(alloc, &last, many);
+        last.free();
+        Ok(Closed::new(index, stakes, rounds, list?))
+    }
+}

@@ -1,0 +1,26 @@
+use cube_actions::Stakes;
+use directed_fixed::Fixed;
+use std::collections::LinkedList;
+
+/// What a game is played with: how many checkers a side has, and for what.
+#[derive(Drop)]
+pub struct Game {
+    pub checkers: u8,
+    pub stakes: Stakes,
+}
+
+/// A word was seen to be at least as tight as this value.
+#[derive(Drop)]
+pub struct Note {
+    pub word: u64,
+    pub value: Fixed,
+}
+
+/// What a seat knows of the words of a game: that they are at least as tight as after `base` rounds, and the notes. A view that another
+/// took in names no game. No value of this type is made: contracts speak of it.
+#[derive(Drop)]
+pub struct View {
+    pub game: Option<Game>,
+    pub base: u64,
+    pub notes: LinkedList<Note>,
+}

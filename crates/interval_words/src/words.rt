@@ -1,0 +1,229 @@
+ghost use Rattle.std.specs.Prelude.{◌≡◌, ◌<◌, ◌≤◌, ◌+◌, ◌*◌, ◌^◌, ◌↔◌, ℕ, pos, ◌≤ℤ◌, IsSome, IfSome, IsTrue, length};
+ghost use Rattle.directed_fixed.specs.Bounds.{IsWithin};
+ghost use Rattle.turn_rule.specs.Looks.{AreStakesOf};
+ghost use Rattle.turn_rule.specs.States.{IsState, AreWithin, pair_of};
+ghost use Rattle.interval_words.specs.Listed.{Listed, AreRight, AreClosed, IsWidest, words_in_list, pair_at, source_of};
+
+use crate::live_index::LiveIndex;
+use crate::number::{state_count, state_number};
+use cube_actions::Stakes;
+use directed_fixed::{Fixed, Pair, from_word};
+use hyper_outside::LookStop;
+use position_rank::Position;
+use std::marker::Model;
+use turn_rule::Pairs;
+
+/// A pair for each state of a game, after some rounds.
+#[derive(Drop)]
+pub struct Words {
+    index: LiveIndex,
+    stakes: Stakes,
+    rounds: u32,
+    list: Vec<u64>,
+}
+
+impl Model for Words {
+    ghost use Rattle.interval_words.specs.Listed.{Listed, AreRight};
+
+    ghost Value = { Listed };
+
+    ghost view = { λ a. record { game = record { checkers = a.index; stakes = a.stakes }; rounds = a.rounds; list = a.list.items } };
+
+    ghost invariant = { λ a. AreRight (record { game = record { checkers = a.index; stakes = a.stakes }; rounds = a.rounds; list = a.list.items }) };
+}
+
+/// Both words of the state with this number. `None` exactly where one is out of range or the lower one is above the upper one.
+#[inline]
+fn pair_of_list(list: &[u64], state: usize, bound: Fixed) -> Option<Pair>
+    requires state { 2 * state + 1 < length list.now }
+    requires from { pos 0 ≤ℤ bound }
+    requires to { bound ≤ℤ pos (2 ^ 36) }
+    ensures within { IsSome result ↔ IsWithin bound (pair_at list.now state) }
+    ensures pair { IfSome result (λ pair. pair ≡ pair_at list.now state) }
+{
+    let lower = list[2 * state];
+    let upper = list[2 * state + 1];
+    if lower > upper {
+        return None;
+    }
+    Some(Pair::new(from_word(lower, bound)?, from_word(upper, bound)?))
+}
+
+/// Whether the words of so many states are in range, the lower ones at most the upper ones.
+fn are_right(list: &[u64], states: usize, bound: Fixed) -> bool
+    requires long { length list.now ≡ 2 * states }
+    requires from { pos 0 ≤ℤ bound }
+    requires to { bound ≤ℤ pos (2 ^ 36) }
+    ensures { IsTrue result ↔ ((state : ℕ) → state < states → IsWithin bound (pair_at list.now state)) }
+{
+    for state in 0..states {
+        if pair_of_list(list, state, bound).is_none() {
+            return false;
+        }
+    }
+    true
+}
+
+impl Words {
+    /// The words of a list, with the checkers of the index: two for each state, by rising live rank and then kind, the lower one first.
+    /// `None` exactly where the list hasn't two words for each state, a word is out of range, or a lower word is above its upper word.
+    pub fn from_list(
+        index: LiveIndex,
+        stakes: &Stakes,
+        rounds: u32,
+        list: Vec<u64>,
+    ) -> Option<Words>
+        ensures right { IsSome result ↔ AreRight (record { game = record { checkers = index; stakes = stakes.now }; rounds = rounds; list = list.items }) }
+        ensures words { IfSome result (λ words. words ≡ record { game = record { checkers = index; stakes = stakes.now }; rounds = rounds; list = list.items }) }
+    {
+        let states = state_count(&index, stakes);
+        if list.len() == 2 * states && are_right(&list, states, stakes.bound()) {
+            Some(Words {
+                index,
+                stakes: stakes.copied(),
+                rounds,
+                list,
+            })
+        } else {
+            None
+        }
+    }
+
+    /// The index of the positions of these checkers.
+    pub fn index(&self) -> &LiveIndex
+        ensures { result.now ≡ self.now.game.checkers }
+    {
+        &self.index
+    }
+
+    /// How many checkers a side has.
+    pub fn checkers(&self) -> u8
+        ensures checkers { result ≡ self.now.game.checkers }
+        ensures low { 1 ≤ result }
+        ensures high { result ≤ 3 }
+    {
+        self.index.checkers()
+    }
+
+    /// What the game is played for.
+    pub fn stakes(&self) -> &Stakes
+        ensures { result.now ≡ self.now.game.stakes }
+    {
+        &self.stakes
+    }
+
+    /// After how many rounds these are the words.
+    pub fn rounds(&self) -> u32
+        ensures { result ≡ self.now.rounds }
+    {
+        self.rounds
+    }
+
+    /// The pair of a state.
+    #[inline]
+    pub fn pair(&self, position: &Position, kind: usize) -> Pair
+        requires { IsState self.now.game.checkers self.now.game.stakes position.now kind }
+        ensures pair { result ≡ pair_of (words_in_list self.now) position.now kind }
+        ensures within { IsWithin self.now.game.stakes.bound result }
+    {
+        let state = state_number(&self.index, &self.stakes, position, kind);
+        pair_of_list(&self.list, state as usize, self.stakes.bound()).unwrap()
+    }
+
+    /// The greatest upper minus lower word of a state.
+    pub fn widest(&self) -> Fixed
+        ensures { IsWidest self.now result }
+    {
+        let states = state_count(&self.index, &self.stakes);
+        let bound = self.stakes.bound();
+        let mut widest = Fixed::whole(0);
+        for state in 0..states {
+            let pair = pair_of_list(&self.list, state, bound).unwrap();
+            widest = widest.max(pair.upper().add(pair.lower().neg()));
+        }
+        widest
+    }
+
+    /// Looks the words up one end at a time. The reader is sure, and its floor and its notes are these words.
+    pub fn reader(&self) -> WordsReader<'_>
+        ensures source { ⟦<WordsReader<'static> as Pairs>⟧.source result ≡ source_of self.now }
+        ensures notes { ⟦<WordsReader<'static> as Pairs>⟧.notes result ≡ words_in_list self.now }
+        ensures stakes { AreStakesOf (⟦<WordsReader<'static> as Pairs>⟧.source result) self.now.game.stakes }
+    {
+        let _list = &self.list;
+        WordsReader { words: self }
+    }
+}
+
+/// The words of a board that was closed: they are sound, consistent, and at least as tight as after their rounds. Nothing else makes them.
+#[derive(Drop)]
+pub struct Closed {
+    words: Words,
+}
+
+impl Model for Closed {
+    ghost use Rattle.interval_words.specs.Listed.{Listed, AreClosed};
+
+    ghost Value = { Listed };
+
+    ghost view = { λ a. a.words };
+
+    ghost invariant = { λ a. AreClosed a.words };
+}
+
+impl Closed {
+    /// The words of a board at its end.
+    pub(crate) fn new(index: LiveIndex, stakes: Stakes, rounds: u32, list: Vec<u64>) -> Closed
+        requires right { AreRight (record { game = record { checkers = index; stakes = stakes }; rounds = rounds; list = list.items }) }
+        requires closed { AreClosed (record { game = record { checkers = index; stakes = stakes }; rounds = rounds; list = list.items }) }
+        ensures { result ≡ record { game = record { checkers = index; stakes = stakes }; rounds = rounds; list = list.items } }
+    {
+        Closed {
+            words: Words {
+                index,
+                stakes,
+                rounds,
+                list,
+            },
+        }
+    }
+
+    /// The words.
+    pub fn words(&self) -> &Words
+        ensures words { result.now ≡ self.now }
+        ensures closed { AreClosed self.now }
+    {
+        &self.words
+    }
+}
+
+/// Words that are looked up in a list. It is sure, and its floor and its notes are the words.
+#[derive(Drop)]
+pub struct WordsReader<'a> {
+    words: &'a Words,
+    ghost within: { AreWithin words.now.game.checkers words.now.game.stakes (words_in_list words.now) },
+}
+
+impl Pairs for WordsReader<'_> {
+    ghost stays = { λ _. tt };
+
+    ghost source = { λ reader. source_of reader.words.now };
+
+    ghost notes = { λ reader. words_in_list reader.words.now };
+
+    ghost faults = { λ _. 0 };
+
+    #[inline]
+    fn lower_of(&mut self, position: &Position, kind: usize) -> Result<Fixed, LookStop> {
+        Ok(self.words.pair(position, kind).lower())
+    }
+
+    #[inline]
+    fn upper_of(&mut self, position: &Position, kind: usize) -> Result<Fixed, LookStop> {
+        Ok(self.words.pair(position, kind).upper())
+    }
+
+    ghost floor_within = { λ reader _. reader.within };
+
+    ghost notes_within = { λ reader _. reader.within };
+}
