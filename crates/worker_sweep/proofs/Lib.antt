@@ -1,0 +1,5 @@
+pub mod SeatLemmas
+pub mod BlockLemmas
+pub mod StateLemmas
+pub mod TakeIn
+pub mod RoundLemmas

@@ -1,0 +1,63 @@
+-- Workers over a round.
+use Rattle.std.proofs.Common.{◌≡◌, ◌+◌, ◌<◌, ◌≤◌, ℕ, zero, suc, [], ◌∷◌, false, List, All, length, get_or, set, inl, inr, arith, ap, sym, subst, ◌∙◌}
+use Rattle.std.proofs.lemmas.Bool.{cases_lt}
+use Rattle.std.proofs.lemmas.List.{get_or-set_same, get_or-set_other, length-set, length-replicate}
+use Rattle.block_claims.specs.Claiming.{ClaimBoard, Claimer}
+use Rattle.interval_words.specs.Seats.{Standing, Sitting, SitsAt}
+use Rattle.worker_sweep.specs.Blocks.{blocks}
+use Rattle.worker_sweep.specs.Workers.{Working, IsAtWork, IsReady, KeepsNotes, unmarked}
+use Rattle.worker_sweep.proofs.SeatLemmas.{sits-kept}
+
+module _ (board : Standing) (claims : ClaimBoard) (crew base : ℕ) where
+  -- a worker that loses no note goes on
+  pub works-on : (old new : Working) → IsAtWork board claims crew base old → KeepsNotes old.seat new.seat → length new.marks ≡ length old.marks → new.claims.table ≡ old.claims.table → new.number ≡ old.number → IsAtWork board claims crew base new
+  works-on old new at kept many claimed numbered = record {
+    works = record { seat = sits-kept board old.seat new.seat kept at.works.seat; marks = many ∙ at.works.marks };
+    claimer = claimed ∙ at.claimer;
+    number = omega (arith, at.number, numbered);
+    after = kept.base ∙ at.after;
+  }
+
+  -- a worker that was taken in knows what its owner knew
+  pub follows : (owner old new : Working) → IsAtWork board claims crew base owner → IsAtWork board claims crew base old → new ≡ record old { seat = owner.seat; marks = unmarked (length old.marks) } → IsReady board claims crew base new
+  follows owner old new own at is = subst (IsReady board claims crew base) (sym is) (record {
+    works = record {
+      works = record { seat = own.works.seat; marks = length-replicate (length old.marks) false ∙ at.works.marks };
+      claimer = at.claimer;
+      number = at.number;
+      after = own.after;
+    };
+    unmarked = ap unmarked at.works.marks;
+  })
+
+-- one element more has what those before it have
+pub first-more : {X : Type 0} (P : X → Type 0) (xs : List X) (i : ℕ) (x : X) → i < length xs → ((k : ℕ) (d : X) → k < i → P (get_or xs k d)) → P x → (k : ℕ) (d : X) → k < i + 1 → P (get_or (set xs i x) k d)
+first-more P xs i x inside before last k d below = elim (cases_lt k i) [
+  | inl earlier ↦ subst P (sym (get_or-set_other xs i k x d (λ e. absurd (omega (arith, earlier, e))))) (before k d earlier)
+  | inr from ↦ (
+      let here : k ≡ i = omega (arith, below, from) in
+      subst (λ (n : ℕ). P (get_or (set xs i x) n d)) (sym here) (subst P (sym (get_or-set_same xs i x d inside)) last))
+]
+
+-- those after it are as they were
+pub rest-still : {X : Type 0} (P : X → Type 0) (xs : List X) (i : ℕ) (x : X) → ((k : ℕ) (d : X) → i ≤ k → k < length xs → P (get_or xs k d)) → (k : ℕ) (d : X) → i + 1 ≤ k → k < length (set xs i x) → P (get_or (set xs i x) k d)
+rest-still P xs i x rest k d from below =
+    subst P (sym (get_or-set_other xs i k x d (λ e. absurd (omega (arith, from, e))))) (rest k d (omega (arith, from)) (omega (arith, below, length-set xs i x)))
+
+-- a worker that begins
+pub begins : (board : Standing) (claims : ClaimBoard) (crew number count : ℕ) (seat own : Sitting) (claimer : Claimer) (new : Working) → SitsAt board seat → own ≡ seat → claimer.table ≡ claims.table → number < crew → count ≡ blocks board.game.checkers
+    → new ≡ record { seat = own; claims = claimer; number = number; marks = unmarked count } → IsReady board claims crew seat.view.base new
+begins board claims crew number count seat own claimer new sits same claimed below many is = subst (IsReady board claims crew seat.view.base) (sym is) (record {
+  works = record {
+    works = record { seat = subst (SitsAt board) (sym same) sits; marks = length-replicate count false ∙ many };
+    claimer = claimed;
+    number = below;
+    after = ap (λ s. s.view.base) same;
+  };
+  unmarked = ap unmarked many;
+})
+
+-- all of one element
+pub All-one : {X : Type 0} (P : X → Type 0) (x : X) → P x → All P (x ∷ [])
+All-one P x h zero d below = h
+All-one P x h (suc k) d below = absurd (omega (arith, below))

@@ -1,0 +1,11 @@
+use Rattle.std.proofs.Common.{◌≡◌, All, length}
+use Rattle.worker_sweep.specs.Workers.{IsReady}
+use Rattle.worker_sweep.proofs.rounds.make_crew.Given as goal
+
+abbrev pub invariant-loop-number : goal.invariant-loop-number
+invariant-loop-number l = record {
+  seat : l.seat ≡ l.initial.seat;
+  claim_seat : l.claim_seat ≡ l.initial.claim_seat;
+  many : length l.workers.items ≡ l.number;
+  ready : All (IsReady l.board l.claims l.crew l.initial.seat.view.base) l.workers.items;
+}

@@ -1,0 +1,34 @@
+use Rattle.std.proofs.Common.{sym, subst}
+use Rattle.directed_fixed.specs.declared.bounds.End.TheVariants.{Lower, Upper}
+use Rattle.interval_words.specs.Seats.{MayTighten}
+use Rattle.worker_sweep.proofs.SeatLemmas.{sits-noting, floor-noting, keeps-refl, keeps-noting, keeps-trans, knows-within, may-tighten, told-both}
+use Rattle.worker_sweep.proofs.seat_pairs.SeatPairs.tighten.Goals as goal
+
+pub raise-requires-clause-value : goal.raise-requires-clause-value
+raise-requires-clause-value c =
+    subst (MayTighten Lower c.args.self.now.board.now.game c.args.self.now.seat.view c.number-state.result) (sym c.lower.ensures.lower)
+    (may-tighten c.args.self.now.board.now c.args.self.now.seat c.args.self.now.seat c.number-state.result c.args.pair.lower Lower c.args.position.now c.args.kind c.requires.valid (keeps-refl _) c.args.self.now.sits c.number-state.ensures.number c.requires.state (c.requires.within Lower) (c.requires.loose Lower))
+
+pub lower-requires-2-clause-value : goal.lower-requires-2-clause-value
+lower-requires-2-clause-value c =
+    subst (MayTighten Upper c.args.self.now.board.now.game c.raise.new.seat.view c.number-state.result) (sym c.upper.ensures.upper)
+    (may-tighten c.args.self.now.board.now c.args.self.now.seat c.raise.new.seat c.number-state.result c.args.pair.upper Upper c.args.position.now c.args.kind c.requires.valid (keeps-noting c.args.self.now.board.now _ _ _ _ c.raise.ensures.seat c.args.self.now.sits) c.args.self.now.sits c.number-state.ensures.number c.requires.state (c.requires.within Upper) (c.requires.loose Upper))
+
+pub invariant_of-self : goal.invariant_of-self
+invariant_of-self c =
+    let first = sits-noting c.args.self.now.board.now c.args.self.now.seat _ _ _ c.raise.ensures.seat c.args.self.now.sits in
+    let second = sits-noting c.args.self.now.board.now _ _ _ _ c.lower-2.ensures.seat first in
+    record {
+      sits = second;
+      floor = floor-noting c.args.self.now.board.now _ _ _ _ c.lower-2.ensures.seat first (floor-noting c.args.self.now.board.now c.args.self.now.seat _ _ _ c.raise.ensures.seat c.args.self.now.sits c.args.self.now.floor);
+      noted_within = knows-within c.args.self.now.board.now _ second c.lower-2.ensures.knows;
+    }
+
+pub returns-clause-kept : goal.returns-clause-kept
+returns-clause-kept c =
+    let first = sits-noting c.args.self.now.board.now c.args.self.now.seat _ _ _ c.raise.ensures.seat c.args.self.now.sits in
+    keeps-trans _ _ _ (keeps-noting c.args.self.now.board.now _ _ _ _ c.raise.ensures.seat c.args.self.now.sits) (keeps-noting c.args.self.now.board.now _ _ _ _ c.lower-2.ensures.seat first)
+
+pub returns-clause-noted : goal.returns-clause-noted
+returns-clause-noted c =
+    told-both c.args.self.now.board.now c.args.self.now.seat _ _ c.number-state.result _ _ c.args.pair c.args.position.now c.args.kind c.lower.ensures.lower c.upper.ensures.upper c.raise.ensures.seat c.lower-2.ensures.seat c.args.self.now.sits c.number-state.ensures.number c.requires.state

@@ -1,0 +1,17 @@
+use Rattle.directed_fixed.specs.declared.bounds.End.TheVariants.{Upper}
+use Rattle.worker_sweep.proofs.SeatLemmas.{sits-noting, floor-noting, looked-noting, knows-within}
+use Rattle.worker_sweep.proofs.seat_pairs.SeatPairsPairs.upper_at.Goals as goal
+
+pub invariant_of-self : goal.invariant_of-self
+invariant_of-self c =
+    let sits = sits-noting c.args.self.now.board.now c.args.self.now.seat _ _ _ c.read_upper.ensures.seat c.args.self.now.sits in
+    record {
+      sits = sits;
+      floor = floor-noting c.args.self.now.board.now c.args.self.now.seat _ _ _ c.read_upper.ensures.seat c.args.self.now.sits c.args.self.now.floor;
+      noted_within = knows-within c.args.self.now.board.now _ sits c.read_upper.ensures.knows;
+    }
+
+pub returns-clause-looked : goal.returns-clause-looked
+returns-clause-looked c =
+    looked-noting c.args.self.now.board.now c.args.self.now.seat _ c.number_at-state.result _ Upper c.args.position.now c.args.kind c.read_upper.ensures.seat c.args.self.now.sits c.number_at-state.ensures.number c.read_upper.ensures.within
+    (c.read_upper.ensures.tight c.args.position.now c.args.kind c.requires.state c.number_at-state.ensures.number)

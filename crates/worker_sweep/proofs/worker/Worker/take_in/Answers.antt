@@ -1,0 +1,20 @@
+use Rattle.std.proofs.Common.{◌≡◌, ap, sym, subst, ◌∙◌}
+use Rattle.interval_words.specs.Seats.{joining}
+use Rattle.worker_sweep.specs.Workers.{KeepsNotes}
+use Rattle.worker_sweep.proofs.TakeIn.{honest-joined, keeps-joined}
+use Rattle.worker_sweep.proofs.worker.Worker.take_in.Goals as goal
+
+joins : (c : goal.After-move_marks) → c.join.new.seat ≡ joining c.self.inside.seat c.other.inside.seat
+joins c = c.join.ensures ∙ (λ i. joining (c.split-copy.ensures.seat i) (c.replace-seat.ensures.value i))
+
+same : (c : goal.After-move_marks) → c.other.inside.seat.view.base ≡ c.self.inside.seat.view.base
+same c = ap (λ w. w.seat.view.base) c.other.view_is ∙ (c.requires.base ∙ sym (ap (λ w. w.seat.view.base) c.self.view_is))
+
+pub invariant_of-self : goal.invariant_of-self
+invariant_of-self c =
+    let own = ap (λ w. w.seat.view.game) c.self.view_is ∙ c.requires.works.seat.game in
+    let others = ap (λ w. w.seat.view.game) c.other.view_is ∙ c.requires.other.seat.game in
+    record { marks = honest-joined c.self.inside.seat c.other.inside.seat _ (joins c) (same c) c.self.inside.swept.items c.other.inside.swept.items c.move_marks.new.to.items c.self.invariant.marks c.other.invariant.marks (others ∙ sym own) c.move_marks.ensures.to }
+
+pub returns-clause-seat : goal.returns-clause-seat
+returns-clause-seat c = subst (λ s. KeepsNotes s c.join.new.seat) (ap (λ w. w.seat) c.self.view_is) (keeps-joined c.self.inside.seat c.other.inside.seat _ (joins c) (same c))

@@ -1,0 +1,17 @@
+-- The words of a board, where a seat looks them up.
+use Rattle.std.specs.Prelude.{ℕ, length, true, None}
+use Rattle.turn_rule.specs.Turn.{rounds}
+use Rattle.turn_rule.specs.Looks.{Source}
+use Rattle.interval_words.specs.declared.view.Game.{Game}
+
+-- each look-up is answered, and none is looser than the word after the rounds of the seat's base
+abbrev pub source_of : Game → ℕ → Source
+source_of game base = record {
+  checkers = game.checkers;
+  kinds = length game.stakes.kinds;
+  bound = game.stakes.bound;
+  sure = true;
+  tells = true;
+  floor = rounds game.stakes base;
+  damage = λ p k. None;
+}

@@ -1,0 +1,15 @@
+//! Workers that sweep the blocks of a board in rounds.
+#![tactic(auto)]
+
+mod blocks;
+mod rounds;
+mod seat_pairs;
+mod sweep;
+#[cfg(test)]
+mod tests;
+mod worker;
+
+pub use blocks::blocks_of;
+pub use rounds::run_rounds;
+pub use sweep::sweep_block;
+pub use worker::Worker;

@@ -1,0 +1,198 @@
+ghost use Rattle.std.specs.Prelude.{◌≡◌, ℕ, ◌+◌, ◌*◌, ◌<◌, ◌≤◌, ◌||◌, true, IfOk, length, replicate, slice_set};
+ghost use Rattle.block_claims.specs.Claiming.{ClaimBoard};
+ghost use Rattle.interval_words.specs.Core.{settled};
+ghost use Rattle.interval_words.specs.Seats.{SitsAt};
+ghost use Rattle.worker_sweep.specs.Blocks.{blocks};
+ghost use Rattle.worker_sweep.specs.Workers.{WorksAt, IsAtWork, KeepsNotes, is_marked, unmarked};
+
+use crate::blocks::{BLOCK, block_count};
+use crate::seat_pairs::sweep_ranks;
+use block_claims::{ClaimSeat, Claims};
+use hyper_outside::{Gate, NoMemory};
+use interval_words::{Board, BoardSeat};
+use move_rules::PlayList;
+use position_rank::Position;
+use std::alloc::Global;
+use std::marker::Model;
+use std::mem;
+use turn_rule::RollEnds;
+
+/// A worker: a seat at a board and one at its claims, and for each block whether the worker has swept it in this round.
+#[derive(Drop)]
+pub struct Worker {
+    seat: BoardSeat,
+    claims: ClaimSeat,
+    number: u32,
+    swept: Vec<bool>,
+    ends: RollEnds,
+    list: PlayList,
+}
+
+impl Model for Worker {
+    ghost use Rattle.worker_sweep.specs.Workers.{Working, IsHonest};
+
+    ghost Value = { Working };
+
+    ghost view = { λ a. record { seat = a.seat; claims = a.claims; number = a.number; marks = a.swept.items } };
+
+    ghost invariant = { λ a. IsHonest (record { seat = a.seat; claims = a.claims; number = a.number; marks = a.swept.items }) };
+}
+
+impl Worker {
+    /// A worker with these seats and this number, which has swept none of so many blocks.
+    pub fn new(
+        alloc: Global,
+        board_seat: BoardSeat,
+        claim_seat: ClaimSeat,
+        number: u32,
+        blocks: u64,
+    ) -> Result<Worker, NoMemory>
+        ensures { IfOk result (λ worker. worker ≡ record { seat = board_seat; claims = claim_seat; number = number; marks = unmarked blocks }) }
+    {
+        let swept = vec![in alloc; false; blocks as usize]?;
+        let mut list = PlayList::new();
+        let ends = RollEnds::of(&Position::start(1), &mut list);
+        Ok(Worker {
+            seat: board_seat,
+            claims: claim_seat,
+            number,
+            swept,
+            ends,
+            list,
+        })
+    }
+
+    /// Whether the worker has swept this block in this round.
+    pub fn swept(&self, block: u64) -> bool
+        requires { block < length self.now.marks }
+        ensures { result ≡ is_marked self.now.marks block }
+    {
+        self.swept[block as usize]
+    }
+
+    /// Tightens the words of each state of a block by its turn over them, and marks it.
+    pub(crate) fn sweep(&mut self, board: &Board, block: u64)
+        requires works { WorksAt board.now self.old }
+        requires block { block < blocks board.now.game.checkers }
+        ensures seat { KeepsNotes self.old.seat self.new.seat }
+        ensures marks { self.new.marks ≡ slice_set self.old.marks block true }
+        ensures claims { self.new.claims ≡ self.old.claims }
+        ensures number { self.new.number ≡ self.old.number }
+    {
+        let all = board.index().count();
+        let from = block * BLOCK;
+        let to = all.min(from + BLOCK);
+        let copy = board.split(&mut self.seat);
+        let seat = mem::replace(&mut self.seat, copy);
+        self.seat = sweep_ranks(board, seat, from, to, &mut self.ends, &mut self.list);
+        self.swept[block as usize] = true;
+    }
+}
+
+impl Worker {
+    /// Goes once through all blocks, from the worker's own first block on and round to it, claims each, and sweeps those that it gets.
+    pub(crate) fn sweep_claimed<G: Gate>(
+        &mut self,
+        board: &Board,
+        claims: &Claims,
+        gate: &G,
+        workers: u32,
+        round: u64,
+    )
+        requires works { WorksAt board.now self.old }
+        requires claims { self.old.claims.table ≡ claims.now.table }
+        requires many { claims.now.blocks ≡ blocks board.now.game.checkers }
+        requires round { 1 ≤ round }
+        requires workers { self.old.number < workers }
+        ensures works { WorksAt board.now self.new }
+        ensures seat { KeepsNotes self.old.seat self.new.seat }
+        ensures claims { self.new.claims.table ≡ self.old.claims.table }
+        ensures number { self.new.number ≡ self.old.number }
+    {
+        let blocks = block_count(board);
+        let first = u64::from(self.number) * blocks / u64::from(workers);
+        for turn in 0..blocks {
+            let block = (first + turn) % blocks;
+            if claims.claim(&mut self.claims, block, round) {
+                gate.pass(self.number, block);
+                self.sweep(board, block);
+            }
+        }
+    }
+
+    /// Takes in what another worker has noted and which blocks it has swept. The other then knows what this worker knew.
+    pub(crate) fn take_in(&mut self, board: &Board, other: &mut Worker)
+        requires works { WorksAt board.now self.old }
+        requires other { WorksAt board.now other.old }
+        requires base { other.old.seat.view.base ≡ self.old.seat.view.base }
+        ensures seat { KeepsNotes self.old.seat self.new.seat }
+        ensures marks { (block : ℕ) → is_marked self.new.marks block ≡ (is_marked self.old.marks block || is_marked other.old.marks block) }
+        ensures many { length self.new.marks ≡ length self.old.marks }
+        ensures claims { self.new.claims ≡ self.old.claims }
+        ensures number { self.new.number ≡ self.old.number }
+        ensures other { other.new ≡ record other.old { seat = self.old.seat; marks = unmarked (length other.old.marks) } }
+    {
+        let copy = board.split(&mut self.seat);
+        let seat = mem::replace(&mut other.seat, copy);
+        board.join(&mut self.seat, seat);
+        move_marks(&mut other.swept, &mut self.swept);
+    }
+
+    /// Sweeps each block that isn't marked.
+    pub(crate) fn sweep_rest(&mut self, board: &Board)
+        requires works { WorksAt board.now self.old }
+        ensures seat { KeepsNotes self.old.seat self.new.seat }
+        ensures many { length self.new.marks ≡ length self.old.marks }
+        ensures marks { (block : ℕ) → block < blocks board.now.game.checkers → is_marked self.new.marks block ≡ true }
+        ensures claims { self.new.claims ≡ self.old.claims }
+        ensures number { self.new.number ≡ self.old.number }
+    {
+        for block in 0..self.swept.len() as u64 {
+            if !self.swept(block) {
+                self.sweep(board, block);
+            }
+        }
+    }
+
+    /// Ends the round, for which all blocks are marked.
+    pub(crate) fn settle(&mut self, board: &Board)
+        requires works { WorksAt board.now self.old }
+        requires marks { (block : ℕ) → block < blocks board.now.game.checkers → is_marked self.old.marks block ≡ true }
+        ensures { self.new ≡ record self.old { seat = record self.old.seat { view = settled self.old.seat.view }; marks = unmarked (length self.old.marks) } }
+    {
+        board.settle(&mut self.seat);
+        self.swept.fill(false);
+    }
+
+    /// Knows what another worker knows from now on.
+    pub(crate) fn follow(&mut self, board: &Board, other: &mut Worker)
+        requires works { WorksAt board.now other.old }
+        requires marks { self.old.marks ≡ unmarked (length self.old.marks) }
+        ensures other { other.new ≡ other.old }
+        ensures seat { self.new ≡ record self.old { seat = other.old.seat } }
+    {
+        self.seat = board.split(&mut other.seat);
+    }
+
+    /// The worker's seat at the board.
+    pub(crate) fn into_seat(self) -> BoardSeat
+        ensures { result ≡ self.seat }
+    {
+        self.seat
+    }
+}
+
+/// Moves the marks of the first list to the second.
+fn move_marks(from: &mut Vec<bool>, to: &mut Vec<bool>)
+    requires { length from.old.items ≡ length to.old.items }
+    ensures from { from.new.items ≡ unmarked (length from.old.items) }
+    ensures many { length to.new.items ≡ length to.old.items }
+    ensures to { (block : ℕ) → is_marked to.new.items block ≡ (is_marked to.old.items block || is_marked from.old.items block) }
+{
+    for block in 0..from.len() {
+        if from[block] {
+            to[block] = true;
+        }
+    }
+    from.fill(false);
+}
