@@ -85,7 +85,8 @@ impl Model for ClaimSeat {
 }
 
 impl Claims {
-    /// The claims of so many blocks, of which none is claimed, and their first seat.
+    /// The claims of so many blocks, of which none is claimed, and their first seat. It asks for memory for their words, and may answer
+    /// `NoMemory`.
     pub fn new(alloc: Global, blocks: u64) -> Result<(Claims, ClaimSeat), NoMemory>
         requires { 0 < blocks }
         ensures blocks { IfOk result (λ made. made.0.blocks ≡ blocks) }

@@ -106,7 +106,7 @@ fn last_words(
 
 impl Board {
     /// A board for one to three checkers a side on which only the bound is known of any state, and its first seat, which knows nothing
-    /// and has settled no round. `NoMemory` only where there was no memory for the words or the index of positions.
+    /// and has settled no round. It asks for memory for the words and the index of positions, and may answer `NoMemory`.
     pub fn new(alloc: Global, checkers: u8, stakes: &Stakes) -> Result<(Board, BoardSeat), NoMemory>
         requires low { 1 ≤ checkers }
         requires high { checkers ≤ 3 }

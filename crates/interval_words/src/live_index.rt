@@ -28,7 +28,7 @@ impl Model for LiveIndex {
 }
 
 impl LiveIndex {
-    /// The index of one to three checkers a side. It walks over all positions once.
+    /// The index of one to three checkers a side. It walks over all positions once, asks for memory, and may answer `NoMemory`.
     pub fn new(alloc: Global, checkers: u8) -> Result<LiveIndex, NoMemory>
         requires low { 1 ≤ checkers }
         requires high { checkers ≤ 3 }

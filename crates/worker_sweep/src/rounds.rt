@@ -161,7 +161,7 @@ fn make_crew(
 /// In a round each worker goes once through all blocks, from its own first block on and round to it, claims each, and sweeps those that it
 /// gets, with the words as they then stand. A block that is claimed passes the gate first. Then the blocks that no worker has marked are
 /// swept. The words are sound, consistent and at least as tight as those after so many rounds of a plain table.
-/// All memory but that of the closed words is taken before the first round.
+/// All memory but that of the closed words is asked for before the first round. It may answer `NoMemory`, and no other error.
 pub fn run_rounds<R: Threads + Sync, G: Gate + Sync>(
     rt: &R,
     alloc: Global,

@@ -39,7 +39,8 @@ impl Model for Worker {
 }
 
 impl Worker {
-    /// A worker with these seats and this number, which has swept none of so many blocks.
+    /// A worker with these seats and this number, which has swept none of so many blocks. It asks for memory for the marks, and may answer
+    /// `NoMemory`; then both seats are gone.
     pub fn new(
         alloc: Global,
         board_seat: BoardSeat,
@@ -87,9 +88,7 @@ impl Worker {
         self.seat = sweep_ranks(board, seat, from, to, &mut self.ends, &mut self.list);
         self.swept[block as usize] = true;
     }
-}
 
-impl Worker {
     /// Goes once through all blocks, from the worker's own first block on and round to it, claims each, and sweeps those that it gets.
     pub(crate) fn sweep_claimed<G: Gate>(
         &mut self,
