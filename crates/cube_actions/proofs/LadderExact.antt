@@ -5,7 +5,7 @@ use Rattle.std.proofs.lemmas.List.Kept.{AllPairs-cons}
 use Rattle.std.specs.List.{list_all, AllPairs, Contains}
 use Rattle.cube_actions.specs.declared.phase.Phase.{Phase}
 use Rattle.cube_actions.specs.declared.phase.Phase.TheVariants.{Normal, Crawford, Post}
-use Rattle.cube_actions.specs.Scores.{Standing, same_score, same_phase}
+use Rattle.cube_actions.specs.Scores.{MatchScore, same_score, same_phase}
 use Rattle.cube_actions.specs.Ladder.{in_order, is_of_match, can_be, ladder, IsOfMatch, ComesBefore}
 use Rattle.cube_actions.specs.Starts.{place_of}
 use Rattle.cube_actions.proofs.Ladders.{one_to_five}
@@ -35,7 +35,7 @@ of_phase p all Post = passed_at p phases 2 Normal all (omega arith)
 -- the ladder has the score if it is one of the match
 is_listed : ℕ → ℕ → ℕ → Phase → Bool
 is_listed n near far phase =
-    let score : Standing = record { near = near; far = far; phase = phase } in
+    let score : MatchScore = record { near = near; far = far; phase = phase } in
     not (is_of_match n score) || nat_lt (place_of n score) (length (ladder n))
 
 tried : (n : ℕ) → 1 ≤ n → n ≤ 5 → list_all (λ near. list_all (λ far. list_all (is_listed n near far) phases) five) five ≡ true
@@ -51,7 +51,7 @@ fits n near far Normal h = let low = h.valid.fits.normal refl in grind (arith, n
 fits n near far Crawford h = let low = h.valid.fits.crawford refl in grind (arith, nat_tests, h.valid.needs.in_order, h.within)
 fits n near far Post h = let low = h.valid.fits.post refl in let won = h.won refl in grind (arith, nat_tests, h.valid.needs.in_order, h.within)
 
-pub listed : (n : ℕ) → 1 ≤ n → n ≤ 5 → (score : Standing) → IsOfMatch n score → place_of n score < length (ladder n)
+pub listed : (n : ℕ) → 1 ≤ n → n ≤ 5 → (score : MatchScore) → IsOfMatch n score → place_of n score < length (ladder n)
 listed n from to score h =
     let needs = h.valid.needs in
     let rows = among_five (λ near. list_all (λ far. list_all (is_listed n near far) phases) five) (tried n from to) score.near needs.from (omega (arith, needs.in_order, needs.to)) in
@@ -67,29 +67,29 @@ post_won n near far Normal h e = cc
 post_won n near far Crawford h e = cc
 post_won n near far Post h e = grind (arith, nat_tests)
 
-pub in_ladder : (n : ℕ) → 1 ≤ n → n ≤ 5 → (score : Standing) → Contains (ladder n) score → IsOfMatch n score
+pub in_ladder : (n : ℕ) → 1 ≤ n → n ≤ 5 → (score : MatchScore) → Contains (ladder n) score → IsOfMatch n score
 in_ladder n from to score (k, low, e) =
-    let test : is_of_match n score ≡ true = subst (λ (s : Standing). is_of_match n s ≡ true) e (passed_at (is_of_match n) (ladder n) k score (all_fit n from to) low) in
-    let five : is_of_match 5 score ≡ true = subst (λ (s : Standing). is_of_match 5 s ≡ true) e (passed_at (is_of_match 5) (ladder n) k score (all_in_five n from to) low) in
+    let test : is_of_match n score ≡ true = subst (λ (s : MatchScore). is_of_match n s ≡ true) e (passed_at (is_of_match n) (ladder n) k score (all_fit n from to) low) in
+    let five : is_of_match 5 score ≡ true = subst (λ (s : MatchScore). is_of_match 5 s ≡ true) e (passed_at (is_of_match 5) (ladder n) k score (all_in_five n from to) low) in
     record {
       valid = in_five-valid score.near score.far score.phase five;
       within = grind (arith, nat_tests);
       won = post_won n score.near score.far score.phase (grind (arith, nat_tests));
     }
 
-pub to_ladder : (n : ℕ) → 1 ≤ n → n ≤ 5 → (score : Standing) → IsOfMatch n score → Contains (ladder n) score
+pub to_ladder : (n : ℕ) → 1 ≤ n → n ≤ 5 → (score : MatchScore) → IsOfMatch n score → Contains (ladder n) score
 to_ladder n from to score h =
     let here = listed n from to score h in
     (place_of n score, here, sym (same_score-true score (get_or (ladder n) (place_of n score) score) (found_at (same_score score) (ladder n) score here)))
 
 -- whether a score comes before another
-before : Standing → Standing → Bool
+before : MatchScore → MatchScore → Bool
 before a b =
     nat_lt (a.near + a.far) (b.near + b.far)
     || (nat_eq (a.near + a.far) (b.near + b.far) && nat_lt a.near b.near)
     || (nat_eq a.near b.near && nat_eq a.far b.far && same_phase a.phase Post && same_phase b.phase Crawford)
 
-all_pairs : (Standing → Standing → Bool) → List Standing → Bool
+all_pairs : (MatchScore → MatchScore → Bool) → List MatchScore → Bool
 all_pairs p [] = true
 all_pairs p (x ∷ xs) = list_all (p x) xs && all_pairs p xs
 
@@ -98,7 +98,7 @@ both true true h = (refl, refl)
 both true false h = cc
 both false b h = cc
 
-pairs-true : (p : Standing → Standing → Bool) (xs : List Standing) → all_pairs p xs ≡ true → AllPairs (λ a b. p a b ≡ true) xs
+pairs-true : (p : MatchScore → MatchScore → Bool) (xs : List MatchScore) → all_pairs p xs ≡ true → AllPairs (λ a b. p a b ≡ true) xs
 unfolding all_pairs
 pairs-true p [] h = λ i j d low within. absurd (omega arith)
 pairs-true p (x ∷ xs) h =
@@ -110,7 +110,7 @@ either_of true y z h = inl refl
 either_of false true z h = inr (inl refl)
 either_of false false z h = inr (inr h)
 
-before-true : (a b : Standing) → before a b ≡ true → ComesBefore a b
+before-true : (a b : MatchScore) → before a b ≡ true → ComesBefore a b
 unfolding before
 before-true a b h =
     elim (either_of (nat_lt (a.near + a.far) (b.near + b.far)) _ _ h) [

@@ -8,7 +8,7 @@ use Rattle.cube_actions.specs.declared.match_kind.MatchKind.{MatchKind}
 use Rattle.cube_actions.specs.declared.name.KindName.{KindName}
 use Rattle.cube_actions.specs.declared.name.StakesName.{StakesName}
 use Rattle.cube_actions.specs.declared.name.StakesName.TheVariants.{Cubeless, Money, Jacoby, MoneyBeavers, JacobyBeavers, Match}
-use Rattle.cube_actions.specs.Scores.{Standing}
+use Rattle.cube_actions.specs.Scores.{MatchScore}
 use Rattle.cube_actions.specs.MatchKinds.{every_kind, match_kinds, can_come}
 use Rattle.cube_actions.specs.Names.{names_of, name_of, same_name, is_kind_name, money_names}
 use Rattle.cube_actions.proofs.Places.{passed_at}
@@ -53,7 +53,7 @@ kinds_apart : AllPairs Apart every_kind
 unfolding all_apart Apart
 kinds_apart = unmap-apart name_of every_kind (apart-pairs (map name_of every_kind) refl)
 
-match_apart : (score : Standing) → AllPairs (λ a b. a ≢ b) (names_of (Match score))
+match_apart : (score : MatchScore) → AllPairs (λ a b. a ≢ b) (names_of (Match score))
 unfolding match_kinds Apart
 match_apart score = map-apart name_of (match_kinds score) (AllPairs-filter Apart (can_come score) every_kind kinds_apart)
 

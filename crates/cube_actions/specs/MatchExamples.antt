@@ -5,7 +5,7 @@ use Rattle.cube_actions.specs.declared.kind.Kind.{Kind}
 use Rattle.cube_actions.specs.declared.kind.Double.{Double}
 use Rattle.cube_actions.specs.declared.phase.Phase.TheVariants.{Normal, Post}
 use Rattle.cube_actions.specs.Stakes.{exactly}
-use Rattle.cube_actions.specs.Scores.{Standing}
+use Rattle.cube_actions.specs.Scores.{MatchScore}
 
 abbrev pub won : Bounds
 won = exactly 1
@@ -19,7 +19,7 @@ abbrev pub double : Bounds → ℕ → Option Double
 double pass take = Some (record { pass = pass; answers = record { items = record { kind = take; factor = 1 } ∷ [] } })
 
 -- near needs one point and far two, after the Crawford game
-abbrev pub one_and_two : Standing
+abbrev pub one_and_two : MatchScore
 one_and_two = record { near = 1; far = 2; phase = Post }
 
 -- Its kinds, where the start pair of 1-1 is given: if far wins a point, both need one, and near stays near. Far may double.
@@ -33,7 +33,7 @@ one_and_two_kinds one_each =
     ∷ []
 
 -- near needs two points and far three, before the Crawford game
-abbrev pub two_and_three : Standing
+abbrev pub two_and_three : MatchScore
 two_and_three = record { near = 2; far = 3; phase = Normal }
 
 -- Its kinds, where the start pairs of 1-2 Crawford, 1-3 Crawford and 2-2 are given. If near wins a point, the next game is 1-3 Crawford,

@@ -4,28 +4,28 @@ use Rattle.std.specs.List.{flat_map, position_or_len}
 use Rattle.cube_actions.specs.declared.match_kind.MatchKind.{MatchKind}
 use Rattle.cube_actions.specs.declared.side.Side.{Side}
 use Rattle.cube_actions.specs.declared.side.Side.TheVariants.{Near, Far}
-use Rattle.cube_actions.specs.Scores.{Standing, is_crawford, other_side, needs}
+use Rattle.cube_actions.specs.Scores.{MatchScore, is_crawford, other_side, needs}
 
 -- A side owns the cube at 2 where the other side could turn it from 1: it needed more points than that. It owns the cube at 4 or 8 where
 -- the other side owned it at half of that, and needed more points than it then showed.
-abbrev pub can_own_2 : Standing → Side → Bool
+abbrev pub can_own_2 : MatchScore → Side → Bool
 can_own_2 score owner = nat_lt 1 (needs score (other_side owner))
 
-abbrev pub can_own_4 : Standing → Side → Bool
+abbrev pub can_own_4 : MatchScore → Side → Bool
 can_own_4 score owner = nat_lt 2 (needs score (other_side owner)) && can_own_2 score (other_side owner)
 
-abbrev pub can_own_8 : Standing → Side → Bool
+abbrev pub can_own_8 : MatchScore → Side → Bool
 can_own_8 score owner = nat_lt 4 (needs score (other_side owner)) && can_own_4 score (other_side owner)
 
-abbrev pub can_own : Standing → ℕ → Side → Bool
+abbrev pub can_own : MatchScore → ℕ → Side → Bool
 can_own score cube owner = if cube == 2 then can_own_2 score owner else if cube == 4 then can_own_4 score owner else can_own_8 score owner
 
 -- the cube can always be centred, and can be owned in all games but the Crawford game
-abbrev pub can_stand : Standing → ℕ → Option Side → Bool
+abbrev pub can_stand : MatchScore → ℕ → Option Side → Bool
 can_stand score cube None = true
 can_stand score cube (Some owner) = not (is_crawford score.phase) && can_own score cube owner
 
-abbrev pub can_come : Standing → MatchKind → Bool
+abbrev pub can_come : MatchScore → MatchKind → Bool
 can_come score kind = can_stand score kind.cube kind.owner
 
 -- the near side to move, and then the far side
@@ -41,7 +41,7 @@ abbrev pub every_kind : List MatchKind
 every_kind = flat_map both_to_move places
 
 -- the kinds of state at a score, in order
-unfoldable pub match_kinds : Standing → List MatchKind
+unfoldable pub match_kinds : MatchScore → List MatchKind
 match_kinds score = filter (can_come score) every_kind
 
 abbrev pub same_side : Side → Side → Bool
@@ -58,7 +58,7 @@ abbrev pub same_kind : MatchKind → MatchKind → Bool
 same_kind a b = same_side a.mover b.mover && a.cube == b.cube && same_owner a.owner b.owner
 
 -- the number of a kind, by its place in the order
-abbrev pub number_in : Standing → MatchKind → ℕ
+abbrev pub number_in : MatchScore → MatchKind → ℕ
 number_in score kind = position_or_len (same_kind kind) (match_kinds score)
 
 -- the kind after the mover's play, in which the other side moves
@@ -75,5 +75,5 @@ may_turn side None = true
 may_turn side (Some owner) = same_side side owner
 
 -- The mover may double in all games but the Crawford game, where he may turn the cube and needs more points than it shows.
-abbrev pub may_double : Standing → MatchKind → Bool
+abbrev pub may_double : MatchScore → MatchKind → Bool
 may_double score kind = not (is_crawford score.phase) && may_turn kind.mover kind.owner && nat_lt kind.cube (needs score kind.mover)

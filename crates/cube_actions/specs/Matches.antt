@@ -11,8 +11,8 @@ use Rattle.cube_actions.specs.declared.phase.Phase.{Phase}
 use Rattle.cube_actions.specs.declared.phase.Phase.TheVariants.{Normal, Crawford, Post}
 use Rattle.cube_actions.specs.declared.side.Side.{Side}
 use Rattle.cube_actions.specs.declared.side.Side.TheVariants.{Near, Far}
-use Rattle.cube_actions.specs.Stakes.{Terms, exactly, points}
-use Rattle.cube_actions.specs.Scores.{Standing, other_side, needs}
+use Rattle.cube_actions.specs.Stakes.{Terms, exactly, point_units}
+use Rattle.cube_actions.specs.Scores.{MatchScore, other_side, needs}
 use Rattle.cube_actions.specs.MatchKinds.{match_kinds, number_in, after_play, after_take, may_double}
 use Rattle.cube_actions.specs.Starts.{StartPairs, start_pair}
 
@@ -23,7 +23,7 @@ next_phase Crawford a b = Post
 next_phase Post a b = Post
 
 -- the score of the next game, in which the side that needs fewer points is near
-abbrev pub next_score : Phase → ℕ → ℕ → Standing
+abbrev pub next_score : Phase → ℕ → ℕ → MatchScore
 next_score phase a b = record { near = min a b; far = max a b; phase = next_phase phase a b }
 
 -- Whether a side that won is near in the next game. Where both need the same, the side that was near stays it.
@@ -38,13 +38,13 @@ next_value starts phase winner own others =
     else negated (start_pair starts (next_score phase own others))
 
 -- the value for a side of winning so many points: the whole match where it needs no more, else that of the next game
-abbrev pub value_of_win : StartPairs → Standing → Side → ℕ → Bounds
+abbrev pub value_of_win : StartPairs → MatchScore → Side → ℕ → Bounds
 value_of_win starts score winner won =
     if nat_le (needs score winner) won then exactly 1
     else next_value starts score.phase winner (needs score winner - won) (needs score (other_side winner))
 
 -- A pass wins the cube's value before the double. After a take the cube shows twice as much, in which wins are counted already.
-abbrev pub right_to_double : StartPairs → Standing → MatchKind → Option Double
+abbrev pub right_to_double : StartPairs → MatchScore → MatchKind → Option Double
 right_to_double starts score kind =
     if may_double score kind
     then Some (record {
@@ -54,7 +54,7 @@ right_to_double starts score kind =
     else None
 
 -- a single game wins as many points as the cube shows, a gammon twice and a backgammon three times as many
-abbrev pub match_kind : StartPairs → Standing → MatchKind → Kind
+abbrev pub match_kind : StartPairs → MatchScore → MatchKind → Kind
 match_kind starts score kind = record {
   next = number_in score (after_play kind);
   win = map (λ times. value_of_win starts score kind.mover (times * kind.cube)) (1 ∷ 2 ∷ 3 ∷ []);
@@ -62,8 +62,8 @@ match_kind starts score kind = record {
 }
 
 -- the stakes of a game at a score, given what the scores after it are worth
-abbrev pub terms_of : Standing → StartPairs → Terms
-terms_of score starts = record { kinds = map (match_kind starts score) (match_kinds score); bound = points 1; name = Match score }
+abbrev pub terms_of : MatchScore → StartPairs → Terms
+terms_of score starts = record { kinds = map (match_kind starts score) (match_kinds score); bound = point_units 1; name = Match score }
 
 -- the answers to a kind's double, if it has one
 abbrev pub answers_in : Kind → Option (List Taken)

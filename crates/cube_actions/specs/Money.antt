@@ -1,7 +1,7 @@
 -- Stakes for money: with the Jacoby rule or without it, with beavers or without them.
 use Rattle.std.specs.Prelude.{List, [], ◌∷◌, Some, None}
 use Rattle.directed_fixed.specs.Bounds.{Bounds}
-use Rattle.cube_actions.specs.Stakes.{Terms, exactly, points}
+use Rattle.cube_actions.specs.Stakes.{Terms, exactly, point_units}
 use Rattle.cube_actions.specs.declared.kind.Kind.{Kind}
 use Rattle.cube_actions.specs.declared.kind.Double.{Double}
 use Rattle.cube_actions.specs.declared.kind.Taken.{Taken}
@@ -37,15 +37,15 @@ cube_kinds centred_wins answers =
 
 -- all games count in full, and a double is passed or taken
 abbrev pub money : Terms
-money = record { kinds = cube_kinds all_count (take ∷ []); bound = points 3; name = Money }
+money = record { kinds = cube_kinds all_count (take ∷ []); bound = point_units 3; name = Money }
 
 -- while the cube is centred all games count single
 abbrev pub jacoby : Terms
-jacoby = record { kinds = cube_kinds all_single (take ∷ []); bound = points 3; name = Jacoby }
+jacoby = record { kinds = cube_kinds all_single (take ∷ []); bound = point_units 3; name = Jacoby }
 
 -- the same with beavers: a double is passed, taken or beavered
 abbrev pub money_beavers : Terms
-money_beavers = record { kinds = cube_kinds all_count (take ∷ beaver ∷ []); bound = points 3; name = MoneyBeavers }
+money_beavers = record { kinds = cube_kinds all_count (take ∷ beaver ∷ []); bound = point_units 3; name = MoneyBeavers }
 
 abbrev pub jacoby_beavers : Terms
-jacoby_beavers = record { kinds = cube_kinds all_single (take ∷ beaver ∷ []); bound = points 3; name = JacobyBeavers }
+jacoby_beavers = record { kinds = cube_kinds all_single (take ∷ beaver ∷ []); bound = point_units 3; name = JacobyBeavers }

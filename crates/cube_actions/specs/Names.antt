@@ -11,7 +11,7 @@ use Rattle.cube_actions.specs.declared.name.KindName.TheVariants.{Alone, Centred
 use Rattle.cube_actions.specs.declared.name.StakesName.{StakesName}
 use Rattle.cube_actions.specs.declared.name.StakesName.TheVariants.{Cubeless, Money, Jacoby, MoneyBeavers, JacobyBeavers, Match}
 use Rattle.cube_actions.specs.Stakes.{Terms, IsValid}
-use Rattle.cube_actions.specs.Scores.{Standing}
+use Rattle.cube_actions.specs.Scores.{MatchScore}
 use Rattle.cube_actions.specs.MatchKinds.{every_kind, match_kinds, same_side, same_owner}
 
 abbrev pub name_of : MatchKind → KindName
@@ -67,7 +67,7 @@ letter Crawford = codes "c"
 letter Post = codes "p"
 
 -- the points that the sides need, and a letter for the phase
-abbrev pub score_text : Standing → List ℕ
+abbrev pub score_text : MatchScore → List ℕ
 score_text score = decimal score.near ++ codes "." ++ decimal score.far ++ codes "." ++ letter score.phase
 
 -- valid stakes, with a name for each kind

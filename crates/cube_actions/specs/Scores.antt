@@ -19,18 +19,18 @@ pub record IsPhaseOf (near far : ℕ) (phase : Phase) : Type 0 where
   pub post : phase ≡ Post → near ≡ 1
 
 -- the points that the two sides still need, and the phase of the match
-pub record Standing : Type 0 where
+pub record MatchScore : Type 0 where
   pub near : ℕ
   pub far : ℕ
   pub phase : Phase
 
 -- the numbers are those of a score, and the phase is one of theirs
-pub record IsScore (score : Standing) : Type 0 where
+pub record IsScore (score : MatchScore) : Type 0 where
   pub needs : AreNeeds score.near score.far
   pub fits : IsPhaseOf score.near score.far score.phase
 
 -- both sides need a point
-abbrev pub last_game : Standing
+abbrev pub last_game : MatchScore
 last_game = record { near = 1; far = 1; phase = Post }
 
 abbrev pub is_crawford : Phase → Bool
@@ -43,7 +43,7 @@ same_phase Crawford Crawford = true
 same_phase Post Post = true
 same_phase _ _ = false
 
-abbrev pub same_score : Standing → Standing → Bool
+abbrev pub same_score : MatchScore → MatchScore → Bool
 same_score a b = a.near == b.near && a.far == b.far && same_phase a.phase b.phase
 
 abbrev pub other_side : Side → Side
@@ -51,6 +51,6 @@ other_side Near = Far
 other_side Far = Near
 
 -- how many points a side still needs
-abbrev pub needs : Standing → Side → ℕ
+abbrev pub needs : MatchScore → Side → ℕ
 needs score Near = score.near
 needs score Far = score.far

@@ -14,12 +14,12 @@ pub record Terms : Type 0 where
   pub name : StakesName
 
 -- so many whole points
-abbrev pub points : ℕ → ℤ
-points n = pos (n * 2 ^ 32)
+abbrev pub point_units : ℕ → ℤ
+point_units n = pos (n * 2 ^ 32)
 
 -- both bounds are so many whole points
 abbrev pub exactly : ℕ → Bounds
-exactly n = record { lower = points n; upper = points n }
+exactly n = record { lower = point_units n; upper = point_units n }
 
 abbrev pub nothing : Bounds
 nothing = exactly 0
@@ -33,12 +33,12 @@ kind_at stakes k = slice_index_or stakes.kinds k no_kind
 
 -- three points for money, a whole match for a match
 abbrev pub bound_of : StakesName → ℤ
-bound_of Cubeless = points 3
-bound_of Money = points 3
-bound_of Jacoby = points 3
-bound_of MoneyBeavers = points 3
-bound_of JacobyBeavers = points 3
-bound_of (Match score) = points 1
+bound_of Cubeless = point_units 3
+bound_of Money = point_units 3
+bound_of Jacoby = point_units 3
+bound_of MoneyBeavers = point_units 3
+bound_of JacobyBeavers = point_units 3
+bound_of (Match score) = point_units 1
 
 -- an answer to a double names a kind, in which the doubler rolls on, and how often its value counts
 pub record IsRightAnswer (stakes : Terms) (taken : Taken) : Type 0 where
@@ -68,4 +68,4 @@ alone = record { next = 0; win = exactly 1 ∷ exactly 2 ∷ exactly 3 ∷ []; d
 
 -- a game without a cube: a single win is a point, a gammon two, a backgammon three
 abbrev pub cubeless : Terms
-cubeless = record { kinds = alone ∷ []; bound = points 3; name = Cubeless }
+cubeless = record { kinds = alone ∷ []; bound = point_units 3; name = Cubeless }

@@ -1,7 +1,7 @@
 ghost use Rattle.std.specs.Prelude.{◌≡◌, pos, ◌∷◌, []};
 ghost use Rattle.cube_actions.specs.declared.phase.Phase.TheVariants.{Normal, Crawford, Post};
 ghost use Rattle.cube_actions.specs.declared.name.StakesName.TheVariants.{Cubeless, Money, Jacoby, MoneyBeavers, JacobyBeavers, Match};
-ghost use Rattle.cube_actions.specs.Scores.{AreNeeds, IsPhaseOf, Standing};
+ghost use Rattle.cube_actions.specs.Scores.{AreNeeds, IsPhaseOf, MatchScore};
 ghost use Rattle.cube_actions.specs.Stakes.{IsValid, bound_of, cubeless, kind_at};
 
 /// A game without a cube has sound stakes. A win is a point, two or three, of 2 ^ 32 units each.
@@ -19,7 +19,7 @@ pub fn bound_examples()
     ensures jacoby { bound_of Jacoby ≡ pos 12884901888 }
     ensures money_beavers { bound_of MoneyBeavers ≡ pos 12884901888 }
     ensures jacoby_beavers { bound_of JacobyBeavers ≡ pos 12884901888 }
-    ensures any_match { (score : Standing) → bound_of (Match score) ≡ pos 4294967296 }
+    ensures any_match { (score : MatchScore) → bound_of (Match score) ≡ pos 4294967296 }
 {}
 
 /// Scores of a match, and numbers that are none.

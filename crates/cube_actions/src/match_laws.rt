@@ -8,18 +8,18 @@ ghost use Rattle.cube_actions.specs.Ladder.{IsOfMatch, ComesBefore, ladder};
 ghost use Rattle.cube_actions.specs.MatchKinds.{match_kinds};
 ghost use Rattle.cube_actions.specs.MatchExamples.{one_and_two, one_and_two_kinds, two_and_three, two_and_three_kinds};
 ghost use Rattle.cube_actions.specs.Matches.{answers_in, next_score, terms_of};
-ghost use Rattle.cube_actions.specs.Scores.{Standing, IsScore, needs, other_side};
+ghost use Rattle.cube_actions.specs.Scores.{MatchScore, IsScore, needs, other_side};
 ghost use Rattle.cube_actions.specs.Starts.{StartPairs, place_of};
 
 /// A ladder has the scores of its match, each after those that come before it by the rule.
 pub fn ladders_are_exact()
-    ensures scores { (match_length : ℕ) → 1 ≤ match_length → match_length ≤ 5 → (score : Standing) → (Contains (ladder match_length) score ↔ IsOfMatch match_length score) }
+    ensures scores { (match_length : ℕ) → 1 ≤ match_length → match_length ≤ 5 → (score : MatchScore) → (Contains (ladder match_length) score ↔ IsOfMatch match_length score) }
     ensures order { (match_length : ℕ) → 1 ≤ match_length → match_length ≤ 5 → AllPairs ComesBefore (ladder match_length) }
 {}
 
 /// A win that doesn't end the match leads to a score of the match that comes earlier in the ladder.
 pub fn wins_lead_down_the_ladder()
-    ensures { (match_length : ℕ) (score : Standing) (winner : Side) (won : ℕ)
+    ensures { (match_length : ℕ) (score : MatchScore) (winner : Side) (won : ℕ)
         → 1 ≤ match_length → match_length ≤ 5 → place_of match_length score < length (ladder match_length)
         → 1 ≤ won → won < needs score winner
         → place_of match_length (next_score score.phase (needs score winner - won) (needs score (other_side winner))) < place_of match_length score }
@@ -45,8 +45,8 @@ pub fn kind_count_examples()
 
 /// Whatever the scores after it are worth, the next kinds and the answers to doubles of a game are the same.
 pub fn cubes_come_of_the_score()
-    ensures next { (score : Standing) (starts others : StartPairs) → map (λ (kind : Kind). kind.next) (terms_of score starts).kinds ≡ map (λ (kind : Kind). kind.next) (terms_of score others).kinds }
-    ensures answers { (score : Standing) (starts others : StartPairs) → map answers_in (terms_of score starts).kinds ≡ map answers_in (terms_of score others).kinds }
+    ensures next { (score : MatchScore) (starts others : StartPairs) → map (λ (kind : Kind). kind.next) (terms_of score starts).kinds ≡ map (λ (kind : Kind). kind.next) (terms_of score others).kinds }
+    ensures answers { (score : MatchScore) (starts others : StartPairs) → map answers_in (terms_of score starts).kinds ≡ map answers_in (terms_of score others).kinds }
 {}
 
 /// Two games of a match, reckoned by hand: 1-2 after the Crawford game, and 2-3 before it.

@@ -16,9 +16,9 @@ pub struct Score {
 }
 
 impl Model for Score {
-    ghost use Rattle.cube_actions.specs.Scores.{Standing, IsScore};
+    ghost use Rattle.cube_actions.specs.Scores.{MatchScore, IsScore};
 
-    ghost Value = { Standing };
+    ghost Value = { MatchScore };
 
     ghost view = { λ a. record { near = a.near; far = a.far; phase = a.phase } };
 

@@ -1,6 +1,6 @@
 ghost use Rattle.std.specs.Prelude.{◌≡◌, ◌<◌, ◌≤◌, ◌↔◌, ◌++◌, [], ◌∷◌, IsTrue, length, slice_index_or};
 ghost use Rattle.directed_fixed.specs.Bounds.{IsWithin};
-ghost use Rattle.cube_actions.specs.Stakes.{nothing, points};
+ghost use Rattle.cube_actions.specs.Stakes.{nothing, point_units};
 ghost use Rattle.cube_actions.specs.Ladder.{ladder};
 
 use crate::score::Score;
@@ -62,7 +62,7 @@ impl Starts {
     pub fn pair(&self, number: usize) -> Pair
         requires { number < length self.now.pairs }
         ensures pair { result ≡ slice_index_or self.now.pairs number nothing }
-        ensures within { IsWithin (points 1) result }
+        ensures within { IsWithin (point_units 1) result }
     {
         self.pairs[number]
     }
@@ -70,7 +70,7 @@ impl Starts {
     /// Adds the pair of the next score.
     pub fn add(&mut self, pair: Pair)
         requires room { length self.old.pairs < length (ladder self.old.match_length) }
-        requires within { IsWithin (points 1) pair }
+        requires within { IsWithin (point_units 1) pair }
         ensures { self.new ≡ record self.old { pairs = self.old.pairs ++ pair ∷ [] } }
     {
         self.pairs.push(pair);

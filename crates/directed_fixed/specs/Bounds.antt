@@ -27,12 +27,12 @@ at Lower pair = pair.lower
 at Upper pair = pair.upper
 
 -- as this end of a pair, the first value is at least as tight as the second
-abbrev pub IsTight : End → ℤ → ℤ → Type 0
-IsTight Lower a b = b ≤ℤ a
-IsTight Upper a b = a ≤ℤ b
+abbrev pub IsNoLooser : End → ℤ → ℤ → Type 0
+IsNoLooser Lower a b = b ≤ℤ a
+IsNoLooser Upper a b = a ≤ℤ b
 
 -- at both ends, the first pair is at least as tight as the second
-pub record AreTight (a b : Bounds) : Type 0 where
+pub record AreNoLooserPairs (a b : Bounds) : Type 0 where
   pub lower : b.lower ≤ℤ a.lower
   pub upper : a.upper ≤ℤ b.upper
 

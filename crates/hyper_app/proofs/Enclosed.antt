@@ -1,6 +1,6 @@
 -- The reported pair encloses the exact value.
 use Rattle.std.proofs.Common.{◌≡◌, ℕ, List, Option, Some, None, Ok, refl, sum, arith}
-use Rattle.position_rank.specs.Board.{IsPosition, IsLive}
+use Rattle.position_rank.specs.Placement.{IsPosition, IsLive}
 use Rattle.directed_fixed.specs.Bounds.{Bounds}
 use Rattle.cube_actions.specs.Stakes.{cubeless}
 use Rattle.turn_rule.specs.Turn.{rounds}

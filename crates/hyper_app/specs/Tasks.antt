@@ -1,7 +1,7 @@
 -- What a program's words ask for, and what is reported.
 use Rattle.std.specs.Prelude.{ℕ, ◌==◌, List, sum, Result, Ok, Err, if◌then◌else◌}
 use Rattle.hyper_app.specs.declared.task.Task.{Task}
-use Rattle.position_rank.specs.Board.{Board}
+use Rattle.position_rank.specs.Placement.{Placement}
 use Rattle.position_rank.specs.declared.text.BadPosition.{BadPosition}
 use Rattle.position_rank.specs.Text.{read_text}
 use Rattle.hyper_outside.specs.declared.outside.BadWords.{BadWords}
@@ -14,12 +14,12 @@ use Rattle.equity_report.specs.declared.refusal.Refusal.TheVariants.{Words, Posi
 use Rattle.equity_report.specs.Reports.{bound_text}
 
 -- the position has as many checkers a side as the words ask for
-abbrev pub fitting : ℕ → ℕ → Board → Result Task Refusal
+abbrev pub fitting : ℕ → ℕ → Placement → Result Task Refusal
 fitting checkers rounds p =
     if sum p.mover == checkers then Ok (record { position = p; rounds = rounds })
     else Err (Base (sum p.mover) checkers)
 
-abbrev pub with_position : Asked → Result Board BadPosition → Result Task Refusal
+abbrev pub with_position : Asked → Result Placement BadPosition → Result Task Refusal
 with_position asked (Ok p) = fitting asked.checkers asked.rounds p
 with_position asked (Err bad) = Err (Position bad)
 

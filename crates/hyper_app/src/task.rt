@@ -1,5 +1,5 @@
 ghost use Rattle.std.specs.Prelude.{◌≡◌, ℕ, IfOk};
-ghost use Rattle.position_rank.specs.Board.{IsPosition, IsLive};
+ghost use Rattle.position_rank.specs.Placement.{IsPosition, IsLive};
 ghost use Rattle.command_line.specs.Reading.{bytes_of};
 ghost use Rattle.hyper_app.specs.Tasks.{fitting, task_of};
 ghost use Rattle.hyper_app.specs.Runs.{Reads};

@@ -1,7 +1,7 @@
 ghost use Rattle.std.specs.Prelude.{◌≡◌, ◌<◌, ◌+◌, ℕ, IfOk, IfErr, IsTrue};
 ghost use Rattle.hyper_outside.specs.Causes.{HasCause, Rose};
 ghost use Rattle.hyper_outside.specs.Files.{SameFiles};
-ghost use Rattle.position_rank.specs.Board.{IsPosition, IsLive};
+ghost use Rattle.position_rank.specs.Placement.{IsPosition, IsLive};
 ghost use Rattle.cube_actions.specs.Stakes.{cubeless};
 ghost use Rattle.turn_rule.specs.Turn.{rounds};
 ghost use Rattle.turn_rule.specs.States.{pair_of};

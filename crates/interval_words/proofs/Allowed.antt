@@ -5,10 +5,10 @@ use mathlib.Core.Option.{some, none}
 use lib.ListN.{get_elem?}
 use Rattle.atomic_table.specs.Table.{State, Me, step, keeps, Allows, Splits, Joins}
 use Rattle.atomic_table.proofs.Lists.{at_set}
-use Rattle.position_rank.specs.Board.{Board}
+use Rattle.position_rank.specs.Placement.{Placement}
 use Rattle.directed_fixed.specs.declared.bounds.End.{End}
 use Rattle.directed_fixed.specs.declared.bounds.End.TheVariants.{Lower, Upper}
-use Rattle.directed_fixed.specs.Bounds.{IsTight, IsWithinUnits}
+use Rattle.directed_fixed.specs.Bounds.{IsNoLooser, IsWithinUnits}
 use Rattle.turn_rule.specs.Turn.{Words, rounds}
 use Rattle.turn_rule.specs.States.{IsState, AreWithin}
 use Rattle.interval_words.specs.declared.view.Game.{Game}
@@ -65,11 +65,11 @@ module _ (game : Game) (slots id : ℕ) (me : Mine) (alive : me.0.game ≡ Some 
         subst (λ (g : Game). IsState g.checkers g.stakes p k → place ≡ word_of end (state_of (kinds_of g) p k) → IsWithinUnits g.stakes.bound (value_of (get_or s.words place 0))) (one-game me.0 game named alive names)
         (λ state same. subst (λ (n : ℕ). IsWithinUnits game.stakes.bound (value_of (get_or s.words n 0))) (sym same) (kept.within end p k state)) state same;
     tight = λ named end p k names state same.
-        subst (λ (g : Game). IsState g.checkers g.stakes p k → place ≡ word_of end (state_of (kinds_of g) p k) → IsTight end (value_of (get_or s.words place 0)) (known g me.0 end p k)) (one-game me.0 game named alive names)
-        (λ state same. subst (λ (n : ℕ). IsTight end (value_of (get_or s.words n 0)) (known game me.0 end p k)) (sym same) (tight-tightest end (noted game me.0.notes end p k) (rounds game.stakes me.0.base end p k) _ (is.notes end p k state) (is.base end p k state))) state same;
+        subst (λ (g : Game). IsState g.checkers g.stakes p k → place ≡ word_of end (state_of (kinds_of g) p k) → IsNoLooser end (value_of (get_or s.words place 0)) (known g me.0 end p k)) (one-game me.0 game named alive names)
+        (λ state same. subst (λ (n : ℕ). IsNoLooser end (value_of (get_or s.words n 0)) (known game me.0 end p k)) (sym same) (tight-tightest end (noted game me.0.notes end p k) (rounds game.stakes me.0.base end p k) _ (is.notes end p k state) (is.base end p k state))) state same;
   }
 
-  pub reads : (end : End) (p : Board) (k : ℕ) → IsState game.checkers game.stakes p k → Allows (Holds game) slots id me (word_of end (state_of (kinds_of game) p k)) (λ n. n) (Reads (step slots (word_of end (state_of (kinds_of game) p k)) 0 0 none) me)
+  pub reads : (end : End) (p : Placement) (k : ℕ) → IsState game.checkers game.stakes p k → Allows (Holds game) slots id me (word_of end (state_of (kinds_of game) p k)) (λ n. n) (Reads (step slots (word_of end (state_of (kinds_of game) p k)) 0 0 none) me)
   reads end p k state s kept _ at _ =
       let place : ℕ = word_of end (state_of (kinds_of game) p k) in
       let core : Core = core_of game s in
@@ -78,7 +78,7 @@ module _ (game : Game) (slots id : ℕ) (me : Mine) (alive : me.0.game ≡ Some 
       let true_of : IsTrueOf game (words_in_core core) view = true-note game (words_in_core core) me.0 end p k (words_in_core core end p k) is state (tight-refl end _) in
       (view, keeps, tt, same-words game s.words (set s.views id view) place (kept-view core id view kept true_of), (refl, knows-true core kept view true_of alive, fresh s kept is place))
 
-  pub tightens : (end : End) (p : Board) (k word : ℕ) → IsLoose game me.0 end p k (value_of word) → Allows (Holds game) slots id me (word_of end (state_of (kinds_of game) p k)) (λ n. tightest_word end n word) (Tightens (step slots (word_of end (state_of (kinds_of game) p k)) word 0 none) me)
+  pub tightens : (end : End) (p : Placement) (k word : ℕ) → IsLoose game me.0 end p k (value_of word) → Allows (Holds game) slots id me (word_of end (state_of (kinds_of game) p k)) (λ n. tightest_word end n word) (Tightens (step slots (word_of end (state_of (kinds_of game) p k)) word 0 none) me)
   tightens end p k word loose s kept _ at _ =
       let place : ℕ = word_of end (state_of (kinds_of game) p k) in
       let core : Core = core_of game s in

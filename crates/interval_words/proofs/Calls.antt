@@ -4,22 +4,22 @@ use Rattle.std.proofs.lemmas.Int.{ints}
 use mathlib.Core.Option.{none}
 use Rattle.atomic_table.specs.Table.{Me, step, Allows}
 use Rattle.atomic_table.specs.Seated.{TableId}
-use Rattle.position_rank.specs.Board.{Board}
+use Rattle.position_rank.specs.Placement.{Placement}
 use Rattle.directed_fixed.specs.declared.bounds.End.{End}
-use Rattle.directed_fixed.specs.Bounds.{IsTight, IsWithinUnits}
+use Rattle.directed_fixed.specs.Bounds.{IsNoLooser, IsWithinUnits}
 use Rattle.turn_rule.specs.States.{IsState}
 use Rattle.interval_words.specs.declared.view.Game.{Game}
 use Rattle.interval_words.specs.declared.view.View.{View}
 use Rattle.interval_words.specs.Numbers.{state_of, states_in, word_of, value_of, tightest_word}
-use Rattle.interval_words.specs.Core.{IsGame, AreTighter, AreReached, kinds_of, words_in, noted, known, first_view, with_note, settled, joined}
+use Rattle.interval_words.specs.Core.{IsGame, AreNoLooserIn, AreReached, kinds_of, words_in, noted, known, first_view, with_note, settled, joined}
 use Rattle.interval_words.specs.Events.{IsLoose, IsRoundDone}
-use Rattle.interval_words.specs.Seats.{Sitting, IsNumber, MayTighten, AreKnown, Knows, noting, settling}
+use Rattle.interval_words.specs.Seats.{GameSeat, IsNumber, MayTighten, AreKnown, Knows, noting, settling}
 use Rattle.interval_words.specs.Rule.{Holds, IsFresh, Reads, Tightens, Settles}
 use Rattle.position_rank.specs.LiveRanks.{live_rank_of, live_positions}
 use Rattle.cube_actions.specs.Stakes.{Terms}
 use Rattle.interval_words.proofs.SomeState.{some-state}
 use Rattle.interval_words.proofs.Places.{state-in, word-in}
-use Rattle.turn_rule.specs.Turn.{Words, rounds, opening}
+use Rattle.turn_rule.specs.Turn.{Words, rounds, bound_words}
 use Rattle.interval_words.proofs.TurnLaws.{rounds-later, rounds-none}
 use Rattle.interval_words.proofs.Ends.{tight-refl}
 use Rattle.interval_words.proofs.Views.{noted-append}
@@ -63,17 +63,17 @@ module _ (key game : Game) (same : key ≡ game) (slots id : ℕ) (me : Mine) (v
       (settles game slots id me named (subst (λ (v : View). IsRoundDone game v) (sym mine) done))
 
 -- the seat after a step that notes a value
-pub noting-at : (seat : Sitting) (table later : TableId) (me next : Mine) (place word : ℕ) (found value : ℤ) → record { table = table; view = me.0 } ≡ seat → later ≡ table → next ≡ (with_note me.0 place found, me.1) → place ≡ word → found ≡ value → record { table = later; view = next.0 } ≡ noting seat word value
+pub noting-at : (seat : GameSeat) (table later : TableId) (me next : Mine) (place word : ℕ) (found value : ℤ) → record { table = table; view = me.0 } ≡ seat → later ≡ table → next ≡ (with_note me.0 place found, me.1) → place ≡ word → found ≡ value → record { table = later; view = next.0 } ≡ noting seat word value
 noting-at seat table later me next place word found value is table_is next_is place_is found_is =
-    let tables : later ≡ seat.table = table_is ∙ ap (λ (s : Sitting). s.table) is in
-    let views : next.0 ≡ with_note seat.view word value = ap (λ (m : Mine). m.0) next_is ∙ (λ i. with_note ((ap (λ (s : Sitting). s.view) is) i) (place_is i) (found_is i)) in
+    let tables : later ≡ seat.table = table_is ∙ ap (λ (s : GameSeat). s.table) is in
+    let views : next.0 ≡ with_note seat.view word value = ap (λ (m : Mine). m.0) next_is ∙ (λ i. with_note ((ap (λ (s : GameSeat). s.view) is) i) (place_is i) (found_is i)) in
     λ i. record { table = tables i; view = views i }
 
 -- the seat after a round
-pub settled-at : (seat : Sitting) (table later : TableId) (me next : Mine) → record { table = table; view = me.0 } ≡ seat → later ≡ table → next ≡ (settled me.0, me.1) → record { table = later; view = next.0 } ≡ settling seat
+pub settled-at : (seat : GameSeat) (table later : TableId) (me next : Mine) → record { table = table; view = me.0 } ≡ seat → later ≡ table → next ≡ (settled me.0, me.1) → record { table = later; view = next.0 } ≡ settling seat
 settled-at seat table later me next is table_is next_is =
-    let tables : later ≡ seat.table = table_is ∙ ap (λ (s : Sitting). s.table) is in
-    let views : next.0 ≡ settled seat.view = ap (λ (m : Mine). m.0) next_is ∙ ap (λ (s : Sitting). settled s.view) is in
+    let tables : later ≡ seat.table = table_is ∙ ap (λ (s : GameSeat). s.table) is in
+    let views : next.0 ≡ settled seat.view = ap (λ (m : Mine). m.0) next_is ∙ ap (λ (s : GameSeat). settled s.view) is in
     λ i. record { table = tables i; view = views i }
 
 -- there is a first word
@@ -81,7 +81,7 @@ pub word-zero : (game : Game) → IsGame game → 0 < words_in game
 word-zero game is = omega (arith, some-state game.checkers (kinds_of game) is.low is.high is.stakes.some)
 
 -- a state's number, as it is computed
-pub number-is : (kinds : ℕ) (p : Board) (k rank many : ℕ) → rank ≡ live_rank_of p → many ≡ kinds → rank * many + k ≡ state_of kinds p k
+pub number-is : (kinds : ℕ) (p : Placement) (k rank many : ℕ) → rank ≡ live_rank_of p → many ≡ kinds → rank * many + k ≡ state_of kinds p k
 unfolding state_of
 number-is kinds p k rank many ranked same = rw (ranked, same) refl
 
@@ -105,10 +105,10 @@ module _ (game : Game) (me : Mine) (view : View) (mine : me.0 ≡ view) (alive :
   pub read-within : IsNumber game state → (value : ℤ) → value_of found ≡ value → IsWithinUnits game.stakes.bound value
   read-within is value same = subst (λ (z : ℤ). IsWithinUnits game.stakes.bound z) same (found-within is)
 
-  pub read-tight : (value : ℤ) → value_of found ≡ value → (p : Board) (k : ℕ) → IsState game.checkers game.stakes p k → state ≡ state_of (kinds_of game) p k → IsTight end value (known game view end p k)
+  pub read-tight : (value : ℤ) → value_of found ≡ value → (p : Placement) (k : ℕ) → IsState game.checkers game.stakes p k → state ≡ state_of (kinds_of game) p k → IsNoLooser end value (known game view end p k)
   read-tight value same p k is number =
-      subst (λ (z : ℤ). IsTight end z (known game view end p k)) same
-      (subst (λ (v : View). IsTight end (value_of found) (known game v end p k)) mine (fresh.tight game end p k (ap (λ (v : View). v.game) mine ∙ alive) is (at ∙ ap (word_of end) number)))
+      subst (λ (z : ℤ). IsNoLooser end z (known game view end p k)) same
+      (subst (λ (v : View). IsNoLooser end (value_of found) (known game v end p k)) mine (fresh.tight game end p k (ap (λ (v : View). v.game) mine ∙ alive) is (at ∙ ap (word_of end) number)))
 
 -- what two seats know is known to the one that took in the other
 pub knows-joined : (game : Game) → IsGame game → (view other : View) → view.game ≡ Some game → other.game ≡ Some game → Knows view → Knows other → Knows (joined view other)
@@ -119,13 +119,13 @@ knows-joined game is view other names also knows those = record { notes = λ nam
       let two = (those.notes game also).reached in
       let all : Words = rounds game.stakes (one.0 + two.0) in
       let swapped : two.0 + one.0 ≡ one.0 + two.0 = omega arith in
-      let left : AreTighter game all (rounds game.stakes one.0) = rounds-later game.checkers game.stakes is.stakes one.0 two.0 in
-      let right : AreTighter game all (rounds game.stakes two.0) = subst (λ (n : ℕ). AreTighter game (rounds game.stakes n) (rounds game.stakes two.0)) swapped (rounds-later game.checkers game.stakes is.stakes two.0 one.0) in
+      let left : AreNoLooserIn game all (rounds game.stakes one.0) = rounds-later game.checkers game.stakes is.stakes one.0 two.0 in
+      let right : AreNoLooserIn game all (rounds game.stakes two.0) = subst (λ (n : ℕ). AreNoLooserIn game (rounds game.stakes n) (rounds game.stakes two.0)) swapped (rounds-later game.checkers game.stakes is.stakes two.0 one.0) in
       (one.0 + two.0, noted-append game all view.notes other.notes (tighter-trans game all _ _ left one.1) (tighter-trans game all _ _ right two.1))
 
 -- a first view tells nothing
 pub knows-first : (game : Game) → IsGame game → Knows (first_view game)
-knows-first game is = record { notes = λ named e. subst (λ (g : Game). AreKnown g []) (one-game (first_view game) game named refl e) (known-notes game is [] (0, subst (λ (u : Words). AreTighter game u (opening game.stakes)) (sym (rounds-none game.stakes)) (λ end p k state. tight-refl end _))) }
+knows-first game is = record { notes = λ named e. subst (λ (g : Game). AreKnown g []) (one-game (first_view game) game named refl e) (known-notes game is [] (0, subst (λ (u : Words). AreNoLooserIn game u (bound_words game.stakes)) (sym (rounds-none game.stakes)) (λ end p k state. tight-refl end _))) }
 
 -- how many words there are, as it is counted
 pub words-as-counted : (checkers : ℕ) (stakes : Terms) (states : ℕ) → states ≡ live_positions checkers * length stakes.kinds → 2 * states ≡ words_in (record { checkers = checkers; stakes = stakes })

@@ -7,9 +7,9 @@ use Rattle.turn_rule.specs.Turn.{rounds}
 use Rattle.turn_rule.specs.States.{AreWithin}
 use Rattle.interval_words.specs.declared.view.Game.{Game}
 use Rattle.interval_words.specs.declared.view.View.{View}
-use Rattle.interval_words.specs.Core.{Core, IsKept, IsTrueOf, AreTighter, kinds_of, words_in_core}
+use Rattle.interval_words.specs.Core.{Core, IsKept, IsTrueOf, AreNoLooserIn, kinds_of, words_in_core}
 use Rattle.interval_words.specs.Rule.{core_of, Holds}
-use Rattle.interval_words.specs.Listed.{AreRight, AreClosed, pair_at}
+use Rattle.interval_words.specs.WordLists.{AreRight, AreClosed, pair_at}
 use Rattle.interval_words.proofs.Ends.{tight-trans}
 use Rattle.interval_words.proofs.TurnLaws.{all-rounds-within, reached-sound}
 use Rattle.interval_words.proofs.Views.{All-at}
@@ -34,7 +34,7 @@ module _ (core : Core) (kept : IsKept core) (r : ℕ) where
         subst (λ (n : ℕ). IsWithin core.game.stakes.bound (pair_at core.words n)) (sym is.number) (words-within core kept is.position is.kind is.is);
   }
 
-  closed-at-end : AreTighter core.game (words_in_core core) (rounds core.game.stakes r) → AreClosed (record { game = core.game; rounds = r; list = core.words })
+  closed-at-end : AreNoLooserIn core.game (words_in_core core) (rounds core.game.stakes r) → AreClosed (record { game = core.game; rounds = r; list = core.words })
   closed-at-end tight = record {
     sound = reached-sound core.game.checkers core.game.stakes kept.game.stakes kept.reached.0 (words_in_core core) kept.reached.1;
     consistent = kept.consistent;
@@ -61,5 +61,5 @@ module _ (key game : Game) (same : key ≡ game) (id : ℕ) (me : Me (Unit {0}) 
   closed-of-last =
       let is = All-at (IsTrueOf game (words_in_core core)) end.0.views id me.0 kept.views end.1.1 in
       let bases : me.0.base ≡ r = ap (λ (v : View). v.base) mine ∙ sym base in
-      let tight : AreTighter game (words_in_core core) (rounds game.stakes r) = subst (λ (n : ℕ). AreTighter game (words_in_core core) (rounds game.stakes n)) bases is.base in
+      let tight : AreNoLooserIn game (words_in_core core) (rounds game.stakes r) = subst (λ (n : ℕ). AreNoLooserIn game (words_in_core core) (rounds game.stakes n)) bases is.base in
       subst (λ (xs : List ℕ). AreClosed (record { game = game; rounds = r; list = xs })) listed (closed-at-end core kept r tight)

@@ -3,7 +3,7 @@ use Rattle.std.proofs.Common.{◌≡◌, ◌<◌, ◌≤◌, ◌+◌, ◌-◌, �
 use Rattle.std.proofs.lemmas.Bool.{cases_lt, false≢true}
 use Rattle.std.proofs.Math.Nat.{div-lt_iff_lt-mul}
 use Rattle.std.proofs.lemmas.Nat.{div-add-mod'}
-use Rattle.position_rank.specs.Board.{Board, IsLayout, IsPosition, IsLive}
+use Rattle.position_rank.specs.Placement.{Placement, IsLayout, IsPosition, IsLive}
 use Rattle.position_rank.specs.Packed.{counts_of}
 use Rattle.position_rank.specs.PackedLaws.{length-counts_of, sum-counts_of}
 use Rattle.position_rank.specs.Ranks.{choose, layouts, rank_of, square_rank_of}
@@ -117,7 +117,7 @@ each-layout (suc (suc (suc (suc n)))) rank low high below = absurd (omega arith)
 
 -- a position at a square
 record Squared (checkers square : ℕ) : Type 0 where
-  position : Board
+  position : Placement
   valid : IsPosition position
   many : sum position.mover ≡ checkers
   ranked : square_rank_of position ≡ square
@@ -142,7 +142,7 @@ each-square checkers square low high below = elim (cases_lt 0 (layouts checkers)
 
 -- a live position with a live rank
 record Live (checkers rank : ℕ) : Type 0 where
-  position : Board
+  position : Placement
   valid : IsPosition position
   live : IsLive position
   many : sum position.mover ≡ checkers
@@ -170,7 +170,7 @@ each-live checkers rank low high (suc size) within below =
 
 -- a state with a number
 pub record Numbered (checkers kinds state : ℕ) : Type 0 where
-  pub position : Board
+  pub position : Placement
   pub kind : ℕ
   pub is : IsStateOf checkers kinds position kind
   pub number : state ≡ state_of kinds position kind

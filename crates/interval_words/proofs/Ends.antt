@@ -3,31 +3,31 @@ use Rattle.std.proofs.Common.{◌≡◌, ℕ, ℤ, arith}
 use Rattle.std.proofs.lemmas.Int.{ints, clamps}
 use Rattle.directed_fixed.specs.declared.bounds.End.{End}
 use Rattle.directed_fixed.specs.declared.bounds.End.TheVariants.{Lower, Upper}
-use Rattle.directed_fixed.specs.Bounds.{IsTight, IsWithinUnits}
+use Rattle.directed_fixed.specs.Bounds.{IsNoLooser, IsWithinUnits}
 use Rattle.interval_words.specs.Numbers.{value_of, tightest, tightest_word}
 
-pub tight-refl : (end : End) (a : ℤ) → IsTight end a a
+pub tight-refl : (end : End) (a : ℤ) → IsNoLooser end a a
 tight-refl Lower a = omega (arith, ints)
 tight-refl Upper a = omega (arith, ints)
 
-pub tight-trans : (end : End) (a b c : ℤ) → IsTight end a b → IsTight end b c → IsTight end a c
+pub tight-trans : (end : End) (a b c : ℤ) → IsNoLooser end a b → IsNoLooser end b c → IsNoLooser end a c
 tight-trans Lower a b c h j = omega (arith, ints)
 tight-trans Upper a b c h j = omega (arith, ints)
 
-pub tightest-left : (end : End) (a b : ℤ) → IsTight end (tightest end a b) a
+pub tightest-left : (end : End) (a b : ℤ) → IsNoLooser end (tightest end a b) a
 tightest-left Lower a b = omega (arith, ints, clamps)
 tightest-left Upper a b = omega (arith, ints, clamps)
 
-pub tightest-right : (end : End) (a b : ℤ) → IsTight end (tightest end a b) b
+pub tightest-right : (end : End) (a b : ℤ) → IsNoLooser end (tightest end a b) b
 tightest-right Lower a b = omega (arith, ints, clamps)
 tightest-right Upper a b = omega (arith, ints, clamps)
 
 -- what is at least as tight as both is so as the tighter one
-pub tight-tightest : (end : End) (a b c : ℤ) → IsTight end c a → IsTight end c b → IsTight end c (tightest end a b)
+pub tight-tightest : (end : End) (a b c : ℤ) → IsNoLooser end c a → IsNoLooser end c b → IsNoLooser end c (tightest end a b)
 tight-tightest Lower a b c h j = omega (arith, ints, clamps)
 tight-tightest Upper a b c h j = omega (arith, ints, clamps)
 
-pub tightest-mono : (end : End) (a b c : ℤ) → IsTight end b c → IsTight end (tightest end a b) (tightest end a c)
+pub tightest-mono : (end : End) (a b c : ℤ) → IsNoLooser end b c → IsNoLooser end (tightest end a b) (tightest end a c)
 tightest-mono Lower a b c h = omega (arith, ints, clamps)
 tightest-mono Upper a b c h = omega (arith, ints, clamps)
 

@@ -2,7 +2,7 @@
 use Rattle.std.proofs.Common.{◌≡◌, zero, suc, Bool, true, false, refl, ℕ, ◌<◌, ◌≤◌, ◌+◌, List, length, get_or, set, inl, inr, arith, subst, sym, ◌∙◌, ap, sum}
 use Rattle.std.proofs.lemmas.Bool.{cases_lt, false≢true}
 use Rattle.std.proofs.lemmas.List.{get_or-set_same, get_or-set_other}
-use Rattle.position_rank.specs.Board.{Board, IsPosition, IsLive}
+use Rattle.position_rank.specs.Placement.{Placement, IsPosition, IsLive}
 use Rattle.position_rank.specs.Ranks.{square_rank_of}
 use Rattle.position_rank.specs.LiveRanks.{is_live, live_below, live_rank_of}
 use Rattle.position_rank.proofs.LiveLaws.{live_below-none, live-counts, dead-counts, live-from, from-live}
@@ -19,7 +19,7 @@ counted-more checkers below square live inside so_far each = λ s under. elim (c
       subst (λ (n : ℕ). get_or (set below square live) n 0 ≡ live_below checkers n) (sym same) (get_or-set_same below square live 0 inside ∙ so_far))
 ]
 
-module _ (checkers square rank : ℕ) (p : Board) (is : IsPosition p) (many : sum p.mover ≡ checkers) (at : square_rank_of p ≡ square) (from : live_below checkers square ≤ rank) (to : rank < live_below checkers (square + 1)) where
+module _ (checkers square rank : ℕ) (p : Placement) (is : IsPosition p) (many : sum p.mover ≡ checkers) (at : square_rank_of p ≡ square) (from : live_below checkers square ≤ rank) (to : rank < live_below checkers (square + 1)) where
   -- a square whose next square has more than so many live positions below it is live
   pub last-live : IsLive p
   last-live = by_test (is_live p) refl where

@@ -1,7 +1,7 @@
 -- Every game has a state.
 use Rattle.std.proofs.Common.{◌≡◌, ◌≤◌, ◌<◌, ◌*◌, ◌+◌, ℕ, zero, suc, true, List, ◌∷◌, replicate, sum, arith, refl, ap, sym, ◌∙◌, inl, inr}
 use Rattle.std.proofs.lemmas.Bool.{cases_lt}
-use Rattle.position_rank.specs.Board.{Board, IsLayout, IsPosition, IsLive}
+use Rattle.position_rank.specs.Placement.{Placement, IsLayout, IsPosition, IsLive}
 use Rattle.position_rank.specs.LiveRanks.{are_apart, is_live, live_below, live_rank_of, live_positions}
 use Rattle.position_rank.specs.Ranks.{layouts, square_rank_of}
 use Rattle.position_rank.proofs.LiveLaws.{live-from, live-rank-in, live_below-none, live-counts, dead-counts}
@@ -12,7 +12,7 @@ use Rattle.interval_words.specs.Numbers.{states_in}
 first_point : ℕ → List ℕ
 first_point n = 0 ∷ n ∷ replicate 24 0
 
-near : ℕ → Board
+near : ℕ → Placement
 unfolding first_point
 near n = record { mover = first_point n; other = first_point n }
 
@@ -58,7 +58,7 @@ some-square checkers low high = elim (cases_lt 0 (layouts checkers * layouts che
       absurd (omega (arith, nothing, some-live checkers low high)))
 ]
 
-module _ (checkers last : ℕ) (all : last + 1 ≡ layouts checkers * layouts checkers) (p : Board) (is : IsPosition p) (many : sum p.mover ≡ checkers) (at : square_rank_of p ≡ last) where
+module _ (checkers last : ℕ) (all : last + 1 ≡ layouts checkers * layouts checkers) (p : Placement) (is : IsPosition p) (many : sum p.mover ≡ checkers) (at : square_rank_of p ≡ last) where
   pub all-with-last : IsLive p → live_below checkers last + 1 ≡ live_positions checkers
   all-with-last live = sym (live-counts checkers last p is many at live) ∙ ap (live_below checkers) all
 

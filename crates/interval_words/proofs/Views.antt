@@ -4,15 +4,15 @@ use Rattle.std.proofs.lemmas.Bool.{cases_order}
 use Rattle.std.proofs.lemmas.List.Elements.{All-tail}
 use mathlib.Core.Option.{some, some-injective, some-ne-none}
 use lib.ListN.{get_elem?}
-use Rattle.position_rank.specs.Board.{Board}
+use Rattle.position_rank.specs.Placement.{Placement}
 use Rattle.directed_fixed.specs.declared.bounds.End.{End}
-use Rattle.directed_fixed.specs.Bounds.{IsTight}
-use Rattle.turn_rule.specs.Turn.{Words, opening}
+use Rattle.directed_fixed.specs.Bounds.{IsNoLooser}
+use Rattle.turn_rule.specs.Turn.{Words, bound_words}
 use Rattle.turn_rule.specs.States.{IsState}
 use Rattle.interval_words.specs.declared.view.Game.{Game}
 use Rattle.interval_words.specs.declared.view.Note.{Note}
 use Rattle.interval_words.specs.Numbers.{state_of, word_of, tightest}
-use Rattle.interval_words.specs.Core.{AreTighter, kinds_of, noted}
+use Rattle.interval_words.specs.Core.{AreNoLooserIn, kinds_of, noted}
 use Rattle.interval_words.proofs.Ends.{tightest-mono, tight-refl, tight-trans, tight-tightest, tightest-left, tightest-right}
 use Rattle.interval_words.proofs.Places.{word-same, state-same}
 
@@ -39,60 +39,60 @@ by_number m n a b P hit miss = elim (cases_order m n) [
 
 module _ (game : Game) where
   -- one note more
-  pub noted-cases : (note : Note) (notes : List Note) (end : End) (p : Board) (k : ℕ) (P : ℤ → Type 0)
+  pub noted-cases : (note : Note) (notes : List Note) (end : End) (p : Placement) (k : ℕ) (P : ℤ → Type 0)
       → (note.word ≡ word_of end (state_of (kinds_of game) p k) → P (tightest end note.value (noted game notes end p k)))
       → (note.word ≢ word_of end (state_of (kinds_of game) p k) → P (noted game notes end p k))
       → P (noted game (note ∷ notes) end p k)
   noted-cases note notes end p k P hit miss = by_number note.word (word_of end (state_of (kinds_of game) p k)) (tightest end note.value (noted game notes end p k)) (noted game notes end p k) P hit miss
 
   -- no note loosens
-  pub noted-more : (note : Note) (notes : List Note) → AreTighter game (noted game (note ∷ notes)) (noted game notes)
-  noted-more note notes end p k state = noted-cases note notes end p k (λ z. IsTight end z (noted game notes end p k)) (λ hit. tightest-right end note.value (noted game notes end p k)) (λ miss. tight-refl end (noted game notes end p k))
+  pub noted-more : (note : Note) (notes : List Note) → AreNoLooserIn game (noted game (note ∷ notes)) (noted game notes)
+  noted-more note notes end p k state = noted-cases note notes end p k (λ z. IsNoLooser end z (noted game notes end p k)) (λ hit. tightest-right end note.value (noted game notes end p k)) (λ miss. tight-refl end (noted game notes end p k))
 
   -- a note is told
-  pub noted-own : (value : ℤ) (notes : List Note) (end : End) (p : Board) (k : ℕ) → IsTight end (noted game (record { word = word_of end (state_of (kinds_of game) p k); value = value } ∷ notes) end p k) value
-  noted-own value notes end p k = noted-cases (record { word = word_of end (state_of (kinds_of game) p k); value = value }) notes end p k (λ z. IsTight end z value) (λ hit. tightest-left end value (noted game notes end p k)) (λ miss. absurd (miss refl))
+  pub noted-own : (value : ℤ) (notes : List Note) (end : End) (p : Placement) (k : ℕ) → IsNoLooser end (noted game (record { word = word_of end (state_of (kinds_of game) p k); value = value } ∷ notes) end p k) value
+  noted-own value notes end p k = noted-cases (record { word = word_of end (state_of (kinds_of game) p k); value = value }) notes end p k (λ z. IsNoLooser end z value) (λ hit. tightest-left end value (noted game notes end p k)) (λ miss. absurd (miss refl))
 
   -- what holds of a note's value, and of what the other notes tell, holds of all that they tell
-  pub noted-each : (value : ℤ) (notes : List Note) (end : End) (p : Board) (k : ℕ) → IsState game.checkers game.stakes p k → (P : End → Board → ℕ → ℤ → Type 0)
+  pub noted-each : (value : ℤ) (notes : List Note) (end : End) (p : Placement) (k : ℕ) → IsState game.checkers game.stakes p k → (P : End → Placement → ℕ → ℤ → Type 0)
       → (P end p k (noted game notes end p k) → P end p k (tightest end value (noted game notes end p k)))
-      → ((d : End) (q : Board) (l : ℕ) → IsState game.checkers game.stakes q l → P d q l (noted game notes d q l))
-      → (d : End) (q : Board) (l : ℕ) → IsState game.checkers game.stakes q l → P d q l (noted game (record { word = word_of end (state_of (kinds_of game) p k); value = value } ∷ notes) d q l)
+      → ((d : End) (q : Placement) (l : ℕ) → IsState game.checkers game.stakes q l → P d q l (noted game notes d q l))
+      → (d : End) (q : Placement) (l : ℕ) → IsState game.checkers game.stakes q l → P d q l (noted game (record { word = word_of end (state_of (kinds_of game) p k); value = value } ∷ notes) d q l)
   noted-each value notes end p k is P here there d q l state =
       noted-cases (record { word = word_of end (state_of (kinds_of game) p k); value = value }) notes d q l (P d q l)
       (λ hit.
       let ends = word-same game.checkers (kinds_of game) end d _ _ hit in
       let states = state-same game.checkers (kinds_of game) p q k l is state ends.1 in
-      let Q : End → Board → ℕ → Type 0 = λ c r n. P c r n (tightest c value (noted game notes c r n)) in
+      let Q : End → Placement → ℕ → Type 0 = λ c r n. P c r n (tightest c value (noted game notes c r n)) in
       let one : Q end p k = here (there end p k is) in
       let two : Q d p k = subst (λ (c : End). Q c p k) ends.0 one in
-      let three : Q d q k = subst (λ (r : Board). Q d r k) states.0 two in
+      let three : Q d q k = subst (λ (r : Placement). Q d r k) states.0 two in
       subst (λ (n : ℕ). Q d q n) states.1 three)
       (λ miss. there d q l state)
 
   -- notes of two lists tell no more than both
-  pub noted-append : (u : Words) (ms ns : List Note) → AreTighter game u (noted game ms) → AreTighter game u (noted game ns) → AreTighter game u (noted game (ms ++ ns))
+  pub noted-append : (u : Words) (ms ns : List Note) → AreNoLooserIn game u (noted game ms) → AreNoLooserIn game u (noted game ns) → AreNoLooserIn game u (noted game (ms ++ ns))
   noted-append u [] ns one two end p k state = two end p k state
   noted-append u (m ∷ ms) ns one two end p k state =
-      let rest : AreTighter game u (noted game (ms ++ ns)) = noted-append u ms ns (λ d q l at. tight-trans d _ _ _ (one d q l at) (noted-more m ms d q l at)) two in
-      noted-cases m (ms ++ ns) end p k (IsTight end (u end p k))
-      (λ hit. tight-tightest end m.value (noted game (ms ++ ns) end p k) (u end p k) (tight-trans end _ _ _ (one end p k state) (noted-cases m ms end p k (λ z. IsTight end z m.value) (λ same. tightest-left end m.value (noted game ms end p k)) (λ miss. absurd (miss hit)))) (rest end p k state))
+      let rest : AreNoLooserIn game u (noted game (ms ++ ns)) = noted-append u ms ns (λ d q l at. tight-trans d _ _ _ (one d q l at) (noted-more m ms d q l at)) two in
+      noted-cases m (ms ++ ns) end p k (IsNoLooser end (u end p k))
+      (λ hit. tight-tightest end m.value (noted game (ms ++ ns) end p k) (u end p k) (tight-trans end _ _ _ (one end p k state) (noted-cases m ms end p k (λ z. IsNoLooser end z m.value) (λ same. tightest-left end m.value (noted game ms end p k)) (λ miss. absurd (miss hit)))) (rest end p k state))
       (λ miss. rest end p k state)
 
   -- notes tell no less than the bound
-  pub noted-opening : (notes : List Note) → AreTighter game (noted game notes) (opening game.stakes)
-  noted-opening [] end p k state = tight-refl end (opening game.stakes end p k)
+  pub noted-opening : (notes : List Note) → AreNoLooserIn game (noted game notes) (bound_words game.stakes)
+  noted-opening [] end p k state = tight-refl end (bound_words game.stakes end p k)
   noted-opening (n ∷ ns) end p k state = tight-trans end _ _ _ (noted-more n ns end p k state) (noted-opening ns end p k state)
 
   -- notes of two lists tell no less than those of each
-  pub noted-second : (ms ns : List Note) → AreTighter game (noted game (ms ++ ns)) (noted game ns)
+  pub noted-second : (ms ns : List Note) → AreNoLooserIn game (noted game (ms ++ ns)) (noted game ns)
   noted-second [] ns end p k state = tight-refl end (noted game ns end p k)
   noted-second (m ∷ ms) ns end p k state = tight-trans end _ _ _ (noted-more m (ms ++ ns) end p k state) (noted-second ms ns end p k state)
 
-  pub noted-first : (ms ns : List Note) → AreTighter game (noted game (ms ++ ns)) (noted game ms)
+  pub noted-first : (ms ns : List Note) → AreNoLooserIn game (noted game (ms ++ ns)) (noted game ms)
   noted-first [] ns end p k state = noted-opening ns end p k state
   noted-first (m ∷ ms) ns end p k state =
       let rest = noted-first ms ns end p k state in
-      noted-cases m (ms ++ ns) end p k (λ z. IsTight end z (noted game (m ∷ ms) end p k))
-      (λ hit. noted-cases m ms end p k (IsTight end (tightest end m.value (noted game (ms ++ ns) end p k))) (λ same. tightest-mono end m.value _ _ rest) (λ miss. absurd (miss hit)))
-      (λ miss. noted-cases m ms end p k (IsTight end (noted game (ms ++ ns) end p k)) (λ hit. absurd (miss hit)) (λ other. rest))
+      noted-cases m (ms ++ ns) end p k (λ z. IsNoLooser end z (noted game (m ∷ ms) end p k))
+      (λ hit. noted-cases m ms end p k (IsNoLooser end (tightest end m.value (noted game (ms ++ ns) end p k))) (λ same. tightest-mono end m.value _ _ rest) (λ miss. absurd (miss hit)))
+      (λ miss. noted-cases m ms end p k (IsNoLooser end (noted game (ms ++ ns) end p k)) (λ hit. absurd (miss hit)) (λ other. rest))

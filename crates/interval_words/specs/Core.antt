@@ -1,11 +1,11 @@
 -- The core of a game: its words, and for each seat a view, what the seat knows of the words.
 use Rattle.std.specs.Prelude.{◌≡◌, ◌≤◌, ◌==◌, ℕ, ◌+◌, ◌*◌, ℤ, List, [], ◌∷◌, ◌++◌, All, Some, None, length, max, if◌then◌else◌}
-use Rattle.position_rank.specs.Board.{Board}
+use Rattle.position_rank.specs.Placement.{Placement}
 use Rattle.directed_fixed.specs.declared.bounds.End.{End}
 use Rattle.directed_fixed.specs.Bounds.{IsWithinUnits}
 use Rattle.cube_actions.specs.Stakes.{IsValid}
-use Rattle.turn_rule.specs.Turn.{Words, opening, rounds}
-use Rattle.turn_rule.specs.States.{IsState, AreTightWords, Agree}
+use Rattle.turn_rule.specs.Turn.{Words, bound_words, rounds}
+use Rattle.turn_rule.specs.States.{IsState, AreNoLooser, Agree}
 use Rattle.turn_rule.specs.Truth.{AreConsistent}
 use Rattle.interval_words.specs.declared.view.Game.{Game}
 use Rattle.interval_words.specs.declared.view.Note.{Note}
@@ -26,12 +26,12 @@ abbrev pub words_in : Game → ℕ
 words_in game = 2 * states_in game.checkers (kinds_of game)
 
 -- in each state, the first words are at least as tight as the second
-abbrev pub AreTighter : Game → Words → Words → Type 0
-AreTighter game = AreTightWords game.checkers game.stakes
+abbrev pub AreNoLooserIn : Game → Words → Words → Type 0
+AreNoLooserIn game = AreNoLooser game.checkers game.stakes
 
 -- what notes tell of each word: the tightest note of it, or else only the bound
 abbrev pub noted : Game → List Note → Words
-noted game [] end p k = opening game.stakes end p k
+noted game [] end p k = bound_words game.stakes end p k
 noted game (note ∷ notes) end p k = if note.word == word_of end (state_of (kinds_of game) p k) then tightest end note.value (noted game notes end p k) else noted game notes end p k
 
 -- what a view tells of each word: its note, or the word after the rounds of its base where that is tighter
@@ -40,18 +40,18 @@ known game view end p k = tightest end (noted game view.notes end p k) (rounds g
 
 -- words that are no tighter than those after some number of rounds
 abbrev pub AreReached : Game → Words → Type 0
-AreReached game u = (r : ℕ) × AreTighter game (rounds game.stakes r) u
+AreReached game u = (r : ℕ) × AreNoLooserIn game (rounds game.stakes r) u
 
 -- each word is within the bound
 abbrev pub AreInBound : Game → Words → Type 0
-AreInBound game u = (end : End) (p : Board) (k : ℕ) → IsState game.checkers game.stakes p k → IsWithinUnits game.stakes.bound (u end p k)
+AreInBound game u = (end : End) (p : Placement) (k : ℕ) → IsState game.checkers game.stakes p k → IsWithinUnits game.stakes.bound (u end p k)
 
 -- a view over words: the game that it names is theirs, no note is tighter than its word, and the words are at least as tight as those after
 -- the rounds of its base
 pub record IsTrueOf (game : Game) (u : Words) (view : View) : Type 0 where
   pub names : (named : Game) → view.game ≡ Some named → named ≡ game
-  pub notes : AreTighter game u (noted game view.notes)
-  pub base : AreTighter game u (rounds game.stakes view.base)
+  pub notes : AreNoLooserIn game u (noted game view.notes)
+  pub base : AreNoLooserIn game u (rounds game.stakes view.base)
 
 -- a game, the list of its words, and a view for each seat
 pub record Core : Type 0 where
@@ -73,10 +73,10 @@ pub record IsKept (core : Core) : Type 0 where
   pub views : All (IsTrueOf core.game (words_in_core core)) core.views
 
 -- at the start only the bound is known, and there is no view
-pub record IsOpening (core : Core) : Type 0 where
+pub record IsFirstCore (core : Core) : Type 0 where
   pub game : IsGame core.game
   pub long : length core.words ≡ words_in core.game
-  pub words : Agree core.game.checkers core.game.stakes (words_in_core core) (opening core.game.stakes)
+  pub words : Agree core.game.checkers core.game.stakes (words_in_core core) (bound_words core.game.stakes)
   pub views : core.views ≡ []
 
 -- a first view of a game, which tells nothing

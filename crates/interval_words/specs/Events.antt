@@ -1,23 +1,23 @@
 -- What may happen to a core.
 use Rattle.std.specs.Prelude.{◌≡◌, ◌≢◌, ℕ, ◌+◌, ℤ, List, [], ◌∷◌, ◌++◌, Some, slice_index, slice_index_or, slice_set}
-use Rattle.position_rank.specs.Board.{Board}
+use Rattle.position_rank.specs.Placement.{Placement}
 use Rattle.directed_fixed.specs.declared.bounds.End.{End}
 use Rattle.directed_fixed.specs.declared.bounds.End.TheVariants.{Lower, Upper}
-use Rattle.directed_fixed.specs.Bounds.{IsTight, IsWithinUnits}
+use Rattle.directed_fixed.specs.Bounds.{IsNoLooser, IsWithinUnits}
 use Rattle.turn_rule.specs.Turn.{turn, rounds}
 use Rattle.turn_rule.specs.States.{IsState}
 use Rattle.interval_words.specs.declared.view.Game.{Game}
 use Rattle.interval_words.specs.declared.view.View.{View}
 use Rattle.interval_words.specs.Numbers.{state_of, word_of, value_of, tightest_word}
-use Rattle.interval_words.specs.Core.{Core, AreTighter, kinds_of, words_in_core, noted, known, first_view, with_note, settled, joined, spent}
+use Rattle.interval_words.specs.Core.{Core, AreNoLooserIn, kinds_of, words_in_core, noted, known, first_view, with_note, settled, joined, spent}
 
 -- An event of a view, which is told by its number among the views, and of a word, which is told by its state and its end.
 -- A raise and a lowering bring the word of a value.
 pub data Event : Type 0 where
   opens : Event
-  reads : ℕ → End → Board → ℕ → Event
-  raises : ℕ → Board → ℕ → ℕ → Event
-  lowers : ℕ → Board → ℕ → ℕ → Event
+  reads : ℕ → End → Placement → ℕ → Event
+  raises : ℕ → Placement → ℕ → ℕ → Event
+  lowers : ℕ → Placement → ℕ → ℕ → Event
   settles : ℕ → Event
   splits : ℕ → Event
   joins : ℕ → ℕ → Event
@@ -30,14 +30,14 @@ abbrev pub IsAlive : Core → ℕ → Type 0
 IsAlive core id = (view_at core id).game ≡ Some core.game
 
 -- a value for this end of a state is within the bound, and no tighter than the turn over what the notes tell
-pub record IsLoose (game : Game) (view : View) (end : End) (p : Board) (k : ℕ) (value : ℤ) : Type 0 where
+pub record IsLoose (game : Game) (view : View) (end : End) (p : Placement) (k : ℕ) (value : ℤ) : Type 0 where
   pub state : IsState game.checkers game.stakes p k
   pub within : IsWithinUnits game.stakes.bound value
-  pub loose : IsTight end (turn game.stakes (noted game view.notes) end p k) value
+  pub loose : IsNoLooser end (turn game.stakes (noted game view.notes) end p k) value
 
 -- what a view tells is at least as tight as the words after one round more than its base
 abbrev pub IsRoundDone : Game → View → Type 0
-IsRoundDone game view = AreTighter game (known game view) (rounds game.stakes (view.base + 1))
+IsRoundDone game view = AreNoLooserIn game (known game view) (rounds game.stakes (view.base + 1))
 
 -- when an event is allowed
 abbrev pub IsAllowed : Core → Event → Type 0
@@ -56,7 +56,7 @@ abbrev pub with_new_view : Core → View → Core
 with_new_view core view = record core { views = core.views ++ view ∷ [] }
 
 -- a word becomes the tighter of itself and another, which is noted
-abbrev pub tightened : Core → ℕ → End → Board → ℕ → ℕ → Core
+abbrev pub tightened : Core → ℕ → End → Placement → ℕ → ℕ → Core
 tightened core id end p k word =
     let number = word_of end (state_of (kinds_of core.game) p k) in
     record core { words = slice_set core.words number (tightest_word end (slice_index core.words number) word); views = slice_set core.views id (with_note (view_at core id) number (value_of word)) }

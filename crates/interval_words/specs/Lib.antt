@@ -4,4 +4,4 @@ pub mod Core
 pub mod Events
 pub mod Seats
 pub mod Rule
-pub mod Listed
+pub mod WordLists

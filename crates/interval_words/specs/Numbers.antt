@@ -1,14 +1,14 @@
 -- How words stand in a list: two for each state, by rising live rank of the position, then kind, the lower word first.
 use Rattle.std.specs.Prelude.{◌≡◌, ◌<◌, ℕ, ◌+◌, ◌*◌, ◌^◌, max, min, ℤ, pos, neg_ℤ, ◌-ℤ◌, List, length, slice_index}
 use Rattle.std.specs.Int.{int_max, int_min}
-use Rattle.position_rank.specs.Board.{Board}
+use Rattle.position_rank.specs.Placement.{Placement}
 use Rattle.position_rank.specs.LiveRanks.{live_rank_of, live_positions}
 use Rattle.directed_fixed.specs.declared.bounds.End.{End}
 use Rattle.directed_fixed.specs.declared.bounds.End.TheVariants.{Lower, Upper}
 use Rattle.turn_rule.specs.Turn.{Words}
 
 -- the number of a state, in a game of so many kinds
-unfoldable pub state_of : ℕ → Board → ℕ → ℕ
+unfoldable pub state_of : ℕ → Placement → ℕ → ℕ
 state_of kinds p k = live_rank_of p * kinds + k
 
 -- how many states there are of so many checkers and kinds
@@ -39,7 +39,7 @@ tightest_word Lower a b = max a b
 tightest_word Upper a b = min a b
 
 -- two words for each of so many states, whose values are the bound on both sides of 0
-pub record AreOpeningWords (bound : ℤ) (states : ℕ) (list : List ℕ) : Type 0 where
+pub record AreBoundWords (bound : ℤ) (states : ℕ) (list : List ℕ) : Type 0 where
   pub long : length list ≡ 2 * states
   pub lower : (state : ℕ) → state < states → value_of (slice_index list (word_of Lower state)) ≡ neg_ℤ bound
   pub upper : (state : ℕ) → state < states → value_of (slice_index list (word_of Upper state)) ≡ bound

@@ -1,6 +1,6 @@
 -- A board, and seats at it.
 use Rattle.std.specs.Prelude.{◌≡◌, ◌<◌, ◌^◌, ℕ, ℤ, List, Some}
-use Rattle.position_rank.specs.Board.{Board}
+use Rattle.position_rank.specs.Placement.{Placement}
 use Rattle.atomic_table.specs.Seated.{TableId}
 use Rattle.directed_fixed.specs.declared.bounds.End.{End}
 use Rattle.turn_rule.specs.States.{IsState, AreWithin}
@@ -12,42 +12,42 @@ use Rattle.interval_words.specs.Core.{IsGame, AreReached, kinds_of, words_in, no
 use Rattle.interval_words.specs.Events.{IsLoose}
 
 -- a board: which table it is, and its game
-pub record Standing : Type 0 where
+pub record GameTable : Type 0 where
   pub table : TableId
   pub game : Game
 
 -- a seat: the table that it is at, and what it knows
-pub record Sitting : Type 0 where
+pub record GameSeat : Type 0 where
   pub table : TableId
   pub view : View
 
 -- the seat is at this board, and its view is of the board's game
-pub record SitsAt (board : Standing) (seat : Sitting) : Type 0 where
+pub record SitsAt (board : GameTable) (seat : GameSeat) : Type 0 where
   pub table : seat.table ≡ board.table
   pub game : seat.view.game ≡ Some board.game
 
 -- the seat with one note more
-abbrev pub noting : Sitting → ℕ → ℤ → Sitting
+abbrev pub noting : GameSeat → ℕ → ℤ → GameSeat
 noting seat word value = record seat { view = with_note seat.view word value }
 
 -- the seat after one round more
-abbrev pub settling : Sitting → Sitting
+abbrev pub settling : GameSeat → GameSeat
 settling seat = record seat { view = settled seat.view }
 
 -- the seat that took in another
-abbrev pub joining : Sitting → Sitting → Sitting
+abbrev pub joining : GameSeat → GameSeat → GameSeat
 joining seat other = record seat { view = joined seat.view other.view }
 
 -- this is the number of a state of the game
 pub record IsNumber (game : Game) (state : ℕ) : Type 0 where
-  pub position : Board
+  pub position : Placement
   pub kind : ℕ
   pub is : IsState game.checkers game.stakes position kind
   pub number : state ≡ state_of (kinds_of game) position kind
 
 -- this is the number of a state, for which the value is loose enough: within the bound, and no tighter than the turn over what the notes tell
 pub record MayTighten (end : End) (game : Game) (view : View) (state : ℕ) (value : ℤ) : Type 0 where
-  pub position : Board
+  pub position : Placement
   pub kind : ℕ
   pub number : state ≡ state_of (kinds_of game) position kind
   pub loose : IsLoose game view end position kind value

@@ -1,15 +1,15 @@
 ghost use Rattle.std.specs.Prelude.{◌≡◌, ◌<◌, ◌≤◌, ◌^◌, ℕ, pos, ◌≤ℤ◌, IfOk};
-ghost use Rattle.position_rank.specs.Board.{Board as Places};
+ghost use Rattle.position_rank.specs.Placement.{Placement};
 ghost use Rattle.position_rank.specs.Ranks.{square_rank_of};
 ghost use Rattle.directed_fixed.specs.declared.bounds.End.TheVariants.{Lower, Upper};
-ghost use Rattle.directed_fixed.specs.Bounds.{IsTight, IsWithinUnits};
+ghost use Rattle.directed_fixed.specs.Bounds.{IsNoLooser, IsWithinUnits};
 ghost use Rattle.turn_rule.specs.States.{IsState};
-ghost use Rattle.interval_words.specs.Numbers.{state_of, states_in, word_of, AreOpeningWords};
+ghost use Rattle.interval_words.specs.Numbers.{state_of, states_in, word_of, AreBoundWords};
 ghost use Rattle.interval_words.specs.Core.{kinds_of, known, first_view};
 ghost use Rattle.interval_words.specs.Events.{IsRoundDone};
-ghost use Rattle.interval_words.specs.Listed.{AreClosed};
+ghost use Rattle.interval_words.specs.WordLists.{AreClosed};
 ghost use Rattle.std.specs.Slots.{slots_items, slots_len, IsFull};
-ghost use Rattle.interval_words.specs.Seats.{Sitting, SitsAt, IsNumber, MayTighten, Knows, noting, settling, joining};
+ghost use Rattle.interval_words.specs.Seats.{GameSeat, SitsAt, IsNumber, MayTighten, Knows, noting, settling, joining};
 
 use crate::live_index::LiveIndex;
 use crate::number::{state_count, state_number, state_number_at};
@@ -34,9 +34,9 @@ pub struct Board {
 }
 
 impl Model for Board {
-    ghost use Rattle.interval_words.specs.Seats.{Standing, Stands};
+    ghost use Rattle.interval_words.specs.Seats.{GameTable, Stands};
 
-    ghost Value = { Standing };
+    ghost Value = { GameTable };
 
     ghost view = { λ b. record { table = b.table.shared.table_id; game = record { checkers = b.index; stakes = b.stakes } } };
 
@@ -52,9 +52,9 @@ pub struct BoardSeat {
 
 impl Model for BoardSeat {
     ghost use Rattle.std.specs.Prelude.{◌≡◌, []};
-    ghost use Rattle.interval_words.specs.Seats.{Sitting, Knows};
+    ghost use Rattle.interval_words.specs.Seats.{GameSeat, Knows};
 
-    ghost Value = { Sitting };
+    ghost Value = { GameSeat };
 
     ghost view = { λ s. record { table = s.seat.table_id; view = s.seat.me.0 } };
 
@@ -71,11 +71,11 @@ impl BoardSeat {
 }
 
 /// The lower and the upper word of each of so many states, of which only the bound is known.
-fn opening_words(alloc: Global, states: usize, bound: Fixed) -> Result<Vec<u64>, AllocError>
+fn bound_words_list(alloc: Global, states: usize, bound: Fixed) -> Result<Vec<u64>, AllocError>
     requires small { states < 2 ^ 40 }
     requires from { pos 0 ≤ℤ bound }
     requires to { bound ≤ℤ pos (2 ^ 36) }
-    ensures { IfOk result (λ words. AreOpeningWords bound states words.items) }
+    ensures { IfOk result (λ words. AreBoundWords bound states words.items) }
 {
     let lower = to_word(bound.neg());
     let upper = to_word(bound);
@@ -114,7 +114,7 @@ impl Board {
         ensures seat { IfOk result (λ made. made.1 ≡ record { table = made.0.table; view = first_view made.0.game }) }
     {
         let index = LiveIndex::new(alloc, checkers)?;
-        let words = opening_words(alloc, state_count(&index, stakes), stakes.bound())?;
+        let words = bound_words_list(alloc, state_count(&index, stakes), stakes.bound())?;
         let game = Game {
             checkers,
             stakes: stakes.copied(),
@@ -202,7 +202,7 @@ impl Board {
         ensures seat { seat.new ≡ noting seat.old (word_of end state) result }
         ensures knows { Knows seat.new.view }
         ensures within { IsWithinUnits self.now.game.stakes.bound result }
-        ensures tight { (p : Places) (k : ℕ) → IsState self.now.game.checkers self.now.game.stakes p k → state ≡ state_of (kinds_of self.now.game) p k → IsTight end result (known self.now.game seat.old.view end p k) }
+        ensures tight { (p : Placement) (k : ℕ) → IsState self.now.game.checkers self.now.game.stakes p k → state ≡ state_of (kinds_of self.now.game) p k → IsNoLooser end result (known self.now.game seat.old.view end p k) }
     {
         let place = self.place(end, state);
         let word = self.table.shared.load::<Reading>(&mut seat.seat, place);
@@ -217,7 +217,7 @@ impl Board {
         ensures seat { seat.new ≡ noting seat.old (word_of Lower state) result }
         ensures knows { Knows seat.new.view }
         ensures within { IsWithinUnits self.now.game.stakes.bound result }
-        ensures tight { (p : Places) (k : ℕ) → IsState self.now.game.checkers self.now.game.stakes p k → state ≡ state_of (kinds_of self.now.game) p k → IsTight Lower result (known self.now.game seat.old.view Lower p k) }
+        ensures tight { (p : Placement) (k : ℕ) → IsState self.now.game.checkers self.now.game.stakes p k → state ≡ state_of (kinds_of self.now.game) p k → IsNoLooser Lower result (known self.now.game seat.old.view Lower p k) }
     {
         self.read(seat, End::Lower, state)
     }
@@ -230,7 +230,7 @@ impl Board {
         ensures seat { seat.new ≡ noting seat.old (word_of Upper state) result }
         ensures knows { Knows seat.new.view }
         ensures within { IsWithinUnits self.now.game.stakes.bound result }
-        ensures tight { (p : Places) (k : ℕ) → IsState self.now.game.checkers self.now.game.stakes p k → state ≡ state_of (kinds_of self.now.game) p k → IsTight Upper result (known self.now.game seat.old.view Upper p k) }
+        ensures tight { (p : Placement) (k : ℕ) → IsState self.now.game.checkers self.now.game.stakes p k → state ≡ state_of (kinds_of self.now.game) p k → IsNoLooser Upper result (known self.now.game seat.old.view Upper p k) }
     {
         self.read(seat, End::Upper, state)
     }

@@ -1,6 +1,6 @@
 ghost use Rattle.std.specs.Prelude.{◌≡◌, ℕ, ◌<◌, ◌≤◌, ◌+◌, ◌*◌, ◌^◌, IfOk, sum};
 ghost use Rattle.position_rank.specs.Ranks.{layouts, square_rank_of};
-ghost use Rattle.position_rank.specs.Board.{IsPosition, IsLive};
+ghost use Rattle.position_rank.specs.Placement.{IsPosition, IsLive};
 ghost use Rattle.position_rank.specs.LiveRanks.{live_below, live_positions, live_rank_of};
 
 use hyper_outside::NoMemory;

@@ -1,7 +1,7 @@
 ghost use Rattle.std.specs.Prelude.{◌≡◌, ◌≤ℤ◌, pos, [], ◌∷◌, sum};
-ghost use Rattle.position_rank.specs.Board.{IsPosition, IsLive};
+ghost use Rattle.position_rank.specs.Placement.{IsPosition, IsLive};
 ghost use Rattle.position_rank.specs.Packed.{counts_of};
-ghost use Rattle.cube_actions.specs.Stakes.{cubeless, points};
+ghost use Rattle.cube_actions.specs.Stakes.{cubeless, point_units};
 ghost use Rattle.turn_rule.specs.States.{IsState};
 ghost use Rattle.interval_words.specs.Seats.{SitsAt};
 
@@ -35,7 +35,7 @@ fn raise_near(board: &Board, seat: &mut BoardSeat, near: &Position, value: Fixed
     requires near { near.now ≡ record { mover = counts_of (1 ∷ []); other = counts_of (1 ∷ []) } }
     requires state { IsState 1 cubeless near.now 0 }
     requires from { pos 0 ≤ℤ value }
-    requires to { value ≤ℤ points 2 }
+    requires to { value ≤ℤ point_units 2 }
     ensures seat { SitsAt board.now seat.new }
     ensures base { seat.new.view.base ≡ seat.old.view.base }
 {

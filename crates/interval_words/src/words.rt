@@ -2,7 +2,7 @@ ghost use Rattle.std.specs.Prelude.{◌≡◌, ◌<◌, ◌≤◌, ◌+◌, ◌*
 ghost use Rattle.directed_fixed.specs.Bounds.{IsWithin};
 ghost use Rattle.turn_rule.specs.Looks.{AreStakesOf};
 ghost use Rattle.turn_rule.specs.States.{IsState, AreWithin, pair_of};
-ghost use Rattle.interval_words.specs.Listed.{Listed, AreRight, AreClosed, IsWidest, words_in_list, pair_at, source_of};
+ghost use Rattle.interval_words.specs.WordLists.{WordList, AreRight, AreClosed, IsWidest, words_in_list, pair_at, source_of};
 
 use crate::live_index::LiveIndex;
 use crate::number::{state_count, state_number};
@@ -23,9 +23,9 @@ pub struct Words {
 }
 
 impl Model for Words {
-    ghost use Rattle.interval_words.specs.Listed.{Listed, AreRight};
+    ghost use Rattle.interval_words.specs.WordLists.{WordList, AreRight};
 
-    ghost Value = { Listed };
+    ghost Value = { WordList };
 
     ghost view = { λ a. record { game = record { checkers = a.index; stakes = a.stakes }; rounds = a.rounds; list = a.list.items } };
 
@@ -162,9 +162,9 @@ pub struct Closed {
 }
 
 impl Model for Closed {
-    ghost use Rattle.interval_words.specs.Listed.{Listed, AreClosed};
+    ghost use Rattle.interval_words.specs.WordLists.{WordList, AreClosed};
 
-    ghost Value = { Listed };
+    ghost Value = { WordList };
 
     ghost view = { λ a. a.words };
 

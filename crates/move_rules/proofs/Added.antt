@@ -1,7 +1,7 @@
 -- Entries as lines, and what adding lines to them leaves.
 use Rattle.std.proofs.Common.{◌≡◌, ◌≢◌, ◌≤◌, ◌<◌, ◌+◌, ◌-◌, ℕ, zero, suc, List, [], ◌∷◌, ◌++◌, length, take, drop, get_or, Some, None, ◌⊎◌, inl, inr, refl, ap, subst, sym, ◌∙◌, arith, add-one, length-append}
 use Rattle.std.proofs.lemmas.List.{append-nil, take-append-le, take_all}
-use Rattle.position_rank.specs.Board.{Board}
+use Rattle.position_rank.specs.Placement.{Placement}
 use Rattle.std.proofs.lemmas.Bool.{cases_lt}
 use Rattle.std.specs.List.{flat_map}
 use Rattle.move_rules.specs.Ends.{Line, down_from, places, after_move}
@@ -14,18 +14,18 @@ end_at [] i d h = absurd (omega arith)
 end_at (e ∷ entries) zero d h = inl refl
 end_at (e ∷ entries) (suc i) d h = inr (end_at entries i d (omega arith))
 
-pub reaches-at : (entries : List Entry) (i : ℕ) (entry : Entry) (end : Board) → i < length entries → entry ≡ get_or entries i entry → entry.end ≡ end → Reaches (lines_of entries) end
+pub reaches-at : (entries : List Entry) (i : ℕ) (entry : Entry) (end : Placement) → i < length entries → entry ≡ get_or entries i entry → entry.end ≡ end → Reaches (lines_of entries) end
 reaches-at entries i entry end h e same =
-    subst (λ (q : Board). Reaches (lines_of entries) q) (ap (λ (x : Entry). x.end) (sym e) ∙ same) (end_at entries i entry h)
+    subst (λ (q : Placement). Reaches (lines_of entries) q) (ap (λ (x : Entry). x.end) (sym e) ∙ same) (end_at entries i entry h)
 
-end_cases : (entries : List Entry) (i : ℕ) (d : Entry) (end : Board) → i < length entries → Reaches (lines_of (take (suc i) entries)) end → Reaches (lines_of (take i entries)) end ⊎ (end ≡ (get_or entries i d).end)
+end_cases : (entries : List Entry) (i : ℕ) (d : Entry) (end : Placement) → i < length entries → Reaches (lines_of (take (suc i) entries)) end → Reaches (lines_of (take i entries)) end ⊎ (end ≡ (get_or entries i d).end)
 end_cases [] i d end h r = absurd (omega arith)
 end_cases (e ∷ entries) zero d end h (inl here) = inr here
 end_cases (e ∷ entries) zero d end h (inr there) = inl there
 end_cases (e ∷ entries) (suc i) d end h (inl here) = inl (inl here)
 end_cases (e ∷ entries) (suc i) d end h (inr there) = elim (end_cases entries i d end (omega arith) there) [ inl a ↦ inl (inr a) | inr b ↦ inr b ]
 
-pub reaches-more : (entries : List Entry) (i : ℕ) (entry : Entry) (end : Board) → i < length entries → entry ≡ get_or entries i entry
+pub reaches-more : (entries : List Entry) (i : ℕ) (entry : Entry) (end : Placement) → i < length entries → entry ≡ get_or entries i entry
     → (Reaches (lines_of (take i entries)) end → ⊥) → (entry.end ≡ end → ⊥) → Reaches (lines_of (take (i + 1) entries)) end → ⊥
 reaches-more entries i entry end h e before here r = elim (end_cases entries i entry end h (rw add-one at r)) [
   | inl a ↦ before a
@@ -46,15 +46,15 @@ Adds-length found (line ∷ lines) after (inr (new, a)) = omega (arith, Adds-len
 
 -- ---- places that hold no checker add nothing
 
-pub full_from-empty : (later : List Move → Board → List Line) (moves : List Move) (p : Board) (die from : ℕ) → get_or p.mover from 0 ≡ 0 → full_from later moves p die from ≡ []
+pub full_from-empty : (later : List Move → Placement → List Line) (moves : List Move) (p : Placement) (die from : ℕ) → get_or p.mover from 0 ≡ 0 → full_from later moves p die from ≡ []
 unfolding full_from after_move
 full_from-empty later moves p die from e = rw e refl
 
-pub full_from-none : (later : List Move → Board → List Line) (moves : List Move) (p : Board) (die from : ℕ) → after_move p die from ≡ None → full_from later moves p die from ≡ []
+pub full_from-none : (later : List Move → Placement → List Line) (moves : List Move) (p : Placement) (die from : ℕ) → after_move p die from ≡ None → full_from later moves p die from ≡ []
 unfolding full_from
 full_from-none later moves p die from e = rw e refl
 
-pub full_from-some : (later : List Move → Board → List Line) (moves : List Move) (p : Board) (die from : ℕ) (q : Board) → after_move p die from ≡ Some q
+pub full_from-some : (later : List Move → Placement → List Line) (moves : List Move) (p : Placement) (die from : ℕ) (q : Placement) → after_move p die from ≡ Some q
     → full_from later moves p die from ≡ later (moves ++ record { from = from; die = die } ∷ []) q
 unfolding full_from
 full_from-some later moves p die from q e = rw e (append-nil (later (moves ++ record { from = from; die = die } ∷ []) q))
@@ -67,43 +67,43 @@ skip F low (suc n) h none = elim (cases_lt low (suc n)) [
 ]
 
 -- what is still to be added when the places above this one are done
-abbrev pub still : List ℕ → List Move → Board → ℕ → List Line
+abbrev pub still : List ℕ → List Move → Placement → ℕ → List Line
 still dice moves p from = flat_map (full_from (full (drop 1 dice)) moves p (get_or dice 0 0)) (down_from from)
 
-still-here : (dice : List ℕ) (moves : List Move) (p : Board) (from low : ℕ) → low < from → ((k : ℕ) → low < k → k < from → get_or p.mover k 0 ≡ 0)
+still-here : (dice : List ℕ) (moves : List Move) (p : Placement) (from low : ℕ) → low < from → ((k : ℕ) → low < k → k < from → get_or p.mover k 0 ≡ 0)
     → still dice moves p from ≡ full_from (full (drop 1 dice)) moves p (get_or dice 0 0) from ++ still dice moves p low
 still-here dice moves p zero low h empty = absurd (omega arith)
 still-here dice moves p (suc n) low h empty =
     let F : ℕ → List Line = full_from (full (drop 1 dice)) moves p (get_or dice 0 0) in
     ap (λ (x : List Line). F (suc n) ++ x) (skip F low n (omega arith) (λ k a b. full_from-empty (full (drop 1 dice)) moves p (get_or dice 0 0) k (empty k a (omega arith))))
 
-pub full-still : (dice : List ℕ) (moves : List Move) (p : Board) (low : ℕ) → 0 < length dice → low ≤ 25 → ((k : ℕ) → low < k → k < 26 → get_or p.mover k 0 ≡ 0)
+pub full-still : (dice : List ℕ) (moves : List Move) (p : Placement) (low : ℕ) → 0 < length dice → low ≤ 25 → ((k : ℕ) → low < k → k < 26 → get_or p.mover k 0 ≡ 0)
     → full dice moves p ≡ still dice moves p low
 unfolding full places
 full-still [] moves p low h within empty = absurd (omega arith)
 full-still (die ∷ dice) moves p low h within empty =
     skip (full_from (full dice) moves p die) low 25 within (λ k a b. full_from-empty (full dice) moves p die k (empty k a (omega arith)))
 
-pub full-end : (dice : List ℕ) (moves : List Move) (p : Board) → length dice ≡ 0 → full dice moves p ≡ (moves, p) ∷ []
+pub full-end : (dice : List ℕ) (moves : List Move) (p : Placement) → length dice ≡ 0 → full dice moves p ≡ (moves, p) ∷ []
 unfolding full
 full-end [] moves p h = refl
 full-end (die ∷ dice) moves p h = absurd (omega arith)
 
 -- while lines are added, from the highest place on
-pub record AddsUpTo (dice : List ℕ) (moves : List Move) (p : Board) (found : List Line) (from : ℕ) (now : List Move) (after : List Line) : Type 0 where
+pub record AddsUpTo (dice : List ℕ) (moves : List Move) (p : Placement) (found : List Line) (from : ℕ) (now : List Move) (after : List Line) : Type 0 where
   pub place : from ≤ 25
   pub held : 0 < from → 0 < get_or p.mover from 0
   pub same : now ≡ moves
   pub room : length after + length (still dice moves p from) ≤ 81
   pub then : (all : List Line) → Adds after (still dice moves p from) all → Adds found (full dice moves p) all
 
-pub adds-begin : (dice : List ℕ) (moves : List Move) (p : Board) (found : List Line) (from : ℕ) → 0 < length dice → from < 26 → (0 < from → 0 < get_or p.mover from 0)
+pub adds-begin : (dice : List ℕ) (moves : List Move) (p : Placement) (found : List Line) (from : ℕ) → 0 < length dice → from < 26 → (0 < from → 0 < get_or p.mover from 0)
     → ((k : ℕ) → from < k → k < 26 → get_or p.mover k 0 ≡ 0) → length found + length (full dice moves p) ≤ 81 → AddsUpTo dice moves p found from moves found
 adds-begin dice moves p found from some within held empty room =
     let e = full-still dice moves p from some (omega arith) empty in
     record { place = omega arith; held = held; same = refl; room = subst (λ (x : List Line). length found + length x ≤ 81) e room; then = λ all h. subst (λ (x : List Line). Adds found x all) (sym e) h }
 
-pub adds-more : (dice : List ℕ) (moves : List Move) (p : Board) (found : List Line) (from : ℕ) (now : List Move) (after : List Line) (low : ℕ) (then : List Move) (new : List Line)
+pub adds-more : (dice : List ℕ) (moves : List Move) (p : Placement) (found : List Line) (from : ℕ) (now : List Move) (after : List Line) (low : ℕ) (then : List Move) (new : List Line)
     → AddsUpTo dice moves p found from now after → then ≡ moves → low < from → (0 < low → 0 < get_or p.mover low 0) → ((k : ℕ) → low < k → k < from → get_or p.mover k 0 ≡ 0)
     → Adds after (full_from (full (drop 1 dice)) moves p (get_or dice 0 0) from) new → AddsUpTo dice moves p found low then new
 adds-more dice moves p found from now after low then new was same less held empty adds =
@@ -118,13 +118,13 @@ adds-more dice moves p found from now after low then new was same less held empt
       then = λ all h. was.then all (rw e (Adds-append after here new (still dice moves p low) all adds h));
     }
 
-pub adds-all : (dice : List ℕ) (moves : List Move) (p : Board) (found : List Line) (from : ℕ) (now : List Move) (after : List Line)
+pub adds-all : (dice : List ℕ) (moves : List Move) (p : Placement) (found : List Line) (from : ℕ) (now : List Move) (after : List Line)
     → AddsUpTo dice moves p found from now after → from ≤ 0 → Adds found (full dice moves p) after
 adds-all dice moves p found zero now after was h = was.then after refl
 adds-all dice moves p found (suc from) now after was h = absurd (omega arith)
 
 -- at a place from which a move can be made there is room for what goes on from it
-pub room-here : (dice : List ℕ) (moves : List Move) (p : Board) (found : List Line) (from : ℕ) (now : List Move) (after : List Line) (q : Board) (pushed : List Move)
+pub room-here : (dice : List ℕ) (moves : List Move) (p : Placement) (found : List Line) (from : ℕ) (now : List Move) (after : List Line) (q : Placement) (pushed : List Move)
     → AddsUpTo dice moves p found from now after → 0 < from → after_move p (get_or dice 0 0) from ≡ Some q → pushed ≡ now ++ record { from = from; die = get_or dice 0 0 } ∷ []
     → length after + length (full (drop 1 dice) pushed q) ≤ 81
 room-here dice moves p found from now after q pushed was some e pushes =
@@ -158,7 +158,7 @@ popped-is old pushed after popped move a b e =
     let count : length after - 1 ≡ length old = omega (arith, ap (λ (x : List Move). length x) whole, length-append old (move ∷ [])) in
     e ∙ (rw (count, whole) (take-append-le (length old) old (move ∷ []) (omega arith) ∙ take_all (length old) old (omega arith)))
 
-pub adds-some : (dice : List ℕ) (moves : List Move) (p : Board) (found : List Line) (from : ℕ) (now : List Move) (after : List Line) (low : ℕ) (then : List Move) (new : List Line) (q : Board) (pushed : List Move)
+pub adds-some : (dice : List ℕ) (moves : List Move) (p : Placement) (found : List Line) (from : ℕ) (now : List Move) (after : List Line) (low : ℕ) (then : List Move) (new : List Line) (q : Placement) (pushed : List Move)
     → AddsUpTo dice moves p found from now after → then ≡ now → low < from → (0 < low → 0 < get_or p.mover low 0) → ((k : ℕ) → low < k → k < from → get_or p.mover k 0 ≡ 0)
     → after_move p (get_or dice 0 0) from ≡ Some q → pushed ≡ now ++ record { from = from; die = get_or dice 0 0 } ∷ []
     → Adds after (full (drop 1 dice) pushed q) new → AddsUpTo dice moves p found low then new
@@ -168,7 +168,7 @@ adds-some dice moves p found from now after low then new q pushed was same less 
     ∙ ap (λ (x : List Move). full (drop 1 dice) x q) (ap (λ (x : List Move). x ++ record { from = from; die = get_or dice 0 0 } ∷ []) (sym was.same) ∙ sym pushes) in
     adds-more dice moves p found from now after low then new was (same ∙ was.same) less held empty (subst (λ (x : List Line). Adds after x new) (sym all) adds)
 
-pub adds-none : (dice : List ℕ) (moves : List Move) (p : Board) (found : List Line) (from : ℕ) (now : List Move) (after : List Line) (low : ℕ)
+pub adds-none : (dice : List ℕ) (moves : List Move) (p : Placement) (found : List Line) (from : ℕ) (now : List Move) (after : List Line) (low : ℕ)
     → AddsUpTo dice moves p found from now after → low < from → (0 < low → 0 < get_or p.mover low 0) → ((k : ℕ) → low < k → k < from → get_or p.mover k 0 ≡ 0)
     → after_move p (get_or dice 0 0) from ≡ None → AddsUpTo dice moves p found low now after
 adds-none dice moves p found from now after low was less held empty e =
@@ -218,7 +218,7 @@ none-lines (entry ∷ entries) h = absurd (omega arith)
 abbrev pub AddsIfNone : List Line → List Line → List Line → Type 0
 AddsIfNone before others after = (found : List Line) → Adds [] found before → Adds [] (or_else found others) after
 
-pub adds-double : (p : Board) (die : ℕ) (start one two three four five : List Line) → start ≡ []
+pub adds-double : (p : Placement) (die : ℕ) (start one two three four five : List Line) → start ≡ []
     → AddsIfNone start (full (die ∷ die ∷ die ∷ die ∷ []) [] p) one → AddsIfNone one (full (die ∷ die ∷ die ∷ []) [] p) two → AddsIfNone two (full (die ∷ die ∷ []) [] p) three
     → AddsIfNone three (full (die ∷ []) [] p) four → AddsIfNone four (full [] [] p) five → Adds [] (double_lines p die) five
 unfolding double_lines
@@ -232,7 +232,7 @@ adds-double p die start one two three four five none a b c d e =
     let i : Adds [] (or_else (or_else (or_else (or_else A B) C) D) E) five = e (or_else (or_else (or_else A B) C) D) (d (or_else (or_else A B) C) (c (or_else A B) (b A h))) in
     subst (λ (x : List Line). Adds [] x five) (or_else-five A B C D E) i
 
-pub adds-pair : (p : Board) (high low : ℕ) (start one two three four five : List Line) → start ≡ []
+pub adds-pair : (p : Placement) (high low : ℕ) (start one two three four five : List Line) → start ≡ []
     → Adds start (full (high ∷ low ∷ []) [] p) one → Adds one (full (low ∷ high ∷ []) [] p) two
     → AddsIfNone two (full (high ∷ []) [] p) three → AddsIfNone three (full (low ∷ []) [] p) four → AddsIfNone four (full [] [] p) five → Adds [] (pair_lines p high low) five
 unfolding pair_lines

@@ -4,7 +4,7 @@ use Rattle.std.proofs.Math.Nat.{mul-le-mul_left, mul_comm}
 use Rattle.std.proofs.lemmas.Bool.{cases_lt}
 use Rattle.std.proofs.lemmas.List.Sums.{sum_by_more, sum_by-take-le}
 use Rattle.std.specs.List.{flat_map}
-use Rattle.position_rank.specs.Board.{Board}
+use Rattle.position_rank.specs.Placement.{Placement}
 use Rattle.move_rules.specs.Ends.{Line, after_move, down_from, places}
 use Rattle.move_rules.specs.Listing.{full, full_from}
 use Rattle.move_rules.specs.declared.play.Move.{Move}
@@ -28,19 +28,19 @@ each_place F counts bound l each (suc n) h =
     let below' : length (flat_map F (down_from n)) ≤ bound * sum (take (suc n) counts) = rw same at below in
     rw more (omega (arith, length-append (F (suc n)) (flat_map F (down_from n)), here, below'))
 
-one_place : (die : ℕ) (later : List Move → Board → List Line) (moves : List Move) (p : Board) (bound from : ℕ) (o : Option Board) → after_move p die from ≡ o
-    → 0 < get_or p.mover from 0 → ((now : List Move) (q : Board) → after_move p die from ≡ Some q → length (later now q) ≤ bound)
+one_place : (die : ℕ) (later : List Move → Placement → List Line) (moves : List Move) (p : Placement) (bound from : ℕ) (o : Option Placement) → after_move p die from ≡ o
+    → 0 < get_or p.mover from 0 → ((now : List Move) (q : Placement) → after_move p die from ≡ Some q → length (later now q) ≤ bound)
     → length (full_from later moves p die from) ≤ bound * get_or p.mover from 0
 one_place die later moves p bound from None e held each = rw (full_from-none later moves p die from e) (omega arith)
 one_place die later moves p bound from (Some q) e held each =
     let few = each (moves ++ record { from = from; die = die } ∷ []) q e in
     rw (full_from-some later moves p die from q e) (omega (arith, few, mul-le-mul_left bound held))
 
-full-length : (dice : List ℕ) (moves : List Move) (p : Board) → length p.mover ≡ 26 → sum p.mover ≤ 3 → length (full dice moves p) ≤ most dice
+full-length : (dice : List ℕ) (moves : List Move) (p : Placement) → length p.mover ≡ 26 → sum p.mover ≤ 3 → length (full dice moves p) ≤ most dice
 unfolding full places most
 full-length [] moves p l few = omega arith
 full-length (die ∷ dice) moves p l few =
-    let later : (from : ℕ) → 1 ≤ from → from ≤ 25 → (now : List Move) (q : Board) → after_move p die from ≡ Some q → length (full dice now q) ≤ most dice =
+    let later : (from : ℕ) → 1 ≤ from → from ≤ 25 → (now : List Move) (q : Placement) → after_move p die from ≡ Some q → length (full dice now q) ≤ most dice =
     λ from a b now q e. (let s = mover-stays p die from q l (after_move-sound p die from q a b e) in full-length dice now q s.0 (omega (arith, s.1, few))) in
     let each : (k : ℕ) → 1 ≤ k → k ≤ 25 → length (full_from (full dice) moves p die k) ≤ most dice * get_or p.mover k 0 =
     λ k a b. elim (cases_lt 0 (get_or p.mover k 0)) [
@@ -60,9 +60,9 @@ most-few (a ∷ b ∷ c ∷ []) h = omega arith
 most-few (a ∷ b ∷ c ∷ d ∷ []) h = omega arith
 most-few (a ∷ b ∷ c ∷ d ∷ e ∷ dice) h = absurd (omega arith)
 
-pub full-few : (dice : List ℕ) (p : Board) → length p.mover ≡ 26 → sum p.mover ≤ 3 → length dice ≤ 4 → length (full dice [] p) ≤ 81
+pub full-few : (dice : List ℕ) (p : Placement) → length p.mover ≡ 26 → sum p.mover ≤ 3 → length dice ≤ 4 → length (full dice [] p) ≤ 81
 full-few dice p l few h = omega (arith, full-length dice [] p l few, most-few dice h)
 
-pub pair-few : (a b : ℕ) (p : Board) → length p.mover ≡ 26 → sum p.mover ≤ 3 → length (full (a ∷ b ∷ []) [] p) ≤ 9
+pub pair-few : (a b : ℕ) (p : Placement) → length p.mover ≡ 26 → sum p.mover ≤ 3 → length (full (a ∷ b ∷ []) [] p) ≤ 9
 unfolding most
 pair-few a b p l few = full-length (a ∷ b ∷ []) [] p l few

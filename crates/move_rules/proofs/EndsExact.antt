@@ -4,8 +4,8 @@ use Rattle.std.proofs.lemmas.Bool.Decides.{nat_tests}
 use Rattle.std.proofs.lemmas.Bool.{cases_lt}
 use Rattle.std.specs.List.{slice_get, remove, list_any, Contains}
 use Rattle.std.specs.Option.{option_to_list, is_some}
-use Rattle.position_rank.specs.Board.{Board}
-use Rattle.position_rank.specs.Board.{above}
+use Rattle.position_rank.specs.Placement.{Placement}
+use Rattle.position_rank.specs.Placement.{above}
 use Rattle.move_rules.specs.Moves.{IsMove}
 use Rattle.roll_table.specs.Rolls.{Dice, dice_of}
 use Rattle.move_rules.specs.Sequences.{IsSequence, CanPlay, IsLegal, IsLegalEnd}
@@ -50,7 +50,7 @@ first_true false true x y q e = inr (refl, grind arith)
 first_true false false x y q e = absurd (grind arith)
 
 -- a move that can be made is the one that the list has
-pub after_move-complete : (p : Board) (die from : ℕ) (q : Board) → IsMove p die from q → after_move p die from ≡ Some q
+pub after_move-complete : (p : Placement) (die from : ℕ) (q : Placement) → IsMove p die from q → after_move p die from ≡ Some q
 unfolding after_move
 after_move-complete p die from q (inl runs) =
     let passes : can_run p die from ≡ true = grind (arith, nat_tests) in
@@ -60,13 +60,13 @@ after_move-complete p die from q (inr off) =
     let passes : can_bear_off p die from ≡ true = grind (arith, nat_tests) in
     rw (fails, passes) (ap Some (sym off.after))
 
-run_parts : (p : Board) (die from : ℕ) → can_run p die from ≡ true → (0 < slice_index p.mover from) × ((from ≡ 25) ⊎ (slice_index p.mover 25 ≡ 0)) × (die < from) × (slice_index p.other (25 - (from - die)) ≤ 1)
+run_parts : (p : Placement) (die from : ℕ) → can_run p die from ≡ true → (0 < slice_index p.mover from) × ((from ≡ 25) ⊎ (slice_index p.mover 25 ≡ 0)) × (die < from) × (slice_index p.other (25 - (from - die)) ≤ 1)
 run_parts p die from h = grind (arith, nat_tests)
 
-off_parts : (p : Board) (die from : ℕ) → can_bear_off p die from ≡ true → (0 < slice_index p.mover from) × ((from ≡ 25) ⊎ (slice_index p.mover 25 ≡ 0)) × (from ≤ die) × (above p.mover 6 ≡ 0) × ((from ≡ die) ⊎ (above p.mover from ≡ 0))
+off_parts : (p : Placement) (die from : ℕ) → can_bear_off p die from ≡ true → (0 < slice_index p.mover from) × ((from ≡ 25) ⊎ (slice_index p.mover 25 ≡ 0)) × (from ≤ die) × (above p.mover 6 ≡ 0) × ((from ≡ die) ⊎ (above p.mover from ≡ 0))
 off_parts p die from h = grind (arith, nat_tests)
 
-pub after_move-sound : (p : Board) (die from : ℕ) (q : Board) → 1 ≤ from → from ≤ 25 → after_move p die from ≡ Some q → IsMove p die from q
+pub after_move-sound : (p : Placement) (die from : ℕ) (q : Placement) → 1 ≤ from → from ≤ 25 → after_move p die from ≡ Some q → IsMove p die from q
 unfolding after_move
 after_move-sound p die from q low high e =
     elim (first_true (can_run p die from) (can_bear_off p die from) _ _ q e) [
@@ -116,7 +116,7 @@ of_option x None h = absurd h
 of_option x (Some y) (inl e) = ap Some (sym e)
 of_option x (Some y) (inr h) = absurd h
 
-pub lines-sound : (dice : List ℕ) (p : Board) (line : Line) → Among line (lines dice p) → IsSequence p dice line.0 line.1
+pub lines-sound : (dice : List ℕ) (p : Placement) (line : Line) → Among line (lines dice p) → IsSequence p dice line.0 line.1
 unfolding lines lines_from
 lines-sound [] p line (inl e) = subst (λ (l : Line). IsSequence p [] l.0 l.1) (sym e) refl
 lines-sound [] p line (inr h) = absurd h
@@ -130,42 +130,42 @@ lines-sound (die ∷ dice) p line (inr h) =
     let move = after_move-sound p die from c.0 here.0 here.1 (of_option c.0 (after_move p die from) c.1) in
     subst (λ (l : Line). IsSequence p (die ∷ dice) l.0 l.1) (sym b.2) (0, refl, c.0, move, lines-sound dice c.0 b.0 c.2)
 
-pub leaves_from : (p : Board) (die from : ℕ) (q : Board) → IsMove p die from q → (1 ≤ from) × (from ≤ 25)
+pub leaves_from : (p : Placement) (die from : ℕ) (q : Placement) → IsMove p die from q → (1 ≤ from) × (from ≤ 25)
 leaves_from p die from q (inl runs) = (runs.leaves.place, runs.leaves.within)
 leaves_from p die from q (inr off) = (off.leaves.place, off.leaves.within)
 
 -- one more move in front
-extend : (die from : ℕ) (dice : List ℕ) (p next : Board) (line : Line) → IsMove p die from next → Among line (lines dice next) → Among (before die from line) (lines (die ∷ dice) p)
+extend : (die from : ℕ) (dice : List ℕ) (p next : Placement) (line : Line) → IsMove p die from next → Among line (lines dice next) → Among (before die from line) (lines (die ∷ dice) p)
 unfolding lines lines_from
 extend die from dice p next line move h =
     let within = leaves_from p die from next move in
     let here = Among-flat_map (lines dice) next line (option_to_list (after_move p die from)) (rw (after_move-complete p die from next move) (inl refl)) h in
     inr (Among-flat_map (lines_from (lines dice) p die) from (before die from line) places (to_places from within.0 within.1) (Among-map (before die from) line _ here))
 
-nothing_played : (dice : List ℕ) (p q : Board) → q ≡ p → Among ([], q) (lines dice p)
+nothing_played : (dice : List ℕ) (p q : Placement) → q ≡ p → Among ([], q) (lines dice p)
 unfolding lines
-nothing_played [] p q e = inl (ap (λ (r : Board). ([], r)) e)
-nothing_played (die ∷ dice) p q e = inl (ap (λ (r : Board). ([], r)) e)
+nothing_played [] p q e = inl (ap (λ (r : Placement). ([], r)) e)
+nothing_played (die ∷ dice) p q e = inl (ap (λ (r : Placement). ([], r)) e)
 
 -- a first move by the one of these dice
-first : (d : ℕ) (dice : List ℕ) (p : Board) (m : Move) (moves : List Move) (q next : Board) → m.die ≡ d → IsMove p m.die m.from next → Among (moves, q) (lines dice next) → Among (m ∷ moves, q) (lines (d ∷ dice) p)
+first : (d : ℕ) (dice : List ℕ) (p : Placement) (m : Move) (moves : List Move) (q next : Placement) → m.die ≡ d → IsMove p m.die m.from next → Among (moves, q) (lines dice next) → Among (m ∷ moves, q) (lines (d ∷ dice) p)
 first d dice p m moves q next e move later =
     subst (λ (x : ℕ). Among (m ∷ moves, q) (lines (x ∷ dice) p)) e (extend m.die m.from dice p next (moves, q) move later)
 
-pub lines-complete : (n d : ℕ) (p : Board) (moves : List Move) (q : Board) → IsSequence p (replicate n d) moves q → Among (moves, q) (lines (replicate n d) p)
+pub lines-complete : (n d : ℕ) (p : Placement) (moves : List Move) (q : Placement) → IsSequence p (replicate n d) moves q → Among (moves, q) (lines (replicate n d) p)
 lines-complete n d p [] q h = nothing_played (replicate n d) p q h
 lines-complete n d p (m ∷ moves) q (i, e, next, move, rest) =
     let r = same_dice n d i m.die e in
     let later = lines-complete r.0 d next moves q (rw (← r.3) rest) in
     rw r.1 (first d (replicate r.0 d) p m moves q next r.2 move later)
 
-two-complete : (a b : ℕ) (p : Board) (moves : List Move) (q : Board) → IsSequence p (a ∷ b ∷ []) moves q → Among (moves, q) (lines (a ∷ b ∷ []) p) ⊎ Among (moves, q) (lines (b ∷ a ∷ []) p)
+two-complete : (a b : ℕ) (p : Placement) (moves : List Move) (q : Placement) → IsSequence p (a ∷ b ∷ []) moves q → Among (moves, q) (lines (a ∷ b ∷ []) p) ⊎ Among (moves, q) (lines (b ∷ a ∷ []) p)
 two-complete a b p [] q h = inl (nothing_played (a ∷ b ∷ []) p q h)
 two-complete a b p (m ∷ moves) q (zero, e, next, move, rest) = inl (first a (b ∷ []) p m moves q next (grind arith) move (lines-complete 1 b next moves q rest))
 two-complete a b p (m ∷ moves) q (suc zero, e, next, move, rest) = inr (first b (a ∷ []) p m moves q next (grind arith) move (lines-complete 1 a next moves q rest))
 two-complete a b p (m ∷ moves) q (suc (suc i), e, next, move, rest) = absurd (grind arith)
 
-two-swapped : (a b : ℕ) (p : Board) (moves : List Move) (q : Board) → IsSequence p (a ∷ b ∷ []) moves q → IsSequence p (b ∷ a ∷ []) moves q
+two-swapped : (a b : ℕ) (p : Placement) (moves : List Move) (q : Placement) → IsSequence p (a ∷ b ∷ []) moves q → IsSequence p (b ∷ a ∷ []) moves q
 two-swapped a b p [] q h = h
 two-swapped a b p (m ∷ moves) q (zero, e, next, move, rest) = (1, e, next, move, rest)
 two-swapped a b p (m ∷ moves) q (suc zero, e, next, move, rest) = (0, e, next, move, rest)
@@ -177,7 +177,7 @@ joined : (b : Bool) (f g h : List Line) (line : Line) → Among line (cond b f (
 joined true f g h line m = inl (refl, m)
 joined false f g h line m = inr (refl, Among-cases line g h m)
 
-pub all_lines-sound : (p : Board) (roll : Dice) (line : Line) → Among line (all_lines p roll) → IsSequence p (dice_of roll) line.0 line.1
+pub all_lines-sound : (p : Placement) (roll : Dice) (line : Line) → Among line (all_lines p roll) → IsSequence p (dice_of roll) line.0 line.1
 unfolding all_lines
 all_lines-sound p roll line h = sound (joined (eqb roll.high roll.low) (lines (roll.high ∷ roll.high ∷ roll.high ∷ roll.high ∷ []) p) (lines (roll.high ∷ roll.low ∷ []) p) (lines (roll.low ∷ roll.high ∷ []) p) line h) where
   sound : ((eqb roll.high roll.low ≡ true) × Among line (lines (roll.high ∷ roll.high ∷ roll.high ∷ roll.high ∷ []) p)) ⊎ ((eqb roll.high roll.low ≡ false) × (Among line (lines (roll.high ∷ roll.low ∷ []) p) ⊎ Among line (lines (roll.low ∷ roll.high ∷ []) p))) → IsSequence p (dice_of roll) line.0 line.1
@@ -185,7 +185,7 @@ all_lines-sound p roll line h = sound (joined (eqb roll.high roll.low) (lines (r
   sound (inr (apart, inl a)) = rw apart (lines-sound _ p line a)
   sound (inr (apart, inr b)) = rw apart (two-swapped roll.low roll.high p line.0 line.1 (lines-sound _ p line b))
 
-pub all_lines-complete : (p : Board) (roll : Dice) (moves : List Move) (q : Board) → IsSequence p (dice_of roll) moves q → Among (moves, q) (all_lines p roll)
+pub all_lines-complete : (p : Placement) (roll : Dice) (moves : List Move) (q : Placement) → IsSequence p (dice_of roll) moves q → Among (moves, q) (all_lines p roll)
 unfolding all_lines
 all_lines-complete p roll moves q h = complete (eqb roll.high roll.low) refl h where
   complete : (b : Bool) → eqb roll.high roll.low ≡ b → IsSequence p (cond b (roll.high ∷ roll.high ∷ roll.high ∷ roll.high ∷ []) (roll.high ∷ roll.low ∷ [])) moves q → Among (moves, q) (all_lines p roll)
@@ -228,14 +228,14 @@ some_of : {X : Type 0} (o : Option X) → is_some o ≡ true → (x : X) × (o �
 some_of None h = absurd (grind arith)
 some_of (Some x) h = (x, refl)
 
-pub can_play-sound : (p : Board) (die : ℕ) → can_play p die ≡ true → CanPlay p die
+pub can_play-sound : (p : Placement) (die : ℕ) → can_play p die ≡ true → CanPlay p die
 can_play-sound p die h =
     let r = any-true (λ (from : ℕ). is_some (after_move p die from)) places h in
     let within = of_places r.0 r.1 in
     let q = some_of (after_move p die r.0) r.2 in
     (r.0, q.0, after_move-sound p die r.0 q.0 within.0 within.1 q.1)
 
-pub can_play-complete : (p : Board) (die : ℕ) → CanPlay p die → can_play p die ≡ true
+pub can_play-complete : (p : Placement) (die : ℕ) → CanPlay p die → can_play p die ≡ true
 can_play-complete p die (from, q, move) =
     let within = leaves_from p die from q move in
     true-any (λ (from : ℕ). is_some (after_move p die from)) from places (to_places from within.0 within.1) (rw (after_move-complete p die from q move) refl)
@@ -249,7 +249,7 @@ one_test : (high : ℕ) (moves : List Move) → map (λ (m : Move). m.die) moves
 one_test high [] e = absurd (grind arith)
 one_test high (m ∷ moves) e = let d : m.die ≡ high = cc in grind (arith, nat_tests)
 
-pub legal_lines-sound : (p : Board) (roll : Dice) (line : Line) → Among line (legal_lines p roll) → IsLegal p roll line.0 line.1
+pub legal_lines-sound : (p : Placement) (roll : Dice) (line : Line) → Among line (legal_lines p roll) → IsLegal p roll line.0 line.1
 unfolding legal_lines
 legal_lines-sound p roll line h =
     let r = filter-cases (λ (l : Line). eqb (length l.0) (longest (all_lines p roll)) && right_die p roll l) line (all_lines p roll) h in
@@ -260,7 +260,7 @@ legal_lines-sound p roll line h =
       higher = λ one apart can. one_die roll.high line.0 one (right (eqb (length line.0) 1) (eqb roll.high roll.low) (can_play p roll.high) _ (both-right _ _ r.1) (grind (arith, nat_tests)) (grind (arith, nat_tests)) (can_play-complete p roll.high can));
     }
 
-pub legal_lines-complete : (p : Board) (roll : Dice) (moves : List Move) (q : Board) → IsLegal p roll moves q → Among (moves, q) (legal_lines p roll)
+pub legal_lines-complete : (p : Placement) (roll : Dice) (moves : List Move) (q : Placement) → IsLegal p roll moves q → Among (moves, q) (legal_lines p roll)
 unfolding legal_lines
 legal_lines-complete p roll moves q legal =
     let here = all_lines-complete p roll moves q legal.sequence in
@@ -271,13 +271,13 @@ legal_lines-complete p roll moves q legal =
     right-from (eqb (length moves) 1) (eqb roll.high roll.low) (can_play p roll.high) _ (λ one apart can. one_test roll.high moves (legal.higher (grind (arith, nat_tests)) (grind (arith, nat_tests)) (can_play-sound p roll.high can))) in
     Among-filter (λ (l : Line). eqb (length l.0) (longest (all_lines p roll)) && right_die p roll l) (moves, q) (all_lines p roll) here (both (length moves) (longest (all_lines p roll)) _ most right)
 
-pub legal_ends-sound : (p : Board) (roll : Dice) (q : Board) → Contains (legal_ends p roll) q → IsLegalEnd p roll q
+pub legal_ends-sound : (p : Placement) (roll : Dice) (q : Placement) → Contains (legal_ends p roll) q → IsLegalEnd p roll q
 unfolding legal_ends
 legal_ends-sound p roll q h =
     let r = map-cases (λ (line : Line). line.1) q (legal_lines p roll) (Contains-Among q (legal_ends p roll) h) in
-    subst (λ (x : Board). IsLegalEnd p roll x) (sym r.2) (r.0.0, legal_lines-sound p roll r.0 r.1)
+    subst (λ (x : Placement). IsLegalEnd p roll x) (sym r.2) (r.0.0, legal_lines-sound p roll r.0 r.1)
 
-pub legal_ends-complete : (p : Board) (roll : Dice) (q : Board) → IsLegalEnd p roll q → Contains (legal_ends p roll) q
+pub legal_ends-complete : (p : Placement) (roll : Dice) (q : Placement) → IsLegalEnd p roll q → Contains (legal_ends p roll) q
 unfolding legal_ends
 legal_ends-complete p roll q (moves, legal) =
     Among-Contains q (legal_ends p roll) (Among-map (λ (line : Line). line.1) (moves, q) (legal_lines p roll) (legal_lines-complete p roll moves q legal))

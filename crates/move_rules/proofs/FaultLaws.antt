@@ -5,7 +5,7 @@ use Rattle.std.proofs.lemmas.List.Elements.{All-append, All-take, All-drop}
 use Rattle.std.specs.Option.{ok_or}
 use Rattle.std.specs.Result.{IfOk, IfErr}
 use Rattle.std.specs.List.{slice_get, remove, Contains, All}
-use Rattle.position_rank.specs.Board.{Board, above}
+use Rattle.position_rank.specs.Placement.{Placement, above}
 use Rattle.roll_table.specs.Rolls.{Dice, IsRoll, dice_of}
 use Rattle.move_rules.specs.Moves.{IsMove, MayLeave}
 use Rattle.move_rules.specs.Sequences.{IsSequence, CanPlay, IsLegal}
@@ -24,10 +24,10 @@ use Rattle.move_rules.proofs.RollLines.{double-listing, pair-listing}
 
 -- ---- one move
 
-refused : (p : Board) (die from : ℕ) (q : Board) → after_move p die from ≡ None → IsMove p die from q → ⊥
+refused : (p : Placement) (die from : ℕ) (q : Placement) → after_move p die from ≡ None → IsMove p die from q → ⊥
 refused p die from q none made = let some = after_move-complete p die from q made in let clash : None ≡ Some q = sym none ∙ some in cc
 
-pub closed : (p : Board) (move : Move) → 1 ≤ move.from → move.from ≤ 25 → 0 < get_or p.mover move.from 0 → (move.from ≡ 25) ⊎ (get_or p.mover 25 0 ≡ 0)
+pub closed : (p : Placement) (move : Move) → 1 ≤ move.from → move.from ≤ 25 → 0 < get_or p.mover move.from 0 → (move.from ≡ 25) ⊎ (get_or p.mover 25 0 ≡ 0)
     → (move.from ≤ move.die → (above p.mover 6 ≡ 0) × ((move.from ≡ move.die) ⊎ (above p.mover move.from ≡ 0)))
     → after_move p move.die move.from ≡ None → (move.die < move.from) × (1 < get_or p.other (25 - (move.from - move.die)) 0)
 closed p move low high held bar home none =
@@ -58,7 +58,7 @@ or_else-some : (lines others : List Line) → (line : Line) × Among line others
 or_else-some [] others h = h
 or_else-some (line ∷ lines) others h = (line, inl refl)
 
-double-some : (p : Board) (die : ℕ) → (line : Line) × Among line (double_lines p die)
+double-some : (p : Placement) (die : ℕ) → (line : Line) × Among line (double_lines p die)
 unfolding double_lines full
 double-some p die =
     let D : List Line = or_else (full (die ∷ []) [] p) (full [] [] p) in
@@ -67,41 +67,41 @@ double-some p die =
     or_else-some (full (die ∷ die ∷ die ∷ die ∷ []) [] p) B (or_else-some (full (die ∷ die ∷ die ∷ []) [] p) C
     (or_else-some (full (die ∷ die ∷ []) [] p) D (or_else-some (full (die ∷ []) [] p) (full [] [] p) (([], p), inl refl))))
 
-pair-some : (p : Board) (high low : ℕ) → (line : Line) × Among line (pair_lines p high low)
+pair-some : (p : Placement) (high low : ℕ) → (line : Line) × Among line (pair_lines p high low)
 unfolding pair_lines full
 pair-some p high low =
     let C : List Line = or_else (full (low ∷ []) [] p) (full [] [] p) in
     let B : List Line = or_else (full (high ∷ []) [] p) C in
     or_else-some (full (high ∷ low ∷ []) [] p ++ full (low ∷ high ∷ []) [] p) B (or_else-some (full (high ∷ []) [] p) C (or_else-some (full (low ∷ []) [] p) (full [] [] p) (([], p), inl refl)))
 
-pub some_legal : (p : Board) (roll : Dice) → IsRoll roll → (moves : List Move) × (q : Board) × IsLegal p roll moves q
+pub some_legal : (p : Placement) (roll : Dice) → IsRoll roll → (moves : List Move) × (q : Placement) × IsLegal p roll moves q
 some_legal p roll right = elim (cases_lt roll.low roll.high) [
   | inl less ↦ (let l = pair-some p roll.high roll.low in (l.0.0, l.0.1, (pair-listing p roll less).sound l.0 l.1))
   | inr same ↦ (let l = double-some p roll.high in (l.0.0, l.0.1, (double-listing p roll (omega (arith, same, right.in_order))).sound l.0 l.1))
 ]
 
-pub entry-some : (p : Board) (roll : Dice) (entries : List Entry) → IsRoll roll → IsPlays p roll entries → 0 < length entries
+pub entry-some : (p : Placement) (roll : Dice) (entries : List Entry) → IsRoll roll → IsPlays p roll entries → 0 < length entries
 entry-some p roll entries right list =
     let l = some_legal p roll right in
     some_of entries ((list.ends l.1).1 (l.0, l.2)) where
-      some_of : {q : Board} (es : List Entry) → Contains (ends_of es) q → 0 < length es
+      some_of : {q : Placement} (es : List Entry) → Contains (ends_of es) q → 0 < length es
       some_of [] (k, low, e) = absurd (omega arith)
       some_of (entry ∷ es) h = omega arith
 
 -- ---- what the code answers
 
-pub made-ok : (p : Board) (die from : ℕ) (o : Option Board) (r : Result Board BadPlay) → r ≡ ok_or o Closed → o ≡ after_move p die from → 1 ≤ from → from ≤ 25 → IfOk r (IsMove p die from)
-made-ok p die from o r e f low high = subst (λ (x : Result Board BadPlay). IfOk x (IsMove p die from)) (sym e) (go o f) where
-  go : (a : Option Board) → a ≡ after_move p die from → IfOk (ok_or a Closed) (IsMove p die from)
+pub made-ok : (p : Placement) (die from : ℕ) (o : Option Placement) (r : Result Placement BadPlay) → r ≡ ok_or o Closed → o ≡ after_move p die from → 1 ≤ from → from ≤ 25 → IfOk r (IsMove p die from)
+made-ok p die from o r e f low high = subst (λ (x : Result Placement BadPlay). IfOk x (IsMove p die from)) (sym e) (go o f) where
+  go : (a : Option Placement) → a ≡ after_move p die from → IfOk (ok_or a Closed) (IsMove p die from)
   go None g = tt
   go (Some q) g = after_move-sound p die from q low high (sym g)
 
-pub made-err : (p : Board) (move : Move) (o : Option Board) (r : Result Board BadPlay) → r ≡ ok_or o Closed → o ≡ after_move p move.die move.from
+pub made-err : (p : Placement) (move : Move) (o : Option Placement) (r : Result Placement BadPlay) → r ≡ ok_or o Closed → o ≡ after_move p move.die move.from
     → 1 ≤ move.from → move.from ≤ 25 → 0 < get_or p.mover move.from 0 → (move.from ≡ 25) ⊎ (get_or p.mover 25 0 ≡ 0)
     → (move.from ≤ move.die → (above p.mover 6 ≡ 0) × ((move.from ≡ move.die) ⊎ (above p.mover move.from ≡ 0)))
     → IfErr r (λ fault. (dice : List ℕ) → Contains dice move.die → IsFirstFault p dice move fault)
 made-err p move o r e f low high held bar home =
-    subst (λ (x : Result Board BadPlay). IfErr x (λ fault. (dice : List ℕ) → Contains dice move.die → IsFirstFault p dice move fault)) (sym e) (go o f) where
+    subst (λ (x : Result Placement BadPlay). IfErr x (λ fault. (dice : List ℕ) → Contains dice move.die → IsFirstFault p dice move fault)) (sym e) (go o f) where
       none : (earlier : BadPlay) (dice : List ℕ) → Contains dice move.die → number earlier < 5 → HasFault p dice move earlier → ⊥
       none WrongDice dice there less h = h there
       none NoChecker dice there less h = omega (arith, low, high, held, h)
@@ -112,7 +112,7 @@ made-err p move o r e f low high held bar home =
       none TooFew dice there less h = h
       none HigherDie dice there less h = h
 
-      go : (a : Option Board) → a ≡ after_move p move.die move.from → IfErr (ok_or a Closed) (λ fault. (dice : List ℕ) → Contains dice move.die → IsFirstFault p dice move fault)
+      go : (a : Option Placement) → a ≡ after_move p move.die move.from → IfErr (ok_or a Closed) (λ fault. (dice : List ℕ) → Contains dice move.die → IsFirstFault p dice move fault)
       go None g = λ dice there. record { fault_is = closed p move low high held bar home (sym g); none_before = λ earlier less h. none earlier dice there less h }
       go (Some q) g = tt
 
@@ -136,17 +136,17 @@ of_roll roll die h = of (eqb roll.high roll.low) h where
   of false (inr (inr h)) = absurd h
 
 -- a sequence of one move
-record IsOneMove (p : Board) (roll : Dice) (moves : List Move) : Type 0 where
+record IsOneMove (p : Placement) (roll : Dice) (moves : List Move) : Type 0 where
   pub die : (first_die moves ≡ roll.high) ⊎ (first_die moves ≡ roll.low)
   pub used : map (λ (move : Move). move.die) moves ≡ first_die moves ∷ []
   pub can : CanPlay p (first_die moves)
 
-one_move : (p : Board) (roll : Dice) (moves : List Move) (q : Board) → length moves ≡ 1 → IsSequence p (dice_of roll) moves q → IsOneMove p roll moves
+one_move : (p : Placement) (roll : Dice) (moves : List Move) (q : Placement) → length moves ≡ 1 → IsSequence p (dice_of roll) moves q → IsOneMove p roll moves
 one_move p roll [] q one s = absurd (omega arith)
 one_move p roll (move ∷ []) q one (i, e, next, made, rest) = record { die = of_roll roll move.die (among_dice (dice_of roll) i move.die e); used = refl; can = (move.from, next, made) }
 one_move p roll (move ∷ more ∷ moves) q one s = absurd (omega arith)
 
-pub beside-ok : (p : Board) (roll : Dice) (legal moves : List Move) (end q : Board) → IsRoll roll → IsLegal p roll legal end → length legal ≤ length moves → (length moves ≡ 1 → first_die legal ≤ first_die moves)
+pub beside-ok : (p : Placement) (roll : Dice) (legal moves : List Move) (end q : Placement) → IsRoll roll → IsLegal p roll legal end → length legal ≤ length moves → (length moves ≡ 1 → first_die legal ≤ first_die moves)
     → IsSequence p (dice_of roll) moves q → IsLegal p roll moves q
 beside-ok p roll legal moves end q right l many die s = record {
   sequence = s;
@@ -161,7 +161,7 @@ beside-ok p roll legal moves end q right l many die s = record {
       m.used ∙ ap (λ (x : ℕ). x ∷ []) same);
 }
 
-pub beside-err : (p : Board) (roll : Dice) (legal moves : List Move) (end q : Board) (fault : BadPlay) → IsRoll roll → IsLegal p roll legal end → IsSequence p (dice_of roll) moves q
+pub beside-err : (p : Placement) (roll : Dice) (legal moves : List Move) (end q : Placement) (fault : BadPlay) → IsRoll roll → IsLegal p roll legal end → IsSequence p (dice_of roll) moves q
     → DiffersBy moves legal fault → IsWholeFault p roll moves fault
 beside-err p roll legal moves end q WrongDice right l s h = absurd h
 beside-err p roll legal moves end q NoChecker right l s h = absurd h
@@ -188,9 +188,9 @@ beside-err p roll legal moves end q HigherDie right l s h =
 -- ---- move by move
 
 -- what is left of a play from here on decides on all of it
-pub record GoesOn (p : Board) (dice : List ℕ) (moves : List Move) (now : Board) (left : List ℕ) (rest : List Move) : Type 0 where
+pub record GoesOn (p : Placement) (dice : List ℕ) (moves : List Move) (now : Placement) (left : List ℕ) (rest : List Move) : Type 0 where
   pub dice_from : All (λ die. 1 ≤ die) left
-  pub sequence : (end : Board) → IsSequence now left rest end → IsSequence p dice moves end
+  pub sequence : (end : Placement) → IsSequence now left rest end → IsSequence p dice moves end
   pub wrong : (fault : BadPlay) → IsFirstWrong now left rest fault → IsFirstWrong p dice moves fault
 
 pub All-remove : (xs : List ℕ) (j : ℕ) → All (λ die. 1 ≤ die) xs → All (λ die. 1 ≤ die) (remove xs j)
@@ -202,14 +202,14 @@ dice-from roll left right e =
       from_roll : (die : ℕ) → (die ≡ roll.high) ⊎ (die ≡ roll.low) → 1 ≤ die
       from_roll die h = omega (arith, h, right.from, right.in_order)
 
-pub begins : (p : Board) (roll : Dice) (left : List ℕ) (moves rest : List Move) → IsRoll roll → left ≡ dice_of roll → rest ≡ moves → GoesOn p (dice_of roll) moves p left rest
+pub begins : (p : Placement) (roll : Dice) (left : List ℕ) (moves rest : List Move) → IsRoll roll → left ≡ dice_of roll → rest ≡ moves → GoesOn p (dice_of roll) moves p left rest
 begins p roll left moves rest right e f = record {
   dice_from = dice-from roll left right e;
   sequence = λ end s. subst (λ (x : List ℕ). IsSequence p x moves end) e (subst (λ (x : List Move). IsSequence p left x end) f s);
   wrong = λ fault w. subst (λ (x : List ℕ). IsFirstWrong p x moves fault) e (subst (λ (x : List Move). IsFirstWrong p left x fault) f w);
 }
 
-pub goes_on : (p : Board) (dice : List ℕ) (moves : List Move) (now : Board) (left : List ℕ) (rest : List Move) (move : Move) (more : List Move) (i : ℕ) (next : Board) (fewer : List ℕ)
+pub goes_on : (p : Placement) (dice : List ℕ) (moves : List Move) (now : Placement) (left : List ℕ) (rest : List Move) (move : Move) (more : List Move) (i : ℕ) (next : Placement) (fewer : List ℕ)
     → GoesOn p dice moves now left rest → rest ≡ move ∷ more → slice_get left i ≡ Some move.die → fewer ≡ remove left i → IsMove now move.die move.from next → GoesOn p dice moves next fewer more
 goes_on p dice moves now left rest move more i next fewer was e here f made = record {
   dice_from = subst (λ (x : List ℕ). All (λ die. 1 ≤ die) x) (sym f) (All-remove left i was.dice_from);
@@ -217,7 +217,7 @@ goes_on p dice moves now left rest move more i next fewer was e here f made = re
   wrong = λ fault w. was.wrong fault (subst (λ (x : List Move). IsFirstWrong now left x fault) (sym e) (inr (i, here, next, made, subst (λ (x : List ℕ). IsFirstWrong next x more fault) f w)));
 }
 
-pub goes_wrong : (p : Board) (dice : List ℕ) (moves : List Move) (now : Board) (left : List ℕ) (rest : List Move) (move : Move) (more : List Move) (fault : BadPlay)
+pub goes_wrong : (p : Placement) (dice : List ℕ) (moves : List Move) (now : Placement) (left : List ℕ) (rest : List Move) (move : Move) (more : List Move) (fault : BadPlay)
     → GoesOn p dice moves now left rest → rest ≡ move ∷ more → IsFirstFault now left move fault → IsFirstWrong p dice moves fault
 goes_wrong p dice moves now left rest move more fault was e h = was.wrong fault (subst (λ (x : List Move). IsFirstWrong now left x fault) (sym e) (inl h))
 

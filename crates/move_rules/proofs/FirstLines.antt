@@ -3,7 +3,7 @@ use Rattle.std.proofs.Common.{◌≡◌, ◌≢◌, List, [], ◌∷◌, ◌++�
 use Rattle.std.proofs.lemmas.List.{append-nil}
 use Rattle.std.specs.Prelude.{◌↔◌}
 use Rattle.std.specs.List.{All, AllPairs, Contains}
-use Rattle.position_rank.specs.Board.{Board}
+use Rattle.position_rank.specs.Placement.{Placement}
 use Rattle.roll_table.specs.Rolls.{Dice}
 use Rattle.move_rules.specs.Sequences.{IsLegal, IsLegalEnd}
 use Rattle.move_rules.specs.Ends.{Line}
@@ -44,10 +44,10 @@ pub record Found (lines found : List Line) : Type 0 where
 reaches : (found : List Line) (line : Line) → Among line found → Reaches found line.1
 reaches found line h = Among-map (λ (l : Line). l.1) line found h
 
-reached-more : (found : List Line) (line : Line) (end : Board) → Reaches found end → Reaches (found ++ line ∷ []) end
+reached-more : (found : List Line) (line : Line) (end : Placement) → Reaches found end → Reaches (found ++ line ∷ []) end
 reached-more found line end h =
     let r = map-cases (λ (l : Line). l.1) end found h in
-    subst (λ (q : Board). Reaches (found ++ line ∷ []) q) (sym r.2) (reaches (found ++ line ∷ []) r.0 (Among-left r.0 found (line ∷ []) r.1))
+    subst (λ (q : Placement). Reaches (found ++ line ∷ []) q) (sym r.2) (reaches (found ++ line ∷ []) r.0 (Among-left r.0 found (line ∷ []) r.1))
 
 -- the last of them
 last-cases : (x : Line) (lines : List Line) (line : Line) → Among x (lines ++ line ∷ []) → Among x lines ⊎ (x ≡ line)
@@ -72,7 +72,7 @@ found-new done found line more ordered was new = record {
     | inl a ↦ reached-more found line l.1 (was.reached l a)
     | inr e ↦ reaches (found ++ line ∷ []) l (Among-right l found (line ∷ []) (inl e))
   ];
-  apart = Pairs-push Apart found line was.apart (λ l h e. new (subst (λ (q : Board). Reaches found q) e (reaches found l h)));
+  apart = Pairs-push Apart found line was.apart (λ l h e. new (subst (λ (q : Placement). Reaches found q) e (reaches found l h)));
   ordered = Pairs-push Before found line was.ordered (λ l h. Pairs-before Before done line more l ordered (was.within l h));
   first = λ l other h i e before. elim (last-cases l found line h) [
     | inl a ↦ (elim (last-cases other done line i) [
@@ -80,7 +80,7 @@ found-new done found line more ordered was new = record {
       | inr same ↦ before-one_way l.0 line.0 (Pairs-before Before done line more l ordered (was.within l a)) (subst (λ (x : Line). Before x l) same before)
     ])
     | inr is_line ↦ (elim (last-cases other done line i) [
-      | inl b ↦ new (subst (λ (q : Board). Reaches found q) (e ∙ ap (λ (x : Line). x.1) is_line) (was.reached other b))
+      | inl b ↦ new (subst (λ (q : Placement). Reaches found q) (e ∙ ap (λ (x : Line). x.1) is_line) (was.reached other b))
       | inr same ↦ (
           let twice : Before line line = subst (λ (x : Line). Before x line) same (subst (λ (x : Line). Before other x) is_line before) in
           before-one_way line.0 line.0 twice twice)
@@ -105,8 +105,8 @@ nothing-found = record { within = λ l h. h; reached = λ l h. absurd h; apart =
 -- ---- the list of plays
 
 -- a list of plays of a roll: each legal end once, with the first sequence that leaves it, in their order
-pub record IsPlays (p : Board) (roll : Dice) (entries : List Entry) : Type 0 where
-  pub ends : (q : Board) → Contains (ends_of entries) q ↔ IsLegalEnd p roll q
+pub record IsPlays (p : Placement) (roll : Dice) (entries : List Entry) : Type 0 where
+  pub ends : (q : Placement) → Contains (ends_of entries) q ↔ IsLegalEnd p roll q
   pub distinct : AllPairs (λ one another. one ≢ another) (ends_of entries)
   pub first : All (λ entry. IsFirst p roll entry.play.items entry.end) entries
   pub in_order : AllPairs ComesBefore (plays_of entries)
@@ -116,20 +116,20 @@ line_of entry = (entry.play.items, entry.end)
 
 ends-are : (entries : List Entry) → map (λ (line : Line). line.1) (lines_of entries) ≡ ends_of entries
 ends-are [] = refl
-ends-are (entry ∷ entries) = ap (λ (x : List Board). entry.end ∷ x) (ends-are entries)
+ends-are (entry ∷ entries) = ap (λ (x : List Placement). entry.end ∷ x) (ends-are entries)
 
-pub plays-of_adds : (p : Board) (roll : Dice) (lines : List Line) (entries : List Entry) → IsListing p roll lines → Adds [] lines (lines_of entries) → IsPlays p roll entries
+pub plays-of_adds : (p : Placement) (roll : Dice) (lines : List Line) (entries : List Entry) → IsListing p roll lines → Adds [] lines (lines_of entries) → IsPlays p roll entries
 plays-of_adds p roll lines entries listing adds =
     let found : Found lines (lines_of entries) = found-all lines [] [] (lines_of entries) listing.ordered nothing-found adds in
     record {
       ends = λ q. (
         λ h. (
-            let there : Reaches (lines_of entries) q = subst (λ (x : List Board). Among q x) (sym (ends-are entries)) (Contains-Among q (ends_of entries) h) in
+            let there : Reaches (lines_of entries) q = subst (λ (x : List Placement). Among q x) (sym (ends-are entries)) (Contains-Among q (ends_of entries) h) in
             let r = map-cases (λ (line : Line). line.1) q (lines_of entries) there in
-            (r.0.0, subst (λ (x : Board). IsLegal p roll r.0.0 x) (sym r.2) (listing.sound r.0 (found.within r.0 r.1)))),
-        λ h. Among-Contains q (ends_of entries) (subst (λ (x : List Board). Among q x) (ends-are entries) (found.reached (h.0, q) (listing.complete h.0 q h.1))),
+            (r.0.0, subst (λ (x : Placement). IsLegal p roll r.0.0 x) (sym r.2) (listing.sound r.0 (found.within r.0 r.1)))),
+        λ h. Among-Contains q (ends_of entries) (subst (λ (x : List Placement). Among q x) (ends-are entries) (found.reached (h.0, q) (listing.complete h.0 q h.1))),
       );
-      distinct = AllPairs-of _ (ends_of entries) (Pairs-map (λ (one another : Board). one ≢ another) (λ (entry : Entry). entry.end) entries (Pairs-of_map Apart line_of entries found.apart));
+      distinct = AllPairs-of _ (ends_of entries) (Pairs-map (λ (one another : Placement). one ≢ another) (λ (entry : Entry). entry.end) entries (Pairs-of_map Apart line_of entries found.apart));
       first = λ k d h. (
           let line : Line = line_of (get_or entries k d) in
           let there : Among line (lines_of entries) = Among-map line_of (get_or entries k d) entries (Among-at entries k d h) in

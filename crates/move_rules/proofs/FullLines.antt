@@ -3,7 +3,7 @@ use Rattle.std.proofs.Common.{◌≡◌, ℕ, List, [], ◌∷◌, ◌++◌, map
 use Rattle.std.proofs.lemmas.List.{append-nil}
 use Rattle.std.specs.List.{slice_get, remove}
 use Rattle.std.specs.Option.{option_to_list}
-use Rattle.position_rank.specs.Board.{Board}
+use Rattle.position_rank.specs.Placement.{Placement}
 use Rattle.move_rules.specs.Moves.{IsMove}
 use Rattle.move_rules.specs.Sequences.{IsSequence}
 use Rattle.move_rules.specs.Ends.{Line, after_move, places}
@@ -16,9 +16,9 @@ use Rattle.move_rules.proofs.Added.{full_from-none, full_from-some}
 use Rattle.move_rules.proofs.Pairs.{Pairs, Pairs-down}
 
 -- these moves lead from p to q
-abbrev pub IsPlayed : Board → List Move → Board → Type 0
+abbrev pub IsPlayed : Placement → List Move → Placement → Type 0
 IsPlayed p [] q = q ≡ p
-IsPlayed p (move ∷ moves) q = (next : Board) × IsMove p move.die move.from next × IsPlayed next moves q
+IsPlayed p (move ∷ moves) q = (next : Placement) × IsMove p move.die move.from next × IsPlayed next moves q
 
 abbrev pub dice_used : List Move → List ℕ
 dice_used moves = map (λ (move : Move). move.die) moves
@@ -28,26 +28,26 @@ abbrev pub IsDraw : List ℕ → List ℕ → Type 0
 IsDraw dice [] = Unit {0}
 IsDraw dice (die ∷ drawn) = (i : ℕ) × (slice_get dice i ≡ Some die) × IsDraw (remove dice i) drawn
 
-pub sequence-played : (p : Board) (dice : List ℕ) (moves : List Move) (q : Board) → IsSequence p dice moves q → IsPlayed p moves q × IsDraw dice (dice_used moves)
+pub sequence-played : (p : Placement) (dice : List ℕ) (moves : List Move) (q : Placement) → IsSequence p dice moves q → IsPlayed p moves q × IsDraw dice (dice_used moves)
 sequence-played p dice [] q e = (e, tt)
 sequence-played p dice (move ∷ moves) q (i, e, next, made, rest) =
     let r = sequence-played next (remove dice i) moves q rest in
     ((next, made, r.0), (i, e, r.1))
 
-pub played-sequence : (p : Board) (dice : List ℕ) (moves : List Move) (q : Board) → IsPlayed p moves q → IsDraw dice (dice_used moves) → IsSequence p dice moves q
+pub played-sequence : (p : Placement) (dice : List ℕ) (moves : List Move) (q : Placement) → IsPlayed p moves q → IsDraw dice (dice_used moves) → IsSequence p dice moves q
 played-sequence p dice [] q e draw = e
 played-sequence p dice (move ∷ moves) q (next, made, rest) (i, e, draw) = (i, e, next, made, played-sequence next (remove dice i) moves q rest draw)
 
 -- ---- all of them and no others
 
 -- a line that goes on from here after these moves
-pub record GoesOn (p : Board) (moves : List Move) (dice : List ℕ) (line : Line) : Type 0 where
+pub record GoesOn (p : Placement) (moves : List Move) (dice : List ℕ) (line : Line) : Type 0 where
   pub rest : List Move
   pub is : line.0 ≡ moves ++ rest
   pub used : dice_used rest ≡ dice
   pub played : IsPlayed p rest line.1
 
-pub full-sound : (dice : List ℕ) (moves : List Move) (p : Board) (line : Line) → Among line (full dice moves p) → GoesOn p moves dice line
+pub full-sound : (dice : List ℕ) (moves : List Move) (p : Placement) (line : Line) → Among line (full dice moves p) → GoesOn p moves dice line
 unfolding full full_from
 full-sound [] moves p line (inl e) = record { rest = []; is = ap (λ (l : Line). l.0) e ∙ sym (append-nil moves); used = refl; played = ap (λ (l : Line). l.1) e }
 full-sound [] moves p line (inr h) = absurd h
@@ -60,9 +60,9 @@ full-sound (die ∷ dice) moves p line h =
     let r = full-sound dice (moves ++ move ∷ []) b.0 line b.2 in
     record { rest = move ∷ r.rest; is = r.is ∙ append_assoc moves (move ∷ []) r.rest; used = ap (λ (x : List ℕ). die ∷ x) r.used; played = (b.0, made, r.played) }
 
-pub full-complete : (rest moves : List Move) (p q : Board) → IsPlayed p rest q → Among (moves ++ rest, q) (full (dice_used rest) moves p)
+pub full-complete : (rest moves : List Move) (p q : Placement) → IsPlayed p rest q → Among (moves ++ rest, q) (full (dice_used rest) moves p)
 unfolding full full_from
-full-complete [] moves p q e = inl (rw (append-nil moves) (ap (λ (r : Board). (moves, r)) e))
+full-complete [] moves p q e = inl (rw (append-nil moves) (ap (λ (r : Placement). (moves, r)) e))
 full-complete (move ∷ rest) moves p q (next, made, later) =
     let within = leaves_from p move.die move.from next made in
     let h : Among (moves ++ move ∷ rest, q) (full (dice_used rest) (moves ++ move ∷ []) next) =
@@ -80,7 +80,7 @@ pub before-after : (moves one other : List Move) → ComesBefore one other → C
 before-after [] one other h = h
 before-after (move ∷ moves) one other h = inr (inr (refl, before-after moves one other h))
 
-full_from-begins : (dice : List ℕ) (moves : List Move) (p : Board) (die from : ℕ) (line : Line) → Among line (full_from (full dice) moves p die from)
+full_from-begins : (dice : List ℕ) (moves : List Move) (p : Placement) (die from : ℕ) (line : Line) → Among line (full_from (full dice) moves p die from)
     → (rest : List Move) × (line.0 ≡ moves ++ record { from = from; die = die } ∷ rest)
 unfolding full_from
 full_from-begins dice moves p die from line h =
@@ -89,12 +89,12 @@ full_from-begins dice moves p die from line h =
     let r = full-sound dice (moves ++ move ∷ []) b.0 line b.2 in
     (r.rest, r.is ∙ append_assoc moves (move ∷ []) r.rest)
 
-one-ordered : (later : List Move → Board → List Line) (moves : List Move) (p : Board) (die from : ℕ) (o : Option Board) → after_move p die from ≡ o
-    → ((now : List Move) (q : Board) → Pairs Before (later now q)) → Pairs Before (full_from later moves p die from)
+one-ordered : (later : List Move → Placement → List Line) (moves : List Move) (p : Placement) (die from : ℕ) (o : Option Placement) → after_move p die from ≡ o
+    → ((now : List Move) (q : Placement) → Pairs Before (later now q)) → Pairs Before (full_from later moves p die from)
 one-ordered later moves p die from None e each = subst (λ (x : List Line). Pairs Before x) (sym (full_from-none later moves p die from e)) tt
 one-ordered later moves p die from (Some q) e each = subst (λ (x : List Line). Pairs Before x) (sym (full_from-some later moves p die from q e)) (each (moves ++ record { from = from; die = die } ∷ []) q)
 
-pub full-ordered : (dice : List ℕ) (moves : List Move) (p : Board) → Pairs Before (full dice moves p)
+pub full-ordered : (dice : List ℕ) (moves : List Move) (p : Placement) → Pairs Before (full dice moves p)
 unfolding full places
 full-ordered [] moves p = (λ y h. absurd h, tt)
 full-ordered (die ∷ dice) moves p =

@@ -2,7 +2,7 @@
 use Rattle.std.proofs.Common.{◌≡◌, ◌≢◌, ◌<◌, ◌≤◌, ◌⊎◌, ◌↔◌, IsTrue, ℕ, zero, suc, max, Bool, true, false, cond, eqb, List, [], ◌∷◌, length, replicate, map, get_or, Some, inl, inr, refl, sym, ap, subst, ◌∙◌, arith}
 use Rattle.std.proofs.lemmas.Bool.Decides.{nat_tests}
 use Rattle.std.specs.List.{slice_get, remove}
-use Rattle.position_rank.specs.Board.{Board, above}
+use Rattle.position_rank.specs.Placement.{Placement, above}
 use Rattle.roll_table.specs.Rolls.{Dice, dice_of}
 use Rattle.move_rules.specs.declared.play.Move.{Move}
 use Rattle.move_rules.specs.declared.written.Step.{Step}
@@ -15,11 +15,11 @@ use Rattle.move_rules.specs.Written.{TakesLastOff, IsSmallest, IsDieOf, IsHit, I
 use Rattle.move_rules.proofs.EndsExact.{after_move-complete, same_dice}
 use Rattle.move_rules.proofs.FaultLaws.{Contains-got}
 
-leaves : (p : Board) (die from : ℕ) (q : Board) → IsMove p die from q → MayLeave p from
+leaves : (p : Placement) (die from : ℕ) (q : Placement) → IsMove p die from q → MayLeave p from
 leaves p die from q (inl runs) = runs.leaves
 leaves p die from q (inr off) = off.leaves
 
-off_board : (p : Board) (from : ℕ) → 1 ≤ from → from ≤ 25 → 0 < get_or p.mover from 0 → (from < 1) ⊎ (25 < from) ⊎ (get_or p.mover from 0 ≡ 0) → ⊥
+off_board : (p : Placement) (from : ℕ) → 1 ≤ from → from ≤ 25 → 0 < get_or p.mover from 0 → (from < 1) ⊎ (25 < from) ⊎ (get_or p.mover from 0 ≡ 0) → ⊥
 off_board p from low high held (inl a) = absurd (omega arith)
 off_board p from low high held (inr (inl b)) = absurd (omega arith)
 off_board p from low high held (inr (inr c)) = absurd (omega arith)
@@ -34,7 +34,7 @@ at_home from die outside higher home (inl e) (inr h) = h.0 e
 at_home from die outside higher home (inr e) (inr h) = let more = h.1 in absurd (omega (arith, more, e))
 
 -- a move that is made has no fault
-right_move : (p : Board) (dice : List ℕ) (i : ℕ) (m : Move) (next : Board) (fault : BadPlay) → slice_get dice i ≡ Some m.die → IsMove p m.die m.from next → HasFault p dice m fault → ⊥
+right_move : (p : Placement) (dice : List ℕ) (i : ℕ) (m : Move) (next : Placement) (fault : BadPlay) → slice_get dice i ≡ Some m.die → IsMove p m.die m.from next → HasFault p dice m fault → ⊥
 right_move p dice i m next WrongDice e move h = h (Contains-got dice i m.die e)
 right_move p dice i m next NoChecker e move h = let l = leaves p m.die m.from next move in off_board p m.from l.place l.within l.checker h
 right_move p dice i m next BarFirst e move h = let l = leaves p m.die m.from next move in bar_first m.from _ l.bar_first h.0 h.1
@@ -50,10 +50,10 @@ same_some : {X : Type 0} (x y : X) → Some x ≡ Some y → x ≡ y
 same_some x y e = cc
 
 -- a move leaves one position
-one_next : (p : Board) (die from : ℕ) (q r : Board) → IsMove p die from q → IsMove p die from r → q ≡ r
+one_next : (p : Placement) (die from : ℕ) (q r : Placement) → IsMove p die from q → IsMove p die from r → q ≡ r
 one_next p die from q r a b = same_some q r (sym (after_move-complete p die from q a) ∙ after_move-complete p die from r b)
 
-alike : (n d : ℕ) (p : Board) (moves : List Move) (q : Board) (fault : BadPlay) → IsSequence p (replicate n d) moves q → IsFirstWrong p (replicate n d) moves fault → ⊥
+alike : (n d : ℕ) (p : Placement) (moves : List Move) (q : Placement) (fault : BadPlay) → IsSequence p (replicate n d) moves q → IsFirstWrong p (replicate n d) moves fault → ⊥
 alike n d p [] q fault s w = w
 alike n d p (m ∷ moves) q fault (i, e, next, move, rest) (inl here) = right_move p (replicate n d) i m next fault e move here.fault_is
 alike n d p (m ∷ moves) q fault (i, e, next, move, rest) (inr (j, e', next', move', wrong)) =
@@ -62,15 +62,15 @@ alike n d p (m ∷ moves) q fault (i, e, next, move, rest) (inr (j, e', next', m
     let same = one_next p m.die m.from next' next move' move in
     let fewer : b.0 ≡ a.0 = omega (arith, a.1, b.1) in
     let left : remove (replicate n d) j ≡ replicate a.0 d = b.3 ∙ ap (λ (k : ℕ). replicate k d) fewer in
-    alike a.0 d next moves q fault (rw (← a.3) rest) (subst (λ (x : Board). IsFirstWrong x (replicate a.0 d) moves fault) same (subst (λ (xs : List ℕ). IsFirstWrong next' xs moves fault) left wrong))
+    alike a.0 d next moves q fault (rw (← a.3) rest) (subst (λ (x : Placement). IsFirstWrong x (replicate a.0 d) moves fault) same (subst (λ (xs : List ℕ). IsFirstWrong next' xs moves fault) left wrong))
 
-two : (a b : ℕ) → a ≢ b → (p : Board) (moves : List Move) (q : Board) (fault : BadPlay) → IsSequence p (a ∷ b ∷ []) moves q → IsFirstWrong p (a ∷ b ∷ []) moves fault → ⊥
+two : (a b : ℕ) → a ≢ b → (p : Placement) (moves : List Move) (q : Placement) (fault : BadPlay) → IsSequence p (a ∷ b ∷ []) moves q → IsFirstWrong p (a ∷ b ∷ []) moves fault → ⊥
 two a b apart p [] q fault s w = w
 two a b apart p (m ∷ moves) q fault (i, e, next, move, rest) (inl here) = right_move p (a ∷ b ∷ []) i m next fault e move here.fault_is
 two a b apart p (m ∷ moves) q fault (zero, e, next, move, rest) (inr (zero, e', next', move', wrong)) =
-    alike 1 b next moves q fault rest (subst (λ (x : Board). IsFirstWrong x (b ∷ []) moves fault) (one_next p m.die m.from next' next move' move) wrong)
+    alike 1 b next moves q fault rest (subst (λ (x : Placement). IsFirstWrong x (b ∷ []) moves fault) (one_next p m.die m.from next' next move' move) wrong)
 two a b apart p (m ∷ moves) q fault (suc zero, e, next, move, rest) (inr (suc zero, e', next', move', wrong)) =
-    alike 1 a next moves q fault rest (subst (λ (x : Board). IsFirstWrong x (a ∷ []) moves fault) (one_next p m.die m.from next' next move' move) wrong)
+    alike 1 a next moves q fault rest (subst (λ (x : Placement). IsFirstWrong x (a ∷ []) moves fault) (one_next p m.die m.from next' next move' move) wrong)
 two a b apart p (m ∷ moves) q fault (zero, e, next, move, rest) (inr (suc zero, e', next', move', wrong)) = apart (same_some a b (e ∙ sym e'))
 two a b apart p (m ∷ moves) q fault (suc zero, e, next, move, rest) (inr (zero, e', next', move', wrong)) = apart (same_some a b (e' ∙ sym e))
 two a b apart p (m ∷ moves) q fault (suc (suc i), e, next, move, rest) (inr (j, e', next', move', wrong)) = absurd (grind arith)
@@ -78,7 +78,7 @@ two a b apart p (m ∷ moves) q fault (zero, e, next, move, rest) (inr (suc (suc
 two a b apart p (m ∷ moves) q fault (suc zero, e, next, move, rest) (inr (suc (suc j), e', next', move', wrong)) = absurd (grind arith)
 
 -- a sequence has no wrong move
-pub sequence-right : (p : Board) (roll : Dice) (moves : List Move) (q : Board) (fault : BadPlay) → IsSequence p (dice_of roll) moves q → IsFirstWrong p (dice_of roll) moves fault → ⊥
+pub sequence-right : (p : Placement) (roll : Dice) (moves : List Move) (q : Placement) (fault : BadPlay) → IsSequence p (dice_of roll) moves q → IsFirstWrong p (dice_of roll) moves fault → ⊥
 sequence-right p roll moves q fault s w = by (eqb roll.high roll.low) refl s w where
   by : (b : Bool) → eqb roll.high roll.low ≡ b → IsSequence p (cond b (roll.high ∷ roll.high ∷ roll.high ∷ roll.high ∷ []) (roll.high ∷ roll.low ∷ [])) moves q → IsFirstWrong p (cond b (roll.high ∷ roll.high ∷ roll.high ∷ roll.high ∷ []) (roll.high ∷ roll.low ∷ [])) moves fault → ⊥
   by true e s w = alike 4 roll.high p moves q fault s w
@@ -92,7 +92,7 @@ one_head : (x y : ℕ) → x ∷ [] ≡ y ∷ [] → x ≡ y
 one_head x y e = cc
 
 -- a legal sequence has nothing wrong with all of it
-pub legal-whole : (p : Board) (roll : Dice) (moves : List Move) (q : Board) (fault : BadPlay) → IsLegal p roll moves q → IsWholeFault p roll moves fault → ⊥
+pub legal-whole : (p : Placement) (roll : Dice) (moves : List Move) (q : Placement) (fault : BadPlay) → IsLegal p roll moves q → IsWholeFault p roll moves fault → ⊥
 legal-whole p roll moves q TooFew legal w = absurd (omega (arith, legal.longest w.others w.others_end w.other, w.more))
 legal-whole p roll moves q HigherDie legal w =
     let one : length moves ≡ 1 = sym (length-dies moves) ∙ ap length w.lower in
@@ -107,13 +107,13 @@ legal-whole p roll moves q NotHome legal w = w
 legal-whole p roll moves q Closed legal w = w
 legal-whole p roll moves q HitMark legal w = w
 
-pub legal-right : (p : Board) (roll : Dice) (moves : List Move) (q : Board) (fault : BadPlay) → IsLegal p roll moves q → IsFault p roll moves fault → ⊥
+pub legal-right : (p : Placement) (roll : Dice) (moves : List Move) (q : Placement) (fault : BadPlay) → IsLegal p roll moves q → IsFault p roll moves fault → ⊥
 legal-right p roll moves q fault legal (inl wrong) = sequence-right p roll moves q fault legal.sequence wrong
 legal-right p roll moves q fault legal (inr whole) = legal-whole p roll moves q fault legal whole
 
 -- ---- written plays
 
-top_die : (p : Board) (dice : List ℕ) (from die : ℕ) → TakesLastOff p dice from die → die ≡ max (get_or dice 0 0) (get_or dice 1 0)
+top_die : (p : Placement) (dice : List ℕ) (from die : ℕ) → TakesLastOff p dice from die → die ≡ max (get_or dice 0 0) (get_or dice 1 0)
 top_die p dice from die (off, reaches, lower, less, inl e) = rw e (omega arith)
 top_die p dice from die (off, reaches, lower, less, inr e) = rw e (omega arith)
 
@@ -124,7 +124,7 @@ both_ways : (a b : ℕ) → a ≤ b → b ≤ a → a ≡ b
 both_ways a b h k = omega arith
 
 -- a step is made by one die
-one_die_of : (p : Board) (dice : List ℕ) (step : Step) (a b : ℕ) → IsDieOf p dice step a → IsDieOf p dice step b → a ≡ b
+one_die_of : (p : Placement) (dice : List ℕ) (step : Step) (a b : ℕ) → IsDieOf p dice step a → IsDieOf p dice step b → a ≡ b
 one_die_of p dice step a b (inl h) (inl k) = h.1 ∙ sym k.1
 one_die_of p dice step a b (inl h) (inr (inl k)) = let above = h.0 in let off = k.0 in absurd (omega (arith, above, off))
 one_die_of p dice step a b (inl h) (inr (inr k)) = let above = h.0 in let off = k.0 in absurd (omega (arith, above, off))
@@ -142,11 +142,11 @@ as_made m from die h k =
     ap with_from h ∙ ap with_die k
 
 -- a step is written for one move
-one_move_of : (p : Board) (dice : List ℕ) (step : Step) (m n : Move) (i j : ℕ) (q r : Board) → IsStep p dice step m i q → IsStep p dice step n j r → m ≡ n
+one_move_of : (p : Placement) (dice : List ℕ) (step : Step) (m n : Move) (i j : ℕ) (q r : Placement) → IsStep p dice step m i q → IsStep p dice step n j r → m ≡ n
 one_move_of p dice step m n i j q r a b = as_made m n.from n.die (a.from ∙ sym b.from) (one_die_of p dice step m.die n.die a.die b.die)
 
 -- a step that is right isn't wrong
-right_step : (p : Board) (dice : List ℕ) (step : Step) (m : Move) (i : ℕ) (next : Board) (fault : BadPlay) → IsStep p dice step m i next → IsWrongStep p dice step fault → ⊥
+right_step : (p : Placement) (dice : List ℕ) (step : Step) (m : Move) (i : ℕ) (next : Placement) (fault : BadPlay) → IsStep p dice step m i next → IsWrongStep p dice step fault → ⊥
 right_step p dice step m i next fault right (inl (e, none)) = none m.die right.die
 right_step p dice step m i next fault right (inr (inl (die, is, wrong))) =
     let same = as_made m step.from die right.from (one_die_of p dice step m.die die right.die is) in
@@ -155,7 +155,7 @@ right_step p dice step m i next fault right (inr (inr (e, die, is, left, r, made
     let same = as_made m step.from die right.from (one_die_of p dice step m.die die right.die is) in
     unlike (subst (λ (x : Move). IsTrue step.hit ↔ IsHit p x) same right.mark)
 
-written-alike : (n d : ℕ) (p : Board) (steps : List Step) (moves : List Move) (q : Board) (fault : BadPlay) → IsWritten p (replicate n d) steps moves q → IsWrongWritten p (replicate n d) steps fault → ⊥
+written-alike : (n d : ℕ) (p : Placement) (steps : List Step) (moves : List Move) (q : Placement) (fault : BadPlay) → IsWritten p (replicate n d) steps moves q → IsWrongWritten p (replicate n d) steps fault → ⊥
 written-alike n d p [] [] q fault s w = w
 written-alike n d p [] (m ∷ moves) q fault s w = w
 written-alike n d p (step ∷ steps) [] q fault s w = s
@@ -168,9 +168,9 @@ written-alike n d p (step ∷ steps) (m ∷ moves) q fault (i, next, right, rest
     let b = same_dice n d j m'.die right'.left in
     let fewer : b.0 ≡ a.0 = omega (arith, a.1, b.1) in
     let left : remove (replicate n d) j ≡ replicate a.0 d = b.3 ∙ ap (λ (k : ℕ). replicate k d) fewer in
-    written-alike a.0 d next steps moves q fault (rw (← a.3) rest) (subst (λ (x : Board). IsWrongWritten x (replicate a.0 d) steps fault) same (subst (λ (xs : List ℕ). IsWrongWritten next' xs steps fault) left wrong))
+    written-alike a.0 d next steps moves q fault (rw (← a.3) rest) (subst (λ (x : Placement). IsWrongWritten x (replicate a.0 d) steps fault) same (subst (λ (xs : List ℕ). IsWrongWritten next' xs steps fault) left wrong))
 
-written-two : (a b : ℕ) → a ≢ b → (p : Board) (steps : List Step) (moves : List Move) (q : Board) (fault : BadPlay) → IsWritten p (a ∷ b ∷ []) steps moves q → IsWrongWritten p (a ∷ b ∷ []) steps fault → ⊥
+written-two : (a b : ℕ) → a ≢ b → (p : Placement) (steps : List Step) (moves : List Move) (q : Placement) (fault : BadPlay) → IsWritten p (a ∷ b ∷ []) steps moves q → IsWrongWritten p (a ∷ b ∷ []) steps fault → ⊥
 written-two a b apart p [] [] q fault s w = w
 written-two a b apart p [] (m ∷ moves) q fault s w = w
 written-two a b apart p (step ∷ steps) [] q fault s w = s
@@ -180,7 +180,7 @@ written-two a b apart p (step ∷ steps) (m ∷ moves) q fault (i, next, right, 
     let made = subst (λ (x : Move). IsMove p x.die x.from next') one right'.made in
     let same = one_next p m.die m.from next' next made right.made in
     let left' = subst (λ (x : Move). slice_get (a ∷ b ∷ []) j ≡ Some x.die) one right'.left in
-    go i j right.left left' rest (subst (λ (x : Board). IsWrongWritten x (remove (a ∷ b ∷ []) j) steps fault) same wrong) where
+    go i j right.left left' rest (subst (λ (x : Placement). IsWrongWritten x (remove (a ∷ b ∷ []) j) steps fault) same wrong) where
       go : (i j : ℕ) → slice_get (a ∷ b ∷ []) i ≡ Some m.die → slice_get (a ∷ b ∷ []) j ≡ Some m.die → IsWritten next (remove (a ∷ b ∷ []) i) steps moves q → IsWrongWritten next (remove (a ∷ b ∷ []) j) steps fault → ⊥
       go zero zero e k s w = written-alike 1 b next steps moves q fault s w
       go (suc zero) (suc zero) e k s w = written-alike 1 a next steps moves q fault s w
@@ -190,7 +190,7 @@ written-two a b apart p (step ∷ steps) (m ∷ moves) q fault (i, next, right, 
       go zero (suc (suc j)) e k s w = absurd (grind arith)
       go (suc zero) (suc (suc j)) e k s w = absurd (grind arith)
 
-moves-alike : (n d : ℕ) (p : Board) (steps : List Step) (moves others : List Move) (q r : Board) → IsWritten p (replicate n d) steps moves q → IsWritten p (replicate n d) steps others r → moves ≡ others
+moves-alike : (n d : ℕ) (p : Placement) (steps : List Step) (moves others : List Move) (q r : Placement) → IsWritten p (replicate n d) steps moves q → IsWritten p (replicate n d) steps others r → moves ≡ others
 moves-alike n d p [] [] [] q r s t = refl
 moves-alike n d p [] [] (o ∷ others) q r s t = absurd t
 moves-alike n d p [] (m ∷ moves) others q r s t = absurd s
@@ -204,10 +204,10 @@ moves-alike n d p (step ∷ steps) (m ∷ moves) (o ∷ others) q r (i, next, ri
     let b = same_dice n d j o.die right'.left in
     let fewer : b.0 ≡ a.0 = omega (arith, a.1, b.1) in
     let left : remove (replicate n d) j ≡ replicate a.0 d = b.3 ∙ ap (λ (k : ℕ). replicate k d) fewer in
-    let later = moves-alike a.0 d next steps moves others q r (rw (← a.3) rest) (subst (λ (x : Board). IsWritten x (replicate a.0 d) steps others r) same (subst (λ (xs : List ℕ). IsWritten next' xs steps others r) left rest')) in
+    let later = moves-alike a.0 d next steps moves others q r (rw (← a.3) rest) (subst (λ (x : Placement). IsWritten x (replicate a.0 d) steps others r) same (subst (λ (xs : List ℕ). IsWritten next' xs steps others r) left rest')) in
     ap (λ (x : Move). x ∷ moves) (sym one) ∙ ap (λ (xs : List Move). o ∷ xs) later
 
-moves-two : (a b : ℕ) → a ≢ b → (p : Board) (steps : List Step) (moves others : List Move) (q r : Board) → IsWritten p (a ∷ b ∷ []) steps moves q → IsWritten p (a ∷ b ∷ []) steps others r → moves ≡ others
+moves-two : (a b : ℕ) → a ≢ b → (p : Placement) (steps : List Step) (moves others : List Move) (q r : Placement) → IsWritten p (a ∷ b ∷ []) steps moves q → IsWritten p (a ∷ b ∷ []) steps others r → moves ≡ others
 moves-two a b apart p [] [] [] q r s t = refl
 moves-two a b apart p [] [] (o ∷ others) q r s t = absurd t
 moves-two a b apart p [] (m ∷ moves) others q r s t = absurd s
@@ -218,7 +218,7 @@ moves-two a b apart p (step ∷ steps) (m ∷ moves) (o ∷ others) q r (i, next
     let made = subst (λ (x : Move). IsMove p x.die x.from next') one right'.made in
     let same = one_next p m.die m.from next' next made right.made in
     let left' = subst (λ (x : Move). slice_get (a ∷ b ∷ []) j ≡ Some x.die) one right'.left in
-    let later = go i j right.left left' rest (subst (λ (x : Board). IsWritten x (remove (a ∷ b ∷ []) j) steps others r) same rest') in
+    let later = go i j right.left left' rest (subst (λ (x : Placement). IsWritten x (remove (a ∷ b ∷ []) j) steps others r) same rest') in
     ap (λ (x : Move). x ∷ moves) (sym one) ∙ ap (λ (xs : List Move). o ∷ xs) later where
       go : (i j : ℕ) → slice_get (a ∷ b ∷ []) i ≡ Some m.die → slice_get (a ∷ b ∷ []) j ≡ Some m.die → IsWritten next (remove (a ∷ b ∷ []) i) steps moves q → IsWritten next (remove (a ∷ b ∷ []) j) steps others r → moves ≡ others
       go zero zero e k s t = moves-alike 1 b next steps moves others q r s t
@@ -230,7 +230,7 @@ moves-two a b apart p (step ∷ steps) (m ∷ moves) (o ∷ others) q r (i, next
       go (suc zero) (suc (suc j)) e k s t = absurd (grind arith)
 
 -- steps that are written for a legal play have no fault
-pub written-right : (p : Board) (roll : Dice) (steps : List Step) (moves : List Move) (q : Board) (fault : BadPlay) → IsWritten p (dice_of roll) steps moves q → IsLegal p roll moves q → IsWrittenFault p roll steps fault → ⊥
+pub written-right : (p : Placement) (roll : Dice) (steps : List Step) (moves : List Move) (q : Placement) (fault : BadPlay) → IsWritten p (dice_of roll) steps moves q → IsLegal p roll moves q → IsWrittenFault p roll steps fault → ⊥
 written-right p roll steps moves q fault written legal (inl wrong) = by (eqb roll.high roll.low) refl written wrong where
   by : (b : Bool) → eqb roll.high roll.low ≡ b → IsWritten p (cond b (roll.high ∷ roll.high ∷ roll.high ∷ roll.high ∷ []) (roll.high ∷ roll.low ∷ [])) steps moves q → IsWrongWritten p (cond b (roll.high ∷ roll.high ∷ roll.high ∷ roll.high ∷ []) (roll.high ∷ roll.low ∷ [])) steps fault → ⊥
   by true e s w = written-alike 4 roll.high p steps moves q fault s w

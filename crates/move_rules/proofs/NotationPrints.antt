@@ -5,7 +5,7 @@ use Rattle.std.proofs.lemmas.List.Elements.{All-cons, All-nil}
 use Rattle.std.specs.List.{All, slice_get, remove, join_with_byte}
 use Rattle.std.specs.Option.{unwrap_or}
 use Rattle.std.specs.Prelude.{◌↔◌}
-use Rattle.position_rank.specs.Board.{Board}
+use Rattle.position_rank.specs.Placement.{Placement}
 use Rattle.position_rank.specs.Text.{place_text}
 use Rattle.position_rank.specs.TextParts.{add_word}
 use Rattle.roll_table.specs.Rolls.{dice_of}
@@ -21,16 +21,16 @@ use Rattle.move_rules.proofs.NotationWords.{step_word-cut}
 
 -- ---- moves that can be made in turn
 
-pub record Follows (p : Board) (moves : List Move) : Type 0 where
+pub record Follows (p : Placement) (moves : List Move) : Type 0 where
   pub dice : List ℕ
   pub above_none : All (λ die. 1 ≤ die) dice
-  pub end : Board
+  pub end : Placement
   pub sequence : IsSequence p dice moves end
 
-pub follows : (p : Board) (moves : List Move) → CanFollow p moves → Follows p moves
+pub follows : (p : Placement) (moves : List Move) → CanFollow p moves → Follows p moves
 follows p moves can = record { dice = dice_of can.roll; above_none = dice-from can.roll (dice_of can.roll) can.valid refl; end = can.end; sequence = can.sequence }
 
-pub record Begins (p : Board) (move : Move) (moves : List Move) : Type 0 where
+pub record Begins (p : Placement) (move : Move) (moves : List Move) : Type 0 where
   pub die : 1 ≤ move.die
   pub from : 1 ≤ move.from
   pub place : move.from ≤ 25
@@ -41,11 +41,11 @@ got [] i x all e = absurd (cc)
 got (y ∷ xs) zero x all e = let same : y ≡ x = cc in subst (λ z. 1 ≤ z) same (all 0 0 (omega arith))
 got (y ∷ xs) (suc i) x all e = got xs i x (λ k d low. all (suc k) d (omega arith)) e
 
-leaves : (p : Board) (die from : ℕ) (q : Board) → IsMove p die from q → (1 ≤ from) × (from ≤ 25)
+leaves : (p : Placement) (die from : ℕ) (q : Placement) → IsMove p die from q → (1 ≤ from) × (from ≤ 25)
 leaves p die from q (inl runs) = (runs.leaves.place, runs.leaves.within)
 leaves p die from q (inr off) = (off.leaves.place, off.leaves.within)
 
-pub begins-with : (p : Board) (move : Move) (moves : List Move) → Follows p (move ∷ moves) → Begins p move moves
+pub begins-with : (p : Placement) (move : Move) (moves : List Move) → Follows p (move ∷ moves) → Begins p move moves
 begins-with p move moves f =
     let i = f.sequence.0 in
     let next = f.sequence.2 in
@@ -61,17 +61,17 @@ begins-with p move moves f =
 
 -- ---- the steps of moves
 
-pub hit-told : (p : Board) (move : Move) → IsTrue (is_hit p move) ↔ IsHit p move
+pub hit-told : (p : Placement) (move : Move) → IsTrue (is_hit p move) ↔ IsHit p move
 hit-told p move = (λ h. grind (arith, nat_tests), λ h. grind (arith, nat_tests))
 
-record HasSteps (p : Board) (moves : List Move) : Type 0 where
+record HasSteps (p : Placement) (moves : List Move) : Type 0 where
   steps : List Step
   of : AreStepsOf p moves steps
   words : map word_of steps ≡ words_from p moves
   hits : All HitsPoint steps
   many : length steps ≡ length moves
 
-has-steps : (p : Board) (moves : List Move) → Follows p moves → HasSteps p moves
+has-steps : (p : Placement) (moves : List Move) → Follows p moves → HasSteps p moves
 has-steps p [] f = record { steps = []; of = tt; words = refl; hits = All-nil HitsPoint; many = refl }
 has-steps p (move ∷ moves) f =
     let first = begins-with p move moves f in
@@ -88,7 +88,7 @@ has-steps p (move ∷ moves) f =
       many = omega (arith, rest.many);
     }
 
-pub printed-read : (p : Board) (moves : List Move) → CanFollow p moves → length moves ≤ 4 → (steps : List Step) × AreStepsOf p moves steps × IsPlayText (play_text p moves) steps
+pub printed-read : (p : Placement) (moves : List Move) → CanFollow p moves → length moves ≤ 4 → (steps : List Step) × AreStepsOf p moves steps × IsPlayText (play_text p moves) steps
 printed-read p moves can few =
     let has = has-steps p moves (follows p moves can) in
     (has.steps, has.of, record { words = ap play_of_words (sym has.words); hits = has.hits; few = omega (arith, has.many) })
@@ -110,15 +110,15 @@ step_word-full : (from to : ℕ) (hit : Bool) → 0 < length (step_word from to 
 step_word-full from to hit = omega (arith, ap length (step_word-cut from to hit), length-append (place_text from) (47 ∷ (place_text to ++ mark hit)))
 
 -- the text so far and the words that are left make the whole text
-pub record HasPrinted (p : Board) (moves : List Move) (text : List ℕ) (now : Board) (left : List Move) (n : ℕ) : Type 0 where
+pub record HasPrinted (p : Placement) (moves : List Move) (text : List ℕ) (now : Placement) (left : List Move) (n : ℕ) : Type 0 where
   pub whole : fold add_word text (words_from now left) ≡ play_text p moves
   pub later : Follows now left
   pub short : length text ≤ 9 * n + 1
 
-pub none-printed : (p : Board) → Follows p [] → (text : List ℕ) → text ≡ codes "-" → HasPrinted p [] text p [] 0
+pub none-printed : (p : Placement) → Follows p [] → (text : List ℕ) → text ≡ codes "-" → HasPrinted p [] text p [] 0
 none-printed p f text e = record { whole = e; later = f; short = omega (arith, ap length e) }
 
-pub print-start : (p : Board) (moves : List Move) → CanFollow p moves → (text : List ℕ) → (length moves ≡ 0 → text ≡ codes "-") → (0 < length moves → text ≡ []) → HasPrinted p moves text p moves 0
+pub print-start : (p : Placement) (moves : List Move) → CanFollow p moves → (text : List ℕ) → (length moves ≡ 0 → text ≡ codes "-") → (0 < length moves → text ≡ []) → HasPrinted p moves text p moves 0
 print-start p [] can text dash some = none-printed p (follows p [] can) text (dash refl)
 print-start p (move ∷ moves) can text dash some =
     let empty : text ≡ [] = some (omega arith) in
@@ -134,7 +134,7 @@ add_word-longer text word = by-cases (eqb (length text) 0) where
   by-cases true = omega arith
   by-cases false = omega (arith, length-append text (32 ∷ word))
 
-pub print-one : (p : Board) (moves : List Move) (text : List ℕ) (now : Board) (left : List Move) (n : ℕ) (move : Move) (rest : List Move) (word text' : List ℕ) (next : Board)
+pub print-one : (p : Placement) (moves : List Move) (text : List ℕ) (now : Placement) (left : List Move) (n : ℕ) (move : Move) (rest : List Move) (word text' : List ℕ) (next : Placement)
     → HasPrinted p moves text now left n → left ≡ move ∷ rest → word ≡ step_word move.from (move.from - move.die) (is_hit now move) → length word ≤ 8 → text' ≡ add_word text word → next ≡ next_board now move → HasPrinted p moves text' next rest (n + 1)
 print-one p moves text now left n move rest word text' next h e w low t b =
     let before = rw e at h in
@@ -144,5 +144,5 @@ print-one p moves text now left n move rest word text' next h e w low t b =
       short = omega (arith, ap length t, add_word-longer text word, h.short);
     }
 
-pub print-ends : (p : Board) (moves : List Move) (text : List ℕ) (now : Board) (left : List Move) (n : ℕ) → HasPrinted p moves text now left n → left ≡ [] → text ≡ play_text p moves
+pub print-ends : (p : Placement) (moves : List Move) (text : List ℕ) (now : Placement) (left : List Move) (n : ℕ) → HasPrinted p moves text now left n → left ≡ [] → text ≡ play_text p moves
 print-ends p moves text now left n h e = let before = rw e at h in before.whole

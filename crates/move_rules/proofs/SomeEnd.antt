@@ -2,7 +2,7 @@
 use Rattle.std.proofs.Common.{◌≡◌, ◌≢◌, ℕ, Bool, true, false, eqb, cond, List, [], ◌∷◌, Some, ◌⊎◌, inl, inr, refl, sym, ◌∙◌, arith}
 use Rattle.std.proofs.lemmas.Bool.{cases_eq}
 use Rattle.std.specs.List.{slice_get}
-use Rattle.position_rank.specs.Board.{Board}
+use Rattle.position_rank.specs.Placement.{Placement}
 use Rattle.roll_table.specs.Rolls.{Dice}
 use Rattle.move_rules.specs.declared.play.Move.{Move}
 use Rattle.move_rules.specs.Sequences.{CanPlay, IsLegalEnd}
@@ -14,7 +14,7 @@ first_die true high low = refl
 first_die false high low = refl
 
 -- the one move by the higher die
-by_higher : (p : Board) (roll : Dice) → CanPlay p roll.high → longest (all_lines p roll) ≡ 1 → (q : Board) × IsLegalEnd p roll q
+by_higher : (p : Placement) (roll : Dice) → CanPlay p roll.high → longest (all_lines p roll) ≡ 1 → (q : Placement) × IsLegalEnd p roll q
 by_higher p roll (from, q, move) one =
     let moves : List Move = record { from = from; die = roll.high } ∷ [] in (
       q,
@@ -28,9 +28,9 @@ by_higher p roll (from, q, move) one =
       ),
     )
 
-pub some_legal_end : (p : Board) (roll : Dice) → (q : Board) × IsLegalEnd p roll q
+pub some_legal_end : (p : Placement) (roll : Dice) → (q : Placement) × IsLegalEnd p roll q
 some_legal_end p roll = choose (can_play p roll.high) refl (cases_eq (longest (all_lines p roll)) 1) where
-  any : ((length_one : longest (all_lines p roll) ≡ 1) → CanPlay p roll.high → ⊥) → (q : Board) × IsLegalEnd p roll q
+  any : ((length_one : longest (all_lines p roll) ≡ 1) → CanPlay p roll.high → ⊥) → (q : Placement) × IsLegalEnd p roll q
   any never =
       let best = longest-reached ([], p) (all_lines p roll) (all_lines-complete p roll [] p refl) in (
         best.0.1,
@@ -44,7 +44,7 @@ some_legal_end p roll = choose (can_play p roll.high) refl (cases_eq (longest (a
         ),
       )
 
-  choose : (can : Bool) → can_play p roll.high ≡ can → (longest (all_lines p roll) ≡ 1) ⊎ (longest (all_lines p roll) ≢ 1) → (q : Board) × IsLegalEnd p roll q
+  choose : (can : Bool) → can_play p roll.high ≡ can → (longest (all_lines p roll) ≡ 1) ⊎ (longest (all_lines p roll) ≢ 1) → (q : Placement) × IsLegalEnd p roll q
   choose true e (inl one) = by_higher p roll (can_play-sound p roll.high e) one
   choose true e (inr more) = any (λ one can. more one)
   choose false e n = any (λ one can. absurd (grind (arith, can_play-complete p roll.high can)))

@@ -4,7 +4,7 @@ use Rattle.std.proofs.lemmas.Bool.{cases_lt, cases_eq}
 use Rattle.std.proofs.lemmas.Bool.Decides.{nat_tests}
 use Rattle.std.proofs.lemmas.List.Sums.{sum_by-set}
 use Rattle.std.specs.List.{slice_get, remove}
-use Rattle.position_rank.specs.Board.{Board, IsPosition, IsLive, AreApart, InPlay, swap, moved, hit}
+use Rattle.position_rank.specs.Placement.{Placement, IsPosition, IsLive, AreApart, InPlay, swap, moved, hit}
 use Rattle.roll_table.specs.Rolls.{Dice, IsRoll, dice_of}
 use Rattle.move_rules.specs.Moves.{IsMove, Runs, BearsOff}
 use Rattle.move_rules.specs.Sequences.{IsSequence, IsLegalEnd}
@@ -67,7 +67,7 @@ reached other point n low open_point = elim (cases_eq (get_or other point 0) 1) 
 
 -- ---- what one move keeps, of a game against these checkers
 
-pub record Stays (p q : Board) : Type 0 where
+pub record Stays (p q : Placement) : Type 0 where
   pub mover_places : length q.mover ≡ length p.mover
   pub mover : sum q.mover ≡ sum p.mover
   pub other_places : length q.other ≡ length p.other
@@ -90,14 +90,14 @@ apart-off mover other from a apart point l h held =
     let on : point ≢ 0 = omega arith in
     apart point l h (omega (arith, get_or-moved_le mover from 0 point a on))
 
-run-stays : (p : Board) (die from : ℕ) (q : Board) → length p.mover ≡ 26 → length p.other ≡ 26 → 1 ≤ die → Runs p die from q → Stays p q
+run-stays : (p : Placement) (die from : ℕ) (q : Placement) → length p.mover ≡ 26 → length p.other ≡ 26 → 1 ≤ die → Runs p die from q → Stays p q
 run-stays p die from q m o low runs =
     let within : from < length p.mover = omega (arith, runs.leaves.within) in
     let on : from - die < length p.mover = omega (arith, runs.leaves.within) in
     let point : 25 - (from - die) < 25 = omega (arith, runs.on_board) in
     let r : Reached p.other (hit p.other (25 - (from - die))) (25 - (from - die)) = reached p.other (25 - (from - die)) o point runs.open_point in
     let bar : 25 - (from - die) ≢ 0 = omega (arith, runs.leaves.within) in
-    subst (λ (b : Board). Stays p b) (sym runs.after) (record {
+    subst (λ (b : Placement). Stays p b) (sym runs.after) (record {
       mover_places = length-moved p.mover from (from - die);
       mover = sum-moved p.mover from (from - die) within on runs.leaves.checker;
       other_places = r.places;
@@ -106,10 +106,10 @@ run-stays p die from q m o low runs =
       apart = apart-run p.mover p.other (hit p.other (25 - (from - die))) from (from - die) within (omega (arith, runs.on_board)) (omega (arith, runs.leaves.within)) r;
     })
 
-off-stays : (p : Board) (die from : ℕ) (q : Board) → length p.mover ≡ 26 → BearsOff p die from q → Stays p q
+off-stays : (p : Placement) (die from : ℕ) (q : Placement) → length p.mover ≡ 26 → BearsOff p die from q → Stays p q
 off-stays p die from q m off =
     let within : from < length p.mover = omega (arith, off.leaves.within) in
-    subst (λ (b : Board). Stays p b) (sym off.after) (record {
+    subst (λ (b : Placement). Stays p b) (sym off.after) (record {
       mover_places = length-moved p.mover from 0;
       mover = sum-moved p.mover from 0 within (omega arith) off.leaves.checker;
       other_places = refl;
@@ -118,24 +118,24 @@ off-stays p die from q m off =
       apart = apart-off p.mover p.other from within;
     })
 
-move-stays : (p : Board) (die from : ℕ) (q : Board) → length p.mover ≡ 26 → length p.other ≡ 26 → 1 ≤ die → IsMove p die from q → Stays p q
+move-stays : (p : Placement) (die from : ℕ) (q : Placement) → length p.mover ≡ 26 → length p.other ≡ 26 → 1 ≤ die → IsMove p die from q → Stays p q
 move-stays p die from q m o low (inl runs) = run-stays p die from q m o low runs
 move-stays p die from q m o low (inr off) = off-stays p die from q m off
 
 -- whatever the die
-pub mover-stays : (p : Board) (die from : ℕ) (q : Board) → length p.mover ≡ 26 → IsMove p die from q → (length q.mover ≡ 26) × (sum q.mover ≡ sum p.mover)
+pub mover-stays : (p : Placement) (die from : ℕ) (q : Placement) → length p.mover ≡ 26 → IsMove p die from q → (length q.mover ≡ 26) × (sum q.mover ≡ sum p.mover)
 mover-stays p die from q m (inl runs) =
     let within : from < length p.mover = omega (arith, runs.leaves.within) in
     let on : from - die < length p.mover = omega (arith, runs.leaves.within) in
-    subst (λ (b : Board). (length b.mover ≡ 26) × (sum b.mover ≡ sum p.mover)) (sym runs.after) (length-moved p.mover from (from - die) ∙ m, sum-moved p.mover from (from - die) within on runs.leaves.checker)
+    subst (λ (b : Placement). (length b.mover ≡ 26) × (sum b.mover ≡ sum p.mover)) (sym runs.after) (length-moved p.mover from (from - die) ∙ m, sum-moved p.mover from (from - die) within on runs.leaves.checker)
 mover-stays p die from q m (inr off) = let s = off-stays p die from q m off in (s.mover_places ∙ m, s.mover)
 
 -- ---- and what a sequence keeps
 
-Stays-refl : (p : Board) → Stays p p
+Stays-refl : (p : Placement) → Stays p p
 Stays-refl p = record { mover_places = refl; mover = refl; other_places = refl; other = refl; off = refl; apart = λ a. a }
 
-Stays-trans : (p q r : Board) → Stays p q → Stays q r → Stays p r
+Stays-trans : (p q r : Placement) → Stays p q → Stays q r → Stays p r
 Stays-trans p q r a b = record {
   mover_places = b.mover_places ∙ a.mover_places;
   mover = b.mover ∙ a.mover;
@@ -167,13 +167,13 @@ AreDice-of roll right = of (eqb roll.high roll.low) where
   of true = let high : 1 ≤ roll.high = omega (arith, right.from, right.in_order) in (high, (high, (high, (high, tt))))
   of false = (omega (arith, right.from, right.in_order), (right.from, tt))
 
-sequence-stays : (p : Board) (dice : List ℕ) (moves : List Move) (q : Board) → length p.mover ≡ 26 → length p.other ≡ 26 → AreDice dice → IsSequence p dice moves q → Stays p q
-sequence-stays p dice [] q m o right e = subst (λ (b : Board). Stays p b) (sym e) (Stays-refl p)
+sequence-stays : (p : Placement) (dice : List ℕ) (moves : List Move) (q : Placement) → length p.mover ≡ 26 → length p.other ≡ 26 → AreDice dice → IsSequence p dice moves q → Stays p q
+sequence-stays p dice [] q m o right e = subst (λ (b : Placement). Stays p b) (sym e) (Stays-refl p)
 sequence-stays p dice (move ∷ moves) q m o right (i, e, next, made, rest) =
     let a = move-stays p move.die move.from next m o (AreDice-at dice i move.die right e) made in
     Stays-trans p next q a (sequence-stays next (remove dice i) moves q (a.mover_places ∙ m) (a.other_places ∙ o) (AreDice-remove dice i right) rest)
 
-swap-apart : (p : Board) → AreApart p → AreApart (swap p)
+swap-apart : (p : Placement) → AreApart p → AreApart (swap p)
 swap-apart p apart point low high held = elim (cases_lt 0 (get_or p.mover (25 - point) 0)) [
   | inl there ↦ (
       let none : get_or p.other (25 - (25 - point)) 0 ≡ 0 = apart (25 - point) (omega arith) (omega arith) there in
@@ -183,7 +183,7 @@ swap-apart p apart point low high held = elim (cases_lt 0 (get_or p.mover (25 - 
 ]
 
 -- No point of a legal end is held by both sides, so the other side's turn is in a live position unless the game is over.
-pub legal_end-stays : (p : Board) (roll : Dice) (q : Board) → IsRoll roll → IsPosition p → IsLive p → IsLegalEnd p roll q
+pub legal_end-stays : (p : Placement) (roll : Dice) (q : Placement) → IsRoll roll → IsPosition p → IsLive p → IsLegalEnd p roll q
     → IsPosition q × (sum q.mover ≡ sum p.mover) × (InPlay q.mover → IsLive (swap q))
 legal_end-stays p roll q right here live (moves, legal) =
     let s = sequence-stays p (dice_of roll) moves q here.mover.places here.other.places (AreDice-of roll right) legal.sequence in (

@@ -6,7 +6,7 @@ use Rattle.std.specs.Prelude.{◌↔◌}
 use mathlib.Core.Bool.{beq}
 use Rattle.std.specs.List.{All, remove}
 use Rattle.std.specs.Option.{MatchOption}
-use Rattle.position_rank.specs.Board.{Board}
+use Rattle.position_rank.specs.Placement.{Placement}
 use Rattle.roll_table.specs.Rolls.{Dice, IsRoll, dice_of}
 use Rattle.move_rules.specs.Sequences.{IsSequence}
 use Rattle.move_rules.specs.Written.{TakesLastOff, IsSmallest, IsStep, IsWritten, IsWrongStep, IsWrongWritten}
@@ -32,7 +32,7 @@ takes-off (x ∷ y ∷ []) from one another higher two a b h apart long = elim (
 ]
 
 -- and no other does
-pub takes-two : (p : Board) (dice : List ℕ) (from die : ℕ) → TakesLastOff p dice from die → (length dice ≡ 2) × (get_or dice 0 0 ≢ get_or dice 1 0) × (from ≤ max (get_or dice 0 0) (get_or dice 1 0))
+pub takes-two : (p : Placement) (dice : List ℕ) (from die : ℕ) → TakesLastOff p dice from die → (length dice ≡ 2) × (get_or dice 0 0 ≢ get_or dice 1 0) × (from ≤ max (get_or dice 0 0) (get_or dice 1 0))
 takes-two p dice from die h = elim h.4 [
   | inl e ↦ subst (λ (xs : List ℕ). (length xs ≡ 2) × (get_or xs 0 0 ≢ get_or xs 1 0) × (from ≤ max (get_or xs 0 0) (get_or xs 1 0))) (sym e) (refl, λ same. omega (arith, same, h.3), omega (arith, h.1))
   | inr e ↦ subst (λ (xs : List ℕ). (length xs ≡ 2) × (get_or xs 0 0 ≢ get_or xs 1 0) × (from ≤ max (get_or xs 0 0) (get_or xs 1 0))) (sym e) (refl, λ same. omega (arith, same, h.3), omega (arith, h.1))
@@ -55,13 +55,13 @@ mark-right P false true a same = absurd (cc same)
 -- ---- step by step
 
 -- what is left of some steps from here on decides on all of them
-pub record StepsGoOn (p : Board) (dice : List ℕ) (steps : List Step) (now : Board) (left : List ℕ) (rest : List Step) (made : List Move) : Type 0 where
+pub record StepsGoOn (p : Placement) (dice : List ℕ) (steps : List Step) (now : Placement) (left : List ℕ) (rest : List Step) (made : List Move) : Type 0 where
   pub dice_from : All (λ die. 1 ≤ die) left
   pub count : length made + length rest ≡ length steps
-  pub written : (moves : List Move) (end : Board) → IsWritten now left rest moves end → IsWritten p dice steps (made ++ moves) end
+  pub written : (moves : List Move) (end : Placement) → IsWritten now left rest moves end → IsWritten p dice steps (made ++ moves) end
   pub wrong : (fault : BadPlay) → IsWrongWritten now left rest fault → IsWrongWritten p dice steps fault
 
-pub steps-begin : (p : Board) (roll : Dice) (left : List ℕ) (steps rest : List Step) (made : List Move) → IsRoll roll → left ≡ dice_of roll → rest ≡ steps → made ≡ [] → StepsGoOn p (dice_of roll) steps p left rest made
+pub steps-begin : (p : Placement) (roll : Dice) (left : List ℕ) (steps rest : List Step) (made : List Move) → IsRoll roll → left ≡ dice_of roll → rest ≡ steps → made ≡ [] → StepsGoOn p (dice_of roll) steps p left rest made
 steps-begin p roll left steps rest made right e f g = record {
   dice_from = dice-from roll left right e;
   count = omega (arith, ap (λ (x : List Step). length x) f, ap (λ (x : List Move). length x) g);
@@ -70,7 +70,7 @@ steps-begin p roll left steps rest made right e f g = record {
   wrong = λ fault w. subst (λ (x : List ℕ). IsWrongWritten p x steps fault) e (subst (λ (x : List Step). IsWrongWritten p left x fault) f w);
 }
 
-pub step-more : (p : Board) (dice : List ℕ) (steps : List Step) (now : Board) (left : List ℕ) (rest : List Step) (made : List Move) (step : Step) (more : List Step) (move : Move) (i : ℕ) (next : Board) (fewer : List ℕ) (new : List Move)
+pub step-more : (p : Placement) (dice : List ℕ) (steps : List Step) (now : Placement) (left : List ℕ) (rest : List Step) (made : List Move) (step : Step) (more : List Step) (move : Move) (i : ℕ) (next : Placement) (fewer : List ℕ) (new : List Move)
     → StepsGoOn p dice steps now left rest made → rest ≡ step ∷ more → fewer ≡ remove left i → IsStep now left step move i next → new ≡ made ++ move ∷ [] → StepsGoOn p dice steps next fewer more new
 step-more p dice steps now left rest made step more move i next fewer new was e f here g = record {
   dice_from = subst (λ (x : List ℕ). All (λ die. 1 ≤ die) x) (sym f) (All-remove left i was.dice_from);
@@ -81,17 +81,17 @@ step-more p dice steps now left rest made step more move i next fewer new was e 
   wrong = λ fault w. was.wrong fault (subst (λ (x : List Step). IsWrongWritten now left x fault) (sym e) (inr (move, i, next, here, subst (λ (x : List ℕ). IsWrongWritten next x more fault) f w)));
 }
 
-pub step-wrong : (p : Board) (dice : List ℕ) (steps : List Step) (now : Board) (left : List ℕ) (rest : List Step) (made : List Move) (step : Step) (more : List Step) (fault : BadPlay)
+pub step-wrong : (p : Placement) (dice : List ℕ) (steps : List Step) (now : Placement) (left : List ℕ) (rest : List Step) (made : List Move) (step : Step) (more : List Step) (fault : BadPlay)
     → StepsGoOn p dice steps now left rest made → rest ≡ step ∷ more → IsWrongStep now left step fault → IsWrongWritten p dice steps fault
 step-wrong p dice steps now left rest made step more fault was e h = was.wrong fault (subst (λ (x : List Step). IsWrongWritten now left x fault) (sym e) (inl h))
 
-pub steps-end : (p : Board) (dice : List ℕ) (steps : List Step) (now : Board) (left : List ℕ) (rest : List Step) (made : List Move) → StepsGoOn p dice steps now left rest made → rest ≡ [] → IsWritten p dice steps made now
+pub steps-end : (p : Placement) (dice : List ℕ) (steps : List Step) (now : Placement) (left : List ℕ) (rest : List Step) (made : List Move) → StepsGoOn p dice steps now left rest made → rest ≡ [] → IsWritten p dice steps made now
 steps-end p dice steps now left rest made was e =
     subst (λ (x : List Move). IsWritten p dice steps x now) (append-nil made) (was.written [] now (subst (λ (x : List Step). IsWritten now left x [] now) (sym e) refl))
 
 -- ---- of a whole play
 
-pub written-sequence : (p : Board) (dice : List ℕ) (steps : List Step) (moves : List Move) (q : Board) → IsWritten p dice steps moves q → IsSequence p dice moves q
+pub written-sequence : (p : Placement) (dice : List ℕ) (steps : List Step) (moves : List Move) (q : Placement) → IsWritten p dice steps moves q → IsSequence p dice moves q
 written-sequence p dice [] [] q w = w
 written-sequence p dice [] (move ∷ moves) q w = absurd w
 written-sequence p dice (step ∷ steps) [] q w = absurd w

@@ -1,6 +1,6 @@
 -- What is wrong with a play.
 use Rattle.std.specs.Prelude.{◌≡◌, ◌≢◌, ℕ, ◌-◌, ◌<◌, ◌≤◌, ◌⊎◌, List, [], ◌∷◌, length, map, Some, slice_get, slice_index, remove, Contains}
-use Rattle.position_rank.specs.Board.{Board, above}
+use Rattle.position_rank.specs.Placement.{Placement, above}
 use Rattle.roll_table.specs.Rolls.{Dice, dice_of}
 use Rattle.move_rules.specs.Moves.{IsMove}
 use Rattle.move_rules.specs.Sequences.{IsSequence, CanPlay}
@@ -20,7 +20,7 @@ number TooFew = 7
 number HigherDie = 8
 
 -- a move with these dice left has this fault
-abbrev pub HasFault : Board → List ℕ → Move → BadPlay → Type 0
+abbrev pub HasFault : Placement → List ℕ → Move → BadPlay → Type 0
 HasFault p dice move WrongDice = Contains dice move.die → ⊥
 HasFault p dice move NoChecker = (move.from < 1) ⊎ (25 < move.from) ⊎ (slice_index p.mover move.from ≡ 0)
 HasFault p dice move BarFirst = (move.from ≢ 25) × (0 < slice_index p.mover 25)
@@ -31,38 +31,38 @@ HasFault p dice move TooFew = ⊥
 HasFault p dice move HigherDie = ⊥
 
 -- it has this fault, and none that is looked for before
-pub record IsFirstFault (p : Board) (dice : List ℕ) (move : Move) (fault : BadPlay) : Type 0 where
+pub record IsFirstFault (p : Placement) (dice : List ℕ) (move : Move) (fault : BadPlay) : Type 0 where
   pub fault_is : HasFault p dice move fault
   pub none_before : (earlier : BadPlay) → number earlier < number fault → HasFault p dice move earlier → ⊥
 
 -- the first wrong move has this fault
-abbrev pub IsFirstWrong : Board → List ℕ → List Move → BadPlay → Type 0
+abbrev pub IsFirstWrong : Placement → List ℕ → List Move → BadPlay → Type 0
 IsFirstWrong p dice [] fault = ⊥
 IsFirstWrong p dice (move ∷ moves) fault =
     IsFirstFault p dice move fault
     ⊎ ((i : ℕ) × (slice_get dice i ≡ Some move.die)
-    × (next : Board) × IsMove p move.die move.from next × IsFirstWrong next (remove dice i) moves fault)
+    × (next : Placement) × IsMove p move.die move.from next × IsFirstWrong next (remove dice i) moves fault)
 
 -- all moves are right, and more of them can be made
-pub record IsTooFew (p : Board) (roll : Dice) (moves : List Move) : Type 0 where
-  pub end : Board
+pub record IsTooFew (p : Placement) (roll : Dice) (moves : List Move) : Type 0 where
+  pub end : Placement
   pub sequence : IsSequence p (dice_of roll) moves end
   pub others : List Move
-  pub others_end : Board
+  pub others_end : Placement
   pub other : IsSequence p (dice_of roll) others others_end
   pub more : length moves < length others
 
 -- one move is all that can be made, and it was made by the lower die, though the higher can be played
-pub record IsLowerDie (p : Board) (roll : Dice) (moves : List Move) : Type 0 where
-  pub end : Board
+pub record IsLowerDie (p : Placement) (roll : Dice) (moves : List Move) : Type 0 where
+  pub end : Placement
   pub sequence : IsSequence p (dice_of roll) moves end
-  pub longest : (others : List Move) (others_end : Board) → IsSequence p (dice_of roll) others others_end → length others ≤ length moves
+  pub longest : (others : List Move) (others_end : Placement) → IsSequence p (dice_of roll) others others_end → length others ≤ length moves
   pub unequal : roll.low < roll.high
   pub lower : map (λ (move : Move). move.die) moves ≡ roll.low ∷ []
   pub can : CanPlay p roll.high
 
 -- all moves are right, and this is wrong with all of them together
-abbrev pub IsWholeFault : Board → Dice → List Move → BadPlay → Type 0
+abbrev pub IsWholeFault : Placement → Dice → List Move → BadPlay → Type 0
 IsWholeFault p roll moves TooFew = IsTooFew p roll moves
 IsWholeFault p roll moves HigherDie = IsLowerDie p roll moves
 IsWholeFault p roll moves WrongDice = ⊥
@@ -73,7 +73,7 @@ IsWholeFault p roll moves Closed = ⊥
 IsWholeFault p roll moves HitMark = ⊥
 
 -- what is wrong with a play of a roll: its first wrong move has this fault, or all of them together
-abbrev pub IsFault : Board → Dice → List Move → BadPlay → Type 0
+abbrev pub IsFault : Placement → Dice → List Move → BadPlay → Type 0
 IsFault p roll moves fault = IsFirstWrong p (dice_of roll) moves fault ⊎ IsWholeFault p roll moves fault
 
 -- the die of the first move, or 0 where there is none

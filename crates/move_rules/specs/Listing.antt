@@ -2,17 +2,17 @@
 use Rattle.std.specs.Prelude.{◌≡◌, ℕ, List, [], ◌∷◌, ◌++◌, map, ◌⊎◌}
 use Rattle.std.specs.List.{flat_map}
 use Rattle.std.specs.Option.{option_to_list}
-use Rattle.position_rank.specs.Board.{Board}
+use Rattle.position_rank.specs.Placement.{Placement}
 use Rattle.move_rules.specs.Ends.{Line, after_move, places}
 use Rattle.move_rules.specs.declared.play.Entry.{Entry}
 use Rattle.move_rules.specs.declared.play.Move.{Move}
 
 -- the lines that go on from here with a move from this place
-unfoldable pub full_from : (List Move → Board → List Line) → List Move → Board → ℕ → ℕ → List Line
+unfoldable pub full_from : (List Move → Placement → List Line) → List Move → Placement → ℕ → ℕ → List Line
 full_from later moves p die from = flat_map (later (moves ++ record { from = from; die = die } ∷ [])) (option_to_list (after_move p die from))
 
 -- the lines that go on from here, after these moves, and use all of these dice in this order
-unfoldable pub full : List ℕ → List Move → Board → List Line
+unfoldable pub full : List ℕ → List Move → Placement → List Line
 full [] moves p = (moves, p) ∷ []
 full (die ∷ dice) moves p = flat_map (full_from (full dice) moves p die) places
 
@@ -22,14 +22,14 @@ or_else [] others = others
 or_else (line ∷ lines) others = line ∷ lines
 
 -- as many of a double's four moves as can be made
-unfoldable pub double_lines : Board → ℕ → List Line
+unfoldable pub double_lines : Placement → ℕ → List Line
 double_lines p die =
     or_else (full (die ∷ die ∷ die ∷ die ∷ []) [] p)
     (or_else (full (die ∷ die ∷ die ∷ []) [] p)
     (or_else (full (die ∷ die ∷ []) [] p) (or_else (full (die ∷ []) [] p) (full [] [] p))))
 
 -- both dice in either order, else the higher, else the lower, else none
-unfoldable pub pair_lines : Board → ℕ → ℕ → List Line
+unfoldable pub pair_lines : Placement → ℕ → ℕ → List Line
 pair_lines p high low =
     or_else (full (high ∷ low ∷ []) [] p ++ full (low ∷ high ∷ []) [] p)
     (or_else (full (high ∷ []) [] p) (or_else (full (low ∷ []) [] p) (full [] [] p)))
@@ -40,7 +40,7 @@ Among x [] = ⊥
 Among x (y ∷ ys) = (x ≡ y) ⊎ Among x ys
 
 -- one of these lines leads to this end
-abbrev pub Reaches : List Line → Board → Type 0
+abbrev pub Reaches : List Line → Placement → Type 0
 Reaches lines end = Among end (map (λ (line : Line). line.1) lines)
 
 -- of these lines, each that leads to a new end was added to those that had been found

@@ -1,7 +1,7 @@
 -- Plays as texts.
 use Rattle.std.specs.Prelude.{◌≡◌, ℕ, ◌-◌, ◌<◌, ◌≤◌, ◌==◌, nat_lt, Bool, ◌&&◌, ◌↔◌, IsTrue, List, [], ◌∷◌, ◌++◌, length, map, codes, All, unwrap_or, slice_index, if◌then◌else◌}
 use Rattle.std.specs.List.{join_with_byte}
-use Rattle.position_rank.specs.Board.{Board}
+use Rattle.position_rank.specs.Placement.{Placement}
 use Rattle.position_rank.specs.Text.{place_text}
 use Rattle.roll_table.specs.Rolls.{Dice, IsRoll, dice_of}
 use Rattle.move_rules.specs.Ends.{after_move}
@@ -37,30 +37,30 @@ pub record IsPlayText (text : List ℕ) (steps : List Step) : Type 0 where
   pub few : length steps ≤ 4
 
 -- a move hits a single checker
-abbrev pub is_hit : Board → Move → Bool
+abbrev pub is_hit : Placement → Move → Bool
 is_hit p move = nat_lt move.die move.from && slice_index p.other (25 - (move.from - move.die)) == 1
 
 -- what a move that can be made leaves
-abbrev pub next_board : Board → Move → Board
+abbrev pub next_board : Placement → Move → Placement
 next_board p move = unwrap_or (after_move p move.die move.from) p
 
 -- the words of moves that are made from a position in turn
-abbrev pub words_from : Board → List Move → List (List ℕ)
+abbrev pub words_from : Placement → List Move → List (List ℕ)
 words_from p [] = []
 words_from p (move ∷ moves) = step_word move.from (move.from - move.die) (is_hit p move) ∷ words_from (next_board p move) moves
 
-abbrev pub play_text : Board → List Move → List ℕ
+abbrev pub play_text : Placement → List Move → List ℕ
 play_text p moves = play_of_words (words_from p moves)
 
 -- the moves can be made from this position with the dice of some roll
-pub record CanFollow (p : Board) (moves : List Move) : Type 0 where
+pub record CanFollow (p : Placement) (moves : List Move) : Type 0 where
   pub roll : Dice
   pub valid : IsRoll roll
-  pub end : Board
+  pub end : Placement
   pub sequence : IsSequence p (dice_of roll) moves end
 
 -- these are the steps of moves that are made from a position in turn
-abbrev pub AreStepsOf : Board → List Move → List Step → Type 0
+abbrev pub AreStepsOf : Placement → List Move → List Step → Type 0
 AreStepsOf p [] [] = Unit {0}
 AreStepsOf p [] (step ∷ steps) = ⊥
 AreStepsOf p (move ∷ moves) [] = ⊥

@@ -1,6 +1,6 @@
 -- The order in which sequences are listed, and the list of plays.
 use Rattle.std.specs.Prelude.{◌≡◌, ◌<◌, List, [], ◌∷◌, map, ◌⊎◌}
-use Rattle.position_rank.specs.Board.{Board}
+use Rattle.position_rank.specs.Placement.{Placement}
 use Rattle.roll_table.specs.Rolls.{Dice}
 use Rattle.move_rules.specs.declared.play.Move.{Move}
 use Rattle.move_rules.specs.declared.play.Entry.{Entry}
@@ -15,12 +15,12 @@ ComesBefore (move ∷ moves) (other ∷ others) =
     (other.die < move.die) ⊎ ((move.die ≡ other.die) × (other.from < move.from)) ⊎ ((move ≡ other) × ComesBefore moves others)
 
 -- a legal sequence that leaves this end, and none that leaves it comes before
-pub record IsFirst (p : Board) (roll : Dice) (moves : List Move) (end : Board) : Type 0 where
+pub record IsFirst (p : Placement) (roll : Dice) (moves : List Move) (end : Placement) : Type 0 where
   pub legal : IsLegal p roll moves end
   pub first : (others : List Move) → IsLegal p roll others end → ComesBefore others moves → ⊥
 
 -- the ends of some entries
-abbrev pub ends_of : List Entry → List Board
+abbrev pub ends_of : List Entry → List Placement
 ends_of entries = map (λ (entry : Entry). entry.end) entries
 
 -- the plays of some entries

@@ -1,5 +1,5 @@
 ghost use Rattle.std.specs.Prelude.{◌≡◌, ◌≢◌, IsTrue, ℕ, ◌+◌, ◌-◌, ◌≤◌, ◌<◌, ◌⊎◌, ◌↔◌, List, [], ◌∷◌, length, Some, All, Contains, IfOk, IfErr, IsOk, OnOk, MatchOption, slice_get, slice_index, remove};
-ghost use Rattle.position_rank.specs.Board.{Board, above};
+ghost use Rattle.position_rank.specs.Placement.{Placement, above};
 ghost use Rattle.roll_table.specs.Rolls.{IsRoll, dice_of};
 ghost use Rattle.move_rules.specs.Moves.{IsMove};
 ghost use Rattle.move_rules.specs.Sequences.{IsSequence, IsLegal};
@@ -37,7 +37,7 @@ pub enum BadPlay {
 pub fn apply(position: &Position, roll: Roll, play: &Play) -> Result<Position, BadPlay>
     ensures ok { IfOk result (IsLegal position.now roll play.now.items) }
     ensures err { IfErr result (IsFault position.now roll play.now.items) }
-    ensures legal { (end : Board) → IsLegal position.now roll play.now.items end → IsOk result }
+    ensures legal { (end : Placement) → IsLegal position.now roll play.now.items end → IsOk result }
 {
     let end = follow(position, roll, play)?;
     judge(position, roll, play)?;
@@ -129,8 +129,8 @@ fn may_bear_off(position: &Position, step: Move) -> bool
 /// Whether a sequence uses as many dice as can be, and where it can be the higher.
 pub(crate) fn judge(position: &Position, roll: Roll, play: &Play) -> Result<(), BadPlay>
     requires valid { IsRoll roll }
-    requires sequence { (end : Board) × IsSequence position.now (dice_of roll) play.now.items end }
-    ensures ok { OnOk result ((end : Board) → IsSequence position.now (dice_of roll) play.now.items end → IsLegal position.now roll play.now.items end) }
+    requires sequence { (end : Placement) × IsSequence position.now (dice_of roll) play.now.items end }
+    ensures ok { OnOk result ((end : Placement) → IsSequence position.now (dice_of roll) play.now.items end → IsLegal position.now roll play.now.items end) }
     ensures err { IfErr result (IsWholeFault position.now roll play.now.items) }
 {
     let mut list = PlayList::new();

@@ -1,5 +1,5 @@
 ghost use Rattle.std.specs.Prelude.{◌≡◌, ◌≢◌, IsTrue, ℕ, ◌+◌, ◌≤◌, ◌<◌, ◌↔◌, List, [], ◌∷◌, length, All, AllPairs, Contains};
-ghost use Rattle.position_rank.specs.Board.{Board, IsPosition};
+ghost use Rattle.position_rank.specs.Placement.{Placement, IsPosition};
 ghost use Rattle.move_rules.specs.Ends.{Line};
 ghost use Rattle.move_rules.specs.Listing.{full, or_else, double_lines, pair_lines, Adds, Reaches, lines_of};
 ghost use Rattle.move_rules.specs.Order.{ComesBefore, IsFirst, ends_of, plays_of};
@@ -14,7 +14,7 @@ use roll_table::Roll;
 /// higher die first, and then by the first move that differs, the one from the higher place first. Where no move can be made, the list has the play of no
 /// moves, whose end is the position.
 pub fn plays(position: &Position, roll: Roll, list: &mut PlayList)
-    ensures ends { (q : Board) → Contains (ends_of list.new.items) q ↔ IsLegalEnd position.now roll q }
+    ensures ends { (q : Placement) → Contains (ends_of list.new.items) q ↔ IsLegalEnd position.now roll q }
     ensures distinct { AllPairs (λ one another. one ≢ another) (ends_of list.new.items) }
     ensures first { All (λ entry. IsFirst position.now roll entry.play.items entry.end) list.new.items }
     ensures in_order { AllPairs ComesBefore (plays_of list.new.items) }

@@ -1,5 +1,5 @@
 ghost use Rattle.std.specs.Prelude.{◌≡◌, ◌≢◌, IsTrue, ℕ, ◌+◌, ◌-◌, ◌≤◌, ◌<◌, ◌⊎◌, ◌↔◌, List, [], ◌∷◌, sum, length, Some, All, Contains, IsOk, IfOk, IfErr, MatchOption, slice_index, remove};
-ghost use Rattle.position_rank.specs.Board.{Board};
+ghost use Rattle.position_rank.specs.Placement.{Placement};
 ghost use Rattle.roll_table.specs.Rolls.{IsRoll, dice_of};
 ghost use Rattle.move_rules.specs.Moves.{IsMove};
 ghost use Rattle.move_rules.specs.Sequences.{IsLegal};
@@ -19,7 +19,7 @@ pub fn match_play(position: &Position, roll: Roll, written: &Written) -> Result<
     ensures written { IfOk result (λ entry. IsWritten position.now (dice_of roll) written.now.items entry.play.items entry.end) }
     ensures legal { IfOk result (λ entry. IsLegal position.now roll entry.play.items entry.end) }
     ensures err { IfErr result (IsWrittenFault position.now roll written.now.items) }
-    ensures complete { (moves : List Move) (end : Board) → IsWritten position.now (dice_of roll) written.now.items moves end → IsLegal position.now roll moves end → IsOk result }
+    ensures complete { (moves : List Move) (end : Placement) → IsWritten position.now (dice_of roll) written.now.items moves end → IsLegal position.now roll moves end → IsOk result }
 {
     let entry = match_steps(position, roll, written)?;
     judge(position, roll, &entry.play)?;

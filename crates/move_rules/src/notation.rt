@@ -1,6 +1,6 @@
 ghost use Rattle.std.specs.Prelude.{◌≡◌, ℕ, ◌+◌, ◌++◌, ◌-◌, ◌≤◌, true, false, List, length, All, MatchOption};
 ghost use Rattle.roll_table.specs.Rolls.{IsRoll, dice_of};
-ghost use Rattle.position_rank.specs.Board.{Board};
+ghost use Rattle.position_rank.specs.Placement.{Placement};
 ghost use Rattle.position_rank.specs.Text.{place, place_text};
 ghost use Rattle.position_rank.specs.TextParts.{add_word};
 ghost use Rattle.move_rules.specs.Ends.{after_move};
@@ -55,7 +55,7 @@ pub fn texts_tell_plays()
 
 /// The text of a play of at most four moves is that of its steps, which is what reading it gives.
 pub fn printed_plays_are_read()
-    ensures { (p : Board) (moves : List Move) → CanFollow p moves → length moves ≤ 4 → (steps : List Step) × AreStepsOf p moves steps × IsPlayText (play_text p moves) steps }
+    ensures { (p : Placement) (moves : List Move) → CanFollow p moves → length moves ≤ 4 → (steps : List Step) × AreStepsOf p moves steps × IsPlayText (play_text p moves) steps }
 {}
 
 fn read_step(word: &str) -> Option<Step>

@@ -5,7 +5,7 @@ pub mod Made
 pub mod RankLaws
 pub mod Rising
 pub mod SameLayouts
-mod TextBoards
+mod TextPlacements
 mod TextLists
 mod TextPrint
 mod TextReads

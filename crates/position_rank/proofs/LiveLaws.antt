@@ -6,11 +6,11 @@ use Rattle.std.proofs.lemmas.List.FromFn.{length-range_with_len, get_or-range_wi
 use Rattle.std.proofs.lemmas.List.Sums.{sum_by-cons, AllPass-from_list_all, list_all-from_AllPass}
 use Rattle.std.proofs.lemmas.List.Elements.{All-weaker}
 use Rattle.std.proofs.lemmas.Bool.{cases_lt, cases_order, and_parts, and_from, or_cases, or_left, or_right, not-true, not_from_false, eqb-true, eqb-false, eq-eqb, ne_eqb, false_from_ne_true, le-leb, lt-leb, lt-ltb, le-ltb}
-use Rattle.position_rank.specs.Board.{Board, IsLayout, IsPosition, IsLive, InPlay, AreApart}
+use Rattle.position_rank.specs.Placement.{Placement, IsLayout, IsPosition, IsLive, InPlay, AreApart}
 use Rattle.position_rank.specs.Packed.{counts_of}
 use Rattle.position_rank.specs.PackedLaws.{one, count-below, count-same}
 use Rattle.position_rank.specs.Ranks.{choose, layouts, rising_places, sum_of_ways, rank_of, square_rank_of}
-use Rattle.position_rank.specs.LiveRanks.{are_apart, is_in_play, is_live, highest_place, falling_places, layout_at, board_at, live_below, live_positions, live_rank_of}
+use Rattle.position_rank.specs.LiveRanks.{are_apart, is_in_play, is_live, highest_place, falling_places, layout_at, placement_at, live_below, live_positions, live_rank_of}
 use Rattle.position_rank.proofs.Cells.{one-le}
 use Rattle.position_rank.proofs.Choose.{choose-more, choose-one, rises, two-below, three-below}
 use Rattle.position_rank.proofs.Rising.{often-cons, RiseFrom, counts_of-rising_places, rising_places-rise, rising_places-within, length-rising_places, counts_of-same}
@@ -22,31 +22,31 @@ All-range a n = λ k d below.
     rw (get_or-range_with_len a n k d inside) (omega arith, omega arith)
 
 -- the test at one point
-apart_at : Board → ℕ → Bool
+apart_at : Placement → ℕ → Bool
 apart_at p point = eqb (get_or p.mover point 0) 0 || eqb (get_or p.other (25 - point) 0) 0
 
-apart_at-from : (p : Board) (point : ℕ) → apart_at p point ≡ true → 0 < get_or p.mover point 0 → get_or p.other (25 - point) 0 ≡ 0
+apart_at-from : (p : Placement) (point : ℕ) → apart_at p point ≡ true → 0 < get_or p.mover point 0 → get_or p.other (25 - point) 0 ≡ 0
 unfolding apart_at
 apart_at-from p point e held = elim (or_cases (eqb (get_or p.mover point 0) 0) (eqb (get_or p.other (25 - point) 0) 0) e) [
   | inl none ↦ absurd (omega (arith, eqb-true (get_or p.mover point 0) 0 none))
   | inr none ↦ eqb-true (get_or p.other (25 - point) 0) 0 none
 ]
 
-from-apart_at : (p : Board) (point : ℕ) → (0 < get_or p.mover point 0 → get_or p.other (25 - point) 0 ≡ 0) → apart_at p point ≡ true
+from-apart_at : (p : Placement) (point : ℕ) → (0 < get_or p.mover point 0 → get_or p.other (25 - point) 0 ≡ 0) → apart_at p point ≡ true
 unfolding apart_at
 from-apart_at p point apart = elim (cases_lt 0 (get_or p.mover point 0)) [
   | inl held ↦ or_right (eqb (get_or p.mover point 0) 0) _ (eq-eqb (get_or p.other (25 - point) 0) 0 (apart held))
   | inr none ↦ or_left _ (eqb (get_or p.other (25 - point) 0) 0) (eq-eqb (get_or p.mover point 0) 0 (omega arith))
 ]
 
-apart-from : (p : Board) → are_apart p ≡ true → AreApart p
+apart-from : (p : Placement) → are_apart p ≡ true → AreApart p
 unfolding are_apart apart_at
 apart-from p e = λ point from to held.
     let all : All (λ x. apart_at p x ≡ true) (range_with_len 1 24) = AllPass-from_list_all (apart_at p) (range_with_len 1 24) e in
     let at : get_or (range_with_len 1 24) (point - 1) 0 ≡ point = get_or-range_with_len 1 24 (point - 1) 0 (omega arith) ∙ omega arith in
     apart_at-from p point (subst (λ (n : ℕ). apart_at p n ≡ true) at (all (point - 1) 0 (omega (arith, length-range_with_len 1 24)))) held
 
-from-apart : (p : Board) → AreApart p → are_apart p ≡ true
+from-apart : (p : Placement) → AreApart p → are_apart p ≡ true
 unfolding are_apart apart_at
 from-apart p apart =
     list_all-from_AllPass (apart_at p) (range_with_len 1 24)
@@ -58,13 +58,13 @@ in_play-from counts e = eqb-false (get_or counts 0 0) (sum counts) (not-true _ e
 from-in_play : (counts : List ℕ) → InPlay counts → is_in_play counts ≡ true
 from-in_play counts playing = not_from_false _ (ne_eqb (get_or counts 0 0) (sum counts) playing)
 
-pub live-from : (p : Board) → is_live p ≡ true → IsLive p
+pub live-from : (p : Placement) → is_live p ≡ true → IsLive p
 live-from p e =
     let first = and_parts (are_apart p && is_in_play p.mover) (is_in_play p.other) e in
     let second = and_parts (are_apart p) (is_in_play p.mover) first.0 in
     record { apart = apart-from p second.0; mover = in_play-from p.mover second.1; other = in_play-from p.other first.1 }
 
-pub from-live : (p : Board) → IsLive p → is_live p ≡ true
+pub from-live : (p : Placement) → IsLive p → is_live p ≡ true
 from-live p live =
     and_from (are_apart p && is_in_play p.mover) (is_in_play p.other)
     (and_from (are_apart p) (is_in_play p.mover) (from-apart p live.apart) (from-in_play p.mover live.mover)) (from-in_play p.other live.other)
@@ -136,7 +136,7 @@ layout_at-rank counts is =
     subst (λ (n : ℕ). layout_at n (rank_of counts) ≡ counts) many (at ∙ counts_of-rising_places counts is.places)
 
 -- a position stands at its square rank
-pub board_at-rank : (p : Board) → IsPosition p → board_at (sum p.mover) (square_rank_of p) ≡ p
+pub board_at-rank : (p : Placement) → IsPosition p → placement_at (sum p.mover) (square_rank_of p) ≡ p
 board_at-rank p is =
     let n = layouts (sum p.mover) in
     let low : rank_of p.other < n = rw is.same (rank-below p.other is.other) in
@@ -156,23 +156,23 @@ pub live_below-none : (checkers : ℕ) → live_below checkers 0 ≡ 0
 unfolding live_below
 live_below-none checkers = refl
 
-live_below-more : (checkers square : ℕ) → live_below checkers (square + 1) ≡ live_below checkers square + one (is_live (board_at checkers square))
+live_below-more : (checkers square : ℕ) → live_below checkers (square + 1) ≡ live_below checkers square + one (is_live (placement_at checkers square))
 unfolding live_below
-live_below-more checkers square = rw add-one (range-more (λ below. is_live (board_at checkers below)) square 0 square (omega arith))
+live_below-more checkers square = rw add-one (range-more (λ below. is_live (placement_at checkers below)) square 0 square (omega arith))
 
 -- a position at a square counts where it is live
-module _ (checkers square : ℕ) (p : Board) (is : IsPosition p) (many : sum p.mover ≡ checkers) (at : square_rank_of p ≡ square) where
-  at-square : board_at checkers square ≡ p
-  at-square = subst (λ (n : ℕ). board_at checkers n ≡ p) at (subst (λ (n : ℕ). board_at n (square_rank_of p) ≡ p) many (board_at-rank p is))
+module _ (checkers square : ℕ) (p : Placement) (is : IsPosition p) (many : sum p.mover ≡ checkers) (at : square_rank_of p ≡ square) where
+  at-square : placement_at checkers square ≡ p
+  at-square = subst (λ (n : ℕ). placement_at checkers n ≡ p) at (subst (λ (n : ℕ). placement_at n (square_rank_of p) ≡ p) many (board_at-rank p is))
 
   pub live-counts : IsLive p → live_below checkers (square + 1) ≡ live_below checkers square + 1
   live-counts live =
-      let passes : is_live (board_at checkers square) ≡ true = subst (λ (q : Board). is_live q ≡ true) (sym at-square) (from-live p live) in
+      let passes : is_live (placement_at checkers square) ≡ true = subst (λ (q : Placement). is_live q ≡ true) (sym at-square) (from-live p live) in
       omega (arith, live_below-more checkers square, ap one passes)
 
   pub dead-counts : (IsLive p → ⊥) → live_below checkers (square + 1) ≡ live_below checkers square
   dead-counts dead =
-      let fails : is_live (board_at checkers square) ≡ false = subst (λ (q : Board). is_live q ≡ false) (sym at-square) (false_from_ne_true _ (λ e. dead (live-from p e))) in
+      let fails : is_live (placement_at checkers square) ≡ false = subst (λ (q : Placement). is_live q ≡ false) (sym at-square) (false_from_ne_true _ (λ e. dead (live-from p e))) in
       omega (arith, live_below-more checkers square, ap one fails)
 
 pub live_below-rises : (checkers m n : ℕ) → m ≤ n → live_below checkers m ≤ live_below checkers n
@@ -180,25 +180,25 @@ live_below-rises checkers = rises (live_below checkers) (λ n. rw (← add-one) 
 
 live_below-le : (checkers n : ℕ) → live_below checkers n ≤ n
 live_below-le checkers zero = omega (arith, live_below-none checkers)
-live_below-le checkers (suc n) = rw (← add-one) (omega (arith, live_below-more checkers n, live_below-le checkers n, one-le (is_live (board_at checkers n))))
+live_below-le checkers (suc n) = rw (← add-one) (omega (arith, live_below-more checkers n, live_below-le checkers n, one-le (is_live (placement_at checkers n))))
 
-square-in : (p : Board) → IsPosition p → square_rank_of p < layouts (sum p.mover) * layouts (sum p.mover)
+square-in : (p : Placement) → IsPosition p → square_rank_of p < layouts (sum p.mover) * layouts (sum p.mover)
 square-in p is = square-below (layouts (sum p.mover)) (rank_of p.mover) (rank_of p.other) (rank-below p.mover is.mover) (rw is.same (rank-below p.other is.other))
 
 -- a live rank is below the number of live positions
-pub live-rank-in : (p : Board) → IsPosition p → IsLive p → live_rank_of p < live_positions (sum p.mover)
+pub live-rank-in : (p : Placement) → IsPosition p → IsLive p → live_rank_of p < live_positions (sum p.mover)
 live-rank-in p is live =
     let n = layouts (sum p.mover) in
     omega (arith, live-counts (sum p.mover) (square_rank_of p) p is refl refl live, live_below-rises (sum p.mover) (square_rank_of p + 1) (n * n) (omega (arith, square-in p is)))
 
-live-order : (p q : Board) → IsPosition p → IsLive p → sum p.mover ≡ sum q.mover → square_rank_of p < square_rank_of q → live_rank_of p < live_rank_of q
+live-order : (p q : Placement) → IsPosition p → IsLive p → sum p.mover ≡ sum q.mover → square_rank_of p < square_rank_of q → live_rank_of p < live_rank_of q
 live-order p q is live same less =
     let more = live_below-rises (sum p.mover) (square_rank_of p + 1) (square_rank_of q) (omega (arith, less)) in
     let there : live_rank_of q ≡ live_below (sum p.mover) (square_rank_of q) = ap (λ n. live_below n (square_rank_of q)) (sym same) in
     omega (arith, live-counts (sum p.mover) (square_rank_of p) p is refl refl live, more, there)
 
 -- live positions of as many checkers and of equal live rank are the same
-pub live-same : (p q : Board) → IsPosition p → IsPosition q → IsLive p → IsLive q → sum p.mover ≡ sum q.mover → live_rank_of p ≡ live_rank_of q → p ≡ q
+pub live-same : (p q : Placement) → IsPosition p → IsPosition q → IsLive p → IsLive q → sum p.mover ≡ sum q.mover → live_rank_of p ≡ live_rank_of q → p ≡ q
 live-same p q is_p is_q live_p live_q same e = elim (cases_order (square_rank_of p) (square_rank_of q)) [
   | inl equal ↦ positions-same p q is_p is_q same equal
   | inr other ↦ elim other [

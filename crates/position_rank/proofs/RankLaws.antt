@@ -2,7 +2,7 @@
 use Rattle.std.proofs.Common.{◌≡◌, ℕ, ◌+◌, ◌-◌, ◌*◌, ◌<◌, ◌≤◌, List, [], ◌∷◌, length, sum, All, refl, ap, sym, subst, ◌∙◌, inl, inr, arith}
 use Rattle.std.proofs.lemmas.Bool.{cases_lt, cases_order}
 use Rattle.std.proofs.lemmas.List.Elements.{All-cons, All-nil}
-use Rattle.position_rank.specs.Board.{Board, IsLayout, IsPosition}
+use Rattle.position_rank.specs.Placement.{Placement, IsLayout, IsPosition}
 use Rattle.position_rank.specs.Packed.{counts_of, packed_counts, IsPacked}
 use Rattle.position_rank.specs.PackedLaws.{sum-packed}
 use Rattle.position_rank.specs.Ranks.{choose, layouts, rising_places, sum_of_ways, rank_of, square_rank_of}
@@ -180,7 +180,7 @@ pub square-below : (n a b : ℕ) → a < n → b < n → a * n + b < n * n
 square-below n a b h k = omega (arith, times-more a n n h)
 
 -- positions of as many checkers and of equal square rank are the same
-pub positions-same : (p q : Board) → IsPosition p → IsPosition q → sum p.mover ≡ sum q.mover → square_rank_of p ≡ square_rank_of q → p ≡ q
+pub positions-same : (p q : Placement) → IsPosition p → IsPosition q → sum p.mover ≡ sum q.mover → square_rank_of p ≡ square_rank_of q → p ≡ q
 positions-same p q is_p is_q same e =
     let n = layouts (sum p.mover) in
     let size : n ≡ layouts (sum q.mover) = ap layouts same in

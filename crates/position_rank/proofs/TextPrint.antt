@@ -5,7 +5,7 @@ use Rattle.std.proofs.lemmas.List.{map-append, take_more}
 use Rattle.std.proofs.lemmas.List.Sums.{fold-append, sum_by-append}
 use Rattle.std.proofs.lemmas.Bool.Decides.{nat_tests}
 use Rattle.std.specs.List.{flat_map, join_with_byte}
-use Rattle.position_rank.specs.Board.{Board}
+use Rattle.position_rank.specs.Placement.{Placement}
 use Rattle.position_rank.specs.Text.{place_text, places_below, places_of, position_words, position_text}
 use Rattle.position_rank.specs.TextParts.{add_word}
 use Rattle.position_rank.proofs.TextLists.{Each, Each-append}
@@ -98,11 +98,11 @@ pub side-full : (places : List ℕ) → ArePlaces places → Each (λ word. 0 < 
 side-full [] h = tt
 side-full (place ∷ places) h = (place_text-full place h.0, side-full places h.1)
 
-pub position_words-full : (p : Board) → Each (λ word. 0 < length word) (position_words p)
+pub position_words-full : (p : Placement) → Each (λ word. 0 < length word) (position_words p)
 position_words-full p =
     Each-append (λ word. 0 < length word) (map place_text (places_of p.mover)) _ (side-full _ (places_of-places p.mover)) (lit< tt, side-full _ (places_of-places p.other))
 
-pub joined-position : (p : Board) (one two three : List ℕ) → one ≡ fold add_word [] (map place_text (places_of p.mover)) → two ≡ add_word one (codes "/") → three ≡ fold add_word two (map place_text (places_of p.other)) → three ≡ position_text p
+pub joined-position : (p : Placement) (one two three : List ℕ) → one ≡ fold add_word [] (map place_text (places_of p.mover)) → two ≡ add_word one (codes "/") → three ≡ fold add_word two (map place_text (places_of p.other)) → three ≡ position_text p
 joined-position p one two three a b c =
     c ∙ (ap (λ text. fold add_word text (map place_text (places_of p.other))) (b ∙ ap (λ text. add_word text (codes "/")) a)
     ∙ (sym (fold-append add_word [] (map place_text (places_of p.mover)) (codes "/" ∷ map place_text (places_of p.other))) ∙ joined-full (position_words p) (position_words-full p)))

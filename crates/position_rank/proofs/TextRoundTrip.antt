@@ -7,11 +7,11 @@ use Rattle.std.proofs.lemmas.List.Splits.{slice_split_none, slice_split_at}
 use Rattle.std.proofs.lemmas.List.Sums.{sum_by-append, sum_by-cons}
 use Rattle.std.specs.Fmt.{digits}
 use Rattle.std.specs.List.{list_all, list_any, filter_map, flat_map, range_with_len, join_with_byte, slice_split}
-use Rattle.position_rank.specs.Board.{Board, IsPosition, IsLive}
+use Rattle.position_rank.specs.Placement.{Placement, IsPosition, IsLive}
 use Rattle.position_rank.specs.Packed.{counts_of}
 use Rattle.position_rank.specs.PackedLaws.{length-counts_of, counts_of-at, sum-counts_of}
-use Rattle.position_rank.specs.Text.{place, place_text, words, is_slash, have_shape, are_places, numbers_fit, share_point, all_off, read_board, read_words, read_text, places_below, places_of, position_words, position_text}
-use Rattle.position_rank.proofs.TextBoards.{is_shared}
+use Rattle.position_rank.specs.Text.{place, place_text, words, is_slash, have_shape, are_places, numbers_fit, share_point, all_off, read_placement, read_words, read_text, places_below, places_of, position_words, position_text}
+use Rattle.position_rank.proofs.TextPlacements.{is_shared}
 use Rattle.position_rank.proofs.TextLists.{Each, Each-append, Each-at}
 use Rattle.position_rank.proofs.TextPrint.{ArePlaces, held, places_of-places, position_words-full}
 use Rattle.position_rank.proofs.TextSides.{before, after, before-slash, after-slash, before-word, after-word, count-slash, count-word}
@@ -162,7 +162,7 @@ counts-again counts h =
 length-places : (counts : List ℕ) → length counts ≡ 26 → length (places_of counts) ≡ sum counts
 length-places counts h = sym (sum-counts_of (places_of counts) (Each-at (λ p. p ≤ 25) (places_of counts) (places_of-places counts))) ∙ ap sum (counts-again counts h)
 
--- ---- the board
+-- ---- the placement
 
 none-passes : (test : ℕ → Bool) (a n : ℕ) → ((i : ℕ) → a ≤ i → i < a + n → test i ≡ false) → list_any test (range_with_len a n) ≡ false
 none-passes test a zero h = refl
@@ -174,9 +174,9 @@ away a b h = elim (cases_lt 0 a) [
   | inr none ↦ grind (arith, nat_tests)
 ]
 
-board-again : (p : Board) → IsLive p → read_board p ≡ Ok p
+placement-again : (p : Placement) → IsLive p → read_placement p ≡ Ok p
 unfolding share_point
-board-again p live =
+placement-again p live =
     let apart : list_any (is_shared p) (range_with_len 1 24) ≡ false = none-passes (is_shared p) 1 24 (λ i low high. away _ _ (live.apart i low (omega arith))) in
     let mover : all_off p.mover ≡ false = ne_eqb _ _ live.mover in
     let other : all_off p.other ≡ false = ne_eqb _ _ live.other in
@@ -185,12 +185,12 @@ board-again p live =
 shape-again : (ws : List (List ℕ)) → Each (λ word. 0 < length word) ws → count_by is_slash ws ≡ 1 → have_shape ws ≡ true
 shape-again ws full one = rw (full-words ws full, one) refl
 
-read-again : (m o : List ℕ) → ArePlaces m → ArePlaces o → have_shape (map place_text m ++ codes "/" ∷ map place_text o) ≡ true → numbers_fit m o ≡ true → read_words (map place_text m ++ codes "/" ∷ map place_text o) ≡ read_board (record { mover = counts_of m; other = counts_of o })
+read-again : (m o : List ℕ) → ArePlaces m → ArePlaces o → have_shape (map place_text m ++ codes "/" ∷ map place_text o) ≡ true → numbers_fit m o ≡ true → read_words (map place_text m ++ codes "/" ∷ map place_text o) ≡ read_placement (record { mover = counts_of m; other = counts_of o })
 read-again m o hm ho shape fit =
     rw (shape, before-side m (map place_text o) hm, after-side m (map place_text o) hm)
     (rw (side-places m hm, side-places o ho) (rw (places-again m hm, places-again o ho) (rw fit refl)))
 
-pub read-printed : (p : Board) → IsPosition p → IsLive p → read_text (position_text p) ≡ Ok p
+pub read-printed : (p : Placement) → IsPosition p → IsLive p → read_text (position_text p) ≡ Ok p
 read-printed p position live =
     let m = places_of p.mover in
     let o = places_of p.other in
@@ -201,6 +201,6 @@ read-printed p position live =
     let fit : numbers_fit m o ≡ true = fits (length m) (length o) (omega (arith, long_m, long_o, position.same)) (omega (arith, long_m, position.mover.at_least_one)) (omega (arith, long_m, position.mover.at_most_three)) in
     ap read_words (words-again m o hm ho)
     ∙ (read-again m o hm ho (shape-again (position_words p) (position_words-full p) (one-slash m o hm ho)) fit
-    ∙ rw (counts-again p.mover position.mover.places, counts-again p.other position.other.places) (board-again p live)) where
+    ∙ rw (counts-again p.mover position.mover.places, counts-again p.other position.other.places) (placement-again p live)) where
       fits : (a b : ℕ) → a ≡ b → 1 ≤ a → a ≤ 3 → (nat_eq a b && nat_le 1 a && nat_le a 3) ≡ true
       fits a b same low high = grind (arith, nat_tests)

@@ -8,7 +8,7 @@ use Rattle.std.proofs.lemmas.List.Elements.{All-head, All-tail, All-take, All-co
 use Rattle.std.proofs.lemmas.Bool.{cases_eq, cases_lt, lt-ltb, le-ltb}
 use Rattle.std.proofs.lemmas.Bool.Decides.{nat_tests}
 use Rattle.position_rank.specs.Packed.{counts_of, packed_counts, place_from_top, IsPacked}
-use Rattle.position_rank.specs.Board.{IsLayout}
+use Rattle.position_rank.specs.Placement.{IsLayout}
 
 pub length-counts_of : (places : List ℕ) → length (counts_of places) ≡ 26
 unfolding counts_of

@@ -1,6 +1,6 @@
 -- Numbers for layouts and positions.
 use Rattle.std.specs.Prelude.{ℕ, zero, suc, ◌+◌, ◌-◌, ◌*◌, List, [], ◌∷◌, ◌++◌, replicate, sum}
-use Rattle.position_rank.specs.Board.{Board}
+use Rattle.position_rank.specs.Placement.{Placement}
 
 -- in how many ways so many of the things can be chosen
 unfoldable pub choose : ℕ → ℕ → ℕ
@@ -31,5 +31,5 @@ abbrev pub rank_of : List ℕ → ℕ
 rank_of counts = sum_of_ways 1 (rising_places counts)
 
 -- a position's number among all pairs of layouts of as many checkers
-abbrev pub square_rank_of : Board → ℕ
+abbrev pub square_rank_of : Placement → ℕ
 square_rank_of p = rank_of p.mover * layouts (sum p.mover) + rank_of p.other

@@ -5,7 +5,7 @@ use Rattle.std.specs.Cmp.Lexicographic.{pointwise}
 use Rattle.position_rank.specs.declared.text.TheConstants.{MOST_CHECKERS}
 use Rattle.position_rank.specs.declared.text.BadPosition.{BadPosition}
 use Rattle.position_rank.specs.declared.text.BadPosition.TheVariants.{Shape, Place, Count, SharedPoint, Over}
-use Rattle.position_rank.specs.Board.{Board}
+use Rattle.position_rank.specs.Placement.{Placement}
 use Rattle.position_rank.specs.Packed.{counts_of}
 
 -- the text of a place: off, a point by its number, or the bar
@@ -35,27 +35,27 @@ abbrev pub numbers_fit : List ℕ → List ℕ → Bool
 numbers_fit mover other = length mover == length other && nat_le 1 (length mover) && nat_le (length mover) MOST_CHECKERS
 
 -- the mover holds a point and the other side its point on the same spot
-unfoldable pub share_point : Board → Bool
+unfoldable pub share_point : Placement → Bool
 share_point p = list_any (λ point. nat_lt 0 (slice_index p.mover point) && nat_lt 0 (slice_index p.other (25 - point))) (range_with_len 1 24)
 
 abbrev pub all_off : List ℕ → Bool
 all_off counts = slice_index counts 0 == sum counts
 
 -- a position from the checkers of both sides
-abbrev pub read_board : Board → Result Board BadPosition
-read_board p =
+abbrev pub read_placement : Placement → Result Placement BadPosition
+read_placement p =
     if share_point p then Err SharedPoint
     else if all_off p.mover || all_off p.other then Err Over
     else Ok p
 
 -- a position from the places of both sides
-abbrev pub read_places : List ℕ → List ℕ → Result Board BadPosition
+abbrev pub read_places : List ℕ → List ℕ → Result Placement BadPosition
 read_places mover other =
-    if numbers_fit mover other then read_board (record { mover = counts_of mover; other = counts_of other })
+    if numbers_fit mover other then read_placement (record { mover = counts_of mover; other = counts_of other })
     else Err Count
 
 -- a position from its words, the mover's before the slash and the other side's after it
-abbrev pub read_words : List (List ℕ) → Result Board BadPosition
+abbrev pub read_words : List (List ℕ) → Result Placement BadPosition
 read_words ws =
     let mover = before_first is_slash ws in
     let other = after_first is_slash ws in
@@ -63,7 +63,7 @@ read_words ws =
     else if not (are_places mover && are_places other) then Err Place
     else read_places (filter_map place mover) (filter_map place other)
 
-abbrev pub read_text : List ℕ → Result Board BadPosition
+abbrev pub read_text : List ℕ → Result Placement BadPosition
 read_text text = read_words (words text)
 
 -- the places below this one, the highest first
@@ -76,9 +76,9 @@ unfoldable pub places_of : List ℕ → List ℕ
 places_of counts = flat_map (λ place. replicate (slice_index counts place) place) (places_below 26)
 
 -- the mover's places, a slash and the other side's places
-abbrev pub position_words : Board → List (List ℕ)
+abbrev pub position_words : Placement → List (List ℕ)
 position_words p = map place_text (places_of p.mover) ++ codes "/" ∷ map place_text (places_of p.other)
 
 -- these words with single spaces
-abbrev pub position_text : Board → List ℕ
+abbrev pub position_text : Placement → List ℕ
 position_text p = join_with_byte 32 (position_words p)

@@ -1,7 +1,7 @@
 ghost use Rattle.std.specs.Prelude.{◌≡◌, ℕ, ◌+◌, ◌-◌, ◌*◌, ◌<◌, ◌≤◌, ◌↔◌, IsTrue, sum};
-ghost use Rattle.position_rank.specs.Board.{Board, IsPosition, IsLive};
+ghost use Rattle.position_rank.specs.Placement.{Placement, IsPosition, IsLive};
 ghost use Rattle.position_rank.specs.Ranks.{layouts, square_rank_of};
-ghost use Rattle.position_rank.specs.LiveRanks.{is_live, board_at, live_below, live_positions, live_rank_of};
+ghost use Rattle.position_rank.specs.LiveRanks.{is_live, placement_at, live_below, live_positions, live_rank_of};
 
 use crate::position::Position;
 use crate::rank::layout_count;
@@ -68,11 +68,11 @@ fn count_below(checkers: u8, square: u64) -> u64
 
 /// Live positions of as many checkers and of equal live rank are the same.
 pub fn live_ranks_tell_positions()
-    ensures { (p q : Board) → IsPosition p → IsPosition q → IsLive p → IsLive q → sum p.mover ≡ sum q.mover → live_rank_of p ≡ live_rank_of q → p ≡ q }
+    ensures { (p q : Placement) → IsPosition p → IsPosition q → IsLive p → IsLive q → sum p.mover ≡ sum q.mover → live_rank_of p ≡ live_rank_of q → p ≡ q }
 {}
 
 /// The position at a square is the one with that square rank, and the test for live positions is right.
 pub fn squares_hold_their_positions()
-    ensures at { (p : Board) → IsPosition p → board_at (sum p.mover) (square_rank_of p) ≡ p }
-    ensures live { (p : Board) → IsTrue (is_live p) ↔ IsLive p }
+    ensures at { (p : Placement) → IsPosition p → placement_at (sum p.mover) (square_rank_of p) ≡ p }
+    ensures live { (p : Placement) → IsTrue (is_live p) ↔ IsLive p }
 {}

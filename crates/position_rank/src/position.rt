@@ -1,7 +1,7 @@
 ghost use Rattle.std.specs.Prelude.{◌≡◌, ℕ, ◌+◌, ◌-◌, ◌*◌, ◌<◌, ◌≤◌, ◌↔◌, IsTrue, IsSome, IsNone, IfSome, List, length, sum, slice_index};
 ghost use Rattle.position_rank.specs.Packed.{start_counts};
 ghost use Rattle.position_rank.specs.Ranks.{layouts, square_rank_of};
-ghost use Rattle.position_rank.specs.Board.{Board, IsLayout, IsPosition, IsLive, swap, moved, above, hit};
+ghost use Rattle.position_rank.specs.Placement.{Placement, IsLayout, IsPosition, IsLive, swap, moved, above, hit};
 
 use crate::layout::Layout;
 use crate::rank::layout_count;
@@ -15,7 +15,7 @@ pub struct Position {
 }
 
 impl Model for Position {
-    ghost Value = { Board };
+    ghost Value = { Placement };
 
     ghost view = { λ a. record { mover = a.mover; other = a.other } };
 

@@ -1,5 +1,5 @@
 ghost use Rattle.std.specs.Prelude.{◌≡◌, ℕ, ◌+◌, ◌-◌, ◌<◌, ◌≤◌, List, sum};
-ghost use Rattle.position_rank.specs.Board.{Board, IsLayout, IsPosition};
+ghost use Rattle.position_rank.specs.Placement.{Placement, IsLayout, IsPosition};
 ghost use Rattle.position_rank.specs.Ranks.{choose, layouts, rank_of, square_rank_of};
 
 /// How many layouts there are of one to three checkers.
@@ -57,5 +57,5 @@ pub fn ranks_tell_layouts()
 
 /// Positions of as many checkers and of equal square rank are the same.
 pub fn square_ranks_tell_positions()
-    ensures { (p q : Board) → IsPosition p → IsPosition q → sum p.mover ≡ sum q.mover → square_rank_of p ≡ square_rank_of q → p ≡ q }
+    ensures { (p q : Placement) → IsPosition p → IsPosition q → sum p.mover ≡ sum q.mover → square_rank_of p ≡ square_rank_of q → p ≡ q }
 {}

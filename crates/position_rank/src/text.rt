@@ -1,6 +1,6 @@
 ghost use Rattle.std.specs.Prelude.{◌≡◌, ◌↔◌, ◌+◌, ◌*◌, ◌≤◌, ◌&&◌, ℕ, [], ◌∷◌, ◌++◌, All, Ok, IfOk, IfSome, IsSome, IsTrue, count_by, fold, length, map, sum, replicate, take};
 ghost use Rattle.std.specs.List.{before_first, after_first, filter_map};
-ghost use Rattle.position_rank.specs.Board.{Board, IsPosition, IsLive};
+ghost use Rattle.position_rank.specs.Placement.{Placement, IsPosition, IsLive};
 ghost use Rattle.position_rank.specs.Text.{place, place_text, words, is_slash, have_shape, are_places, share_point, all_off, read_places, read_text, places_of, position_text};
 ghost use Rattle.position_rank.specs.TextParts.{add_word};
 
@@ -59,7 +59,7 @@ pub fn print_position(position: &Position) -> ArrayString<32>
 
 /// Reading what a live position prints gives the position back.
 pub fn printed_positions_are_read()
-    ensures { (p : Board) → IsPosition p → IsLive p → read_text (position_text p) ≡ Ok p }
+    ensures { (p : Placement) → IsPosition p → IsLive p → read_text (position_text p) ≡ Ok p }
 {}
 
 fn has_shape(text: &str) -> bool
@@ -125,7 +125,7 @@ fn keep(side: &mut Side, place: u8)
 fn set_up(mover: &[u8], other: &[u8]) -> Result<Position, BadPosition>
     requires mover { All (λ place. place ≤ 25) mover.now }
     requires other { All (λ place. place ≤ 25) other.now }
-    ensures board { result ≡ read_places mover.now other.now }
+    ensures placement { result ≡ read_places mover.now other.now }
     ensures position { IfOk result IsPosition }
     ensures live { IfOk result IsLive }
 {

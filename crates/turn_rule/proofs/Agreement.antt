@@ -1,7 +1,7 @@
 -- A turn looks only at words of states.
 use Rattle.std.proofs.Common.{◌≡◌, ℕ, ℤ, pos, neg_ℤ, ◌+ℤ◌, ◌*ℤ◌, List, [], ◌∷◌, map, Option, Some, None, IfSome, inl, inr, refl, ap, ◌∙◌}
 use Rattle.std.specs.Int.{int_max, int_min}
-use Rattle.position_rank.specs.Board.{Board, swap}
+use Rattle.position_rank.specs.Placement.{Placement, swap}
 use Rattle.roll_table.specs.Rolls.{Dice, IsRoll, all_rolls}
 use Rattle.move_rules.specs.Ends.{legal_ends}
 use Rattle.move_rules.specs.Listing.{Among}
@@ -18,7 +18,7 @@ use Rattle.turn_rule.specs.States.{IsState, Agree}
 use Rattle.turn_rule.proofs.Greatest.{AreRolls, all_rolls-right}
 use Rattle.turn_rule.proofs.Within.{next_state, at_member}
 
-greatest-agree : (f g : Board → ℤ) (qs : List Board) → ((q : Board) → Among q qs → f q ≡ g q) → greatest f qs ≡ greatest g qs
+greatest-agree : (f g : Placement → ℤ) (qs : List Placement) → ((q : Placement) → Among q qs → f q ≡ g q) → greatest f qs ≡ greatest g qs
 greatest-agree f g [] h = refl
 greatest-agree f g (q ∷ []) h = h q (inl refl)
 greatest-agree f g (q ∷ r ∷ rest) h =
@@ -26,7 +26,7 @@ greatest-agree f g (q ∷ r ∷ rest) h =
     let later = greatest-agree f g (r ∷ rest) (λ x m. h x (inr m)) in
     ap (λ (z : ℤ). int_max z (greatest f (r ∷ rest))) here ∙ ap (λ (z : ℤ). int_max (g q) z) later
 
-sum-agree : (f g : Board → ℤ) (p : Board) → ((roll : Dice) (q : Board) → IsRoll roll → Among q (legal_ends p roll) → f q ≡ g q) → (rolls : List (Dice × ℕ)) → AreRolls rolls → sum_over rolls f p ≡ sum_over rolls g p
+sum-agree : (f g : Placement → ℤ) (p : Placement) → ((roll : Dice) (q : Placement) → IsRoll roll → Among q (legal_ends p roll) → f q ≡ g q) → (rolls : List (Dice × ℕ)) → AreRolls rolls → sum_over rolls f p ≡ sum_over rolls g p
 sum-agree f g p h [] a = refl
 sum-agree f g p h (roll ∷ rolls) a =
     let here = greatest-agree f g (legal_ends p roll.0) (λ q. h roll.0 q a.0) in
@@ -39,17 +39,17 @@ least-agree X f g v (x ∷ xs) h =
     ap (λ (z : ℤ). least (int_min v z) (map f xs)) (h x (inl refl)) ∙ least-agree X f g (int_min v (g x)) xs (λ y m. h y (inr m))
 
 module _ (checkers : ℕ) (stakes : Terms) (valid : IsValid stakes) (u v : Words) (same : Agree checkers stakes u v) where
-  worth-agree : (end : End) (p : Board) (k : ℕ) → IsState checkers stakes p k → (roll : Dice) (q : Board) → IsRoll roll → Among q (legal_ends p roll) → worth end (kind_at stakes k) u q ≡ worth end (kind_at stakes k) v q
+  worth-agree : (end : End) (p : Placement) (k : ℕ) → IsState checkers stakes p k → (roll : Dice) (q : Placement) → IsRoll roll → Among q (legal_ends p roll) → worth end (kind_at stakes k) u q ≡ worth end (kind_at stakes k) v q
   worth-agree end p k state roll q right m = by_points (points q) refl where
     by_points : (o : Option Won) → points q ≡ o → if_won o (λ won. at end (win (kind_at stakes k) won)) (neg_ℤ (u (other end) (swap q) (kind_at stakes k).next)) ≡ if_won o (λ won. at end (win (kind_at stakes k) won)) (neg_ℤ (v (other end) (swap q) (kind_at stakes k).next))
     by_points None on = ap neg_ℤ (same (other end) (swap q) (kind_at stakes k).next (next_state checkers stakes valid p k state roll q right m on))
     by_points (Some won) over = refl
 
-  roll-agree : (end : End) (p : Board) (k factor : ℕ) → IsState checkers stakes p k → roll_value end stakes u p k factor ≡ roll_value end stakes v p k factor
+  roll-agree : (end : End) (p : Placement) (k factor : ℕ) → IsState checkers stakes p k → roll_value end stakes u p k factor ≡ roll_value end stakes v p k factor
   roll-agree end p k factor state =
       ap (λ (z : ℤ). outwards end (pos factor *ℤ z)) (sum-agree (worth end (kind_at stakes k) u) (worth end (kind_at stakes k) v) p (worth-agree end p k state) all_rolls all_rolls-right)
 
-  or_double-agree : (end : End) (p : Board) (k : ℕ) → IsState checkers stakes p k → (double : Option Double) → IfSome double (IsRightDouble stakes) → (plain : ℤ) → or_double end stakes u p plain double ≡ or_double end stakes v p plain double
+  or_double-agree : (end : End) (p : Placement) (k : ℕ) → IsState checkers stakes p k → (double : Option Double) → IfSome double (IsRightDouble stakes) → (plain : ℤ) → or_double end stakes u p plain double ≡ or_double end stakes v p plain double
   or_double-agree end p k state None right plain = refl
   or_double-agree end p k state (Some double) right plain =
       ap (λ (z : ℤ). int_max plain z) (least-agree Taken (λ taken. roll_value end stakes u p taken.kind taken.factor) (λ taken. roll_value end stakes v p taken.kind taken.factor) (at end double.pass) double.answers.items

@@ -1,18 +1,18 @@
 -- The game without a cube: its stakes are valid, and one of its states has one checker a side, each on its point 1.
 use Rattle.std.proofs.Common.{rules, [], ◌∷◌, refl, arith}
-use Rattle.position_rank.specs.Board.{Board, IsLayout, IsLive}
+use Rattle.position_rank.specs.Placement.{Placement, IsLayout, IsLive}
 use Rattle.position_rank.specs.Packed.{counts_of}
 use Rattle.position_rank.specs.LiveRanks.{are_apart}
 use Rattle.position_rank.proofs.LiveLaws.{live-from}
-use Rattle.game_payoff.specs.Examples.{board}
+use Rattle.position_rank.specs.Examples.{placed}
 use Rattle.cube_actions.specs.Stakes.{IsValid, cubeless}
 use Rattle.turn_rule.specs.States.{IsState}
 
 pub cubeless-valid : IsValid cubeless
 cubeless-valid = search rules
 
-abbrev pub one_each : Board
-one_each = board (1 ∷ []) (1 ∷ [])
+abbrev pub one_each : Placement
+one_each = placed (1 ∷ []) (1 ∷ [])
 
 one_on_its_1 : IsLayout (counts_of (1 ∷ []))
 unfolding counts_of

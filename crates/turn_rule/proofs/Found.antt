@@ -2,14 +2,14 @@
 use Rattle.std.proofs.Common.{◌≡◌, ℕ, ◌≤◌, ℤ, neg_ℤ, ◌⊎◌, inl, inr, IsTrue, Ok, Err, arith, subst}
 use Rattle.std.specs.Int.{int_max, int_min}
 use Rattle.std.proofs.lemmas.Int.{ints, clamps}
-use Rattle.position_rank.specs.Board.{Board}
+use Rattle.position_rank.specs.Placement.{Placement}
 use Rattle.directed_fixed.specs.declared.bounds.End.{End}
-use Rattle.directed_fixed.specs.Bounds.{IsTight, IsWithinUnits, other}
+use Rattle.directed_fixed.specs.Bounds.{IsNoLooser, IsWithinUnits, other}
 use Rattle.hyper_outside.specs.Causes.{Rose}
 use Rattle.hyper_outside.specs.declared.outside.LookStop.{LookStop}
 use Rattle.hyper_outside.specs.declared.outside.LookStop.TheVariants.{ReadFault, BadPage, NoMemory}
 use Rattle.turn_rule.specs.Turn.{Words}
-use Rattle.turn_rule.specs.States.{AreTightWordsOf}
+use Rattle.turn_rule.specs.States.{AreNoLooserOf}
 use Rattle.turn_rule.specs.Looks.{Source, Damage, States, HasDamage, MayStop, Looked}
 use Rattle.turn_rule.specs.Found.{IsFound}
 use Rattle.turn_rule.proofs.Tightness.{tight-neg}
@@ -25,7 +25,7 @@ may_stop-earlier s a b c meant meant' NoMemory h k stopped = stopped
 
 -- the words got tighter, where they are told
 abbrev pub Tightened : Source → Words → Words → Type 0
-Tightened s new old = IsTrue s.tells → AreTightWordsOf s.checkers s.kinds new old
+Tightened s new old = IsTrue s.tells → AreNoLooserOf s.checkers s.kinds new old
 
 -- a look-up, and then another
 pub then-ok : {A B C : Type 0} (s : Source) (u v w : Words) (a b c : ℕ) (meant meant' meant'' : Damage → Type 0) (right : A → Type 0) (right' : B → Type 0) (right'' : C → Type 0) (x : A) (y : B) (z : C)
@@ -46,14 +46,14 @@ then-err s u v w a b c meant meant' meant'' right right' right'' x stop first se
   stop = may_stop-earlier s a b c meant' meant'' stop first.later within second.stop;
 }
 
--- the answer, seen otherwise
+-- the answer, mover_view otherwise
 pub mapped-ok : {A B : Type 0} (s : Source) (u v : Words) (a b : ℕ) (meant meant' : Damage → Type 0) (right : A → Type 0) (right' : B → Type 0) (x : A) (y : B)
     → Looked s u v a b meant right (Ok x) → (right x → right' y) → Looked s u v a b meant' right' (Ok y)
 mapped-ok s u v a b meant meant' right right' x y looked turned = record { later = looked.later; notes = looked.notes; answer = turned looked.answer; stop = tt }
 
 -- some states are among others
 abbrev pub AreAmong : States → States → Type 0
-AreAmong some others = (p : Board) (k : ℕ) → some p k → others p k
+AreAmong some others = (p : Placement) (k : ℕ) → some p k → others p k
 
 pub damage-among : (s : Source) (some others : States) → AreAmong some others → (damage : Damage) → HasDamage s some damage → HasDamage s others damage
 damage-among s some others among damage h = record { position = h.position; kind = h.kind; among = among h.position h.kind h.among; damaged = h.damaged }
@@ -71,14 +71,14 @@ module _ (end : End) (s : Source) where
   pub found-as : (u : Words) (states states' : States) (bound bound' : ℤ) (value value' : Words → ℤ) (x y : ℤ) → IsWithinUnits bound' y → AreAmong states' states → ((w : Words) → value w ≡ value' w) → x ≡ y → IsFound end s u states bound value x → IsFound end s u states' bound' value' y
   found-as u states states' bound bound' value value' x y within among same is found = record {
     within = within;
-    floor = λ tells. subst (λ (z : ℤ). IsTight end y z) (same s.floor) (subst (λ (z : ℤ). IsTight end z (value s.floor)) is (found.floor tells));
-    notes = λ tells later tight. subst (λ (z : ℤ). IsTight end z y) (same later) (subst (λ (z : ℤ). IsTight end (value later) z) is (found.notes tells later tight));
+    floor = λ tells. subst (λ (z : ℤ). IsNoLooser end y z) (same s.floor) (subst (λ (z : ℤ). IsNoLooser end z (value s.floor)) is (found.floor tells));
+    notes = λ tells later tight. subst (λ (z : ℤ). IsNoLooser end z y) (same later) (subst (λ (z : ℤ). IsNoLooser end (value later) z) is (found.notes tells later tight));
     right = λ tells p k h. found.right tells p k (among p k h);
   }
 
   -- a step of two ends that keeps tightness
-  pub found-step : (f : ℤ → ℤ → ℤ) → ((a b c d : ℤ) → IsTight end a c → IsTight end b d → IsTight end (f a b) (f c d)) → (u : Words) (states states' states'' : States) (bound bound' bound'' : ℤ) (value value' : Words → ℤ) (x y : ℤ)
-      → IsWithinUnits bound'' (f x y) → ((p : Board) (k : ℕ) → states'' p k → states p k ⊎ states' p k) → IsFound end s u states bound value x → IsFound end s u states' bound' value' y → IsFound end s u states'' bound'' (λ w. f (value w) (value' w)) (f x y)
+  pub found-step : (f : ℤ → ℤ → ℤ) → ((a b c d : ℤ) → IsNoLooser end a c → IsNoLooser end b d → IsNoLooser end (f a b) (f c d)) → (u : Words) (states states' states'' : States) (bound bound' bound'' : ℤ) (value value' : Words → ℤ) (x y : ℤ)
+      → IsWithinUnits bound'' (f x y) → ((p : Placement) (k : ℕ) → states'' p k → states p k ⊎ states' p k) → IsFound end s u states bound value x → IsFound end s u states' bound' value' y → IsFound end s u states'' bound'' (λ w. f (value w) (value' w)) (f x y)
   found-step f tight u states states' states'' bound bound' bound'' value value' x y within either one other = record {
     within = within;
     floor = λ tells. tight _ _ _ _ (one.floor tells) (other.floor tells);
@@ -87,7 +87,7 @@ module _ (end : End) (s : Source) where
   }
 
   -- a step of one end
-  pub found-through : (f : ℤ → ℤ) → ((a b : ℤ) → IsTight end a b → IsTight end (f a) (f b)) → (u : Words) (states : States) (bound bound' : ℤ) (value : Words → ℤ) (x : ℤ)
+  pub found-through : (f : ℤ → ℤ) → ((a b : ℤ) → IsNoLooser end a b → IsNoLooser end (f a) (f b)) → (u : Words) (states : States) (bound bound' : ℤ) (value : Words → ℤ) (x : ℤ)
       → IsWithinUnits bound' (f x) → IsFound end s u states bound value x → IsFound end s u states bound' (λ w. f (value w)) (f x)
   found-through f tight u states bound bound' value x within found = record {
     within = within;

@@ -1,13 +1,13 @@
 -- Words that bound fractions: at either end of a pair, what bounds the parts bounds the whole.
 use Rattle.std.proofs.Common.{ℕ, ℤ, pos, neg_ℤ, ◌*ℤ◌, ◌*◌, ◌^◌, List, map}
 use Rattle.std.specs.Int.{int_max}
-use Rattle.position_rank.specs.Board.{Board}
+use Rattle.position_rank.specs.Placement.{Placement}
 use Rattle.roll_table.specs.Rolls.{Dice, IsRoll, all_rolls}
 use Rattle.move_rules.specs.Ends.{legal_ends}
 use Rattle.move_rules.specs.Listing.{Among}
 use Rattle.directed_fixed.specs.declared.bounds.End.{End}
 use Rattle.directed_fixed.specs.declared.bounds.End.TheVariants.{Lower, Upper}
-use Rattle.directed_fixed.specs.Bounds.{Bounds, IsTight, other, at}
+use Rattle.directed_fixed.specs.Bounds.{Bounds, IsNoLooser, other, at}
 use Rattle.directed_fixed.specs.Rounding.{outwards}
 use Rattle.turn_rule.specs.Turn.{sum_over, least}
 use Rattle.turn_rule.specs.Truth.{IsBoundOf, Encloses}
@@ -20,7 +20,7 @@ bound-at Lower pair x over h = h.lower
 bound-at Upper pair x over h = h.upper
 
 -- a looser word is a bound too
-pub bound-looser : (end : End) (a b x : ℤ) (over : ℕ) → IsTight end a b → IsBoundOf end a x over → IsBoundOf end b x over
+pub bound-looser : (end : End) (a b x : ℤ) (over : ℕ) → IsNoLooser end a b → IsBoundOf end a x over → IsBoundOf end b x over
 bound-looser Lower a b x over tight h = le_trans _ _ _ (mul_mono over _ _ tight) h
 bound-looser Upper a b x over tight h = le_trans _ _ _ h (mul_mono over _ _ tight)
 
@@ -32,7 +32,7 @@ pub bound-least : (X : Type 0) (end : End) (f g : X → ℤ) (v w : ℤ) (xs : L
 bound-least X Lower f g v w xs over h k = least-scaled X over (2 ^ 32) f g v w xs h k
 bound-least X Upper f g v w xs over h k = least-scaled X (2 ^ 32) over g f w v xs h k
 
-pub bound-sum : (end : End) (f g : Board → ℤ) (p : Board) (over : ℕ) → ((roll : Dice) (q : Board) → IsRoll roll → Among q (legal_ends p roll) → IsBoundOf end (f q) (g q) over) → IsBoundOf end (sum_over all_rolls f p) (sum_over all_rolls g p) over
+pub bound-sum : (end : End) (f g : Placement → ℤ) (p : Placement) (over : ℕ) → ((roll : Dice) (q : Placement) → IsRoll roll → Among q (legal_ends p roll) → IsBoundOf end (f q) (g q) over) → IsBoundOf end (sum_over all_rolls f p) (sum_over all_rolls g p) over
 bound-sum Lower f g p over h = sum-scaled over (2 ^ 32) f g p h all_rolls all_rolls-right
 bound-sum Upper f g p over h = sum-scaled (2 ^ 32) over g f p h all_rolls all_rolls-right
 

@@ -1,27 +1,27 @@
--- Whole tables: the opening one, and one that was turned.
+-- Whole tables: that of no round, and one that was turned.
 use Rattle.std.proofs.Common.{◌≡◌, ◌<◌, ◌+◌, ◌*◌, ℕ, zero, suc, length, replicate, get_or, sum, sym, ap, subst, ◌∙◌, refl, add-one, arith}
 use Rattle.std.proofs.lemmas.Nat.{mul-add-lt}
-use Rattle.position_rank.specs.Board.{Board, IsPosition}
+use Rattle.position_rank.specs.Placement.{Placement, IsPosition}
 use Rattle.position_rank.specs.Ranks.{layouts, rank_of, square_rank_of}
 use Rattle.position_rank.proofs.RankLaws.{rank-below}
 use Rattle.directed_fixed.specs.declared.bounds.End.{End}
 use Rattle.directed_fixed.specs.declared.bounds.End.TheVariants.{Lower, Upper}
 use Rattle.directed_fixed.specs.Bounds.{Bounds, at}
 use Rattle.cube_actions.specs.Stakes.{Terms, IsValid, nothing}
-use Rattle.turn_rule.specs.Turn.{Words, turn, opening, rounds}
-use Rattle.turn_rule.specs.Tables.{Pairs, IsFull, words_of, place_of, squares_of}
+use Rattle.turn_rule.specs.Turn.{Words, turn, bound_words, rounds}
+use Rattle.turn_rule.specs.Tables.{PairTable, IsFull, words_of, place_of, squares_of}
 use Rattle.turn_rule.specs.States.{IsState, AreWithin, Agree, pair_of}
-use Rattle.turn_rule.specs.Rounds.{Game, HasRounds, IsTurnedBefore, opening_pair}
+use Rattle.turn_rule.specs.Rounds.{StakesAndTable, HasRounds, IsTurnedBefore, bound_pair}
 use Rattle.turn_rule.proofs.TableLemmas.{place-within}
 use Rattle.turn_rule.proofs.Within.{turn-within, rounds-within}
 use Rattle.turn_rule.proofs.Agreement.{turn-agree}
 
-pub square-below : (p : Board) (checkers : ℕ) → IsPosition p → sum p.mover ≡ checkers → square_rank_of p < squares_of checkers
+pub square-below : (p : Placement) (checkers : ℕ) → IsPosition p → sum p.mover ≡ checkers → square_rank_of p < squares_of checkers
 square-below p checkers is many = subst (λ (n : ℕ). square_rank_of p < squares_of n) many (below (rank_of p.mover) (rank_of p.other) (layouts (sum p.mover)) (rank-below p.mover is.mover) (subst (λ (n : ℕ). rank_of p.other < layouts n) (sym is.same) (rank-below p.other is.other))) where
   below : (a b n : ℕ) → a < n → b < n → a * n + b < n * n
   below a b n h k = omega (arith, mul-add-lt a n b n h k)
 
-pub state-place : (table : Pairs) (stakes : Terms) → IsFull table → table.kinds ≡ length stakes.kinds → (p : Board) (k : ℕ) → IsState table.checkers stakes p k → place_of table.kinds p k < length table.pairs
+pub state-place : (table : PairTable) (stakes : Terms) → IsFull table → table.kinds ≡ length stakes.kinds → (p : Placement) (k : ℕ) → IsState table.checkers stakes p k → place_of table.kinds p k < length table.pairs
 state-place table stakes full kinds p k state =
     place-within table (square_rank_of p) k full (square-below p table.checkers state.position state.many) (subst (λ (n : ℕ). k < n) (sym kinds) state.kind)
 
@@ -36,15 +36,15 @@ replicate-full checkers kinds pair = length-copies (squares_of checkers * kinds)
   length-copies zero = refl
   length-copies (suc n) = ap suc (length-copies n)
 
--- a table of opening pairs has the words before the first round
-pub opening-rounds : (stakes : Terms) (checkers kinds : ℕ) → kinds ≡ length stakes.kinds → HasRounds (record { stakes = stakes; table = record { checkers = checkers; kinds = kinds; pairs = replicate (squares_of checkers * kinds) (opening_pair stakes) } }) 0
+-- a table in which each pair is the bound has the words before the first round
+pub opening-rounds : (stakes : Terms) (checkers kinds : ℕ) → kinds ≡ length stakes.kinds → HasRounds (record { stakes = stakes; table = record { checkers = checkers; kinds = kinds; pairs = replicate (squares_of checkers * kinds) (bound_pair stakes) } }) 0
 unfolding rounds
 opening-rounds stakes checkers kinds same end p k state =
-    let table : Pairs = record { checkers = checkers; kinds = kinds; pairs = replicate (squares_of checkers * kinds) (opening_pair stakes) } in
-    let full = replicate-full checkers kinds (opening_pair stakes) in
+    let table : PairTable = record { checkers = checkers; kinds = kinds; pairs = replicate (squares_of checkers * kinds) (bound_pair stakes) } in
+    let full = replicate-full checkers kinds (bound_pair stakes) in
     let here = state-place table stakes full same p k state in
-    ap (at end) (all_same (squares_of checkers * kinds) (place_of kinds p k) (opening_pair stakes) (subst (λ (n : ℕ). place_of kinds p k < n) full here)) ∙ by_end end where
-      by_end : (end : End) → at end (opening_pair stakes) ≡ opening stakes end p k
+    ap (at end) (all_same (squares_of checkers * kinds) (place_of kinds p k) (bound_pair stakes) (subst (λ (n : ℕ). place_of kinds p k < n) full here)) ∙ by_end end where
+      by_end : (end : End) → at end (bound_pair stakes) ≡ bound_words stakes end p k
       by_end Lower = refl
       by_end Upper = refl
 
@@ -53,11 +53,11 @@ agree-within checkers stakes u v same within p k state =
     let w = within p k state in
     record { from = rw (same Lower p k state) w.from; in_order = rw (same Lower p k state, same Upper p k state) w.in_order; to = rw (same Upper p k state) w.to }
 
-pub rounds-agree-within : (game : Game) (r : ℕ) → IsValid game.stakes → HasRounds game r → AreWithin game.table.checkers game.stakes (words_of game.table)
+pub rounds-agree-within : (game : StakesAndTable) (r : ℕ) → IsValid game.stakes → HasRounds game r → AreWithin game.table.checkers game.stakes (words_of game.table)
 rounds-agree-within game r valid has = agree-within game.table.checkers game.stakes (words_of game.table) (rounds game.stakes r) has (rounds-within game.table.checkers game.stakes valid r)
 
 -- once every square has had its turn, every state has
-pub all-turned : (stakes : Terms) (old new : Pairs) (squares : ℕ) → squares ≡ squares_of old.checkers → IsTurnedBefore stakes old new squares → Agree old.checkers stakes (words_of new) (turn stakes (words_of old))
+pub all-turned : (stakes : Terms) (old new : PairTable) (squares : ℕ) → squares ≡ squares_of old.checkers → IsTurnedBefore stakes old new squares → Agree old.checkers stakes (words_of new) (turn stakes (words_of old))
 all-turned stakes old new squares all turned end p k state =
     let pair = turned p k state (subst (λ (n : ℕ). square_rank_of p < n) (sym all) (square-below p old.checkers state.position state.many)) in
     by_end end pair where
@@ -65,12 +65,12 @@ all-turned stakes old new squares all turned end p k state =
       by_end Lower e = ap (λ (b : Bounds). b.lower) e
       by_end Upper e = ap (λ (b : Bounds). b.upper) e
 
-pub turned-within : (stakes : Terms) (old new : Pairs) → IsValid stakes → AreWithin old.checkers stakes (words_of old) → Agree old.checkers stakes (words_of new) (turn stakes (words_of old)) → AreWithin old.checkers stakes (words_of new)
+pub turned-within : (stakes : Terms) (old new : PairTable) → IsValid stakes → AreWithin old.checkers stakes (words_of old) → Agree old.checkers stakes (words_of new) (turn stakes (words_of old)) → AreWithin old.checkers stakes (words_of new)
 turned-within stakes old new valid within turned =
     agree-within old.checkers stakes (words_of new) (turn stakes (words_of old)) turned (turn-within old.checkers stakes valid (words_of old) within)
 
 -- a turn over the words of some rounds gives those of one round more
-pub one-round : (stakes : Terms) (old new : Pairs) (r : ℕ) → IsValid stakes → Agree old.checkers stakes (words_of new) (turn stakes (words_of old)) → Agree old.checkers stakes (words_of old) (rounds stakes r) → Agree old.checkers stakes (words_of new) (rounds stakes (r + 1))
+pub one-round : (stakes : Terms) (old new : PairTable) (r : ℕ) → IsValid stakes → Agree old.checkers stakes (words_of new) (turn stakes (words_of old)) → Agree old.checkers stakes (words_of old) (rounds stakes r) → Agree old.checkers stakes (words_of new) (rounds stakes (r + 1))
 unfolding rounds
 one-round stakes old new r valid turned has end p k state =
     rw (add-one r) (turned end p k state ∙ turn-agree old.checkers stakes valid (words_of old) (rounds stakes r) has end p k state)

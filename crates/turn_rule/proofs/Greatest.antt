@@ -2,7 +2,7 @@
 use Rattle.std.proofs.Common.{◌≡◌, ◌<◌, ◌≤◌, ◌+◌, ◌++◌, ◌∙◌, Bool, true, false, cond, eqb, ap, ℕ, zero, suc, get_or, ℤ, pos, ◌≤ℤ◌, ◌+ℤ◌, ◌*ℤ◌, List, [], ◌∷◌, length, map, inl, inr, refl, subst, sym, arith}
 use Rattle.std.specs.Int.{int_max}
 use Rattle.std.proofs.lemmas.Int.{ints, clamps}
-use Rattle.position_rank.specs.Board.{Board}
+use Rattle.position_rank.specs.Placement.{Placement}
 use Rattle.std.specs.List.{range_with_len}
 use Rattle.roll_table.specs.Rolls.{Dice, IsRoll, weighted_roll, all_rolls}
 use Rattle.move_rules.specs.Ends.{legal_ends}
@@ -11,7 +11,7 @@ use Rattle.move_rules.proofs.Members.{flat_map-cases, map-cases, range-cases}
 use Rattle.turn_rule.specs.Turn.{greatest, sum_over}
 use Rattle.turn_rule.proofs.Integers.{le_refl, le_trans, max_mono, add_mono, mul_mono}
 
-pub greatest-mono : (f g : Board → ℤ) (qs : List Board) → ((q : Board) → Among q qs → f q ≤ℤ g q) → greatest f qs ≤ℤ greatest g qs
+pub greatest-mono : (f g : Placement → ℤ) (qs : List Placement) → ((q : Placement) → Among q qs → f q ≤ℤ g q) → greatest f qs ≤ℤ greatest g qs
 greatest-mono f g [] h = le_refl (pos 0)
 greatest-mono f g (q ∷ []) h = h q (inl refl)
 greatest-mono f g (q ∷ r ∷ rest) h = max_mono _ _ _ _ (h q (inl refl)) (greatest-mono f g (r ∷ rest) (λ x m. h x (inr m)))
@@ -22,12 +22,12 @@ max_upto x y b h k = omega (arith, ints, clamps)
 max_from : (x y b : ℤ) → b ≤ℤ x → b ≤ℤ int_max x y
 max_from x y b h = omega (arith, ints, clamps)
 
-pub greatest-upto : (f : Board → ℤ) (b : ℤ) → pos 0 ≤ℤ b → (qs : List Board) → ((q : Board) → Among q qs → f q ≤ℤ b) → greatest f qs ≤ℤ b
+pub greatest-upto : (f : Placement → ℤ) (b : ℤ) → pos 0 ≤ℤ b → (qs : List Placement) → ((q : Placement) → Among q qs → f q ≤ℤ b) → greatest f qs ≤ℤ b
 greatest-upto f b z [] h = z
 greatest-upto f b z (q ∷ []) h = h q (inl refl)
 greatest-upto f b z (q ∷ r ∷ rest) h = max_upto _ _ b (h q (inl refl)) (greatest-upto f b z (r ∷ rest) (λ x m. h x (inr m)))
 
-pub greatest-from : (f : Board → ℤ) (b : ℤ) → b ≤ℤ pos 0 → (qs : List Board) → ((q : Board) → Among q qs → b ≤ℤ f q) → b ≤ℤ greatest f qs
+pub greatest-from : (f : Placement → ℤ) (b : ℤ) → b ≤ℤ pos 0 → (qs : List Placement) → ((q : Placement) → Among q qs → b ≤ℤ f q) → b ≤ℤ greatest f qs
 greatest-from f b z [] h = z
 greatest-from f b z (q ∷ []) h = h q (inl refl)
 greatest-from f b z (q ∷ r ∷ rest) h = max_from _ _ b (h q (inl refl))
@@ -52,7 +52,7 @@ all_rolls-right = all_right all_rolls right where
       let low = range-cases 1 a.0 b.0 b.1 in
       subst (λ (r : Dice × ℕ). IsRoll r.0) (sym b.2) (record { from = low.0; in_order = omega (arith, low.1); to = omega (arith, high.1) })
 
-pub sum-mono : (f g : Board → ℤ) (p : Board) → ((roll : Dice) (q : Board) → IsRoll roll → Among q (legal_ends p roll) → f q ≤ℤ g q) → (rolls : List (Dice × ℕ)) → AreRolls rolls → sum_over rolls f p ≤ℤ sum_over rolls g p
+pub sum-mono : (f g : Placement → ℤ) (p : Placement) → ((roll : Dice) (q : Placement) → IsRoll roll → Among q (legal_ends p roll) → f q ≤ℤ g q) → (rolls : List (Dice × ℕ)) → AreRolls rolls → sum_over rolls f p ≤ℤ sum_over rolls g p
 sum-mono f g p h [] a = le_refl (pos 0)
 sum-mono f g p h (roll ∷ rolls) a =
     add_mono _ _ _ _ (mul_mono roll.1 _ _ (greatest-mono f g (legal_ends p roll.0) (λ q. h roll.0 q a.0))) (sum-mono f g p h rolls a.1)
@@ -69,12 +69,12 @@ total-all_rolls = refl
 spread : (w n : ℕ) (b : ℤ) → pos (w + n) *ℤ b ≡ pos w *ℤ b +ℤ pos n *ℤ b
 spread w n b = omega (arith, ints)
 
-pub sum-upto : (f : Board → ℤ) (b : ℤ) → pos 0 ≤ℤ b → (p : Board) → ((roll : Dice) (q : Board) → IsRoll roll → Among q (legal_ends p roll) → f q ≤ℤ b) → (rolls : List (Dice × ℕ)) → AreRolls rolls → sum_over rolls f p ≤ℤ (pos (total rolls) *ℤ b)
+pub sum-upto : (f : Placement → ℤ) (b : ℤ) → pos 0 ≤ℤ b → (p : Placement) → ((roll : Dice) (q : Placement) → IsRoll roll → Among q (legal_ends p roll) → f q ≤ℤ b) → (rolls : List (Dice × ℕ)) → AreRolls rolls → sum_over rolls f p ≤ℤ (pos (total rolls) *ℤ b)
 sum-upto f b z p h [] a = omega (arith, ints)
 sum-upto f b z p h (roll ∷ rolls) a =
     rw spread (add_mono _ _ _ _ (mul_mono roll.1 _ _ (greatest-upto f b z (legal_ends p roll.0) (λ q. h roll.0 q a.0))) (sum-upto f b z p h rolls a.1))
 
-pub sum-from : (f : Board → ℤ) (b : ℤ) → b ≤ℤ pos 0 → (p : Board) → ((roll : Dice) (q : Board) → IsRoll roll → Among q (legal_ends p roll) → b ≤ℤ f q) → (rolls : List (Dice × ℕ)) → AreRolls rolls → (pos (total rolls) *ℤ b) ≤ℤ sum_over rolls f p
+pub sum-from : (f : Placement → ℤ) (b : ℤ) → b ≤ℤ pos 0 → (p : Placement) → ((roll : Dice) (q : Placement) → IsRoll roll → Among q (legal_ends p roll) → b ≤ℤ f q) → (rolls : List (Dice × ℕ)) → AreRolls rolls → (pos (total rolls) *ℤ b) ≤ℤ sum_over rolls f p
 sum-from f b z p h [] a = omega (arith, ints)
 sum-from f b z p h (roll ∷ rolls) a =
     rw spread (add_mono _ _ _ _ (mul_mono roll.1 _ _ (greatest-from f b z (legal_ends p roll.0) (λ q. h roll.0 q a.0))) (sum-from f b z p h rolls a.1))
@@ -82,7 +82,7 @@ sum-from f b z p h (roll ∷ rolls) a =
 max_assoc : (a b c : ℤ) → int_max a (int_max b c) ≡ int_max (int_max a b) c
 max_assoc a b c = omega (arith, ints, clamps)
 
-pub greatest-append : (f : Board → ℤ) (q r : Board) (qs : List Board) → greatest f ((q ∷ qs) ++ r ∷ []) ≡ int_max (greatest f (q ∷ qs)) (f r)
+pub greatest-append : (f : Placement → ℤ) (q r : Placement) (qs : List Placement) → greatest f ((q ∷ qs) ++ r ∷ []) ≡ int_max (greatest f (q ∷ qs)) (f r)
 greatest-append f q r [] = refl
 greatest-append f q r (s ∷ qs) = ap (λ (z : ℤ). int_max (f q) z) (greatest-append f s r qs) ∙ max_assoc (f q) (greatest f (s ∷ qs)) (f r)
 
@@ -92,14 +92,14 @@ max_left x y = omega (arith, ints, clamps)
 max_right : (x y : ℤ) → y ≤ℤ int_max x y
 max_right x y = omega (arith, ints, clamps)
 
-pub greatest-bound : (f : Board → ℤ) (q : Board) (qs : List Board) → Among q qs → f q ≤ℤ greatest f qs
+pub greatest-bound : (f : Placement → ℤ) (q : Placement) (qs : List Placement) → Among q qs → f q ≤ℤ greatest f qs
 greatest-bound f q [] m = absurd m
 greatest-bound f q (r ∷ []) (inl e) = rw e (le_refl (f r))
 greatest-bound f q (r ∷ []) (inr m) = absurd m
 greatest-bound f q (r ∷ s ∷ qs) (inl e) = rw e (max_left (f r) (greatest f (s ∷ qs)))
 greatest-bound f q (r ∷ s ∷ qs) (inr m) = le_trans _ _ _ (greatest-bound f q (s ∷ qs) m) (max_right (f r) (greatest f (s ∷ qs)))
 
-greatest-least : (f : Board → ℤ) (b : ℤ) (q : Board) (qs : List Board) → ((r : Board) → Among r (q ∷ qs) → f r ≤ℤ b) → greatest f (q ∷ qs) ≤ℤ b
+greatest-least : (f : Placement → ℤ) (b : ℤ) (q : Placement) (qs : List Placement) → ((r : Placement) → Among r (q ∷ qs) → f r ≤ℤ b) → greatest f (q ∷ qs) ≤ℤ b
 greatest-least f b q [] h = h q (inl refl)
 greatest-least f b q (r ∷ qs) h = max_upto _ _ b (h q (inl refl)) (greatest-least f b r qs (λ x m. h x (inr m)))
 
@@ -107,7 +107,7 @@ both_ways : (a b : ℤ) → a ≤ℤ b → b ≤ℤ a → a ≡ b
 both_ways a b h k = omega (arith, ints)
 
 -- lists with the same members have the same greatest value
-pub greatest-same : (f : Board → ℤ) (qs rs : List Board) → ((q : Board) → Among q qs → Among q rs) → ((r : Board) → Among r rs → Among r qs) → greatest f qs ≡ greatest f rs
+pub greatest-same : (f : Placement → ℤ) (qs rs : List Placement) → ((q : Placement) → Among q qs → Among q rs) → ((r : Placement) → Among r rs → Among r qs) → greatest f qs ≡ greatest f rs
 greatest-same f [] [] h k = refl
 greatest-same f [] (r ∷ rs) h k = absurd (k r (inl refl))
 greatest-same f (q ∷ qs) [] h k = absurd (h q (inl refl))

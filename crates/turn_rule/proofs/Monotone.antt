@@ -1,6 +1,6 @@
 -- Tighter words and tighter stakes give a tighter turn.
 use Rattle.std.proofs.Common.{◌≡◌, ◌<◌, ℕ, zero, suc, ℤ, neg_ℤ, Option, Some, None, IfSome, List, map, length, refl, subst}
-use Rattle.position_rank.specs.Board.{Board, swap}
+use Rattle.position_rank.specs.Placement.{Placement, swap}
 use Rattle.roll_table.specs.Rolls.{Dice, IsRoll}
 use Rattle.move_rules.specs.Ends.{legal_ends}
 use Rattle.move_rules.specs.Listing.{Among}
@@ -8,39 +8,39 @@ use Rattle.game_payoff.specs.declared.payoff.Won.{Won}
 use Rattle.game_payoff.specs.Points.{points}
 use Rattle.directed_fixed.specs.declared.bounds.End.{End}
 use Rattle.directed_fixed.specs.declared.bounds.End.TheVariants.{Lower, Upper}
-use Rattle.directed_fixed.specs.Bounds.{Bounds, IsTight, AreTight, other, at}
+use Rattle.directed_fixed.specs.Bounds.{Bounds, IsNoLooser, AreNoLooserPairs, other, at}
 use Rattle.cube_actions.specs.declared.kind.Double.{Double}
 use Rattle.cube_actions.specs.declared.kind.Taken.{Taken}
 use Rattle.cube_actions.specs.Stakes.{Terms, kind_at, no_kind, IsValid, IsRightDouble, IsRightAnswer}
-use Rattle.turn_rule.specs.Turn.{Words, win, if_won, worth, roll_value, least, or_double, turn, opening, rounds}
-use Rattle.turn_rule.specs.States.{IsState, AreTightWords}
-use Rattle.turn_rule.specs.Truth.{AreTighterDoubles, IsTighterKind, AreTighterStakes}
+use Rattle.turn_rule.specs.Turn.{Words, win, if_won, worth, roll_value, least, or_double, turn, bound_words, rounds}
+use Rattle.turn_rule.specs.States.{IsState, AreNoLooser}
+use Rattle.turn_rule.specs.Truth.{AreNoLooserDoubles, IsNoLooserKind, AreNoLooserStakes}
 use Rattle.turn_rule.proofs.Integers.{le_refl}
 use Rattle.turn_rule.proofs.Within.{next_state, at_member, turn-within, opening-within}
 use Rattle.turn_rule.proofs.Tightness.{tight-at, tight-neg, tight-max, tight-least, tight-sum, tight-times, tight-outwards}
 
-module _ (checkers : ℕ) (a b : Terms) (valid : IsValid a) (stakes : AreTighterStakes a b) where
-  kind-tighter : (k : ℕ) → k < length a.kinds → IsTighterKind (kind_at a k) (kind_at b k)
+module _ (checkers : ℕ) (a b : Terms) (valid : IsValid a) (stakes : AreNoLooserStakes a b) where
+  kind-tighter : (k : ℕ) → k < length a.kinds → IsNoLooserKind (kind_at a k) (kind_at b k)
   kind-tighter k h = stakes.kinds k (subst (λ (n : ℕ). k < n) stakes.many h)
 
-  module _ (end : End) (u v : Words) (words : (p : Board) (k : ℕ) → IsState checkers a p k → IsTight (other end) (u (other end) p k) (v (other end) p k)) where
-    worth-tighter : (p : Board) (k : ℕ) → IsState checkers a p k → (roll : Dice) (q : Board) → IsRoll roll → Among q (legal_ends p roll) → IsTight end (worth end (kind_at a k) u q) (worth end (kind_at b k) v q)
+  module _ (end : End) (u v : Words) (words : (p : Placement) (k : ℕ) → IsState checkers a p k → IsNoLooser (other end) (u (other end) p k) (v (other end) p k)) where
+    worth-tighter : (p : Placement) (k : ℕ) → IsState checkers a p k → (roll : Dice) (q : Placement) → IsRoll roll → Among q (legal_ends p roll) → IsNoLooser end (worth end (kind_at a k) u q) (worth end (kind_at b k) v q)
     worth-tighter p k state roll q right m = by_points (points q) refl where
-      by_points : (o : Option Won) → points q ≡ o → IsTight end (if_won o (λ won. at end (win (kind_at a k) won)) (neg_ℤ (u (other end) (swap q) (kind_at a k).next))) (if_won o (λ won. at end (win (kind_at b k) won)) (neg_ℤ (v (other end) (swap q) (kind_at b k).next)))
+      by_points : (o : Option Won) → points q ≡ o → IsNoLooser end (if_won o (λ won. at end (win (kind_at a k) won)) (neg_ℤ (u (other end) (swap q) (kind_at a k).next))) (if_won o (λ won. at end (win (kind_at b k) won)) (neg_ℤ (v (other end) (swap q) (kind_at b k).next)))
       by_points None on =
-          subst (λ (next : ℕ). IsTight end (neg_ℤ (u (other end) (swap q) (kind_at a k).next)) (neg_ℤ (v (other end) (swap q) next))) (kind-tighter k state.kind).next
+          subst (λ (next : ℕ). IsNoLooser end (neg_ℤ (u (other end) (swap q) (kind_at a k).next)) (neg_ℤ (v (other end) (swap q) next))) (kind-tighter k state.kind).next
           (tight-neg end _ _ (words (swap q) (kind_at a k).next (next_state checkers a valid p k state roll q right m on)))
       by_points (Some won) over = tight-at end _ _ ((kind-tighter k state.kind).wins won)
 
-    roll-tighter : (p : Board) (k factor : ℕ) → IsState checkers a p k → IsTight end (roll_value end a u p k factor) (roll_value end b v p k factor)
+    roll-tighter : (p : Placement) (k factor : ℕ) → IsState checkers a p k → IsNoLooser end (roll_value end a u p k factor) (roll_value end b v p k factor)
     roll-tighter p k factor state = tight-outwards end _ _ (tight-times end factor _ _ (tight-sum end (worth end (kind_at a k) u) (worth end (kind_at b k) v) p (worth-tighter p k state)))
 
-    double-tighter : (p : Board) (k : ℕ) → IsState checkers a p k → (c d : Option Double) → AreTighterDoubles c d → IfSome c (IsRightDouble a) → (x y : ℤ) → IsTight end x y → IsTight end (or_double end a u p x c) (or_double end b v p y d)
+    double-tighter : (p : Placement) (k : ℕ) → IsState checkers a p k → (c d : Option Double) → AreNoLooserDoubles c d → IfSome c (IsRightDouble a) → (x y : ℤ) → IsNoLooser end x y → IsNoLooser end (or_double end a u p x c) (or_double end b v p y d)
     double-tighter p k state None None tight right x y h = h
     double-tighter p k state None (Some d) tight right x y h = absurd tight
     double-tighter p k state (Some c) None tight right x y h = absurd tight
     double-tighter p k state (Some c) (Some d) tight right x y h =
-        tight-max end _ _ _ _ h (subst (λ (answers : List Taken). IsTight end (least (at end c.pass) (map in_a c.answers.items)) (least (at end d.pass) (map in_b answers))) tight.answers
+        tight-max end _ _ _ _ h (subst (λ (answers : List Taken). IsNoLooser end (least (at end c.pass) (map in_a c.answers.items)) (least (at end d.pass) (map in_b answers))) tight.answers
         (tight-least Taken end in_a in_b _ _ c.answers.items (tight-at end c.pass d.pass tight.pass) each)) where
           in_a : Taken → ℤ
           in_a taken = roll_value end a u p taken.kind taken.factor
@@ -48,39 +48,39 @@ module _ (checkers : ℕ) (a b : Terms) (valid : IsValid a) (stakes : AreTighter
           in_b : Taken → ℤ
           in_b taken = roll_value end b v p taken.kind taken.factor
 
-          each : (taken : Taken) → Among taken c.answers.items → IsTight end (in_a taken) (in_b taken)
+          each : (taken : Taken) → Among taken c.answers.items → IsNoLooser end (in_a taken) (in_b taken)
           each taken m = roll-tighter p taken.kind taken.factor (record { position = state.position; many = state.many; live = state.live; kind = (at_member (IsRightAnswer a) c.answers.items right.answers taken m).kind })
 
-    end-tighter : (p : Board) (k : ℕ) → IsState checkers a p k → IsTight end (turn a u end p k) (turn b v end p k)
+    end-tighter : (p : Placement) (k : ℕ) → IsState checkers a p k → IsNoLooser end (turn a u end p k) (turn b v end p k)
     unfolding turn
     end-tighter p k state =
         double-tighter p k state (kind_at a k).double (kind_at b k).double (kind-tighter k state.kind).double (valid.kinds k no_kind state.kind).double _ _ (roll-tighter p k 1 state)
 
-  pub stakes-tighter : (u v : Words) → AreTightWords checkers a u v → AreTightWords checkers a (turn a u) (turn b v)
+  pub stakes-tighter : (u v : Words) → AreNoLooser checkers a u v → AreNoLooser checkers a (turn a u) (turn b v)
   stakes-tighter u v words end p k state = end-tighter end u v (words (other end)) p k state
 
-  pub stakes-rounds-tighter : (r : ℕ) → AreTightWords checkers a (rounds a r) (rounds b r)
+  pub stakes-rounds-tighter : (r : ℕ) → AreNoLooser checkers a (rounds a r) (rounds b r)
   unfolding rounds
   stakes-rounds-tighter zero Lower p k state = rw stakes.bound (le_refl _)
   stakes-rounds-tighter zero Upper p k state = rw stakes.bound (le_refl _)
   stakes-rounds-tighter (suc r) end p k state = stakes-tighter (rounds a r) (rounds b r) (stakes-rounds-tighter r) end p k state
 
 -- stakes are at least as tight as they are themselves
-pub same-stakes : (stakes : Terms) → AreTighterStakes stakes stakes
+pub same-stakes : (stakes : Terms) → AreNoLooserStakes stakes stakes
 same-stakes stakes = record { many = refl; bound = refl; kinds = λ k h. record { next = refl; wins = λ won. same_pair (win (kind_at stakes k) won); double = same_double (kind_at stakes k).double } } where
-  same_pair : (pair : Bounds) → AreTight pair pair
+  same_pair : (pair : Bounds) → AreNoLooserPairs pair pair
   same_pair pair = record { lower = le_refl _; upper = le_refl _ }
 
-  same_double : (double : Option Double) → AreTighterDoubles double double
+  same_double : (double : Option Double) → AreNoLooserDoubles double double
   same_double None = tt
   same_double (Some double) = record { answers = refl; pass = same_pair double.pass }
 
 module _ (checkers : ℕ) (stakes : Terms) (valid : IsValid stakes) where
-  pub turn-tighter : (u v : Words) → AreTightWords checkers stakes u v → AreTightWords checkers stakes (turn stakes u) (turn stakes v)
+  pub turn-tighter : (u v : Words) → AreNoLooser checkers stakes u v → AreNoLooser checkers stakes (turn stakes u) (turn stakes v)
   turn-tighter u v tight = stakes-tighter checkers stakes stakes valid (same-stakes stakes) u v tight
 
-  pub rounds-tighter : (r : ℕ) → AreTightWords checkers stakes (rounds stakes (suc r)) (rounds stakes r)
+  pub rounds-tighter : (r : ℕ) → AreNoLooser checkers stakes (rounds stakes (suc r)) (rounds stakes r)
   unfolding rounds
-  rounds-tighter zero Lower p k state = (turn-within checkers stakes valid (opening stakes) (opening-within checkers stakes valid) p k state).from
-  rounds-tighter zero Upper p k state = (turn-within checkers stakes valid (opening stakes) (opening-within checkers stakes valid) p k state).to
+  rounds-tighter zero Lower p k state = (turn-within checkers stakes valid (bound_words stakes) (opening-within checkers stakes valid) p k state).from
+  rounds-tighter zero Upper p k state = (turn-within checkers stakes valid (bound_words stakes) (opening-within checkers stakes valid) p k state).to
   rounds-tighter (suc r) end p k state = turn-tighter (rounds stakes (suc r)) (rounds stakes r) (rounds-tighter r) end p k state

@@ -2,7 +2,7 @@
 use Rattle.std.proofs.Common.{◌≡◌, ◌<◌, ◌+◌, ◌++◌, ◌∙◌, ℕ, zero, suc, ℤ, neg_ℤ, List, [], ◌∷◌, length, take, get_or, ◌⊎◌, inl, inr, Option, None, Ok, add-one, ap, sym, subst, arith}
 use Rattle.std.specs.Int.{int_max}
 use Rattle.std.proofs.lemmas.List.{take_more}
-use Rattle.position_rank.specs.Board.{Board, swap}
+use Rattle.position_rank.specs.Placement.{Placement, swap}
 use Rattle.move_rules.specs.Listing.{Among}
 use Rattle.game_payoff.specs.declared.payoff.Won.{Won}
 use Rattle.game_payoff.specs.Points.{points}
@@ -11,13 +11,13 @@ use Rattle.directed_fixed.specs.Bounds.{at, other, IsWithinUnits}
 use Rattle.cube_actions.specs.declared.kind.Kind.{Kind}
 use Rattle.turn_rule.specs.Turn.{Words, win, if_won, worth, greatest}
 use Rattle.turn_rule.specs.Looks.{Source, IsLeft}
-use Rattle.turn_rule.specs.Found.{Finds, IsSame, MayLeave}
+use Rattle.turn_rule.specs.Found.{Finds, IsSame, MayFollowEnds}
 use Rattle.turn_rule.proofs.Tightness.{tight-max}
 use Rattle.turn_rule.proofs.Greatest.{greatest-append}
 use Rattle.turn_rule.proofs.Found.{AreAmong, mapped-ok, then-ok, found-as, found-neg, found-later, found-step, max-within}
 
 -- the play goes on, and the other side's word at the other end is looked up
-pub left-worth : (end : End) (s : Source) (u v : Words) (a b : ℕ) (q : Board) (kind : Kind) (x y : ℤ) → points q ≡ None → y ≡ neg_ℤ x
+pub left-worth : (end : End) (s : Source) (u v : Words) (a b : ℕ) (q : Placement) (kind : Kind) (x y : ℤ) → points q ≡ None → y ≡ neg_ℤ x
     → Finds (other end) s u v a b (IsSame (swap q) kind.next) s.bound (λ w. w (other end) (swap q) kind.next) (Ok x) → Finds end s u v a b (IsLeft kind.next q) s.bound (λ w. worth end kind w q) (Ok y)
 left-worth end s u v a b q kind x y on is looked =
     mapped-ok s u v a b _ _ _ _ x y looked
@@ -28,41 +28,41 @@ left-worth end s u v a b q kind x y on is looked =
     (λ w. ap (λ (o : Option Won). if_won o (λ won. at end (win kind won)) (neg_ℤ (w (other end) (swap q) kind.next))) (sym on))
     (sym is) theirs)
 
-among-more : (q : Board) (qs : List Board) (i : ℕ) (r : Board) → i < length qs → r ≡ get_or qs i r → Among q (take (suc i) qs) → Among q (take i qs) ⊎ (q ≡ r)
+among-more : (q : Placement) (qs : List Placement) (i : ℕ) (r : Placement) → i < length qs → r ≡ get_or qs i r → Among q (take (suc i) qs) → Among q (take i qs) ⊎ (q ≡ r)
 among-more q [] i r h e m = absurd (omega arith)
 among-more q (first ∷ rest) zero r h e (inl is) = inr (is ∙ sym e)
 among-more q (first ∷ rest) zero r h e (inr m) = absurd m
 among-more q (first ∷ rest) (suc i) r h e (inl is) = inl (inl is)
 among-more q (first ∷ rest) (suc i) r h e (inr m) = elim (among-more q rest i r (omega arith) e m) [ inl before ↦ inl (inr before) | inr is ↦ inr is ]
 
-among-at : (qs : List Board) (i : ℕ) (r : Board) → i < length qs → r ≡ get_or qs i r → Among r qs
+among-at : (qs : List Placement) (i : ℕ) (r : Placement) → i < length qs → r ≡ get_or qs i r → Among r qs
 among-at [] i r h e = absurd (omega arith)
 among-at (first ∷ rest) zero r h e = inl e
 among-at (first ∷ rest) (suc i) r h e = inr (among-at rest i r (omega arith) e)
 
 -- one play more
-greatest-next : (f : Board → ℤ) (qs : List Board) (i : ℕ) (r : Board) → 0 < i → i < length qs → r ≡ get_or qs i r → greatest f (take (i + 1) qs) ≡ int_max (greatest f (take i qs)) (f r)
+greatest-next : (f : Placement → ℤ) (qs : List Placement) (i : ℕ) (r : Placement) → 0 < i → i < length qs → r ≡ get_or qs i r → greatest f (take (i + 1) qs) ≡ int_max (greatest f (take i qs)) (f r)
 greatest-next f qs zero r low high e = absurd (omega arith)
 greatest-next f [] (suc i) r low high e = absurd (omega arith)
 greatest-next f (first ∷ rest) (suc i) r low high e =
-    ap (greatest f) (take_more (first ∷ rest) (suc i) r high ∙ ap (λ (x : Board). take (suc i) (first ∷ rest) ++ x ∷ []) (sym e)) ∙ greatest-append f first r (take i rest)
+    ap (greatest f) (take_more (first ∷ rest) (suc i) r high ∙ ap (λ (x : Placement). take (suc i) (first ∷ rest) ++ x ∷ []) (sym e)) ∙ greatest-append f first r (take i rest)
 
-module _ (end : End) (s : Source) (kind : Kind) (ends : List Board) where
+module _ (end : End) (s : Source) (kind : Kind) (ends : List Placement) where
   -- a play after others
-  pub next-play : (u v w : Words) (a b c : ℕ) (i : ℕ) (q : Board) (x y z : ℤ) → 0 < i → i < length ends → q ≡ get_or ends i q → z ≡ int_max x y
-      → Finds end s u v a b (MayLeave kind.next (take i ends)) s.bound (λ n. greatest (worth end kind n) (take i ends)) (Ok x) → Finds end s v w b c (IsLeft kind.next q) s.bound (λ n. worth end kind n q) (Ok y)
-      → Finds end s u w a c (MayLeave kind.next (take (i + 1) ends)) s.bound (λ n. greatest (worth end kind n) (take (i + 1) ends)) (Ok z)
+  pub next-play : (u v w : Words) (a b c : ℕ) (i : ℕ) (q : Placement) (x y z : ℤ) → 0 < i → i < length ends → q ≡ get_or ends i q → z ≡ int_max x y
+      → Finds end s u v a b (MayFollowEnds kind.next (take i ends)) s.bound (λ n. greatest (worth end kind n) (take i ends)) (Ok x) → Finds end s v w b c (IsLeft kind.next q) s.bound (λ n. worth end kind n q) (Ok y)
+      → Finds end s u w a c (MayFollowEnds kind.next (take (i + 1) ends)) s.bound (λ n. greatest (worth end kind n) (take (i + 1) ends)) (Ok z)
   next-play u v w a b c i q x y z low high e is so_far looked =
       then-ok s u v w a b c _ _ _ _ _ _ x y z so_far looked
       (λ tighter one other.
-      let before = found-later end s v w (MayLeave kind.next (take i ends)) s.bound (λ n. greatest (worth end kind n) (take i ends)) x tighter one in
-      let both = found-step end s int_max (tight-max end) w (MayLeave kind.next (take i ends)) (IsLeft kind.next q) (MayLeave kind.next (take (i + 1) ends)) s.bound s.bound s.bound (λ n. greatest (worth end kind n) (take i ends)) (λ n. worth end kind n q) x y
+      let before = found-later end s v w (MayFollowEnds kind.next (take i ends)) s.bound (λ n. greatest (worth end kind n) (take i ends)) x tighter one in
+      let both = found-step end s int_max (tight-max end) w (MayFollowEnds kind.next (take i ends)) (IsLeft kind.next q) (MayFollowEnds kind.next (take (i + 1) ends)) s.bound s.bound s.bound (λ n. greatest (worth end kind n) (take i ends)) (λ n. worth end kind n q) x y
       (max-within s.bound x y one.within other.within)
-      (λ p k h. elim (among-more h.0 ends i q high e (subst (λ (n : ℕ). Among h.0 (take n ends)) (add-one i) h.1)) [ inl m ↦ inl (h.0, m, h.2) | inr same ↦ inr (subst (λ (r : Board). IsLeft kind.next r p k) same h.2) ])
+      (λ p k h. elim (among-more h.0 ends i q high e (subst (λ (n : ℕ). Among h.0 (take n ends)) (add-one i) h.1)) [ inl m ↦ inl (h.0, m, h.2) | inr same ↦ inr (subst (λ (r : Placement). IsLeft kind.next r p k) same h.2) ])
       before other in
-      found-as end s w (MayLeave kind.next (take (i + 1) ends)) (MayLeave kind.next (take (i + 1) ends)) s.bound s.bound (λ n. int_max (greatest (worth end kind n) (take i ends)) (worth end kind n q)) (λ n. greatest (worth end kind n) (take (i + 1) ends)) (int_max x y) z
+      found-as end s w (MayFollowEnds kind.next (take (i + 1) ends)) (MayFollowEnds kind.next (take (i + 1) ends)) s.bound s.bound (λ n. int_max (greatest (worth end kind n) (take i ends)) (worth end kind n q)) (λ n. greatest (worth end kind n) (take (i + 1) ends)) (int_max x y) z
       (subst (IsWithinUnits s.bound) (sym is) both.within) (λ p k h. h) (λ n. sym (greatest-next (worth end kind n) ends i q low high e)) (sym is) both)
 
   -- a play after others, whose word can't be had
-  pub stopped-play : (q : Board) (i : ℕ) → i < length ends → q ≡ get_or ends i q → AreAmong (IsLeft kind.next q) (MayLeave kind.next ends)
+  pub stopped-play : (q : Placement) (i : ℕ) → i < length ends → q ≡ get_or ends i q → AreAmong (IsLeft kind.next q) (MayFollowEnds kind.next ends)
   stopped-play q i high e p k left = (q, among-at ends i q high e, left)

@@ -2,7 +2,7 @@
 use Rattle.std.proofs.Common.{◌≡◌, ◌<◌, ◌≤◌, ◌+◌, ◌^◌, ◌*◌, ◌∙◌, ℕ, zero, suc, ℤ, pos, neg_ℤ, ◌+ℤ◌, ◌*ℤ◌, ◌≤ℤ◌, List, [], ◌∷◌, length, map, take, get_or, All, ◌⊎◌, inl, inr, Ok, add-one, ap, sym, subst, refl, arith}
 use Rattle.std.proofs.lemmas.Int.{ints}
 use Rattle.std.proofs.lemmas.List.{take_all, length-map}
-use Rattle.position_rank.specs.Board.{Board, swap}
+use Rattle.position_rank.specs.Placement.{Placement, swap}
 use Rattle.roll_table.specs.Rolls.{Dice, IsRoll, weighted_roll, all_rolls}
 use Rattle.std.specs.List.{range_with_len}
 use Rattle.move_rules.specs.Listing.{Among}
@@ -17,7 +17,7 @@ use Rattle.cube_actions.specs.Stakes.{Terms, kind_at, no_kind, IsValid}
 use Rattle.turn_rule.specs.Turn.{Words, win, worth, greatest, sum_over}
 use Rattle.turn_rule.specs.States.{IsStateOf, IsState}
 use Rattle.turn_rule.specs.Looks.{Source, AreStakesOf, MayFollow}
-use Rattle.turn_rule.specs.Found.{Finds, LeavesState, MayLeave, MayFollowAmong}
+use Rattle.turn_rule.specs.Found.{Finds, LeavesState, MayFollowEnds, MayFollowAmong}
 use Rattle.turn_rule.specs.declared.ends.OneRoll.{OneRoll}
 use Rattle.turn_rule.specs.Rolled.{weighted, HasEnds, AreRolled}
 use borrow.Author.Differences.{up, down}
@@ -62,7 +62,7 @@ regroup : (a b c d : ℤ) → d ≡ b +ℤ c → a +ℤ d ≡ (a +ℤ b) +ℤ c
 regroup a b c d h = omega (arith, ints)
 
 -- one roll more
-sum-next : (f : Board → ℤ) (p : Board) (rolls : List (Dice × ℕ)) (i : ℕ) (roll : Dice × ℕ) → i < length rolls → roll ≡ get_or rolls i roll → sum_over (take (suc i) rolls) f p ≡ sum_over (take i rolls) f p +ℤ pos roll.1 *ℤ greatest f (legal_ends p roll.0)
+sum-next : (f : Placement → ℤ) (p : Placement) (rolls : List (Dice × ℕ)) (i : ℕ) (roll : Dice × ℕ) → i < length rolls → roll ≡ get_or rolls i roll → sum_over (take (suc i) rolls) f p ≡ sum_over (take i rolls) f p +ℤ pos roll.1 *ℤ greatest f (legal_ends p roll.0)
 sum-next f p [] i roll h e = absurd (omega arith)
 sum-next f p (first ∷ rest) zero roll h e = ap (λ (r : Dice × ℕ). pos r.1 *ℤ greatest f (legal_ends p r.0) +ℤ pos 0) (sym e) ∙ first_of (pos roll.1 *ℤ greatest f (legal_ends p roll.0))
 sum-next f p (first ∷ rest) (suc i) roll h e = regroup _ _ _ _ (sum-next f p rest i roll (omega arith) e)
@@ -112,20 +112,20 @@ kept-weight [] i one h e = absurd (omega arith)
 kept-weight (k ∷ kept) zero one h e = ap weighted e
 kept-weight (k ∷ kept) (suc i) one h e = kept-weight kept i one (omega arith) e
 
-kept-many : (p : Board) (kept : List OneRoll) → AreRolled p kept → length kept ≡ 21
+kept-many : (p : Placement) (kept : List OneRoll) → AreRolled p kept → length kept ≡ 21
 kept-many p kept rolled = sym (length-map kept weighted) ∙ (ap length rolled.rolls ∙ length-all_rolls)
 
-pub rolled-end : (p : Board) (kept : List OneRoll) (i : ℕ) → AreRolled p kept → length kept ≤ i → 21 ≤ i
+pub rolled-end : (p : Placement) (kept : List OneRoll) (i : ℕ) → AreRolled p kept → length kept ≤ i → 21 ≤ i
 rolled-end p kept i rolled h = omega (arith, h, kept-many p kept rolled)
 
-pub record IsKept (p : Board) (i : ℕ) (one : OneRoll) : Type 0 where
+pub record IsKept (p : Placement) (i : ℕ) (one : OneRoll) : Type 0 where
   pub here : i < length all_rolls
   pub weight : weighted one ≡ get_or all_rolls i (weighted one)
   pub right : IsRoll one.roll
   pub times : one.times ≤ 2
   pub ends : HasEnds p one
 
-pub kept-at : (p : Board) (kept : List OneRoll) (i : ℕ) (one : OneRoll) → AreRolled p kept → i < length kept → one ≡ get_or kept i one → IsKept p i one
+pub kept-at : (p : Placement) (kept : List OneRoll) (i : ℕ) (one : OneRoll) → AreRolled p kept → i < length kept → one ≡ get_or kept i one → IsKept p i one
 kept-at p kept i one rolled h e =
     let many = kept-many p kept rolled in
     let here : i < length all_rolls = omega (arith, h, many, length-all_rolls) in
@@ -139,10 +139,10 @@ kept-at p kept i one rolled h e =
       ends = subst (HasEnds p) (sym e) (rolled.ends i one h);
     }
 
-to_legal : (p : Board) (one : OneRoll) → HasEnds p one → (q : Board) → Among q one.ends.items → Among q (legal_ends p one.roll)
+to_legal : (p : Placement) (one : OneRoll) → HasEnds p one → (q : Placement) → Among q one.ends.items → Among q (legal_ends p one.roll)
 to_legal p one has q m = Contains-Among q _ (legal_ends-complete p one.roll q ((has.ends q).0 (Among-Contains q _ m)))
 
-of_legal : (p : Board) (one : OneRoll) → HasEnds p one → (q : Board) → Among q (legal_ends p one.roll) → Among q one.ends.items
+of_legal : (p : Placement) (one : OneRoll) → HasEnds p one → (q : Placement) → Among q (legal_ends p one.roll) → Among q one.ends.items
 of_legal p one has q m = Contains-Among q _ ((has.ends q).1 (legal_ends-sound p one.roll q (Among-Contains q _ m)))
 
 all_members : {X : Type 0} (P : X → Type 0) (xs : List X) → ((x : X) → Among x xs → P x) → All P xs
@@ -151,7 +151,7 @@ all_members P (x ∷ xs) h zero d below = h x (inl refl)
 all_members P (x ∷ xs) h (suc i) d below = all_members P xs (λ y m. h y (inr m)) i d (omega arith)
 
 -- after each of the plays the other side has a state of the source, or the game has ended
-pub leave-states : (s : Source) (stakes : Terms) → IsValid stakes → AreStakesOf s stakes → (p : Board) (k : ℕ) → IsStateOf s.checkers s.kinds p k → (i : ℕ) (one : OneRoll) → IsKept p i one → All (LeavesState s (kind_at stakes k).next) one.ends.items
+pub leave-states : (s : Source) (stakes : Terms) → IsValid stakes → AreStakesOf s stakes → (p : Placement) (k : ℕ) → IsStateOf s.checkers s.kinds p k → (i : ℕ) (one : OneRoll) → IsKept p i one → All (LeavesState s (kind_at stakes k).next) one.ends.items
 leave-states s stakes valid fits p k state i one kept =
     let state' : IsState s.checkers stakes p k = subst (λ (n : ℕ). IsStateOf s.checkers n p k) fits.kinds state in
     all_members (LeavesState s (kind_at stakes k).next) one.ends.items
@@ -163,11 +163,11 @@ wins-within s stakes valid fits k here won =
     subst (λ (b : ℤ). IsWithin b (win (kind_at stakes k) won)) (sym fits.bound)
     (win-within stakes.bound (kind_at stakes k) (bound-positive stakes valid) (valid.kinds k no_kind here).wins won)
 
-module _ (end : End) (s : Source) (kind : Kind) (p : Board) where
+module _ (end : End) (s : Source) (kind : Kind) (p : Placement) where
   -- a roll after others
   pub next-roll : (u v w : Words) (a b c : ℕ) (i : ℕ) (one : OneRoll) (x y z : ℤ) → IsKept p i one → z ≡ x +ℤ pos one.times *ℤ y
       → Finds end s u v a b (MayFollowAmong kind.next p (take i all_rolls)) (pos (total (take i all_rolls)) *ℤ s.bound) (λ n. sum_over (take i all_rolls) (worth end kind n) p) (Ok x)
-      → Finds end s v w b c (MayLeave kind.next one.ends.items) s.bound (λ n. greatest (worth end kind n) one.ends.items) (Ok y)
+      → Finds end s v w b c (MayFollowEnds kind.next one.ends.items) s.bound (λ n. greatest (worth end kind n) one.ends.items) (Ok y)
       → Finds end s u w a c (MayFollowAmong kind.next p (take (i + 1) all_rolls)) (pos (total (take (i + 1) all_rolls)) *ℤ s.bound) (λ n. sum_over (take (i + 1) all_rolls) (worth end kind n) p) (Ok z)
   next-roll u v w a b c i one x y z kept is so_far looked =
       then-ok s u v w a b c _ _ _ _ _ _ x y z so_far looked
@@ -179,7 +179,7 @@ module _ (end : End) (s : Source) (kind : Kind) (p : Board) where
       let one_more = total-next all_rolls i (weighted one) kept.here kept.weight in
       let within : IsWithinUnits bound' (x +ℤ pos one.times *ℤ y) = sum-within (total (take i all_rolls)) one.times s.bound x y (x +ℤ pos one.times *ℤ y) before.within best.within refl in
       let sum = found-later end s v w states bound (λ n. sum_over (take i all_rolls) (worth end kind n) p) x tighter before in
-      let both = found-step end s (λ (k l : ℤ). k +ℤ pos one.times *ℤ l) (λ k l m n h j. tight-add end _ _ _ _ h (tight-times end one.times _ _ j)) w states (MayLeave kind.next one.ends.items) states' bound s.bound bound'
+      let both = found-step end s (λ (k l : ℤ). k +ℤ pos one.times *ℤ l) (λ k l m n h j. tight-add end _ _ _ _ h (tight-times end one.times _ _ j)) w states (MayFollowEnds kind.next one.ends.items) states' bound s.bound bound'
       (λ n. sum_over (take i all_rolls) (worth end kind n) p) (λ n. greatest (worth end kind n) one.ends.items) x y within
       (λ q j h. elim (among-more h.0 all_rolls i (weighted one) kept.here kept.weight (subst (λ (n : ℕ). Among h.0 (take n all_rolls)) (add-one i) h.1)) [
         | inl m ↦ inl (h.0, m, h.2, h.3, h.4)
@@ -191,7 +191,7 @@ module _ (end : End) (s : Source) (kind : Kind) (p : Board) where
       ∙ (sym (sum-next (worth end kind n) p all_rolls i (weighted one) kept.here kept.weight) ∙ ap (λ (m : ℕ). sum_over (take m all_rolls) (worth end kind n) p) (sym (add-one i))))
       (sym is) both)
 
-module _ (end : End) (s : Source) (stakes : Terms) (p : Board) (k : ℕ) where
+module _ (end : End) (s : Source) (stakes : Terms) (p : Placement) (k : ℕ) where
   -- after the last roll
   pub all-rolls : (u v : Words) (a b i : ℕ) (x : ℤ) → 21 ≤ i
       → Finds end s u v a b (MayFollowAmong (kind_at stakes k).next p (take i all_rolls)) (pos (total (take i all_rolls)) *ℤ s.bound) (λ n. sum_over (take i all_rolls) (worth end (kind_at stakes k) n) p) (Ok x)
@@ -205,5 +205,5 @@ module _ (end : End) (s : Source) (stakes : Terms) (p : Board) (k : ℕ) where
       (λ n. refl) refl found)
 
   -- a play of a roll, whose words can't be had
-  pub stopped-roll : (i : ℕ) (one : OneRoll) → IsKept p i one → AreAmong (MayLeave (kind_at stakes k).next one.ends.items) (MayFollow stakes p k)
+  pub stopped-roll : (i : ℕ) (one : OneRoll) → IsKept p i one → AreAmong (MayFollowEnds (kind_at stakes k).next one.ends.items) (MayFollow stakes p k)
   stopped-roll i one kept q j h = record { roll = one.roll; right = kept.right; end = h.0; legal = (kept.ends.ends h.0).0 (Among-Contains h.0 _ h.1); left = h.2 }

@@ -5,7 +5,7 @@ use Rattle.std.specs.Int.{int_max, int_min}
 use Rattle.std.proofs.lemmas.Int.{ints, clamps}
 use Rattle.std.proofs.Math.Nat.{mul_comm}
 use borrow.Author.Differences.{up, down}
-use Rattle.position_rank.specs.Board.{Board}
+use Rattle.position_rank.specs.Placement.{Placement}
 use Rattle.roll_table.specs.Rolls.{Dice, IsRoll}
 use Rattle.move_rules.specs.Ends.{legal_ends}
 use Rattle.move_rules.specs.Listing.{Among}
@@ -44,7 +44,7 @@ min-scaled c d a b x y h k =
     let right = le_trans _ _ _ (mul_mono c (int_min a b) b (min_right a b)) k in
     elim (min_cases x y) [ inl first ↦ rw first left | inr second ↦ rw second right ]
 
-pub greatest-scaled : (c d : ℕ) (f g : Board → ℤ) (qs : List Board) → ((q : Board) → Among q qs → (pos c *ℤ f q) ≤ℤ (pos d *ℤ g q)) → (pos c *ℤ greatest f qs) ≤ℤ (pos d *ℤ greatest g qs)
+pub greatest-scaled : (c d : ℕ) (f g : Placement → ℤ) (qs : List Placement) → ((q : Placement) → Among q qs → (pos c *ℤ f q) ≤ℤ (pos d *ℤ g q)) → (pos c *ℤ greatest f qs) ≤ℤ (pos d *ℤ greatest g qs)
 greatest-scaled c d f g [] h = omega (arith, ints)
 greatest-scaled c d f g (q ∷ []) h = h q (inl refl)
 greatest-scaled c d f g (q ∷ r ∷ rest) h = max-scaled c d _ _ _ _ (h q (inl refl)) (greatest-scaled c d f g (r ∷ rest) (λ x m. h x (inr m)))
@@ -63,7 +63,7 @@ times-scaled n c d a x h = rw (swapped c n a, swapped d n x) (mul_mono n _ _ h)
 plus_scaled : (c d : ℕ) (a b x y : ℤ) → (pos c *ℤ a) ≤ℤ (pos d *ℤ x) → (pos c *ℤ b) ≤ℤ (pos d *ℤ y) → (pos c *ℤ (a +ℤ b)) ≤ℤ (pos d *ℤ (x +ℤ y))
 plus_scaled c d a b x y h k = rw (distribute c a b, distribute d x y) (add_mono _ _ _ _ h k)
 
-pub sum-scaled : (c d : ℕ) (f g : Board → ℤ) (p : Board) → ((roll : Dice) (q : Board) → IsRoll roll → Among q (legal_ends p roll) → (pos c *ℤ f q) ≤ℤ (pos d *ℤ g q)) → (rolls : List (Dice × ℕ)) → AreRolls rolls → (pos c *ℤ sum_over rolls f p) ≤ℤ (pos d *ℤ sum_over rolls g p)
+pub sum-scaled : (c d : ℕ) (f g : Placement → ℤ) (p : Placement) → ((roll : Dice) (q : Placement) → IsRoll roll → Among q (legal_ends p roll) → (pos c *ℤ f q) ≤ℤ (pos d *ℤ g q)) → (rolls : List (Dice × ℕ)) → AreRolls rolls → (pos c *ℤ sum_over rolls f p) ≤ℤ (pos d *ℤ sum_over rolls g p)
 sum-scaled c d f g p h [] a = omega (arith, ints)
 sum-scaled c d f g p h (roll ∷ rolls) a =
     plus_scaled c d _ _ _ _ (times-scaled roll.1 c d _ _ (greatest-scaled c d f g (legal_ends p roll.0) (λ q. h roll.0 q a.0))) (sum-scaled c d f g p h rolls a.1)

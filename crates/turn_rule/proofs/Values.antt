@@ -4,13 +4,13 @@ use Rattle.std.specs.Int.{int_max, int_min}
 use Rattle.std.specs.List.{Contains}
 use Rattle.std.proofs.lemmas.Int.{ints, clamps}
 use Rattle.std.proofs.lemmas.List.{take_all}
-use Rattle.position_rank.specs.Board.{Board}
+use Rattle.position_rank.specs.Placement.{Placement}
 use Rattle.roll_table.specs.Rolls.{all_rolls}
 use Rattle.move_rules.specs.Listing.{Among}
 use Rattle.move_rules.proofs.Members.{Among-Contains, Contains-Among}
 use Rattle.directed_fixed.specs.declared.bounds.End.{End}
 use Rattle.directed_fixed.specs.declared.bounds.End.TheVariants.{Lower, Upper}
-use Rattle.directed_fixed.specs.Bounds.{Bounds, IsTight, IsWithin, IsWithinUnits, at}
+use Rattle.directed_fixed.specs.Bounds.{Bounds, IsNoLooser, IsWithin, IsWithinUnits, at}
 use Rattle.directed_fixed.specs.Rounding.{outwards}
 use Rattle.cube_actions.specs.declared.kind.Double.{Double}
 use Rattle.cube_actions.specs.declared.kind.Taken.{Taken}
@@ -42,7 +42,7 @@ factored-within : (end : End) (factor : ℕ) (bound x : ℤ) → IsWithinUnits (
 factored-within end factor bound x h = mean-within end (pos factor *ℤ bound) (pos factor *ℤ x) (subst (λ (b : ℤ). IsWithinUnits b (pos factor *ℤ x)) (exchanged factor 36 bound) (times-within factor (pos 36 *ℤ bound) x h))
 
 -- what rolling is worth, from the sum
-pub rolled : (end : End) (s : Source) (stakes : Terms) (p : Board) (k factor : ℕ) (u v : Words) (a b : ℕ) (x y : ℤ) → y ≡ outwards end (pos factor *ℤ x)
+pub rolled : (end : End) (s : Source) (stakes : Terms) (p : Placement) (k factor : ℕ) (u v : Words) (a b : ℕ) (x y : ℤ) → y ≡ outwards end (pos factor *ℤ x)
     → Finds end s u v a b (MayFollow stakes p k) (pos 36 *ℤ s.bound) (λ n. sum_over all_rolls (worth end (kind_at stakes k) n) p) (Ok x)
     → Finds end s u v a b (MayFollow stakes p k) (pos factor *ℤ s.bound) (λ n. roll_value end stakes n p k factor) (Ok y)
 rolled end s stakes p k factor u v a b x y is looked =
@@ -90,10 +90,10 @@ pub min-most : (bound x y : ℤ) → x ≤ℤ bound → int_min x y ≤ℤ bound
 min-most bound x y h = omega (arith, ints, clamps)
 
 -- the least of the pass and some answers
-abbrev pub least_of : End → Terms → Board → Double → List Taken → Words → ℤ
+abbrev pub least_of : End → Terms → Placement → Double → List Taken → Words → ℤ
 least_of end stakes p double answers n = least (at end double.pass) (map (λ (taken : Taken). roll_value end stakes n p taken.kind taken.factor) answers)
 
-module _ (end : End) (s : Source) (stakes : Terms) (p : Board) (double : Double) where
+module _ (end : End) (s : Source) (stakes : Terms) (p : Placement) (double : Double) where
   -- an answer after others
   pub next-answer : (u v w : Words) (a b c : ℕ) (i : ℕ) (taken : Taken) (x y z : ℤ) → i < length double.answers.items → taken ≡ get_or double.answers.items i taken → taken.factor ≤ 4 → pos 0 ≤ℤ s.bound → z ≡ int_min x y
       → Finds end s u v a b (MayFollowAnswer stakes p (take i double.answers.items)) (pos 4 *ℤ s.bound) (least_of end stakes p double (take i double.answers.items)) (Ok x)
@@ -145,11 +145,11 @@ answer-at stakes double i right high =
 
 -- ---- turns
 
-or_none : (end : End) (stakes : Terms) (n : Words) (p : Board) (k : ℕ) → (kind_at stakes k).double ≡ None → roll_value end stakes n p k 1 ≡ turn stakes n end p k
+or_none : (end : End) (stakes : Terms) (n : Words) (p : Placement) (k : ℕ) → (kind_at stakes k).double ≡ None → roll_value end stakes n p k 1 ≡ turn stakes n end p k
 unfolding turn
 or_none end stakes n p k none = ap (or_double end stakes n p (roll_value end stakes n p k 1)) (sym none)
 
-or_some : (end : End) (stakes : Terms) (n : Words) (p : Board) (k : ℕ) (double : Double) → (kind_at stakes k).double ≡ Some double → int_max (roll_value end stakes n p k 1) (doubled end stakes n p double) ≡ turn stakes n end p k
+or_some : (end : End) (stakes : Terms) (n : Words) (p : Placement) (k : ℕ) (double : Double) → (kind_at stakes k).double ≡ Some double → int_max (roll_value end stakes n p k 1) (doubled end stakes n p double) ≡ turn stakes n end p k
 unfolding turn
 or_some end stakes n p k double some = ap (or_double end stakes n p (roll_value end stakes n p k 1)) (sym some)
 
@@ -165,7 +165,7 @@ none_some o x none some = cc
 same_some : {X : Type 0} (o : Option X) (x y : X) → o ≡ Some x → o ≡ Some y → x ≡ y
 same_some o x y h k = cc
 
-module _ (end : End) (s : Source) (stakes : Terms) (p : Board) (k : ℕ) where
+module _ (end : End) (s : Source) (stakes : Terms) (p : Placement) (k : ℕ) where
   pub turn-plain : (u v : Words) (a b : ℕ) (x : ℤ) → (kind_at stakes k).double ≡ None
       → Finds end s u v a b (MayFollow stakes p k) (pos 1 *ℤ s.bound) (λ n. roll_value end stakes n p k 1) (Ok x) → Finds end s u v a b (MayFollowTurn stakes p k) s.bound (λ n. turn stakes n end p k) (Ok x)
   turn-plain u v a b x none looked =
@@ -224,14 +224,14 @@ paired s states bound value u v w a b c x y pair low high order lower upper =
       in_order = rw (low, high) (min-max x y);
       lower = subst (IsWithinUnits bound) (sym low) (min-within bound x y one.within other.within);
       upper = subst (IsWithinUnits bound) (sym high) (max-within bound x y one.within other.within);
-      lower_floor = λ tells. subst (λ (z : ℤ). IsTight Lower z (value Lower s.floor)) (lower_is tells) (before.floor tells);
-      upper_floor = λ tells. subst (λ (z : ℤ). IsTight Upper z (value Upper s.floor)) (upper_is tells) (other.floor tells);
-      lower_notes = λ tells. subst (λ (z : ℤ). IsTight Lower (value Lower w) z) (lower_is tells) (before.notes tells w (words-refl s.checkers s.kinds w));
-      upper_notes = λ tells. subst (λ (z : ℤ). IsTight Upper (value Upper w) z) (upper_is tells) (other.notes tells w (words-refl s.checkers s.kinds w));
+      lower_floor = λ tells. subst (λ (z : ℤ). IsNoLooser Lower z (value Lower s.floor)) (lower_is tells) (before.floor tells);
+      upper_floor = λ tells. subst (λ (z : ℤ). IsNoLooser Upper z (value Upper s.floor)) (upper_is tells) (other.floor tells);
+      lower_notes = λ tells. subst (λ (z : ℤ). IsNoLooser Lower (value Lower w) z) (lower_is tells) (before.notes tells w (words-refl s.checkers s.kinds w));
+      upper_notes = λ tells. subst (λ (z : ℤ). IsNoLooser Upper (value Upper w) z) (upper_is tells) (other.notes tells w (words-refl s.checkers s.kinds w));
       right = other.right;
     })
 
-module _ (s : Source) (stakes : Terms) (valid : IsValid stakes) (fits : AreStakesOf s stakes) (w : Words) (within : AreWithinOf s.checkers s.kinds s.bound w) (p : Board) (k : ℕ) (state : IsStateOf s.checkers s.kinds p k) where
+module _ (s : Source) (stakes : Terms) (valid : IsValid stakes) (fits : AreStakesOf s stakes) (w : Words) (within : AreWithinOf s.checkers s.kinds s.bound w) (p : Placement) (k : ℕ) (state : IsStateOf s.checkers s.kinds p k) where
   words-fit : AreWithin s.checkers stakes w
   words-fit = subst (λ (b : ℤ). AreWithinOf s.checkers (length stakes.kinds) b w) fits.bound (subst (λ (n : ℕ). AreWithinOf s.checkers n s.bound w) fits.kinds within)
 

@@ -4,7 +4,7 @@ use Rattle.std.proofs.lemmas.Bool.{cases_lt}
 use Rattle.std.proofs.lemmas.Bool.Decides.{nat_tests}
 use Rattle.std.specs.Int.{int_max, int_min}
 use Rattle.std.proofs.lemmas.Int.{ints, clamps}
-use Rattle.position_rank.specs.Board.{Board, InPlay, above, swap}
+use Rattle.position_rank.specs.Placement.{Placement, InPlay, above, swap}
 use Rattle.roll_table.specs.Rolls.{Dice, IsRoll, all_rolls}
 use Rattle.move_rules.specs.Ends.{legal_ends}
 use Rattle.move_rules.specs.Listing.{Among}
@@ -23,7 +23,7 @@ use Rattle.cube_actions.specs.declared.kind.Taken.{Taken}
 use Rattle.cube_actions.specs.declared.name.StakesName.{StakesName}
 use Rattle.cube_actions.specs.declared.name.StakesName.TheVariants.{Cubeless, Money, Jacoby, MoneyBeavers, JacobyBeavers, Match}
 use Rattle.cube_actions.specs.Stakes.{Terms, kind_at, no_kind, nothing, bound_of, IsValid, IsRightDouble, IsRightAnswer}
-use Rattle.turn_rule.specs.Turn.{Words, win, if_won, worth, roll_value, least, doubled, or_double, turn, opening, rounds}
+use Rattle.turn_rule.specs.Turn.{Words, win, if_won, worth, roll_value, least, doubled, or_double, turn, bound_words, rounds}
 use Rattle.turn_rule.specs.States.{IsState, AreWithin}
 use Rattle.turn_rule.proofs.Integers.{le_refl, neg_le, mul_mono, floor_36_below, floor_36_above}
 use Rattle.turn_rule.proofs.Greatest.{all_rolls-right, sum-mono, sum-upto, sum-from, total-all_rolls}
@@ -35,7 +35,7 @@ goes_on false true d x y z h = absurd (grind arith)
 goes_on false false true x y z h = absurd (grind arith)
 goes_on false false false x y z h = absurd (grind arith)
 
-pub in_play : (q : Board) → points q ≡ None → InPlay q.mover
+pub in_play : (q : Placement) → points q ≡ None → InPlay q.mover
 in_play q h =
     let t = goes_on (ltb (slice_index q.mover 0) (sum q.mover)) (ltb 0 (slice_index q.other 0)) (ltb 0 (above q.other 18)) None None None h in
     let less : slice_index q.mover 0 < sum q.mover = grind (arith, nat_tests) in
@@ -108,19 +108,19 @@ rounded f low high h =
 
 module _ (checkers : ℕ) (stakes : Terms) (valid : IsValid stakes) where
   -- after a play that doesn't end the game, the other side has a state of the same game
-  pub next_state : (p : Board) (k : ℕ) → IsState checkers stakes p k → (roll : Dice) (q : Board) → IsRoll roll → Among q (legal_ends p roll) → points q ≡ None → IsState checkers stakes (swap q) (kind_at stakes k).next
+  pub next_state : (p : Placement) (k : ℕ) → IsState checkers stakes p k → (roll : Dice) (q : Placement) → IsRoll roll → Among q (legal_ends p roll) → points q ≡ None → IsState checkers stakes (swap q) (kind_at stakes k).next
   next_state p k state roll q right m on =
       let stays = legal_end-stays p roll q right state.position state.live (legal_ends-sound p roll q (Among-Contains q (legal_ends p roll) m)) in
-      let seen = stays.0 in
+      let mover_view = stays.0 in
       record {
-        position = record { mover = seen.other; other = seen.mover; same = sym seen.same };
-        many = omega (arith, seen.same, stays.1, state.many);
+        position = record { mover = mover_view.other; other = mover_view.mover; same = sym mover_view.same };
+        many = omega (arith, mover_view.same, stays.1, state.many);
         live = stays.2 (in_play q on);
         kind = (valid.kinds k no_kind state.kind).next;
       }
 
-  module _ (u : Words) (words : AreWithin checkers stakes u) (p : Board) where
-    pub ends_within : (k : ℕ) → IsState checkers stakes p k → (roll : Dice) (q : Board) → IsRoll roll → Among q (legal_ends p roll) → IsWithin stakes.bound (record { lower = worth Lower (kind_at stakes k) u q; upper = worth Upper (kind_at stakes k) u q })
+  module _ (u : Words) (words : AreWithin checkers stakes u) (p : Placement) where
+    pub ends_within : (k : ℕ) → IsState checkers stakes p k → (roll : Dice) (q : Placement) → IsRoll roll → Among q (legal_ends p roll) → IsWithin stakes.bound (record { lower = worth Lower (kind_at stakes k) u q; upper = worth Upper (kind_at stakes k) u q })
     ends_within k state roll q right m = by_points (points q) refl where
       by_points : (o : Option Won) → points q ≡ o → IsWithin stakes.bound (record { lower = if_won o (λ won. (win (kind_at stakes k) won).lower) (neg_ℤ (u Upper (swap q) (kind_at stakes k).next)); upper = if_won o (λ won. (win (kind_at stakes k) won).upper) (neg_ℤ (u Lower (swap q) (kind_at stakes k).next)) })
       by_points None on =
@@ -158,7 +158,7 @@ module _ (checkers : ℕ) (stakes : Terms) (valid : IsValid stakes) where
   unfolding turn
   turn-within u words p k state = or_double-within u words p k state (kind_at stakes k).double (valid.kinds k no_kind state.kind).double _ _ (roll-within u words p k state)
 
-  pub opening-within : AreWithin checkers stakes (opening stakes)
+  pub opening-within : AreWithin checkers stakes (bound_words stakes)
   opening-within p k state =
       let positive = bound-positive stakes valid in
       record { from = le_refl _; in_order = omega (arith, ints); to = le_refl _ }

@@ -5,7 +5,7 @@ use Rattle.game_payoff.specs.declared.payoff.Won.TheVariants.{Single, Gammon, Ba
 use Rattle.directed_fixed.specs.Bounds.{Bounds}
 use Rattle.cube_actions.specs.declared.kind.Kind.{Kind}
 use Rattle.cube_actions.specs.declared.name.StakesName.TheVariants.{Cubeless, Money}
-use Rattle.cube_actions.specs.Stakes.{Terms, exactly, points}
+use Rattle.cube_actions.specs.Stakes.{Terms, exactly, point_units}
 use Rattle.turn_rule.specs.Exact.{Scoring}
 
 -- each win is a point, and the mover may always double: a pass costs the other side a point, and if it takes the double, the roll counts twice
@@ -17,14 +17,14 @@ always_double = record {
 }
 
 abbrev pub doubling_game : Terms
-doubling_game = record { kinds = always_double ∷ []; bound = points 3; name = Money }
+doubling_game = record { kinds = always_double ∷ []; bound = point_units 3; name = Money }
 
 -- a game without a cube in which of a gammon only this is known, that it wins one to three points
 abbrev pub vague_gammon : Kind
-vague_gammon = record { next = 0; win = exactly 1 ∷ record { lower = points 1; upper = points 3 } ∷ exactly 3 ∷ []; double = None }
+vague_gammon = record { next = 0; win = exactly 1 ∷ record { lower = point_units 1; upper = point_units 3 } ∷ exactly 3 ∷ []; double = None }
 
 abbrev pub vague_game : Terms
-vague_game = record { kinds = vague_gammon ∷ []; bound = points 3; name = Cubeless }
+vague_game = record { kinds = vague_gammon ∷ []; bound = point_units 3; name = Cubeless }
 
 -- these bounds, both above zero, and both below it
 abbrev pub gains : ℕ → ℕ → Bounds

@@ -1,47 +1,47 @@
 -- One end of a value that is worked out from looked up words.
 use Rattle.std.specs.Prelude.{◌≡◌, ℕ, ℤ, IsTrue, None, Result, List}
-use Rattle.position_rank.specs.Board.{Board, swap}
+use Rattle.position_rank.specs.Placement.{Placement, swap}
 use Rattle.roll_table.specs.Rolls.{Dice}
 use Rattle.move_rules.specs.Listing.{Among}
 use Rattle.move_rules.specs.Ends.{legal_ends}
 use Rattle.game_payoff.specs.Points.{points}
 use Rattle.directed_fixed.specs.declared.bounds.End.{End}
-use Rattle.directed_fixed.specs.Bounds.{IsTight, IsWithinUnits}
+use Rattle.directed_fixed.specs.Bounds.{IsNoLooser, IsWithinUnits}
 use Rattle.hyper_outside.specs.declared.outside.LookStop.{LookStop}
 use Rattle.cube_actions.specs.declared.kind.Taken.{Taken}
 use Rattle.cube_actions.specs.Stakes.{Terms}
 use Rattle.turn_rule.specs.Turn.{Words}
-use Rattle.turn_rule.specs.States.{IsStateOf, AreTightWordsOf}
+use Rattle.turn_rule.specs.States.{IsStateOf, AreNoLooserOf}
 use Rattle.turn_rule.specs.Looks.{Source, States, Looked, HasDamage, IsLeft, MayFollow}
 
 -- One end of a value within a bound. Where the source tells its words, it is at least as tight as the value over its floor, and no tighter than
 -- the value over any words that are at least as tight as its notes. None of the states is damaged.
 pub record IsFound (end : End) (source : Source) (noted : Words) (states : States) (bound : ℤ) (value : Words → ℤ) (found : ℤ) : Type 0 where
   pub within : IsWithinUnits bound found
-  pub floor : IsTrue source.tells → IsTight end found (value source.floor)
-  pub notes : IsTrue source.tells → (later : Words) → AreTightWordsOf source.checkers source.kinds later noted → IsTight end (value later) found
-  pub right : IsTrue source.tells → (p : Board) (k : ℕ) → states p k → source.damage p k ≡ None
+  pub floor : IsTrue source.tells → IsNoLooser end found (value source.floor)
+  pub notes : IsTrue source.tells → (later : Words) → AreNoLooserOf source.checkers source.kinds later noted → IsNoLooser end (value later) found
+  pub right : IsTrue source.tells → (p : Placement) (k : ℕ) → states p k → source.damage p k ≡ None
 
 -- a look-up of such an end
 abbrev pub Finds : End → Source → Words → Words → ℕ → ℕ → States → ℤ → (Words → ℤ) → Result ℤ LookStop → Type 0
 Finds end source old new before now states bound value = Looked source old new before now (HasDamage source states) (IsFound end source new states bound value)
 
 -- the other side's state after a play that doesn't end the game is one of the source
-abbrev pub LeavesState : Source → ℕ → Board → Type 0
+abbrev pub LeavesState : Source → ℕ → Placement → Type 0
 LeavesState source next end = points end ≡ None → IsStateOf source.checkers source.kinds (swap end) next
 
 -- this state
-abbrev pub IsSame : Board → ℕ → States
+abbrev pub IsSame : Placement → ℕ → States
 IsSame p k q j = (q ≡ p) × (j ≡ k)
 
 -- a state that one of these plays leaves
-abbrev pub MayLeave : ℕ → List Board → States
-MayLeave next ends p k = (end : Board) × Among end ends × IsLeft next end p k
+abbrev pub MayFollowEnds : ℕ → List Placement → States
+MayFollowEnds next ends p k = (end : Placement) × Among end ends × IsLeft next end p k
 
 -- a state that some roll's play may leave, among these rolls
-abbrev pub MayFollowAmong : ℕ → Board → List (Dice × ℕ) → States
-MayFollowAmong next p rolls q j = (roll : Dice × ℕ) × Among roll rolls × (end : Board) × Among end (legal_ends p roll.0) × IsLeft next end q j
+abbrev pub MayFollowAmong : ℕ → Placement → List (Dice × ℕ) → States
+MayFollowAmong next p rolls q j = (roll : Dice × ℕ) × Among roll rolls × (end : Placement) × Among end (legal_ends p roll.0) × IsLeft next end q j
 
 -- a state that some roll's play may leave after one of these answers
-abbrev pub MayFollowAnswer : Terms → Board → List Taken → States
+abbrev pub MayFollowAnswer : Terms → Placement → List Taken → States
 MayFollowAnswer stakes p answers q j = (taken : Taken) × Among taken answers × MayFollow stakes p taken.kind q j

@@ -2,7 +2,7 @@ pub mod Turn
 pub mod States
 pub mod Tables
 pub mod Rounds
-pub mod Lefts
+pub mod PlayEnds
 pub mod Looks
 pub mod Found
 pub mod Rolled

@@ -1,13 +1,13 @@
 -- Where words are looked up, and what a look-up may answer.
 use Rattle.std.specs.Prelude.{◌≡◌, ℕ, ◌≤◌, ℤ, pos, ◌*ℤ◌, ◌≤ℤ◌, Bool, IsTrue, IsFalse, ◌⊎◌, length, Option, Some, None, Result, IfOk, IfErr}
 use Rattle.std.specs.List.{Contains}
-use Rattle.position_rank.specs.Board.{Board, swap}
+use Rattle.position_rank.specs.Placement.{Placement, swap}
 use Rattle.roll_table.specs.Rolls.{Dice, IsRoll}
 use Rattle.move_rules.specs.Sequences.{IsLegalEnd}
 use Rattle.game_payoff.specs.Points.{points}
 use Rattle.directed_fixed.specs.declared.bounds.End.{End}
 use Rattle.directed_fixed.specs.declared.bounds.End.TheVariants.{Lower, Upper}
-use Rattle.directed_fixed.specs.Bounds.{Bounds, IsTight, IsWithinUnits}
+use Rattle.directed_fixed.specs.Bounds.{Bounds, IsNoLooser, IsWithinUnits}
 use Rattle.cube_actions.specs.declared.kind.Double.{Double}
 use Rattle.cube_actions.specs.declared.kind.Taken.{Taken}
 use Rattle.cube_actions.specs.Stakes.{Terms, kind_at}
@@ -16,7 +16,7 @@ use Rattle.hyper_outside.specs.declared.outside.LookStop.{LookStop}
 use Rattle.hyper_outside.specs.declared.outside.LookStop.TheVariants.{ReadFault, BadPage, NoMemory}
 use Rattle.hyper_outside.specs.declared.outside.PageFault.{PageFault}
 use Rattle.turn_rule.specs.Turn.{Words, roll_value, turn}
-use Rattle.turn_rule.specs.States.{AreTightWordsOf}
+use Rattle.turn_rule.specs.States.{AreNoLooserOf}
 
 -- why the words of a state can't be had, and the place where that is told
 pub record Damage : Type 0 where
@@ -32,14 +32,14 @@ pub record Source : Type 0 where
   pub sure : Bool
   pub tells : Bool
   pub floor : Words
-  pub damage : Board → ℕ → Option Damage
+  pub damage : Placement → ℕ → Option Damage
 
 -- An answer is within the bound. Where the source tells its words, the answer is at least as tight as its floor and no tighter than its
 -- notes, and the state isn't damaged.
-pub record IsAnswer (end : End) (source : Source) (noted : Words) (p : Board) (k : ℕ) (value : ℤ) : Type 0 where
+pub record IsAnswer (end : End) (source : Source) (noted : Words) (p : Placement) (k : ℕ) (value : ℤ) : Type 0 where
   pub within : IsWithinUnits source.bound value
-  pub floor : IsTrue source.tells → IsTight end value (source.floor end p k)
-  pub notes : IsTrue source.tells → IsTight end (noted end p k) value
+  pub floor : IsTrue source.tells → IsNoLooser end value (source.floor end p k)
+  pub notes : IsTrue source.tells → IsNoLooser end (noted end p k) value
   pub right : IsTrue source.tells → source.damage p k ≡ None
 
 -- A sure source never stops. Another does at a fault of reading only where the count of faults rose, and at a bad page, where it tells which
@@ -52,7 +52,7 @@ MayStop source before now meant NoMemory = IsFalse source.sure
 -- an answer or a stop, after which the count of faults hasn't fallen and no note is looser
 pub record Looked {A : Type 0} (source : Source) (old new : Words) (before now : ℕ) (meant : Damage → Type 0) (right : A → Type 0) (result : Result A LookStop) : Type 0 where
   pub later : before ≤ now
-  pub notes : IsTrue source.tells → AreTightWordsOf source.checkers source.kinds new old
+  pub notes : IsTrue source.tells → AreNoLooserOf source.checkers source.kinds new old
   pub answer : IfOk result right
   pub stop : IfErr result (MayStop source before now meant)
 
@@ -63,24 +63,24 @@ pub record AreStakesOf (source : Source) (stakes : Terms) : Type 0 where
 
 -- some states
 abbrev pub States : Type 1
-States = Board → ℕ → Type 0
+States = Placement → ℕ → Type 0
 
 -- the state that a play leaves, unless it ends the game: the other side is to move, in the next kind
-pub record IsLeft (next : ℕ) (end : Board) (p : Board) (k : ℕ) : Type 0 where
+pub record IsLeft (next : ℕ) (end : Placement) (p : Placement) (k : ℕ) : Type 0 where
   pub goes_on : points end ≡ None
   pub sides : p ≡ swap end
   pub kind : k ≡ next
 
 -- a state that some roll's play may leave
-pub record MayFollow (stakes : Terms) (p : Board) (k : ℕ) (q : Board) (j : ℕ) : Type 0 where
+pub record MayFollow (stakes : Terms) (p : Placement) (k : ℕ) (q : Placement) (j : ℕ) : Type 0 where
   pub roll : Dice
   pub right : IsRoll roll
-  pub end : Board
+  pub end : Placement
   pub legal : IsLegalEnd p roll end
   pub left : IsLeft (kind_at stakes k).next end q j
 
 -- a state that some roll's play may leave after a double and an answer to it that plays on
-pub record MayFollowDouble (stakes : Terms) (p : Board) (k : ℕ) (q : Board) (j : ℕ) : Type 0 where
+pub record MayFollowDouble (stakes : Terms) (p : Placement) (k : ℕ) (q : Placement) (j : ℕ) : Type 0 where
   pub double : Double
   pub right : (kind_at stakes k).double ≡ Some double
   pub taken : Taken
@@ -88,12 +88,12 @@ pub record MayFollowDouble (stakes : Terms) (p : Board) (k : ℕ) (q : Board) (j
   pub after : MayFollow stakes p taken.kind q j
 
 -- a state that may follow a turn
-abbrev pub MayFollowTurn : Terms → Board → ℕ → States
+abbrev pub MayFollowTurn : Terms → Placement → ℕ → States
 MayFollowTurn stakes p k q j = MayFollow stakes p k q j ⊎ MayFollowDouble stakes p k q j
 
 -- one of some states has this damage
 pub record HasDamage (source : Source) (states : States) (damage : Damage) : Type 0 where
-  pub position : Board
+  pub position : Placement
   pub kind : ℕ
   pub among : states position kind
   pub damaged : source.damage position kind ≡ Some damage
@@ -104,16 +104,16 @@ pub record IsPairOf (source : Source) (noted : Words) (states : States) (bound :
   pub in_order : pair.lower ≤ℤ pair.upper
   pub lower : IsWithinUnits bound pair.lower
   pub upper : IsWithinUnits bound pair.upper
-  pub lower_floor : IsTrue source.tells → IsTight Lower pair.lower (value Lower source.floor)
-  pub upper_floor : IsTrue source.tells → IsTight Upper pair.upper (value Upper source.floor)
-  pub lower_notes : IsTrue source.tells → IsTight Lower (value Lower noted) pair.lower
-  pub upper_notes : IsTrue source.tells → IsTight Upper (value Upper noted) pair.upper
-  pub right : IsTrue source.tells → (p : Board) (k : ℕ) → states p k → source.damage p k ≡ None
+  pub lower_floor : IsTrue source.tells → IsNoLooser Lower pair.lower (value Lower source.floor)
+  pub upper_floor : IsTrue source.tells → IsNoLooser Upper pair.upper (value Upper source.floor)
+  pub lower_notes : IsTrue source.tells → IsNoLooser Lower (value Lower noted) pair.lower
+  pub upper_notes : IsTrue source.tells → IsNoLooser Upper (value Upper noted) pair.upper
+  pub right : IsTrue source.tells → (p : Placement) (k : ℕ) → states p k → source.damage p k ≡ None
 
 -- what rolling in a kind is worth that counts so many times
-abbrev pub IsRollPair : Terms → Board → ℕ → ℕ → Source → Words → Bounds → Type 0
+abbrev pub IsRollPair : Terms → Placement → ℕ → ℕ → Source → Words → Bounds → Type 0
 IsRollPair stakes p k factor source noted = IsPairOf source noted (MayFollow stakes p k) (pos factor *ℤ source.bound) (λ end u. roll_value end stakes u p k factor)
 
 -- what a state is worth before its turn
-abbrev pub IsTurnPair : Terms → Board → ℕ → Source → Words → Bounds → Type 0
+abbrev pub IsTurnPair : Terms → Placement → ℕ → Source → Words → Bounds → Type 0
 IsTurnPair stakes p k source noted = IsPairOf source noted (MayFollowTurn stakes p k) source.bound (λ end u. turn stakes u end p k)

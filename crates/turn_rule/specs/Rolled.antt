@@ -1,7 +1,7 @@
 -- The legal ends of every roll of a position.
 use Rattle.std.specs.Prelude.{◌≡◌, ◌<◌, ◌↔◌, ℕ, List, length, map, All}
 use Rattle.std.specs.List.{Contains}
-use Rattle.position_rank.specs.Board.{Board}
+use Rattle.position_rank.specs.Placement.{Placement}
 use Rattle.roll_table.specs.Rolls.{Dice, all_rolls}
 use Rattle.move_rules.specs.Sequences.{IsLegalEnd}
 use Rattle.turn_rule.specs.declared.ends.OneRoll.{OneRoll}
@@ -11,11 +11,11 @@ abbrev pub weighted : OneRoll → Dice × ℕ
 weighted one = (one.roll, one.times)
 
 -- the ends are those of the position's legal plays of the roll
-pub record HasEnds (p : Board) (one : OneRoll) : Type 0 where
+pub record HasEnds (p : Placement) (one : OneRoll) : Type 0 where
   pub some : 0 < length one.ends.items
-  pub ends : (q : Board) → Contains one.ends.items q ↔ IsLegalEnd p one.roll q
+  pub ends : (q : Placement) → Contains one.ends.items q ↔ IsLegalEnd p one.roll q
 
 -- every roll, with its ends
-pub record AreRolled (p : Board) (kept : List OneRoll) : Type 0 where
+pub record AreRolled (p : Placement) (kept : List OneRoll) : Type 0 where
   pub rolls : map weighted kept ≡ all_rolls
   pub ends : All (HasEnds p) kept

@@ -1,43 +1,43 @@
 -- The states of a game, and what words on them may satisfy.
 use Rattle.std.specs.Prelude.{◌≡◌, ◌<◌, ℕ, ℤ, length, sum}
-use Rattle.position_rank.specs.Board.{Board, IsPosition, IsLive}
+use Rattle.position_rank.specs.Placement.{Placement, IsPosition, IsLive}
 use Rattle.directed_fixed.specs.declared.bounds.End.{End}
 use Rattle.directed_fixed.specs.declared.bounds.End.TheVariants.{Lower, Upper}
-use Rattle.directed_fixed.specs.Bounds.{Bounds, IsTight, IsWithin}
+use Rattle.directed_fixed.specs.Bounds.{Bounds, IsNoLooser, IsWithin}
 use Rattle.cube_actions.specs.Stakes.{Terms}
 use Rattle.turn_rule.specs.Turn.{Words}
 
 -- a live position with so many checkers a side, and one of so many kinds
-pub record IsStateOf (checkers kinds : ℕ) (p : Board) (k : ℕ) : Type 0 where
+pub record IsStateOf (checkers kinds : ℕ) (p : Placement) (k : ℕ) : Type 0 where
   pub position : IsPosition p
   pub many : sum p.mover ≡ checkers
   pub live : IsLive p
   pub kind : k < kinds
 
 -- a live position with so many checkers a side, and a kind of the stakes
-abbrev pub IsState : ℕ → Terms → Board → ℕ → Type 0
+abbrev pub IsState : ℕ → Terms → Placement → ℕ → Type 0
 IsState checkers stakes = IsStateOf checkers (length stakes.kinds)
 
 -- both words of a state
-abbrev pub pair_of : Words → Board → ℕ → Bounds
+abbrev pub pair_of : Words → Placement → ℕ → Bounds
 pair_of u p k = record { lower = u Lower p k; upper = u Upper p k }
 
 -- in each state of so many checkers and kinds, lower at most upper, and both within the bound
 abbrev pub AreWithinOf : ℕ → ℕ → ℤ → Words → Type 0
-AreWithinOf checkers kinds bound u = (p : Board) (k : ℕ) → IsStateOf checkers kinds p k → IsWithin bound (pair_of u p k)
+AreWithinOf checkers kinds bound u = (p : Placement) (k : ℕ) → IsStateOf checkers kinds p k → IsWithin bound (pair_of u p k)
 
 -- in each state, lower at most upper, and both within the bound of the stakes
 abbrev pub AreWithin : ℕ → Terms → Words → Type 0
 AreWithin checkers stakes = AreWithinOf checkers (length stakes.kinds) stakes.bound
 
 -- in each state of so many checkers and kinds, the first words are at least as tight as the second
-abbrev pub AreTightWordsOf : ℕ → ℕ → Words → Words → Type 0
-AreTightWordsOf checkers kinds u v = (end : End) (p : Board) (k : ℕ) → IsStateOf checkers kinds p k → IsTight end (u end p k) (v end p k)
+abbrev pub AreNoLooserOf : ℕ → ℕ → Words → Words → Type 0
+AreNoLooserOf checkers kinds u v = (end : End) (p : Placement) (k : ℕ) → IsStateOf checkers kinds p k → IsNoLooser end (u end p k) (v end p k)
 
 -- in each state, the first words are at least as tight as the second
-abbrev pub AreTightWords : ℕ → Terms → Words → Words → Type 0
-AreTightWords checkers stakes = AreTightWordsOf checkers (length stakes.kinds)
+abbrev pub AreNoLooser : ℕ → Terms → Words → Words → Type 0
+AreNoLooser checkers stakes = AreNoLooserOf checkers (length stakes.kinds)
 
 -- in each state, the words are the same
 abbrev pub Agree : ℕ → Terms → Words → Words → Type 0
-Agree checkers stakes u v = (end : End) (p : Board) (k : ℕ) → IsState checkers stakes p k → u end p k ≡ v end p k
+Agree checkers stakes u v = (end : End) (p : Placement) (k : ℕ) → IsState checkers stakes p k → u end p k ≡ v end p k

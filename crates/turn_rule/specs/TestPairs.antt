@@ -1,6 +1,6 @@
 -- Words for tests, of games of one checker a side and one kind.
 use Rattle.std.specs.Prelude.{pos, true, false, Option, Some, None}
-use Rattle.cube_actions.specs.Stakes.{points}
+use Rattle.cube_actions.specs.Stakes.{point_units}
 use Rattle.hyper_outside.specs.declared.outside.LookStop.{LookStop}
 use Rattle.hyper_outside.specs.declared.outside.LookStop.TheVariants.{ReadFault, BadPage, NoMemory}
 use Rattle.turn_rule.specs.Turn.{Words}
@@ -18,8 +18,8 @@ zeros end p k = pos 0
 
 -- words that are told, of which none can be had
 abbrev pub stopping : LookStop → Source
-stopping stop = record { checkers = 1; kinds = 1; bound = points 3; sure = false; tells = true; floor = zeros; damage = λ p k. damage_of stop }
+stopping stop = record { checkers = 1; kinds = 1; bound = point_units 3; sure = false; tells = true; floor = zeros; damage = λ p k. damage_of stop }
 
 -- words that aren't told
 abbrev pub untold : Source
-untold = record { checkers = 1; kinds = 1; bound = points 3; sure = true; tells = false; floor = zeros; damage = λ p k. None }
+untold = record { checkers = 1; kinds = 1; bound = point_units 3; sure = true; tells = false; floor = zeros; damage = λ p k. None }

@@ -1,16 +1,16 @@
 -- What it is that a pair of words encloses.
 use Rattle.std.specs.Prelude.{◌≡◌, ◌<◌, ◌≤◌, ◌^◌, ◌*◌, ℕ, ℤ, pos, ◌*ℤ◌, ◌≤ℤ◌, IfSome, length, Option, Some, None}
-use Rattle.position_rank.specs.Board.{Board}
+use Rattle.position_rank.specs.Placement.{Placement}
 use Rattle.game_payoff.specs.declared.payoff.Won.{Won}
 use Rattle.directed_fixed.specs.declared.bounds.End.{End}
 use Rattle.directed_fixed.specs.declared.bounds.End.TheVariants.{Lower, Upper}
-use Rattle.directed_fixed.specs.Bounds.{Bounds, AreTight}
+use Rattle.directed_fixed.specs.Bounds.{Bounds, AreNoLooserPairs}
 use Rattle.cube_actions.specs.declared.kind.Double.{Double}
 use Rattle.cube_actions.specs.declared.kind.Kind.{Kind}
 use Rattle.cube_actions.specs.Stakes.{Terms, kind_at}
 use Rattle.turn_rule.specs.Turn.{Words, win, turn}
-use Rattle.turn_rule.specs.States.{IsState, pair_of, AreTightWords}
-use Rattle.turn_rule.specs.Rounds.{opening_pair}
+use Rattle.turn_rule.specs.States.{IsState, pair_of, AreNoLooser}
+use Rattle.turn_rule.specs.Rounds.{bound_pair}
 use Rattle.turn_rule.specs.Exact.{Scoring, exact}
 
 -- A word bounds a fraction, a number over another, as the lower or as the upper end of a pair. There are 2 ^ 32 units of a word to a point.
@@ -29,52 +29,52 @@ pub record IsScoring (checkers : ℕ) (stakes : Terms) (scoring : Scoring) : Typ
   pub scale : 0 < scoring.scale
   pub wins : (k : ℕ) (won : Won) → k < length stakes.kinds → Encloses (win (kind_at stakes k) won) (scoring.win k won) scoring.scale
   pub passes : (k : ℕ) → k < length stakes.kinds → IfSome (kind_at stakes k).double (λ double. Encloses double.pass (scoring.pass k) scoring.scale)
-  pub unfinished : (p : Board) (k : ℕ) → IsState checkers stakes p k → Encloses (opening_pair stakes) (scoring.unfinished p k) scoring.scale
+  pub unfinished : (p : Placement) (k : ℕ) → IsState checkers stakes p k → Encloses (bound_pair stakes) (scoring.unfinished p k) scoring.scale
 
 -- a word bounds the exact value of a state in the game of so many turns
-abbrev pub IsBoundAt : End → Terms → Scoring → ℕ → ℤ → Board → ℕ → Type 0
+abbrev pub IsBoundAt : End → Terms → Scoring → ℕ → ℤ → Placement → ℕ → Type 0
 IsBoundAt end stakes scoring turns word p k = IsBoundOf end word (exact stakes scoring turns p k) (scoring.scale * 36 ^ turns)
 
 -- a pair encloses the exact value of a state in the game of so many turns
-abbrev pub EnclosesAt : Terms → Scoring → ℕ → Bounds → Board → ℕ → Type 0
+abbrev pub EnclosesAt : Terms → Scoring → ℕ → Bounds → Placement → ℕ → Type 0
 EnclosesAt stakes scoring turns pair p k = Encloses pair (exact stakes scoring turns p k) (scoring.scale * 36 ^ turns)
 
 -- words enclose every state in the game of so many turns
 abbrev pub AreEnclosing : ℕ → Terms → Scoring → ℕ → Words → Type 0
-AreEnclosing checkers stakes scoring turns u = (p : Board) (k : ℕ) → IsState checkers stakes p k → EnclosesAt stakes scoring turns (pair_of u p k) p k
+AreEnclosing checkers stakes scoring turns u = (p : Placement) (k : ℕ) → IsState checkers stakes p k → EnclosesAt stakes scoring turns (pair_of u p k) p k
 
 -- A word is sound for its state where from some number of turns on it bounds the exact value, however the game is scored within its stakes.
-abbrev pub IsSound : ℕ → Terms → End → ℤ → Board → ℕ → Type 0
+abbrev pub IsSound : ℕ → Terms → End → ℤ → Placement → ℕ → Type 0
 IsSound checkers stakes end word p k =
     (enough : ℕ) × ((turns : ℕ) → enough ≤ turns → (scoring : Scoring) → IsScoring checkers stakes scoring → IsBoundAt end stakes scoring turns word p k)
 
 -- words are sound where each of them is
 abbrev pub AreSound : ℕ → Terms → Words → Type 0
-AreSound checkers stakes u = (end : End) (p : Board) (k : ℕ) → IsState checkers stakes p k → IsSound checkers stakes end (u end p k) p k
+AreSound checkers stakes u = (end : End) (p : Placement) (k : ℕ) → IsState checkers stakes p k → IsSound checkers stakes end (u end p k) p k
 
 -- words are consistent where no turn over them is looser than they are
 abbrev pub AreConsistent : ℕ → Terms → Words → Type 0
-AreConsistent checkers stakes u = AreTightWords checkers stakes (turn stakes u) u
+AreConsistent checkers stakes u = AreNoLooser checkers stakes (turn stakes u) u
 
 -- the same answers to a double, and a pass that is known at least as well
-pub record IsTighterDouble (a b : Double) : Type 0 where
+pub record IsNoLooserDouble (a b : Double) : Type 0 where
   pub answers : a.answers.items ≡ b.answers.items
-  pub pass : AreTight a.pass b.pass
+  pub pass : AreNoLooserPairs a.pass b.pass
 
-abbrev pub AreTighterDoubles : Option Double → Option Double → Type 0
-AreTighterDoubles None None = Unit {0}
-AreTighterDoubles None (Some b) = ⊥
-AreTighterDoubles (Some a) None = ⊥
-AreTighterDoubles (Some a) (Some b) = IsTighterDouble a b
+abbrev pub AreNoLooserDoubles : Option Double → Option Double → Type 0
+AreNoLooserDoubles None None = Unit {0}
+AreNoLooserDoubles None (Some b) = ⊥
+AreNoLooserDoubles (Some a) None = ⊥
+AreNoLooserDoubles (Some a) (Some b) = IsNoLooserDouble a b
 
 -- the same next kind and right to double, and wins that are known at least as well
-pub record IsTighterKind (a b : Kind) : Type 0 where
+pub record IsNoLooserKind (a b : Kind) : Type 0 where
   pub next : a.next ≡ b.next
-  pub wins : (won : Won) → AreTight (win a won) (win b won)
-  pub double : AreTighterDoubles a.double b.double
+  pub wins : (won : Won) → AreNoLooserPairs (win a won) (win b won)
+  pub double : AreNoLooserDoubles a.double b.double
 
 -- the same kinds and bound, whose wins and passes are known at least as well
-pub record AreTighterStakes (a b : Terms) : Type 0 where
+pub record AreNoLooserStakes (a b : Terms) : Type 0 where
   pub many : length a.kinds ≡ length b.kinds
   pub bound : a.bound ≡ b.bound
-  pub kinds : (k : ℕ) → k < length b.kinds → IsTighterKind (kind_at a k) (kind_at b k)
+  pub kinds : (k : ℕ) → k < length b.kinds → IsNoLooserKind (kind_at a k) (kind_at b k)

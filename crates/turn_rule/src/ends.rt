@@ -1,5 +1,5 @@
 ghost use Rattle.std.specs.Prelude.{◌≡◌, ◌<◌, ◌≤◌, ◌^◌, ◌↔◌, ℕ, ℤ, pos, ◌*ℤ◌, ◌≤ℤ◌, [], length, map, All, Contains};
-ghost use Rattle.position_rank.specs.Board.{Board};
+ghost use Rattle.position_rank.specs.Placement.{Placement};
 ghost use Rattle.roll_table.specs.Rolls.{all_rolls};
 ghost use Rattle.move_rules.specs.Sequences.{IsLegalEnd};
 ghost use Rattle.cube_actions.specs.Stakes.{IsValid, kind_at};
@@ -9,7 +9,7 @@ ghost use Rattle.turn_rule.specs.Looks.{AreStakesOf, MayFollow};
 ghost use Rattle.turn_rule.specs.Found.{Finds};
 ghost use Rattle.turn_rule.specs.Rolled.{HasEnds, AreRolled, weighted};
 
-use crate::left::Left;
+use crate::play_end::PlayEnd;
 use crate::pairs::Pairs;
 use crate::sum::sum_at;
 use arrayvec::ArrayVec;
@@ -26,7 +26,7 @@ use std::marker::Model;
 pub(crate) struct OneRoll {
     roll: Roll,
     pub(crate) times: u64,
-    pub(crate) ends: ArrayVec<Left, 81>,
+    pub(crate) ends: ArrayVec<PlayEnd, 81>,
 }
 
 impl Default for OneRoll {
@@ -52,7 +52,7 @@ impl OneRoll {
         plays(position, self.roll, list);
         self.ends.clear();
         for entry in list.as_slice() {
-            self.ends.push(Left::of(&entry.end));
+            self.ends.push(PlayEnd::of(&entry.end));
         }
     }
 }
@@ -76,10 +76,10 @@ pub struct RollEnds {
 }
 
 impl Model for RollEnds {
-    ghost use Rattle.position_rank.specs.Board.{Board};
+    ghost use Rattle.position_rank.specs.Placement.{Placement};
     ghost use Rattle.turn_rule.specs.Rolled.{AreRolled};
 
-    ghost Value = { Board };
+    ghost Value = { Placement };
 
     ghost view = { λ a. a.position };
 

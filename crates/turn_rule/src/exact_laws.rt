@@ -1,19 +1,19 @@
 ghost use Rattle.std.specs.Prelude.{◌≡◌, ◌≤◌, ◌+◌, ℕ, pos, neg_ℤ, [], ◌∷◌};
-ghost use Rattle.position_rank.specs.Board.{Board};
-ghost use Rattle.game_payoff.specs.Examples.{board, off};
+ghost use Rattle.position_rank.specs.Placement.{Placement};
+ghost use Rattle.position_rank.specs.Examples.{placed, off};
 ghost use Rattle.directed_fixed.specs.declared.bounds.End.{End};
 ghost use Rattle.directed_fixed.specs.declared.bounds.End.TheVariants.{Lower, Upper};
 ghost use Rattle.cube_actions.specs.Stakes.{Terms, IsValid, cubeless, exactly};
 ghost use Rattle.turn_rule.specs.Turn.{Words, turn, rounds};
-ghost use Rattle.turn_rule.specs.States.{IsState, AreTightWords};
-ghost use Rattle.turn_rule.specs.Rounds.{opening_pair};
+ghost use Rattle.turn_rule.specs.States.{IsState, AreNoLooser};
+ghost use Rattle.turn_rule.specs.Rounds.{bound_pair};
 ghost use Rattle.turn_rule.specs.Exact.{Scoring, exact};
-ghost use Rattle.turn_rule.specs.Truth.{IsBoundOf, Encloses, IsScoring, EnclosesAt, AreEnclosing, IsSound, AreSound, AreConsistent, AreTighterStakes};
+ghost use Rattle.turn_rule.specs.Truth.{IsBoundOf, Encloses, IsScoring, EnclosesAt, AreEnclosing, IsSound, AreSound, AreConsistent, AreNoLooserStakes};
 ghost use Rattle.turn_rule.specs.Examples.{gains, losses, doubling_game, vague_game, win_points, scored};
 
 /// However a game is scored within its stakes, no exact value is beyond their bound.
 pub fn exact_values_stay_within_the_bound()
-    ensures { (checkers : ℕ) (stakes : Terms) → IsValid stakes → (scoring : Scoring) → IsScoring checkers stakes scoring → (turns : ℕ) (p : Board) (k : ℕ) → IsState checkers stakes p k → EnclosesAt stakes scoring turns (opening_pair stakes) p k }
+    ensures { (checkers : ℕ) (stakes : Terms) → IsValid stakes → (scoring : Scoring) → IsScoring checkers stakes scoring → (turns : ℕ) (p : Placement) (k : ℕ) → IsState checkers stakes p k → EnclosesAt stakes scoring turns (bound_pair stakes) p k }
 {}
 
 /// Where words enclose every state, a turn over them encloses every state in the game of one turn more.
@@ -33,7 +33,7 @@ pub fn rounds_are_sound()
 
 /// So are words that are no tighter than those after some rounds.
 pub fn words_no_tighter_than_a_round_are_sound()
-    ensures { (checkers : ℕ) (stakes : Terms) → IsValid stakes → (r : ℕ) (u : Words) → AreTightWords checkers stakes (rounds stakes r) u → AreSound checkers stakes u }
+    ensures { (checkers : ℕ) (stakes : Terms) → IsValid stakes → (r : ℕ) (u : Words) → AreNoLooser checkers stakes (rounds stakes r) u → AreSound checkers stakes u }
 {}
 
 /// A turn over the words after some rounds is nowhere looser than they are.
@@ -48,12 +48,12 @@ pub fn consistent_words_enclose()
 
 /// Where the stakes' wins and passes are known at least as well, tighter words give a turn that is at least as tight.
 pub fn tighter_stakes_tighten_turns()
-    ensures { (checkers : ℕ) (a b : Terms) → IsValid a → AreTighterStakes a b → (u v : Words) → AreTightWords checkers a u v → AreTightWords checkers a (turn a u) (turn b v) }
+    ensures { (checkers : ℕ) (a b : Terms) → IsValid a → AreNoLooserStakes a b → (u v : Words) → AreNoLooser checkers a u v → AreNoLooser checkers a (turn a u) (turn b v) }
 {}
 
 /// Where the stakes' wins and passes are known at least as well, the words after some rounds are at least as tight.
 pub fn tighter_stakes_tighten_rounds()
-    ensures { (checkers : ℕ) (a b : Terms) → IsValid a → AreTighterStakes a b → (r : ℕ) → AreTightWords checkers a (rounds a r) (rounds b r) }
+    ensures { (checkers : ℕ) (a b : Terms) → IsValid a → AreNoLooserStakes a b → (r : ℕ) → AreNoLooser checkers a (rounds a r) (rounds b r) }
 {}
 
 /// Scorings of the game without a cube and of the doubling game: an unfinished end may be worth three points and no more, and a gammon
@@ -71,21 +71,21 @@ pub fn scoring_examples()
 /// double sixes win, 3 points. Where an unfinished end is then worth a point to the other side, whose turn it is, the other 35 rolls lose 35
 /// points; where it costs that side two, they win 70.
 pub fn exact_examples()
-    ensures cut_off_at_once { (p : Board) (k : ℕ) → exact cubeless (scored (win_points 1 2 3) (pos 2)) 0 p k ≡ pos 2 }
-    ensures one_roll_ahead { exact cubeless (scored (win_points 1 2 3) (pos 0)) 1 (board (6 ∷ []) (1 ∷ [])) 0 ≡ pos 54 }
-    ensures both_rolls_ahead { exact cubeless (scored (win_points 1 2 3) (pos 0)) 2 (board (6 ∷ []) (1 ∷ [])) 0 ≡ pos 1296 }
-    ensures single_wins { exact cubeless (scored (win_points 1 2 3) (pos 0)) 2 (board (5 ∷ off ∷ []) (1 ∷ off ∷ [])) 0 ≡ pos 936 }
-    ensures unfinished_is_lost { exact cubeless (scored (win_points 1 2 3) (pos 1)) 1 (board (24 ∷ []) (24 ∷ [])) 0 ≡ neg_ℤ (pos 32) }
-    ensures unfinished_is_won { exact cubeless (scored (win_points 1 2 3) (neg_ℤ (pos 2))) 1 (board (24 ∷ []) (24 ∷ [])) 0 ≡ pos 73 }
+    ensures cut_off_at_once { (p : Placement) (k : ℕ) → exact cubeless (scored (win_points 1 2 3) (pos 2)) 0 p k ≡ pos 2 }
+    ensures one_roll_ahead { exact cubeless (scored (win_points 1 2 3) (pos 0)) 1 (placed (6 ∷ []) (1 ∷ [])) 0 ≡ pos 54 }
+    ensures both_rolls_ahead { exact cubeless (scored (win_points 1 2 3) (pos 0)) 2 (placed (6 ∷ []) (1 ∷ [])) 0 ≡ pos 1296 }
+    ensures single_wins { exact cubeless (scored (win_points 1 2 3) (pos 0)) 2 (placed (5 ∷ off ∷ []) (1 ∷ off ∷ [])) 0 ≡ pos 936 }
+    ensures unfinished_is_lost { exact cubeless (scored (win_points 1 2 3) (pos 1)) 1 (placed (24 ∷ []) (24 ∷ [])) 0 ≡ neg_ℤ (pos 32) }
+    ensures unfinished_is_won { exact cubeless (scored (win_points 1 2 3) (neg_ℤ (pos 2))) 1 (placed (24 ∷ []) (24 ∷ [])) 0 ≡ pos 73 }
 {}
 
 /// Two turns of the doubling game, where the other side bears off its last checker at its roll: values over 36 * 36 = 1296. With 31 winning
 /// rolls of 36 a double is passed, which is worth the whole point. With 19 it is taken, and doubles 2 * 36 = 72. With 6 there is none, and
 /// 24 * 36 = 864 are lost.
 pub fn exact_doubled_examples()
-    ensures passed { exact doubling_game (scored (win_points 1 1 1) (pos 0)) 2 (board (5 ∷ off ∷ []) (1 ∷ off ∷ [])) 0 ≡ pos 1296 }
-    ensures taken { exact doubling_game (scored (win_points 1 1 1) (pos 0)) 2 (board (5 ∷ 2 ∷ []) (1 ∷ off ∷ [])) 0 ≡ pos 144 }
-    ensures not_doubled { exact doubling_game (scored (win_points 1 1 1) (pos 0)) 2 (board (6 ∷ 5 ∷ []) (1 ∷ off ∷ [])) 0 ≡ neg_ℤ (pos 864) }
+    ensures passed { exact doubling_game (scored (win_points 1 1 1) (pos 0)) 2 (placed (5 ∷ off ∷ []) (1 ∷ off ∷ [])) 0 ≡ pos 1296 }
+    ensures taken { exact doubling_game (scored (win_points 1 1 1) (pos 0)) 2 (placed (5 ∷ 2 ∷ []) (1 ∷ off ∷ [])) 0 ≡ pos 144 }
+    ensures not_doubled { exact doubling_game (scored (win_points 1 1 1) (pos 0)) 2 (placed (6 ∷ 5 ∷ []) (1 ∷ off ∷ [])) 0 ≡ neg_ℤ (pos 864) }
 {}
 
 /// 936 points of 1296 are 3101920824.88.. units, which lie between these two numbers, but not above the greater one nor below the less. A
@@ -102,16 +102,16 @@ pub fn bound_of_examples()
 /// From 1 each roll wins a gammon, in every game of a turn or more: so two points are sound at both ends. A unit more isn't at the lower end,
 /// nor a unit less at the upper one.
 pub fn sound_examples()
-    ensures two_points { (end : End) → IsSound 1 cubeless end (pos 8589934592) (board (1 ∷ []) (1 ∷ [])) 0 }
-    ensures a_unit_more { ¬ IsSound 1 cubeless Lower (pos 8589934593) (board (1 ∷ []) (1 ∷ [])) 0 }
-    ensures a_unit_less { ¬ IsSound 1 cubeless Upper (pos 8589934591) (board (1 ∷ []) (1 ∷ [])) 0 }
+    ensures two_points { (end : End) → IsSound 1 cubeless end (pos 8589934592) (placed (1 ∷ []) (1 ∷ [])) 0 }
+    ensures a_unit_more { ¬ IsSound 1 cubeless Lower (pos 8589934593) (placed (1 ∷ []) (1 ∷ [])) 0 }
+    ensures a_unit_less { ¬ IsSound 1 cubeless Upper (pos 8589934591) (placed (1 ∷ []) (1 ∷ [])) 0 }
 {}
 
 /// All stakes are as tight as they are themselves. A game in which a gammon wins two points is tighter than one in which it wins one to
 /// three, and not the other way round. Games with other rights to double can't be compared.
 pub fn tighter_examples()
-    ensures same { (stakes : Terms) → AreTighterStakes stakes stakes }
-    ensures known_gammon { AreTighterStakes cubeless vague_game }
-    ensures vague_gammon { ¬ AreTighterStakes vague_game cubeless }
-    ensures other_doubles { ¬ AreTighterStakes cubeless doubling_game }
+    ensures same { (stakes : Terms) → AreNoLooserStakes stakes stakes }
+    ensures known_gammon { AreNoLooserStakes cubeless vague_game }
+    ensures vague_gammon { ¬ AreNoLooserStakes vague_game cubeless }
+    ensures other_doubles { ¬ AreNoLooserStakes cubeless doubling_game }
 {}

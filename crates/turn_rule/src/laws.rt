@@ -1,10 +1,10 @@
 ghost use Rattle.std.specs.Prelude.{◌≡◌, ℕ, ◌+◌, pos, neg_ℤ, [], ◌∷◌};
-ghost use Rattle.position_rank.specs.Board.{Board};
-ghost use Rattle.game_payoff.specs.Examples.{board, off, bar};
+ghost use Rattle.position_rank.specs.Placement.{Placement};
+ghost use Rattle.position_rank.specs.Examples.{placed, off, bar};
 ghost use Rattle.directed_fixed.specs.Rounding.{floor_36, ceil_36};
 ghost use Rattle.cube_actions.specs.Stakes.{Terms, IsValid, cubeless, exactly};
-ghost use Rattle.turn_rule.specs.Turn.{Words, opening, turn, rounds};
-ghost use Rattle.turn_rule.specs.States.{AreWithin, AreTightWords, Agree, pair_of};
+ghost use Rattle.turn_rule.specs.Turn.{Words, bound_words, turn, rounds};
+ghost use Rattle.turn_rule.specs.States.{AreWithin, AreNoLooser, Agree, pair_of};
 ghost use Rattle.turn_rule.specs.Tables.{squares_of, place_of};
 ghost use Rattle.turn_rule.specs.Examples.{between, gains, losses, doubling_game};
 
@@ -25,12 +25,12 @@ pub fn turns_look_at_states_alone()
 
 /// Tighter words give a turn that is at least as tight.
 pub fn tighter_words_tighten_turns()
-    ensures { (checkers : ℕ) (stakes : Terms) → IsValid stakes → (u v : Words) → AreTightWords checkers stakes u v → AreTightWords checkers stakes (turn stakes u) (turn stakes v) }
+    ensures { (checkers : ℕ) (stakes : Terms) → IsValid stakes → (u v : Words) → AreNoLooser checkers stakes u v → AreNoLooser checkers stakes (turn stakes u) (turn stakes v) }
 {}
 
 /// One more round gives words that are at least as tight.
 pub fn rounds_tighten()
-    ensures { (checkers : ℕ) (stakes : Terms) → IsValid stakes → (r : ℕ) → AreTightWords checkers stakes (rounds stakes (r + 1)) (rounds stakes r) }
+    ensures { (checkers : ℕ) (stakes : Terms) → IsValid stakes → (r : ℕ) → AreNoLooser checkers stakes (rounds stakes (r + 1)) (rounds stakes r) }
 {}
 
 /// A 36th of a sum, rounded down and up. There are 2 ^ 32 units to a point.
@@ -50,22 +50,22 @@ pub fn rounded_examples()
 /// From 6 there are 27 rolls of 36 that win a gammon; after the other 9 the other side wins one, as the second round finds.
 /// From 5 there are 31, and with a checker of each side off, each win is a single one: 26 points of 36.
 pub fn worked_examples()
-    ensures opening { (p : Board) (k : ℕ) → pair_of (opening cubeless) p k ≡ between 12884901888 12884901888 }
-    ensures sure_gammon { pair_of (rounds cubeless 1) (board (1 ∷ []) (1 ∷ [])) 0 ≡ exactly 2 }
-    ensures sure_backgammon { pair_of (rounds cubeless 1) (board (1 ∷ []) (bar ∷ [])) 0 ≡ exactly 3 }
-    ensures only_double_sixes { pair_of (rounds cubeless 1) (board (24 ∷ []) (24 ∷ [])) 0 ≡ between 12169074006 12884901888 }
-    ensures one_roll_ahead { pair_of (rounds cubeless 1) (board (6 ∷ []) (1 ∷ [])) 0 ≡ gains 3221225472 9663676416 }
-    ensures both_rolls_ahead { pair_of (rounds cubeless 2) (board (6 ∷ []) (1 ∷ [])) 0 ≡ exactly 1 }
-    ensures rounded_outwards { pair_of (rounds cubeless 2) (board (5 ∷ off ∷ []) (1 ∷ off ∷ [])) 0 ≡ gains 3101920824 3101920825 }
+    ensures before_the_first_round { (p : Placement) (k : ℕ) → pair_of (bound_words cubeless) p k ≡ between 12884901888 12884901888 }
+    ensures sure_gammon { pair_of (rounds cubeless 1) (placed (1 ∷ []) (1 ∷ [])) 0 ≡ exactly 2 }
+    ensures sure_backgammon { pair_of (rounds cubeless 1) (placed (1 ∷ []) (bar ∷ [])) 0 ≡ exactly 3 }
+    ensures only_double_sixes { pair_of (rounds cubeless 1) (placed (24 ∷ []) (24 ∷ [])) 0 ≡ between 12169074006 12884901888 }
+    ensures one_roll_ahead { pair_of (rounds cubeless 1) (placed (6 ∷ []) (1 ∷ [])) 0 ≡ gains 3221225472 9663676416 }
+    ensures both_rolls_ahead { pair_of (rounds cubeless 2) (placed (6 ∷ []) (1 ∷ [])) 0 ≡ exactly 1 }
+    ensures rounded_outwards { pair_of (rounds cubeless 2) (placed (5 ∷ off ∷ []) (1 ∷ off ∷ [])) 0 ≡ gains 3101920824 3101920825 }
 {}
 
 /// A game in which the mover may always double, where the other side bears off its last checker at its next roll.
 /// With 31 winning rolls of 36 a double is passed. With 19 it is taken, and doubles 2 points of 36. With 6 there is none, and 24 points of 36 are lost.
 pub fn doubled_examples()
     ensures valid { IsValid doubling_game }
-    ensures passed { pair_of (rounds doubling_game 2) (board (5 ∷ off ∷ []) (1 ∷ off ∷ [])) 0 ≡ exactly 1 }
-    ensures taken { pair_of (rounds doubling_game 2) (board (5 ∷ 2 ∷ []) (1 ∷ off ∷ [])) 0 ≡ gains 477218588 477218589 }
-    ensures not_doubled { pair_of (rounds doubling_game 2) (board (6 ∷ 5 ∷ []) (1 ∷ off ∷ [])) 0 ≡ losses 2863311531 2863311530 }
+    ensures passed { pair_of (rounds doubling_game 2) (placed (5 ∷ off ∷ []) (1 ∷ off ∷ [])) 0 ≡ exactly 1 }
+    ensures taken { pair_of (rounds doubling_game 2) (placed (5 ∷ 2 ∷ []) (1 ∷ off ∷ [])) 0 ≡ gains 477218588 477218589 }
+    ensures not_doubled { pair_of (rounds doubling_game 2) (placed (6 ∷ 5 ∷ []) (1 ∷ off ∷ [])) 0 ≡ losses 2863311531 2863311530 }
 {}
 
 /// How many squares there are of one, two and three checkers a side, and where the pairs of a position stand: its mover's layout is the
@@ -74,6 +74,6 @@ pub fn table_examples()
     ensures one { squares_of 1 ≡ 676 }
     ensures two { squares_of 2 ≡ 123201 }
     ensures three { squares_of 3 ≡ 10732176 }
-    ensures one_kind { place_of 1 (board (6 ∷ off ∷ []) (1 ∷ off ∷ [])) 0 ≡ 7372 }
-    ensures fourth_of_14_kinds { place_of 14 (board (6 ∷ off ∷ []) (1 ∷ off ∷ [])) 3 ≡ 103211 }
+    ensures one_kind { place_of 1 (placed (6 ∷ off ∷ []) (1 ∷ off ∷ [])) 0 ≡ 7372 }
+    ensures fourth_of_14_kinds { place_of 14 (placed (6 ∷ off ∷ []) (1 ∷ off ∷ [])) 3 ≡ 103211 }
 {}

@@ -5,7 +5,7 @@ mod bounds;
 mod ends;
 mod exact_laws;
 mod laws;
-mod left;
+mod play_end;
 mod look_laws;
 mod pairs;
 mod plain_reader;

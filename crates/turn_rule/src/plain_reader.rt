@@ -1,5 +1,5 @@
 ghost use Rattle.std.specs.Prelude.{◌≡◌, ◌<◌, ℕ, ℤ, Bool, true, None, IsTrue};
-ghost use Rattle.position_rank.specs.Board.{Board};
+ghost use Rattle.position_rank.specs.Placement.{Placement};
 ghost use Rattle.directed_fixed.specs.declared.bounds.End.TheVariants.{Lower, Upper};
 ghost use Rattle.turn_rule.specs.Turn.{Words};
 ghost use Rattle.turn_rule.specs.States.{IsStateOf, AreWithinOf};

@@ -27,9 +27,9 @@ pub struct PlainTable {
 }
 
 impl Model for PlainTable {
-    ghost use Rattle.turn_rule.specs.Rounds.{Game, IsReady};
+    ghost use Rattle.turn_rule.specs.Rounds.{StakesAndTable, IsReady};
 
-    ghost Value = { Game };
+    ghost Value = { StakesAndTable };
 
     ghost view = { λ a. record { stakes = a.stakes; table = a.current } };
 
@@ -58,10 +58,10 @@ impl PlainTable {
         ensures rounds { IfOk result (λ table. HasRounds table 0) }
     {
         let bound = stakes.bound();
-        let opening = Pair::new(bound.neg(), bound);
+        let bound_pair = Pair::new(bound.neg(), bound);
         let layouts = all_layouts(alloc, checkers)?;
-        let current = Table::filled(alloc, checkers, stakes.kinds(), opening)?;
-        let next = Table::filled(alloc, checkers, stakes.kinds(), opening)?;
+        let current = Table::filled(alloc, checkers, stakes.kinds(), bound_pair)?;
+        let next = Table::filled(alloc, checkers, stakes.kinds(), bound_pair)?;
         Ok(PlainTable {
             stakes: stakes.copied(),
             layouts,

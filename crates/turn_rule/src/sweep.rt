@@ -1,5 +1,5 @@
 ghost use Rattle.std.specs.Prelude.{◌≡◌, ◌<◌, ◌+◌, ◌*◌, ℕ, length, sum, slice_index_or};
-ghost use Rattle.position_rank.specs.Board.{IsLayout, IsPosition, IsLive};
+ghost use Rattle.position_rank.specs.Placement.{IsLayout, IsPosition, IsLive};
 ghost use Rattle.position_rank.specs.Ranks.{rank_of, square_rank_of};
 ghost use Rattle.directed_fixed.specs.declared.bounds.End.TheVariants.{Lower, Upper};
 ghost use Rattle.cube_actions.specs.Stakes.{nothing};

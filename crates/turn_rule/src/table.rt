@@ -1,8 +1,8 @@
 ghost use Rattle.std.specs.Prelude.{◌≡◌, ◌<◌, ◌≤◌, ◌+◌, ◌*◌, ◌^◌, ℕ, IfOk, length, replicate, slice_set, sum};
-ghost use Rattle.position_rank.specs.Board.{Board, IsPosition};
+ghost use Rattle.position_rank.specs.Placement.{Placement, IsPosition};
 ghost use Rattle.position_rank.specs.Ranks.{square_rank_of};
 ghost use Rattle.directed_fixed.specs.declared.bounds.End.TheVariants.{Lower, Upper};
-ghost use Rattle.turn_rule.specs.Tables.{Pairs, IsFull, squares_of, words_of};
+ghost use Rattle.turn_rule.specs.Tables.{PairTable, IsFull, squares_of, words_of};
 ghost use Rattle.turn_rule.specs.States.{pair_of};
 
 use directed_fixed::Pair;
@@ -19,7 +19,7 @@ pub(crate) struct Table {
 }
 
 impl Model for Table {
-    ghost Value = { Pairs };
+    ghost Value = { PairTable };
 
     ghost view = { λ a. record { checkers = a.checkers; kinds = a.kinds; pairs = a.pairs.items } };
 

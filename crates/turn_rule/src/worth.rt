@@ -1,6 +1,6 @@
 ghost use Rattle.std.specs.Prelude.{◌≡◌, ◌<◌, ℕ, None, All, length};
 ghost use Rattle.std.specs.List.{Contains};
-ghost use Rattle.position_rank.specs.Board.{Board, swap};
+ghost use Rattle.position_rank.specs.Placement.{Placement, swap};
 ghost use Rattle.position_rank.specs.Ranks.{square_rank_of};
 ghost use Rattle.game_payoff.specs.declared.payoff.Won.{Won};
 ghost use Rattle.game_payoff.specs.Points.{points};
@@ -8,9 +8,9 @@ ghost use Rattle.directed_fixed.specs.Bounds.{Bounds, IsWithin, at, other};
 ghost use Rattle.turn_rule.specs.Turn.{Words, win, worth, greatest};
 ghost use Rattle.turn_rule.specs.States.{IsStateOf};
 ghost use Rattle.turn_rule.specs.Looks.{Looked, HasDamage, IsAnswer, IsLeft};
-ghost use Rattle.turn_rule.specs.Found.{IsSame, Finds, LeavesState, MayLeave};
+ghost use Rattle.turn_rule.specs.Found.{IsSame, Finds, LeavesState, MayFollowEnds};
 
-use crate::left::Left;
+use crate::play_end::PlayEnd;
 use crate::pairs::Pairs;
 use cube_actions::Kind;
 use directed_fixed::{End, Fixed, Pair};
@@ -76,7 +76,7 @@ fn word_of<P: Pairs>(
 /// What the mover has after his play, at one end: his win, or what the other side hasn't.
 /// A lower bound of the one side is an upper bound of the other.
 #[inline]
-fn worth_at<P: Pairs>(end: End, left: &Left, kind: &Kind, pairs: &mut P) -> Result<Fixed, LookStop>
+fn worth_at<P: Pairs>(end: End, left: &PlayEnd, kind: &Kind, pairs: &mut P) -> Result<Fixed, LookStop>
     requires state { LeavesState (P.source pairs.old) kind.now.next left.now }
     requires wins { (won : Won) → IsWithin (P.source pairs.old).bound (win kind.now won) }
     ensures found { Finds end (P.source pairs.old) (P.notes pairs.old) (P.notes pairs.new) (P.faults pairs.old) (P.faults pairs.new) (IsLeft kind.now.next left.now) (P.source pairs.old).bound (λ u. worth end kind.now u left.now) result }
@@ -95,14 +95,14 @@ fn worth_at<P: Pairs>(end: End, left: &Left, kind: &Kind, pairs: &mut P) -> Resu
 /// What the best of some plays is worth, at one end.
 pub(crate) fn best_at<P: Pairs>(
     end: End,
-    ends: &[Left],
+    ends: &[PlayEnd],
     kind: &Kind,
     pairs: &mut P,
 ) -> Result<Fixed, LookStop>
     requires some { 0 < length ends.now }
     requires states { All (LeavesState (P.source pairs.old) kind.now.next) ends.now }
     requires wins { (won : Won) → IsWithin (P.source pairs.old).bound (win kind.now won) }
-    ensures found { Finds end (P.source pairs.old) (P.notes pairs.old) (P.notes pairs.new) (P.faults pairs.old) (P.faults pairs.new) (MayLeave kind.now.next ends.now) (P.source pairs.old).bound (λ u. greatest (worth end kind.now u) ends.now) result }
+    ensures found { Finds end (P.source pairs.old) (P.notes pairs.old) (P.notes pairs.new) (P.faults pairs.old) (P.faults pairs.new) (MayFollowEnds kind.now.next ends.now) (P.source pairs.old).bound (λ u. greatest (worth end kind.now u) ends.now) result }
     ensures source { P.source pairs.new ≡ P.source pairs.old }
     ensures stays { P.stays pairs.new ≡ P.stays pairs.old }
 {

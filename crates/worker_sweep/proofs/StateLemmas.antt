@@ -1,38 +1,38 @@
 -- A state's turn, as a seat works it out.
 use Rattle.std.proofs.Common.{◌≡◌, ◌+◌, ℕ, Some, add-one, ap, sym, subst, ◌∙◌}
 use Rattle.std.specs.Bool.{IsTrue}
-use Rattle.position_rank.specs.Board.{Board}
+use Rattle.position_rank.specs.Placement.{Placement}
 use Rattle.directed_fixed.specs.declared.bounds.End.{End}
 use Rattle.directed_fixed.specs.declared.bounds.End.TheVariants.{Lower, Upper}
-use Rattle.directed_fixed.specs.Bounds.{Bounds, at, IsTight}
+use Rattle.directed_fixed.specs.Bounds.{Bounds, at, IsNoLooser}
 use Rattle.cube_actions.specs.Stakes.{Terms}
 use Rattle.turn_rule.specs.Turn.{Words, turn, rounds}
 use Rattle.turn_rule.specs.Looks.{Source, IsTurnPair}
 use Rattle.interval_words.specs.declared.view.Game.{Game}
-use Rattle.interval_words.specs.Core.{AreTighter, noted}
-use Rattle.interval_words.specs.Seats.{Standing, Sitting, SitsAt}
+use Rattle.interval_words.specs.Core.{AreNoLooserIn, noted}
+use Rattle.interval_words.specs.Seats.{GameTable, GameSeat, SitsAt}
 use Rattle.interval_words.proofs.Allowed.{one-game}
 use Rattle.interval_words.proofs.TurnLaws.{rounds-turn}
 use Rattle.worker_sweep.specs.Workers.{KeepsNotes}
 
 -- while words are looked up, the seat keeps its notes
-pub keeps-looked : (board now : Standing) (old new : Sitting) → now ≡ board → new.view.base ≡ old.view.base → SitsAt board old → SitsAt now new
-    → AreTighter board.game (noted now.game new.view.notes) (noted board.game old.view.notes) → KeepsNotes old new
+pub keeps-looked : (board now : GameTable) (old new : GameSeat) → now ≡ board → new.view.base ≡ old.view.base → SitsAt board old → SitsAt now new
+    → AreNoLooserIn board.game (noted now.game new.view.notes) (noted board.game old.view.notes) → KeepsNotes old new
 keeps-looked board now old new same base before after tighter = record {
   table = after.table ∙ (ap (λ b. b.table) same ∙ sym before.table);
   game = after.game ∙ (ap (λ b. Some b.game) same ∙ sym before.game);
   base = base;
   notes = λ game names.
       let is : board.game ≡ game = one-game old.view board.game game before.game names in
-      subst (λ (g : Game). AreTighter g (noted g new.view.notes) (noted g old.view.notes)) is (subst (λ (b : Standing). AreTighter board.game (noted b.game new.view.notes) (noted board.game old.view.notes)) same tighter);
+      subst (λ (g : Game). AreNoLooserIn g (noted g new.view.notes) (noted g old.view.notes)) is (subst (λ (b : GameTable). AreNoLooserIn board.game (noted b.game new.view.notes) (noted board.game old.view.notes)) same tighter);
 }
 
 -- a turn over the words after the rounds of the base is at least as tight as after one round more
-pub turn-done : (game : Game) (base : ℕ) (end : End) (p : Board) (k : ℕ) → turn game.stakes (rounds game.stakes base) end p k ≡ rounds game.stakes (base + 1) end p k
+pub turn-done : (game : Game) (base : ℕ) (end : End) (p : Placement) (k : ℕ) → turn game.stakes (rounds game.stakes base) end p k ≡ rounds game.stakes (base + 1) end p k
 turn-done game base end p k = ap (λ (w : Words). w end p k) (sym (rounds-turn game.stakes base)) ∙ ap (λ (n : ℕ). rounds game.stakes n end p k) (sym (add-one base))
 
 -- both ends of a turn's pair, over the words of the floor and over the notes
-pub pair-ends : (stakes : Terms) (p : Board) (k : ℕ) (source : Source) (u : Words) (pair : Bounds) → IsTrue source.tells → IsTurnPair stakes p k source u pair → (end : End)
-    → IsTight end (at end pair) (turn stakes source.floor end p k) × IsTight end (turn stakes u end p k) (at end pair)
+pub pair-ends : (stakes : Terms) (p : Placement) (k : ℕ) (source : Source) (u : Words) (pair : Bounds) → IsTrue source.tells → IsTurnPair stakes p k source u pair → (end : End)
+    → IsNoLooser end (at end pair) (turn stakes source.floor end p k) × IsNoLooser end (turn stakes u end p k) (at end pair)
 pair-ends stakes p k source u pair tells is Lower = (is.lower_floor tells, is.lower_notes tells)
 pair-ends stakes p k source u pair tells is Upper = (is.upper_floor tells, is.upper_notes tells)

@@ -5,13 +5,13 @@ use Rattle.std.proofs.lemmas.List.{get_or-set_other}
 use Rattle.position_rank.specs.LiveRanks.{live_positions}
 use Rattle.interval_words.proofs.Allowed.{one-game}
 use Rattle.interval_words.specs.declared.view.Game.{Game}
-use Rattle.interval_words.specs.Core.{AreTighter, noted}
-use Rattle.interval_words.specs.Seats.{Standing, Sitting, SitsAt, joining}
+use Rattle.interval_words.specs.Core.{AreNoLooserIn, noted}
+use Rattle.interval_words.specs.Seats.{GameTable, GameSeat, SitsAt, joining}
 use Rattle.worker_sweep.specs.Blocks.{AreSwept, IsSwept, block_start}
 use Rattle.worker_sweep.specs.Workers.{KeepsNotes, is_marked}
 use Rattle.worker_sweep.proofs.BlockLemmas.{append-left, append-right, swept-still}
 
-module _ (old other new : Sitting) (joins : new ≡ joining old other) (same : other.view.base ≡ old.view.base) where
+module _ (old other new : GameSeat) (joins : new ≡ joining old other) (same : other.view.base ≡ old.view.base) where
   base-new : new.view.base ≡ old.view.base
   base-new = ap (λ s. s.view.base) joins ∙ omega (arith, same)
 
@@ -20,7 +20,7 @@ module _ (old other new : Sitting) (joins : new ≡ joining old other) (same : o
     table = ap (λ s. s.table) joins;
     game = ap (λ s. s.view.game) joins;
     base = base-new;
-    notes = λ game names. subst (λ (s : Sitting). AreTighter game (noted game s.view.notes) (noted game old.view.notes)) (sym joins) (append-left game old.view.notes other.view.notes);
+    notes = λ game names. subst (λ (s : GameSeat). AreNoLooserIn game (noted game s.view.notes) (noted game old.view.notes)) (sym joins) (append-left game old.view.notes other.view.notes);
   }
 
   pub honest-joined : (mine theirs both : List Bool) → ((game : Game) → old.view.game ≡ Some game → (block : ℕ) → is_marked mine block ≡ true → IsSwept game old.view block)
@@ -34,12 +34,12 @@ module _ (old other new : Sitting) (joins : new ≡ joining old other) (same : o
       elim (or_cases (is_marked mine block) (is_marked theirs block) (sym (either block) ∙ marked)) [
         | inl own ↦ swept-still game old.view new.view from to base-new (keeps-joined.notes game named) (swept_old game named block own)
         | inr taken ↦ (
-            let tighter = subst (λ (s : Sitting). AreTighter game (noted game s.view.notes) (noted game other.view.notes)) (sym joins) (append-right game old.view.notes other.view.notes) in
+            let tighter = subst (λ (s : GameSeat). AreNoLooserIn game (noted game s.view.notes) (noted game other.view.notes)) (sym joins) (append-right game old.view.notes other.view.notes) in
             swept-still game other.view new.view from to (base-new ∙ sym same) tighter (swept_other game (game_is ∙ named) block taken))
       ]
 
 -- one block more is swept
-pub honest-swept : (board : Standing) (old new : Sitting) (marks : List Bool) (block all from to : ℕ) → SitsAt board old → KeepsNotes old new → block < length marks
+pub honest-swept : (board : GameTable) (old new : GameSeat) (marks : List Bool) (block all from to : ℕ) → SitsAt board old → KeepsNotes old new → block < length marks
     → all ≡ live_positions board.game.checkers → from ≡ block * 256 → to ≡ min all (from + 256)
     → ((game : Game) → old.view.game ≡ Some game → (b : ℕ) → is_marked marks b ≡ true → IsSwept game old.view b)
     → AreSwept board.game new.view from to

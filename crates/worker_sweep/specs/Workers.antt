@@ -2,13 +2,13 @@
 use Rattle.std.specs.Prelude.{◌≡◌, ℕ, ◌<◌, Bool, true, false, List, length, replicate, slice_index_or, Some}
 use Rattle.block_claims.specs.Claiming.{ClaimBoard, Claimer}
 use Rattle.interval_words.specs.declared.view.Game.{Game}
-use Rattle.interval_words.specs.Core.{AreTighter, noted}
-use Rattle.interval_words.specs.Seats.{Standing, Sitting, SitsAt}
+use Rattle.interval_words.specs.Core.{AreNoLooserIn, noted}
+use Rattle.interval_words.specs.Seats.{GameTable, GameSeat, SitsAt}
 use Rattle.worker_sweep.specs.Blocks.{blocks, IsSwept}
 
 -- a worker's seats at the board and at the claims, its number, and for each block whether it has swept it in this round
-pub record Working : Type 0 where
-  pub seat : Sitting
+pub record SeatsAndMarks : Type 0 where
+  pub seat : GameSeat
   pub claims : Claimer
   pub number : ℕ
   pub marks : List Bool
@@ -21,29 +21,29 @@ abbrev pub unmarked : ℕ → List Bool
 unmarked blocks = replicate blocks false
 
 -- the marked blocks are swept
-pub record IsHonest (worker : Working) : Type 0 where
+pub record IsHonest (worker : SeatsAndMarks) : Type 0 where
   pub marks : (game : Game) → worker.seat.view.game ≡ Some game → (block : ℕ) → is_marked worker.marks block ≡ true → IsSwept game worker.seat.view block
 
 -- the seat is at the same table, of the same game and base, and no note is lost
-pub record KeepsNotes (old new : Sitting) : Type 0 where
+pub record KeepsNotes (old new : GameSeat) : Type 0 where
   pub table : new.table ≡ old.table
   pub game : new.view.game ≡ old.view.game
   pub base : new.view.base ≡ old.view.base
-  pub notes : (game : Game) → old.view.game ≡ Some game → AreTighter game (noted game new.view.notes) (noted game old.view.notes)
+  pub notes : (game : Game) → old.view.game ≡ Some game → AreNoLooserIn game (noted game new.view.notes) (noted game old.view.notes)
 
 -- a worker of a board, with a mark for each of its blocks
-pub record WorksAt (board : Standing) (worker : Working) : Type 0 where
+pub record WorksAt (board : GameTable) (worker : SeatsAndMarks) : Type 0 where
   pub seat : SitsAt board worker.seat
   pub marks : length worker.marks ≡ blocks board.game.checkers
 
 -- a worker of a board and its claims, one of so many, after so many rounds
-pub record IsAtWork (board : Standing) (claims : ClaimBoard) (crew base : ℕ) (worker : Working) : Type 0 where
+pub record IsAtWork (board : GameTable) (claims : ClaimBoard) (crew base : ℕ) (worker : SeatsAndMarks) : Type 0 where
   pub works : WorksAt board worker
   pub claimer : worker.claims.table ≡ claims.table
   pub number : worker.number < crew
   pub after : worker.seat.view.base ≡ base
 
 -- the same, and no block is marked
-pub record IsReady (board : Standing) (claims : ClaimBoard) (crew base : ℕ) (worker : Working) : Type 0 where
+pub record IsReady (board : GameTable) (claims : ClaimBoard) (crew base : ℕ) (worker : SeatsAndMarks) : Type 0 where
   pub works : IsAtWork board claims crew base worker
   pub unmarked : worker.marks ≡ unmarked (blocks board.game.checkers)

@@ -1,6 +1,6 @@
 ghost use Rattle.std.specs.Prelude.{◌≡◌, ◌+◌, ◌-◌, ◌<◌, ◌≤◌, All, IfOk, length};
 ghost use Rattle.interval_words.specs.Seats.{SitsAt};
-ghost use Rattle.interval_words.specs.Listed.{AreClosed};
+ghost use Rattle.interval_words.specs.WordLists.{AreClosed};
 ghost use Rattle.worker_sweep.specs.Blocks.{blocks as blocks_in};
 ghost use Rattle.worker_sweep.specs.Workers.{IsAtWork, IsReady};
 

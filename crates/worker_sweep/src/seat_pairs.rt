@@ -1,7 +1,7 @@
 ghost use Rattle.std.specs.Prelude.{◌≡◌, ℕ, ◌+◌, ◌<◌, ◌≤◌, length, sum};
-ghost use Rattle.position_rank.specs.Board.{IsPosition, IsLive};
+ghost use Rattle.position_rank.specs.Placement.{IsPosition, IsLive};
 ghost use Rattle.position_rank.specs.LiveRanks.{live_positions};
-ghost use Rattle.directed_fixed.specs.Bounds.{IsTight, IsWithinUnits, at};
+ghost use Rattle.directed_fixed.specs.Bounds.{IsNoLooser, IsWithinUnits, at};
 ghost use Rattle.directed_fixed.specs.declared.bounds.End.{End};
 ghost use Rattle.directed_fixed.specs.declared.bounds.End.TheVariants.{Lower, Upper};
 ghost use Rattle.cube_actions.specs.Stakes.{IsValid};
@@ -31,11 +31,11 @@ struct SeatPairs<'a> {
 
 impl<'a> Pairs for SeatPairs<'a> {
     ghost use Rattle.std.specs.Prelude.{ℕ};
-    ghost use Rattle.interval_words.specs.Seats.{Standing};
+    ghost use Rattle.interval_words.specs.Seats.{GameTable};
     ghost use Rattle.interval_words.specs.Core.{noted};
     ghost use Rattle.worker_sweep.specs.Sources.{source_of};
 
-    ghost Stays = { Standing × ℕ };
+    ghost Stays = { GameTable × ℕ };
 
     ghost stays = { λ s. (s.board.now, s.seat.view.base) };
 
@@ -99,10 +99,10 @@ impl<'a> SeatPairs<'a> {
         requires valid { IsValid self.old.board.now.game.stakes }
         requires state { IsState self.old.board.now.game.checkers self.old.board.now.game.stakes position.now kind }
         requires within { (end : End) → IsWithinUnits self.old.board.now.game.stakes.bound (at end pair) }
-        requires loose { (end : End) → IsTight end (turn self.old.board.now.game.stakes (noted self.old.board.now.game self.old.seat.view.notes) end position.now kind) (at end pair) }
+        requires loose { (end : End) → IsNoLooser end (turn self.old.board.now.game.stakes (noted self.old.board.now.game self.old.seat.view.notes) end position.now kind) (at end pair) }
         ensures board { self.new.board.now ≡ self.old.board.now }
         ensures kept { KeepsNotes self.old.seat self.new.seat }
-        ensures noted { (end : End) → IsTight end (noted self.new.board.now.game self.new.seat.view.notes end position.now kind) (at end pair) }
+        ensures noted { (end : End) → IsNoLooser end (noted self.new.board.now.game self.new.seat.view.notes end position.now kind) (at end pair) }
     {
         let state = self.board.number(position, kind);
         self.board.raise(&mut self.seat, state, pair.lower());
@@ -116,7 +116,7 @@ fn sweep_state(pairs: &mut SeatPairs, ends: &RollEnds, kind: usize)
     requires state { IsState pairs.old.board.now.game.checkers pairs.old.board.now.game.stakes ends.now kind }
     ensures board { pairs.new.board.now ≡ pairs.old.board.now }
     ensures kept { KeepsNotes pairs.old.seat pairs.new.seat }
-    ensures done { (end : End) → IsTight end (noted pairs.new.board.now.game pairs.new.seat.view.notes end ends.now kind) (rounds pairs.old.board.now.game.stakes (pairs.old.seat.view.base + 1) end ends.now kind) }
+    ensures done { (end : End) → IsNoLooser end (noted pairs.new.board.now.game pairs.new.seat.view.notes end ends.now kind) (rounds pairs.old.board.now.game.stakes (pairs.old.seat.view.base + 1) end ends.now kind) }
 {
     let board = pairs.board;
     if let Ok(pair) = ends.turn_bounds(board.stakes(), kind, pairs) {
@@ -131,7 +131,7 @@ fn sweep_position(pairs: &mut SeatPairs, ends: &RollEnds)
     requires live { IsLive ends.now }
     ensures board { pairs.new.board.now ≡ pairs.old.board.now }
     ensures kept { KeepsNotes pairs.old.seat pairs.new.seat }
-    ensures done { (end : End) (k : ℕ) → k < kinds_of pairs.old.board.now.game → IsTight end (noted pairs.new.board.now.game pairs.new.seat.view.notes end ends.now k) (rounds pairs.old.board.now.game.stakes (pairs.old.seat.view.base + 1) end ends.now k) }
+    ensures done { (end : End) (k : ℕ) → k < kinds_of pairs.old.board.now.game → IsNoLooser end (noted pairs.new.board.now.game pairs.new.seat.view.notes end ends.now k) (rounds pairs.old.board.now.game.stakes (pairs.old.seat.view.base + 1) end ends.now k) }
 {
     let kinds = pairs.board.stakes().kinds();
     for kind in 0..kinds {

@@ -1,7 +1,7 @@
 ghost use Rattle.std.specs.Prelude.{◌≡◌, ◌≤◌, All, sum, length};
-ghost use Rattle.position_rank.specs.Board.{IsPosition, IsLive};
+ghost use Rattle.position_rank.specs.Placement.{IsPosition, IsLive};
 ghost use Rattle.turn_rule.specs.States.{IsState};
-ghost use Rattle.interval_words.specs.Listed.{Listed};
+ghost use Rattle.interval_words.specs.WordLists.{WordList};
 
 use super::*;
 use cube_actions::Stakes;

@@ -29,9 +29,9 @@ pub struct Worker {
 }
 
 impl Model for Worker {
-    ghost use Rattle.worker_sweep.specs.Workers.{Working, IsHonest};
+    ghost use Rattle.worker_sweep.specs.Workers.{SeatsAndMarks, IsHonest};
 
-    ghost Value = { Working };
+    ghost Value = { SeatsAndMarks };
 
     ghost view = { λ a. record { seat = a.seat; claims = a.claims; number = a.number; marks = a.swept.items } };
 

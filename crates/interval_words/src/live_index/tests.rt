@@ -1,5 +1,5 @@
 ghost use Rattle.std.specs.Prelude.{◌≡◌, sum};
-ghost use Rattle.position_rank.specs.Board.{IsPosition, IsLive};
+ghost use Rattle.position_rank.specs.Placement.{IsPosition, IsLive};
 
 use super::*;
 use position_rank::{print_position, read_position};

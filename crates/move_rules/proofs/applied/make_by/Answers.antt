@@ -1,5 +1,5 @@
 use Rattle.std.proofs.Common.{◌≡◌, ◌≤◌, ◌⊎◌, inl, inr, arith, get_or}
-use Rattle.position_rank.specs.Board.{above}
+use Rattle.position_rank.specs.Placement.{above}
 use Rattle.move_rules.proofs.FaultLaws.{made-ok, made-err}
 use Rattle.move_rules.proofs.applied.make_by.Goals as goal
 use Rattle.move_rules.proofs.applied.make_by.Goals.{else-step-ne25-via-then-step-ne25+else-mover_at-gt0, else-step-ne25-via-else-step-ne25, else-step-via-then-step+else-not-may_bear_off, else-step-via-else-step}

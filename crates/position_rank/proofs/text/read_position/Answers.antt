@@ -19,4 +19,4 @@ pub returns-clause-text : goal.returns-clause-text
 returns-clause-text c =
     let some : c.read_sides.result ≡ Some (c.in_ok-mover.mover, c.in_ok-mover.other) = c.ok_or.ensures.ok_part ∙ ap result_ok c.in_ok-mover.was in
     let shape : c.has_shape.result ≡ true = search rules in
-    c.set_up.ensures.board ∙ read_words-done (words c.args.text.now) c.deref.result.now c.deref-2.result.now (sym c.has_shape.ensures ∙ shape) (c.read_sides.ensures.places.0 (rw some refl)) (c.deref.ensures.0 ∙ (rw some at c.read_sides.ensures.mover)) (c.deref-2.ensures.0 ∙ (rw some at c.read_sides.ensures.other))
+    c.set_up.ensures.placement ∙ read_words-done (words c.args.text.now) c.deref.result.now c.deref-2.result.now (sym c.has_shape.ensures ∙ shape) (c.read_sides.ensures.places.0 (rw some refl)) (c.deref.ensures.0 ∙ (rw some at c.read_sides.ensures.mover)) (c.deref-2.ensures.0 ∙ (rw some at c.read_sides.ensures.other))

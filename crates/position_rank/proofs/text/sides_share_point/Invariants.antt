@@ -1,6 +1,6 @@
 use Rattle.std.proofs.Common.{◌≡◌}
 use Rattle.position_rank.specs.Text.{share_point}
-use Rattle.position_rank.proofs.TextBoards.{shared_from}
+use Rattle.position_rank.proofs.TextPlacements.{shared_from}
 use Rattle.position_rank.proofs.text.sides_share_point.Given as goal
 
 abbrev pub invariant-loop-point : goal.invariant-loop-point

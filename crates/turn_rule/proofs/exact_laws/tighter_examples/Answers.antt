@@ -2,10 +2,10 @@ use Rattle.std.proofs.Common.{◌<◌, ℕ, refl, arith, zero, suc}
 use Rattle.std.proofs.lemmas.Int.{ints}
 use Rattle.game_payoff.specs.declared.payoff.Won.{Won}
 use Rattle.game_payoff.specs.declared.payoff.Won.TheVariants.{Single, Gammon, Backgammon}
-use Rattle.directed_fixed.specs.Bounds.{AreTight}
+use Rattle.directed_fixed.specs.Bounds.{AreNoLooserPairs}
 use Rattle.cube_actions.specs.Stakes.{cubeless, kind_at}
 use Rattle.turn_rule.specs.Turn.{win}
-use Rattle.turn_rule.specs.Truth.{IsTighterKind}
+use Rattle.turn_rule.specs.Truth.{IsNoLooserKind}
 use Rattle.turn_rule.specs.Examples.{vague_game}
 use Rattle.turn_rule.proofs.Monotone.{same-stakes}
 use Rattle.turn_rule.proofs.exact_laws.tighter_examples.Goals as goal
@@ -15,12 +15,12 @@ returns-clause-same c = same-stakes
 
 pub returns-clause-known_gammon : goal.returns-clause-known_gammon
 returns-clause-known_gammon c = record { many = refl; bound = refl; kinds = kinds } where
-  wins : (won : Won) → AreTight (win (kind_at cubeless 0) won) (win (kind_at vague_game 0) won)
+  wins : (won : Won) → AreNoLooserPairs (win (kind_at cubeless 0) won) (win (kind_at vague_game 0) won)
   wins Single = record { lower = omega (arith, ints); upper = omega (arith, ints) }
   wins Gammon = record { lower = omega (arith, ints); upper = omega (arith, ints) }
   wins Backgammon = record { lower = omega (arith, ints); upper = omega (arith, ints) }
 
-  kinds : (k : ℕ) → k < 1 → IsTighterKind (kind_at cubeless k) (kind_at vague_game k)
+  kinds : (k : ℕ) → k < 1 → IsNoLooserKind (kind_at cubeless k) (kind_at vague_game k)
   kinds zero h = record { next = refl; wins = wins; double = tt }
   kinds (suc k) h = absurd (omega arith)
 

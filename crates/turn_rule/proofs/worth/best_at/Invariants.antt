@@ -1,6 +1,6 @@
 use Rattle.std.proofs.Common.{◌≡◌, take, Ok}
 use Rattle.turn_rule.specs.Turn.{Words, worth, greatest}
-use Rattle.turn_rule.specs.Found.{Finds, MayLeave}
+use Rattle.turn_rule.specs.Found.{Finds, MayFollowEnds}
 use Rattle.turn_rule.proofs.worth.best_at.Given as goal
 
 -- the best of the plays so far
@@ -10,5 +10,5 @@ invariant-loop-i g l =
     record {
       source : g.P.Pairs.source l.pairs ≡ s;
       stays : g.P.Pairs.stays l.pairs ≡ g.P.Pairs.stays l.fn.pairs;
-      found : Finds l.end s (g.P.Pairs.notes l.fn.pairs) (g.P.Pairs.notes l.pairs) (g.P.Pairs.faults l.fn.pairs) (g.P.Pairs.faults l.pairs) (MayLeave l.kind.next (take l.i l.ends)) s.bound (λ (u : Words). greatest (worth l.end l.kind u) (take l.i l.ends)) (Ok l.best);
+      found : Finds l.end s (g.P.Pairs.notes l.fn.pairs) (g.P.Pairs.notes l.pairs) (g.P.Pairs.faults l.fn.pairs) (g.P.Pairs.faults l.pairs) (MayFollowEnds l.kind.next (take l.i l.ends)) s.bound (λ (u : Words). greatest (worth l.end l.kind u) (take l.i l.ends)) (Ok l.best);
     }

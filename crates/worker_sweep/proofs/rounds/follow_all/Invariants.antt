@@ -1,11 +1,11 @@
 use Rattle.std.proofs.Common.{◌≡◌, ◌+◌, ◌<◌, ◌≤◌, ℕ, length, slice_index_or}
-use Rattle.worker_sweep.specs.Workers.{Working, IsReady}
+use Rattle.worker_sweep.specs.Workers.{SeatsAndMarks, IsReady}
 use Rattle.worker_sweep.proofs.rounds.follow_all.Given as goal
 
 abbrev pub invariant-loop-worker : goal.invariant-loop-worker
 invariant-loop-worker l = record {
   owner : l.owner ≡ l.initial.owner;
   many : length l.workers ≡ length l.initial.workers;
-  ready : (k : ℕ) (d : Working) → k < l.worker-index → IsReady l.board l.claims l.crew (l.base + 1) (slice_index_or l.workers k d);
-  rest : (k : ℕ) (d : Working) → l.worker-index ≤ k → k < length l.workers → IsReady l.board l.claims l.crew l.base (slice_index_or l.workers k d);
+  ready : (k : ℕ) (d : SeatsAndMarks) → k < l.worker-index → IsReady l.board l.claims l.crew (l.base + 1) (slice_index_or l.workers k d);
+  rest : (k : ℕ) (d : SeatsAndMarks) → l.worker-index ≤ k → k < length l.workers → IsReady l.board l.claims l.crew l.base (slice_index_or l.workers k d);
 }

@@ -1,11 +1,11 @@
 use Rattle.std.proofs.Common.{◌≡◌, ◌<◌, ◌≤◌, ℕ, length, slice_index_or}
-use Rattle.worker_sweep.specs.Workers.{Working, IsAtWork, IsReady}
+use Rattle.worker_sweep.specs.Workers.{SeatsAndMarks, IsAtWork, IsReady}
 use Rattle.worker_sweep.proofs.rounds.take_all_in.Given as goal
 
 abbrev pub invariant-loop-worker : goal.invariant-loop-worker
 invariant-loop-worker l = record {
   owner : IsAtWork l.board l.claims l.crew l.base l.owner;
   many : length l.workers ≡ length l.initial.workers;
-  ready : (k : ℕ) (d : Working) → k < l.worker-index → IsReady l.board l.claims l.crew l.base (slice_index_or l.workers k d);
-  rest : (k : ℕ) (d : Working) → l.worker-index ≤ k → k < length l.workers → IsAtWork l.board l.claims l.crew l.base (slice_index_or l.workers k d);
+  ready : (k : ℕ) (d : SeatsAndMarks) → k < l.worker-index → IsReady l.board l.claims l.crew l.base (slice_index_or l.workers k d);
+  rest : (k : ℕ) (d : SeatsAndMarks) → l.worker-index ≤ k → k < length l.workers → IsAtWork l.board l.claims l.crew l.base (slice_index_or l.workers k d);
 }

@@ -5,7 +5,7 @@ use Rattle.interval_words.specs.Core.{IsGame, joined}
 use Rattle.interval_words.specs.Seats.{Knows}
 use Rattle.interval_words.proofs.Calls.{word-zero, knows-joined}
 use Rattle.interval_words.proofs.Allowed.{joins}
-use Rattle.interval_words.proofs.board.Board.join.Goals as goal
+use Rattle.interval_words.proofs.board.Placement.join.Goals as goal
 
 pub join_seat-requires : goal.join_seat-requires
 join_seat-requires c = (

@@ -4,16 +4,16 @@ use Rattle.interval_words.specs.declared.view.Game.{Game}
 use Rattle.interval_words.specs.declared.view.View.{View}
 use Rattle.interval_words.specs.Seats.{Knows}
 use Rattle.interval_words.specs.Core.{words_in, first_view}
-use Rattle.interval_words.specs.Numbers.{AreOpeningWords, states_in}
+use Rattle.interval_words.specs.Numbers.{AreBoundWords, states_in}
 use Rattle.interval_words.proofs.Calls.{knows-first}
 use Rattle.interval_words.proofs.EventLaws.{kept-new-board}
-use Rattle.interval_words.proofs.board.Board.new.Goals as goal
+use Rattle.interval_words.proofs.board.Placement.new.Goals as goal
 
 pub of_words-requires : goal.of_words-requires
 of_words-requires c =
     let valid : IsValid c.copied.result = subst (λ (s : Terms). IsValid s) (sym c.copied.ensures) c.bound.ensures.valid in
     let many : c.state_count.result ≡ states_in c.args.checkers (length c.copied.result.kinds) = c.state_count.ensures.count ∙ (ap (λ (n : ℕ). states_in n (length c.args.stakes.now.kinds)) c.in_ok-index.ensures ∙ ap (λ (s : Terms). states_in c.args.checkers (length s.kinds)) (sym c.copied.ensures)) in
-    let words = subst (λ (list : List ℕ). AreOpeningWords c.bound.result c.state_count.result list) (sym c.deref.ensures.value) c.in_ok-words.ensures in
+    let words = subst (λ (list : List ℕ). AreBoundWords c.bound.result c.state_count.result list) (sym c.deref.ensures.value) c.in_ok-words.ensures in
     kept-new-board c.args.checkers c.copied.result c.requires.low c.requires.high valid c.deref.result.now c.bound.result c.state_count.result (c.bound.ensures.bound ∙ ap (λ (s : Terms). s.bound) (sym c.copied.ensures)) many words
 
 pub invariant_of-result : goal.invariant_of-result

@@ -1,6 +1,6 @@
 use Rattle.std.proofs.Common.{◌≡◌, ◌<◌, ◌*◌, length, sum, refl, arith, ◌∙◌, ap, sym, subst, ℕ}
 use Rattle.std.proofs.lemmas.List.{get_or_read_under}
-use Rattle.position_rank.specs.Board.{Board, IsPosition}
+use Rattle.position_rank.specs.Placement.{Placement, IsPosition}
 use Rattle.position_rank.specs.Ranks.{layouts, square_rank_of}
 use Rattle.position_rank.specs.LiveRanks.{live_below, live_rank_of}
 use Rattle.position_rank.proofs.LiveLaws.{live-rank-in}
@@ -8,7 +8,7 @@ use Rattle.turn_rule.specs.Tables.{squares_of}
 use Rattle.turn_rule.proofs.GameLemmas.{square-below}
 use Rattle.interval_words.proofs.live_index.LiveIndex.rank_at.Goals as goal
 
-below : (p : Board) (square : ℕ) → IsPosition p → square ≡ square_rank_of p → square < squares_of (sum p.mover)
+below : (p : Placement) (square : ℕ) → IsPosition p → square ≡ square_rank_of p → square < squares_of (sum p.mover)
 below p square is at = subst (λ (n : ℕ). n < squares_of (sum p.mover)) (sym at) (square-below p (sum p.mover) is refl)
 
 inside : (c : goal.After-from) → length c.self.inside.below.items ≡ layouts (sum c.args.position.now.mover) * layouts (sum c.args.position.now.mover)

@@ -1,8 +1,8 @@
 use Rattle.std.proofs.Common.{subst}
 use Rattle.turn_rule.specs.States.{AreWithin}
-use Rattle.interval_words.specs.Listed.{Listed, words_in_list}
+use Rattle.interval_words.specs.WordLists.{WordList, words_in_list}
 use Rattle.interval_words.proofs.Lists.{right-within}
 use Rattle.interval_words.proofs.words.Words.reader.Goals as goal
 
 pub invariant_of-result : goal.invariant_of-result
-invariant_of-result c = record { within = subst (λ (w : Listed). AreWithin w.game.checkers w.game.stakes (words_in_list w)) c.self.view_is (right-within _ c.self.invariant) }
+invariant_of-result c = record { within = subst (λ (w : WordList). AreWithin w.game.checkers w.game.stakes (words_in_list w)) c.self.view_is (right-within _ c.self.invariant) }

@@ -1,6 +1,6 @@
 use Rattle.std.proofs.Common.{◌≡◌, ◌≤ℤ◌, ◌∙◌, ap, sym, subst, arith, ℕ, pos, List}
 use Rattle.std.proofs.lemmas.Int.{ints}
-use Rattle.interval_words.specs.Listed.{Listed, IsWidest, pair_at, width, states_of}
+use Rattle.interval_words.specs.WordLists.{WordList, IsWidest, pair_at, width, states_of}
 use Rattle.interval_words.proofs.Lists.{AreWidths, widths-more, found-is, width-is}
 use Rattle.interval_words.proofs.words.Words.widest.Goals as goal
 
@@ -17,8 +17,8 @@ loop-state-preserved c =
 
 pub returns : goal.returns
 returns c =
-    let words : Listed = record { game = record { checkers = c.self.inside.index; stakes = c.self.inside.stakes }; rounds = c.self.inside.rounds; list = c.self.inside.list.items } in
+    let words : WordList = record { game = record { checkers = c.self.inside.index; stakes = c.self.inside.stakes }; rounds = c.self.inside.rounds; list = c.self.inside.list.items } in
     let all : states_of words.game ≡ c.loop-state.state = omega (arith, c.state_count-states.ensures.count) in
     let are : AreWidths words.list (states_of words.game) c.loop-state.widest = subst (λ (n : ℕ). AreWidths words.list n c.loop-state.widest) (sym all) c.loop-state.invariant.so_far in
     let is : IsWidest words c.loop-state.widest = record { each = are.each; reached = are.reached (omega (arith, c.state_count-states.ensures.count, c.state_count-states.ensures.some)) } in
-    subst (λ (w : Listed). IsWidest w c.loop-state.widest) c.self.view_is is
+    subst (λ (w : WordList). IsWidest w c.loop-state.widest) c.self.view_is is

@@ -1,7 +1,7 @@
 use Rattle.std.proofs.Common.{ap, sym, subst, ℕ, ◌≡◌, ◌∙◌, ◌↔◌, List, take}
 use Rattle.std.specs.List.{Contains}
 use Rattle.std.proofs.lemmas.List.{length-map, take_all}
-use Rattle.position_rank.specs.Board.{Board}
+use Rattle.position_rank.specs.Placement.{Placement}
 use Rattle.roll_table.specs.Rolls.{Dice}
 use Rattle.move_rules.specs.Order.{ends_of}
 use Rattle.move_rules.specs.Sequences.{IsLegalEnd}
@@ -16,6 +16,6 @@ returns-clause-ends c =
     record {
       some = rw (is, length-map) c.plays.ensures.some;
       ends = λ q.
-          subst (λ (xs : List Board). Contains xs q ↔ IsLegalEnd p c.loop-entry.self.roll q) (sym is)
+          subst (λ (xs : List Placement). Contains xs q ↔ IsLegalEnd p c.loop-entry.self.roll q) (sym is)
           (subst (λ (r : Dice). Contains (ends_of c.plays.new.list.items) q ↔ IsLegalEnd p r q) (sym roll) (c.plays.ensures.ends q));
     }

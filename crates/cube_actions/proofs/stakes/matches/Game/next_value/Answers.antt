@@ -1,6 +1,6 @@
 use Rattle.std.proofs.Common.{◌<◌, length, ap, sym, subst, arith}
 use Rattle.cube_actions.specs.declared.phase.Phase.{Phase}
-use Rattle.cube_actions.specs.Scores.{Standing, IsScore}
+use Rattle.cube_actions.specs.Scores.{MatchScore, IsScore}
 use Rattle.cube_actions.specs.Matches.{next_score}
 use Rattle.cube_actions.specs.Ladder.{ladder}
 use Rattle.cube_actions.specs.Starts.{place_of}
@@ -13,4 +13,4 @@ next_score-next-requires c =
     let starts = game.have_starts in
     let next = next_score game.score.phase c.args.own c.args.others in
     let listed : place_of game.starts.now.match_length next < length (ladder game.starts.now.match_length) = omega (arith, c.requires, starts.room) in
-    subst (λ (phase : Phase). IsScore (next_score phase c.args.own c.args.others)) (ap (λ (s : Standing). s.phase) (sym c.score.view_is)) (listed-valid game.starts.now.match_length starts.from starts.to next listed)
+    subst (λ (phase : Phase). IsScore (next_score phase c.args.own c.args.others)) (ap (λ (s : MatchScore). s.phase) (sym c.score.view_is)) (listed-valid game.starts.now.match_length starts.from starts.to next listed)

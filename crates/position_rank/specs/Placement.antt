@@ -9,18 +9,18 @@ pub record IsLayout (counts : List ℕ) : Type 0 where
   pub at_most_three : sum counts ≤ 3
 
 -- both sides' checkers, each side's in its own numbering
-pub record Board : Type 0 where
+pub record Placement : Type 0 where
   pub mover : List ℕ
   pub other : List ℕ
 
 -- both sides have the same number of checkers
-pub record IsPosition (p : Board) : Type 0 where
+pub record IsPosition (p : Placement) : Type 0 where
   pub mover : IsLayout p.mover
   pub other : IsLayout p.other
   pub same : sum p.mover ≡ sum p.other
 
 -- the sides exchanged
-abbrev pub swap : Board → Board
+abbrev pub swap : Placement → Placement
 swap p = record { mover = p.other; other = p.mover }
 
 -- some checker of the side isn't off
@@ -32,11 +32,11 @@ abbrev pub IsMet : List ℕ → ℕ → Type 0
 IsMet counts place = (1 ≤ place) × (place ≤ 24) × (0 < slice_index counts (25 - place))
 
 -- no point is held by both sides
-abbrev pub AreApart : Board → Type 0
+abbrev pub AreApart : Placement → Type 0
 AreApart p = (point : ℕ) → 1 ≤ point → point ≤ 24 → 0 < slice_index p.mover point → slice_index p.other (25 - point) ≡ 0
 
 -- no point is held by both sides, and both sides have checkers in play
-pub record IsLive (p : Board) : Type 0 where
+pub record IsLive (p : Placement) : Type 0 where
   pub apart : AreApart p
   pub mover : InPlay p.mover
   pub other : InPlay p.other

@@ -1,7 +1,7 @@
 use Rattle.std.proofs.Common.{◌≡◌, ◌^◌, ℤ, pos, ◌+ℤ◌, ap, arith, ◌∙◌}
 use Rattle.interval_words.specs.Numbers.{value_of}
 use Rattle.interval_words.proofs.Calls.{value_of-word}
-use Rattle.interval_words.proofs.board.opening_words.Goals as goal
+use Rattle.interval_words.proofs.board.bound_words_list.Goals as goal
 
 pub returns : goal.returns
 returns c =

@@ -1,5 +1,5 @@
 use Rattle.std.proofs.Common.{◌≡◌, ◌*◌, ◌+◌, ◌<◌, ℕ, get_or, length}
-use Rattle.interval_words.proofs.board.opening_words.Given as goal
+use Rattle.interval_words.proofs.board.bound_words_list.Given as goal
 
 abbrev pub invariant-loop : goal.invariant-loop
 invariant-loop l = record {

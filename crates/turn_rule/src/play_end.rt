@@ -1,5 +1,5 @@
 ghost use Rattle.std.specs.Prelude.{◌≡◌};
-ghost use Rattle.position_rank.specs.Board.{Board, swap};
+ghost use Rattle.position_rank.specs.Placement.{Placement, swap};
 ghost use Rattle.position_rank.specs.Ranks.{square_rank_of};
 ghost use Rattle.game_payoff.specs.Points.{points};
 
@@ -9,30 +9,30 @@ use std::marker::Model;
 
 /// The end of a play, with what is asked of it in each kind: how the game was won, and the position as the other side sees it.
 #[derive(Drop)]
-pub(crate) struct Left {
+pub(crate) struct PlayEnd {
     won: Option<Won>,
     theirs: Position,
     square: u64,
 }
 
-impl Model for Left {
-    ghost use Rattle.position_rank.specs.Board.{Board};
-    ghost use Rattle.turn_rule.specs.Lefts.{seen, IsLeftRight};
+impl Model for PlayEnd {
+    ghost use Rattle.position_rank.specs.Placement.{Placement};
+    ghost use Rattle.turn_rule.specs.PlayEnds.{mover_view, IsPlayEnd};
 
-    ghost Value = { Board };
+    ghost Value = { Placement };
 
-    ghost view = { λ a. seen a.theirs };
+    ghost view = { λ a. mover_view a.theirs };
 
-    ghost invariant = { λ a. IsLeftRight a.won a.theirs a.square };
+    ghost invariant = { λ a. IsPlayEnd a.won a.theirs a.square };
 }
 
-impl Default for Left {
+impl Default for PlayEnd {
     ghost is_default = { λ left. Unit {0} };
 
     /// One checker of each side on its point 24.
     #[inline]
     fn default() -> Self {
-        Left {
+        PlayEnd {
             won: None,
             theirs: Position::start(1),
             square: 648,
@@ -40,13 +40,13 @@ impl Default for Left {
     }
 }
 
-impl Left {
+impl PlayEnd {
     /// What stands after a play that ends so.
-    pub(crate) fn of(end: &Position) -> Left
+    pub(crate) fn of(end: &Position) -> PlayEnd
         ensures { result ≡ end.now }
     {
         let theirs = end.swap();
-        Left {
+        PlayEnd {
             won: points(end),
             theirs,
             square: theirs.square_rank(),

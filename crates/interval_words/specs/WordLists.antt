@@ -7,15 +7,15 @@ use Rattle.turn_rule.specs.Truth.{AreSound, AreConsistent}
 use Rattle.turn_rule.specs.Looks.{Source}
 use Rattle.interval_words.specs.declared.view.Game.{Game}
 use Rattle.interval_words.specs.Numbers.{states_in, word_of, words_of, value_of}
-use Rattle.interval_words.specs.Core.{AreTighter, kinds_of, words_in}
+use Rattle.interval_words.specs.Core.{AreNoLooserIn, kinds_of, words_in}
 
 -- the words of a game after some rounds, two for each state by its number, the lower one first
-pub record Listed : Type 0 where
+pub record WordList : Type 0 where
   pub game : Game
   pub rounds : ℕ
   pub list : List ℕ
 
-abbrev pub words_in_list : Listed → Words
+abbrev pub words_in_list : WordList → Words
 words_in_list words = words_of (kinds_of words.game) words.list
 
 -- both words of the state with this number
@@ -30,23 +30,23 @@ abbrev pub states_of : Game → ℕ
 states_of game = states_in game.checkers (kinds_of game)
 
 -- there are two words for each state, within the bound, the lower one at most the upper one
-pub record AreRight (words : Listed) : Type 0 where
+pub record AreRight (words : WordList) : Type 0 where
   pub long : length words.list ≡ words_in words.game
   pub within : (state : ℕ) → state < states_of words.game → IsWithin words.game.stakes.bound (pair_at words.list state)
 
 -- no state's pair is wider, and some state's is as wide
-pub record IsWidest (words : Listed) (widest : ℤ) : Type 0 where
+pub record IsWidest (words : WordList) (widest : ℤ) : Type 0 where
   pub each : (state : ℕ) → state < states_of words.game → width (pair_at words.list state) ≤ℤ widest
   pub reached : (state : ℕ) × (state < states_of words.game) × (widest ≡ width (pair_at words.list state))
 
 -- the words are sound, consistent, and at least as tight as those after so many rounds
-pub record AreClosed (words : Listed) : Type 0 where
+pub record AreClosed (words : WordList) : Type 0 where
   pub sound : AreSound words.game.checkers words.game.stakes (words_in_list words)
   pub consistent : AreConsistent words.game.checkers words.game.stakes (words_in_list words)
-  pub tight : AreTighter words.game (words_in_list words) (rounds words.game.stakes words.rounds)
+  pub tight : AreNoLooserIn words.game (words_in_list words) (rounds words.game.stakes words.rounds)
 
 -- where these words are looked up: each look-up is answered, and no state is damaged
-abbrev pub source_of : Listed → Source
+abbrev pub source_of : WordList → Source
 source_of words = record {
   checkers = words.game.checkers;
   kinds = kinds_of words.game;
