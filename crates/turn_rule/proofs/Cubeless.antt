@@ -6,6 +6,7 @@ use Rattle.position_rank.specs.LiveRanks.{are_apart}
 use Rattle.position_rank.proofs.LiveLaws.{live-from}
 use Rattle.position_rank.specs.Examples.{placed}
 use Rattle.cube_actions.specs.Stakes.{IsValid, cubeless}
+use Rattle.turn_rule.specs.Games.{game_of}
 use Rattle.turn_rule.specs.States.{IsState}
 
 pub cubeless-valid : IsValid cubeless
@@ -22,6 +23,6 @@ live : IsLive one_each
 unfolding counts_of are_apart
 live = live-from one_each refl
 
-pub one_each-state : IsState 1 cubeless one_each 0
+pub one_each-state : IsState (game_of 1 cubeless) one_each 0
 unfolding counts_of
 one_each-state = record { position = record { mover = one_on_its_1; other = one_on_its_1; same = refl }; many = refl; live = live; kind = omega arith }

@@ -14,11 +14,11 @@ use Rattle.directed_fixed.specs.Bounds.{other, at}
 use Rattle.cube_actions.specs.declared.kind.Double.{Double}
 use Rattle.cube_actions.specs.declared.kind.Taken.{Taken}
 use Rattle.cube_actions.specs.Stakes.{Terms, kind_at, no_kind, IsValid, IsRightDouble, IsRightAnswer}
+use Rattle.turn_rule.specs.declared.game.Game.{Game}
 use Rattle.turn_rule.specs.Turn.{Words, win, if_won, worth, roll_value, or_double, turn, bound_words, rounds}
-use Rattle.turn_rule.specs.States.{IsState, AreNoLooser}
-use Rattle.turn_rule.specs.Rounds.{bound_pair}
+use Rattle.turn_rule.specs.States.{IsState, AreNoLooser, pair_of}
 use Rattle.turn_rule.specs.Exact.{Scoring, Values, left_with, rolled, better_of, before_turn, exact}
-use Rattle.turn_rule.specs.Truth.{IsBoundOf, Encloses, IsScoring, AreEnclosing, AreSound, AreConsistent}
+use Rattle.turn_rule.specs.Truth.{IsBoundOf, Encloses, AreWinsWithin, ArePassesWithin, IsScoringWithin, IsScoring, AreEnclosing, IsSound, AreSoundFrom, AreSound, AreConsistent}
 use Rattle.turn_rule.proofs.Within.{next_state, at_member, turn-within, opening-within}
 use Rattle.turn_rule.proofs.Integers.{le_refl}
 use Rattle.turn_rule.proofs.Monotone.{rounds-tighter}
@@ -27,7 +27,7 @@ use Rattle.turn_rule.proofs.Fractions.{bound-at, bound-looser, bound-max, bound-
 once : (x : ℤ) → pos 1 *ℤ x ≡ x
 once x = omega (arith, ints)
 
-module _ (checkers : ℕ) (stakes : Terms) (valid : IsValid stakes) (scoring : Scoring) (within : IsScoring checkers stakes scoring) (turns : ℕ) where
+module _ (game : Game) (valid : IsValid game.stakes) (scoring : Scoring) (wins : AreWinsWithin game scoring) (passes : ArePassesWithin game scoring) (turns : ℕ) where
   -- over what values are counted after the turn, and before it
   abbrev after : ℕ
   after = scoring.scale * 36 ^ turns
@@ -41,80 +41,82 @@ module _ (checkers : ℕ) (stakes : Terms) (valid : IsValid stakes) (scoring : S
   before_is : 36 * after ≡ before
   before_is = times_36 (36 ^ turns) ∙ ap (λ (n : ℕ). scoring.scale * n) (sym (pow-succ' 36 turns))
 
-  module _ (end : End) (u : Words) (later : Values) (bounds : (p : Placement) (k : ℕ) → IsState checkers stakes p k → IsBoundOf (other end) (u (other end) p k) (later p k) after) where
-    bound-end : (p : Placement) (k : ℕ) → IsState checkers stakes p k → (roll : Dice) (q : Placement) → IsRoll roll → Among q (legal_ends p roll) → IsBoundOf end (worth end (kind_at stakes k) u q) (left_with stakes scoring turns later k q) after
+  module _ (end : End) (u : Words) (later : Values) (bounds : (p : Placement) (k : ℕ) → IsState game p k → IsBoundOf (other end) (u (other end) p k) (later p k) after) where
+    bound-end : (p : Placement) (k : ℕ) → IsState game p k → (roll : Dice) (q : Placement) → IsRoll roll → Among q (legal_ends p roll) → IsBoundOf end (worth end (kind_at game.stakes k) u q) (left_with game.stakes scoring turns later k q) after
     bound-end p k state roll q right m = by_points (points q) refl where
-      by_points : (o : Option Won) → points q ≡ o → IsBoundOf end (if_won o (λ won. at end (win (kind_at stakes k) won)) (neg_ℤ (u (other end) (swap q) (kind_at stakes k).next))) (if_won o (λ won. pos (36 ^ turns) *ℤ scoring.win k won) (neg_ℤ (later (swap q) (kind_at stakes k).next))) after
-      by_points None on = bound-neg end _ _ after (bounds (swap q) (kind_at stakes k).next (next_state checkers stakes valid p k state roll q right m on))
-      by_points (Some won) over = bound-over end (36 ^ turns) _ _ scoring.scale (bound-at end _ _ scoring.scale (within.wins k won state.kind))
+      by_points : (o : Option Won) → points q ≡ o → IsBoundOf end (if_won o (λ won. at end (win (kind_at game.stakes k) won)) (neg_ℤ (u (other end) (swap q) (kind_at game.stakes k).next))) (if_won o (λ won. pos (36 ^ turns) *ℤ scoring.win k won) (neg_ℤ (later (swap q) (kind_at game.stakes k).next))) after
+      by_points None on = bound-neg end _ _ after (bounds (swap q) (kind_at game.stakes k).next (next_state game valid p k state roll q right m on))
+      by_points (Some won) over = bound-over end (36 ^ turns) _ _ scoring.scale (bound-at end _ _ scoring.scale (wins k won state.kind))
 
-    bound-roll : (p : Placement) (k factor : ℕ) → IsState checkers stakes p k → IsBoundOf end (roll_value end stakes u p k factor) (pos factor *ℤ rolled stakes scoring turns later p k) before
+    bound-roll : (p : Placement) (k factor : ℕ) → IsState game p k → IsBoundOf end (roll_value end game.stakes u p k factor) (pos factor *ℤ rolled game.stakes scoring turns later p k) before
     bound-roll p k factor state =
-        subst (IsBoundOf end (roll_value end stakes u p k factor) (pos factor *ℤ rolled stakes scoring turns later p k)) before_is
-        (bound-outwards end _ _ after (bound-times end factor _ _ after (bound-sum end (worth end (kind_at stakes k) u) (left_with stakes scoring turns later k) p after (bound-end p k state))))
+        subst (IsBoundOf end (roll_value end game.stakes u p k factor) (pos factor *ℤ rolled game.stakes scoring turns later p k)) before_is
+        (bound-outwards end _ _ after (bound-times end factor _ _ after (bound-sum end (worth end (kind_at game.stakes k) u) (left_with game.stakes scoring turns later k) p after (bound-end p k state))))
 
-    bound-better : (p : Placement) (k : ℕ) → IsState checkers stakes p k → (double : Option Double) → IfSome double (IsRightDouble stakes) → IfSome double (λ double. Encloses double.pass (scoring.pass k) scoring.scale) → (a x : ℤ) → IsBoundOf end a x before → IsBoundOf end (or_double end stakes u p a double) (better_of stakes scoring turns later p k x double) before
+    bound-better : (p : Placement) (k : ℕ) → IsState game p k → (double : Option Double) → IfSome double (IsRightDouble game.stakes) → IfSome double (λ double. Encloses double.pass (scoring.pass k) scoring.scale) → (a x : ℤ) → IsBoundOf end a x before → IsBoundOf end (or_double end game.stakes u p a double) (better_of game.stakes scoring turns later p k x double) before
     bound-better p k state None right passes a x h = h
     bound-better p k state (Some double) right passes a x h =
-        bound-max end _ _ _ _ before h (bound-least Taken end (λ taken. roll_value end stakes u p taken.kind taken.factor) (λ taken. pos taken.factor *ℤ rolled stakes scoring turns later p taken.kind) _ _ double.answers.items before
+        bound-max end _ _ _ _ before h (bound-least Taken end (λ taken. roll_value end game.stakes u p taken.kind taken.factor) (λ taken. pos taken.factor *ℤ rolled game.stakes scoring turns later p taken.kind) _ _ double.answers.items before
         (bound-over end (36 ^ suc turns) _ _ scoring.scale (bound-at end _ _ scoring.scale passes))
-        (λ taken m. bound-roll p taken.kind taken.factor (record { position = state.position; many = state.many; live = state.live; kind = (at_member (IsRightAnswer stakes) double.answers.items right.answers taken m).kind })))
+        (λ taken m. bound-roll p taken.kind taken.factor (record { position = state.position; many = state.many; live = state.live; kind = (at_member (IsRightAnswer game.stakes) double.answers.items right.answers taken m).kind })))
 
-    bound-turn : (p : Placement) (k : ℕ) → IsState checkers stakes p k → IsBoundOf end (turn stakes u end p k) (before_turn stakes scoring turns later p k) before
+    bound-turn : (p : Placement) (k : ℕ) → IsState game p k → IsBoundOf end (turn game.stakes u end p k) (before_turn game.stakes scoring turns later p k) before
     unfolding turn
     bound-turn p k state =
-        bound-better p k state (kind_at stakes k).double (valid.kinds k no_kind state.kind).double (within.passes k state.kind) _ _
-        (subst (λ (x : ℤ). IsBoundOf end (roll_value end stakes u p k 1) x before) (once (rolled stakes scoring turns later p k)) (bound-roll p k 1 state))
+        bound-better p k state (kind_at game.stakes k).double (valid.kinds k no_kind state.kind).double (passes k state.kind) _ _
+        (subst (λ (x : ℤ). IsBoundOf end (roll_value end game.stakes u p k 1) x before) (once (rolled game.stakes scoring turns later p k)) (bound-roll p k 1 state))
 
-  pub turn-encloses : (u : Words) → AreEnclosing checkers stakes scoring turns u → AreEnclosing checkers stakes scoring (suc turns) (turn stakes u)
+  pub turn-encloses : (u : Words) → AreEnclosing game scoring turns u → AreEnclosing game scoring (suc turns) (turn game.stakes u)
   unfolding exact
   turn-encloses u encloses p k state = record {
-    lower = bound-turn Lower u (exact stakes scoring turns) (λ q j s. (encloses q j s).upper) p k state;
-    upper = bound-turn Upper u (exact stakes scoring turns) (λ q j s. (encloses q j s).lower) p k state;
+    lower = bound-turn Lower u (exact game.stakes scoring turns) (λ q j s. (encloses q j s).upper) p k state;
+    upper = bound-turn Upper u (exact game.stakes scoring turns) (λ q j s. (encloses q j s).lower) p k state;
   }
 
-module _ (checkers : ℕ) (stakes : Terms) (valid : IsValid stakes) (scoring : Scoring) (within : IsScoring checkers stakes scoring) where
-  pub exact-within : (turns : ℕ) → AreEnclosing checkers stakes scoring turns (bound_words stakes)
+module _ (game : Game) (valid : IsValid game.stakes) where
+  -- each word of the second words is looser, so what the first enclose they enclose
+  pub looser-encloses : (scoring : Scoring) (turns : ℕ) (u v : Words) → AreNoLooser game u v → AreEnclosing game scoring turns u → AreEnclosing game scoring turns v
+  looser-encloses scoring turns u v tight encloses p k state = record {
+    lower = bound-looser Lower _ _ (exact game.stakes scoring turns p k) _ (tight Lower p k state) (encloses p k state).lower;
+    upper = bound-looser Upper _ _ (exact game.stakes scoring turns p k) _ (tight Upper p k state) (encloses p k state).upper;
+  }
+
+  pub consistent-enclose : (u : Words) → AreConsistent game u → (scoring : Scoring) → IsScoringWithin game u scoring → (turns : ℕ) → AreEnclosing game scoring turns u
   unfolding exact
-  exact-within zero p k state = subst (Encloses (bound_pair stakes) (scoring.unfinished p k)) at_the_end (within.unfinished p k state) where
+  consistent-enclose u consistent scoring within zero p k state = subst (Encloses (pair_of u p k) (scoring.unfinished p k)) at_the_end (within.unfinished p k state) where
     at_the_end : scoring.scale ≡ scoring.scale * 36 ^ 0
     at_the_end = omega arith
-  exact-within (suc turns) p k state =
-      let next = turn-encloses checkers stakes valid scoring within turns (bound_words stakes) (exact-within turns) p k state in
-      let inside = turn-within checkers stakes valid (bound_words stakes) (opening-within checkers stakes valid) p k state in
-      record {
-        lower = bound-looser Lower _ _ (exact stakes scoring (suc turns) p k) _ inside.from next.lower;
-        upper = bound-looser Upper _ _ (exact stakes scoring (suc turns) p k) _ inside.to next.upper;
-      }
+  consistent-enclose u consistent scoring within (suc turns) p k state =
+      looser-encloses scoring (suc turns) (turn game.stakes u) u consistent
+      (turn-encloses game valid scoring within.wins within.passes turns u (consistent-enclose u consistent scoring within turns)) p k state
 
-  pub rounds-enclose : (r turns : ℕ) → r ≤ turns → AreEnclosing checkers stakes scoring turns (rounds stakes r)
+  pub bound-consistent : AreConsistent game (bound_words game.stakes)
+  bound-consistent Lower p k state = (turn-within game valid (bound_words game.stakes) (opening-within game valid) p k state).from
+  bound-consistent Upper p k state = (turn-within game valid (bound_words game.stakes) (opening-within game valid) p k state).to
+
+  pub exact-within : (scoring : Scoring) → IsScoring game scoring → (turns : ℕ) → AreEnclosing game scoring turns (bound_words game.stakes)
+  exact-within = consistent-enclose (bound_words game.stakes) bound-consistent
+
+  pub rounds-enclose : (r : ℕ) → AreSoundFrom game r (rounds game.stakes r)
   unfolding rounds
-  rounds-enclose zero turns h = exact-within turns
-  rounds-enclose (suc r) zero h = absurd (omega arith)
-  rounds-enclose (suc r) (suc turns) h = turn-encloses checkers stakes valid scoring within turns (rounds stakes r) (rounds-enclose r turns (omega arith))
+  rounds-enclose zero turns h scoring within = exact-within scoring within turns
+  rounds-enclose (suc r) zero h scoring within = absurd (omega arith)
+  rounds-enclose (suc r) (suc turns) h scoring within = turn-encloses game valid scoring within.wins within.passes turns (rounds game.stakes r) (rounds-enclose r turns (omega arith) scoring within)
 
-  pub consistent-enclose : (u : Words) → AreConsistent checkers stakes u → AreEnclosing checkers stakes scoring 0 u → (turns : ℕ) → AreEnclosing checkers stakes scoring turns u
-  consistent-enclose u consistent at_the_end zero p k state = at_the_end p k state
-  consistent-enclose u consistent at_the_end (suc turns) p k state =
-      let next = turn-encloses checkers stakes valid scoring within turns u (consistent-enclose u consistent at_the_end turns) p k state in
-      record {
-        lower = bound-looser Lower _ _ (exact stakes scoring (suc turns) p k) _ (consistent Lower p k state) next.lower;
-        upper = bound-looser Upper _ _ (exact stakes scoring (suc turns) p k) _ (consistent Upper p k state) next.upper;
-      }
+  pub looser-enclose : (r : ℕ) (u : Words) → AreNoLooser game (rounds game.stakes r) u → AreSoundFrom game r u
+  looser-enclose r u tight turns more scoring within = looser-encloses scoring turns (rounds game.stakes r) u tight (rounds-enclose r turns more scoring within)
 
-module _ (checkers : ℕ) (stakes : Terms) (valid : IsValid stakes) where
-  pub looser-sound : (r : ℕ) (u : Words) → AreNoLooser checkers stakes (rounds stakes r) u → AreSound checkers stakes u
-  looser-sound r u tight Lower p k state =
-      (r, λ turns more scoring within. bound-looser Lower _ _ (exact stakes scoring turns p k) _ (tight Lower p k state) (rounds-enclose checkers stakes valid scoring within r turns more p k state).lower)
-  looser-sound r u tight Upper p k state =
-      (r, λ turns more scoring within. bound-looser Upper _ _ (exact stakes scoring turns p k) _ (tight Upper p k state) (rounds-enclose checkers stakes valid scoring within r turns more p k state).upper)
+  pub looser-sound : (r : ℕ) (u : Words) → AreNoLooser game (rounds game.stakes r) u → AreSound game u
+  looser-sound r u tight = (r, looser-enclose r u tight)
 
-  pub rounds-sound : (r : ℕ) → AreSound checkers stakes (rounds stakes r)
-  rounds-sound r = looser-sound r (rounds stakes r) same where
-    same : AreNoLooser checkers stakes (rounds stakes r) (rounds stakes r)
-    same Lower p k state = le_refl _
-    same Upper p k state = le_refl _
+  pub rounds-sound : (r : ℕ) → AreSound game (rounds game.stakes r)
+  rounds-sound r = (r, rounds-enclose r)
 
-  pub rounds-consistent : (r : ℕ) → AreConsistent checkers stakes (rounds stakes r)
+  pub rounds-consistent : (r : ℕ) → AreConsistent game (rounds game.stakes r)
   unfolding rounds
-  rounds-consistent r = rounds-tighter checkers stakes valid r
+  rounds-consistent r = rounds-tighter game valid r
+
+-- where words are sound, each of them is
+pub each-sound : (game : Game) (u : Words) → AreSound game u → (end : End) (p : Placement) (k : ℕ) → IsState game p k → IsSound game end (u end p k) p k
+each-sound game u sound Lower p k state = (sound.0, λ turns more scoring within. (sound.1 turns more scoring within p k state).lower)
+each-sound game u sound Upper p k state = (sound.0, λ turns more scoring within. (sound.1 turns more scoring within p k state).upper)

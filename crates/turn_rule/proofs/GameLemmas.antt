@@ -8,6 +8,7 @@ use Rattle.directed_fixed.specs.declared.bounds.End.{End}
 use Rattle.directed_fixed.specs.declared.bounds.End.TheVariants.{Lower, Upper}
 use Rattle.directed_fixed.specs.Bounds.{Bounds, at}
 use Rattle.cube_actions.specs.Stakes.{Terms, IsValid, nothing}
+use Rattle.turn_rule.specs.Games.{game_of}
 use Rattle.turn_rule.specs.Turn.{Words, turn, bound_words, rounds}
 use Rattle.turn_rule.specs.Tables.{PairTable, IsFull, words_of, place_of, squares_of}
 use Rattle.turn_rule.specs.States.{IsState, AreWithin, Agree, pair_of}
@@ -21,7 +22,7 @@ square-below p checkers is many = subst (λ (n : ℕ). square_rank_of p < square
   below : (a b n : ℕ) → a < n → b < n → a * n + b < n * n
   below a b n h k = omega (arith, mul-add-lt a n b n h k)
 
-pub state-place : (table : PairTable) (stakes : Terms) → IsFull table → table.kinds ≡ length stakes.kinds → (p : Placement) (k : ℕ) → IsState table.checkers stakes p k → place_of table.kinds p k < length table.pairs
+pub state-place : (table : PairTable) (stakes : Terms) → IsFull table → table.kinds ≡ length stakes.kinds → (p : Placement) (k : ℕ) → IsState (game_of table.checkers stakes) p k → place_of table.kinds p k < length table.pairs
 state-place table stakes full kinds p k state =
     place-within table (square_rank_of p) k full (square-below p table.checkers state.position state.many) (subst (λ (n : ℕ). k < n) (sym kinds) state.kind)
 
@@ -48,16 +49,16 @@ opening-rounds stakes checkers kinds same end p k state =
       by_end Lower = refl
       by_end Upper = refl
 
-pub agree-within : (checkers : ℕ) (stakes : Terms) (u v : Words) → Agree checkers stakes u v → AreWithin checkers stakes v → AreWithin checkers stakes u
+pub agree-within : (checkers : ℕ) (stakes : Terms) (u v : Words) → Agree (game_of checkers stakes) u v → AreWithin (game_of checkers stakes) v → AreWithin (game_of checkers stakes) u
 agree-within checkers stakes u v same within p k state =
     let w = within p k state in
     record { from = rw (same Lower p k state) w.from; in_order = rw (same Lower p k state, same Upper p k state) w.in_order; to = rw (same Upper p k state) w.to }
 
-pub rounds-agree-within : (game : StakesAndTable) (r : ℕ) → IsValid game.stakes → HasRounds game r → AreWithin game.table.checkers game.stakes (words_of game.table)
-rounds-agree-within game r valid has = agree-within game.table.checkers game.stakes (words_of game.table) (rounds game.stakes r) has (rounds-within game.table.checkers game.stakes valid r)
+pub rounds-agree-within : (game : StakesAndTable) (r : ℕ) → IsValid game.stakes → HasRounds game r → AreWithin (game_of game.table.checkers game.stakes) (words_of game.table)
+rounds-agree-within game r valid has = agree-within game.table.checkers game.stakes (words_of game.table) (rounds game.stakes r) has (rounds-within (game_of game.table.checkers game.stakes) valid r)
 
 -- once every square has had its turn, every state has
-pub all-turned : (stakes : Terms) (old new : PairTable) (squares : ℕ) → squares ≡ squares_of old.checkers → IsTurnedBefore stakes old new squares → Agree old.checkers stakes (words_of new) (turn stakes (words_of old))
+pub all-turned : (stakes : Terms) (old new : PairTable) (squares : ℕ) → squares ≡ squares_of old.checkers → IsTurnedBefore stakes old new squares → Agree (game_of old.checkers stakes) (words_of new) (turn stakes (words_of old))
 all-turned stakes old new squares all turned end p k state =
     let pair = turned p k state (subst (λ (n : ℕ). square_rank_of p < n) (sym all) (square-below p old.checkers state.position state.many)) in
     by_end end pair where
@@ -65,12 +66,12 @@ all-turned stakes old new squares all turned end p k state =
       by_end Lower e = ap (λ (b : Bounds). b.lower) e
       by_end Upper e = ap (λ (b : Bounds). b.upper) e
 
-pub turned-within : (stakes : Terms) (old new : PairTable) → IsValid stakes → AreWithin old.checkers stakes (words_of old) → Agree old.checkers stakes (words_of new) (turn stakes (words_of old)) → AreWithin old.checkers stakes (words_of new)
+pub turned-within : (stakes : Terms) (old new : PairTable) → IsValid stakes → AreWithin (game_of old.checkers stakes) (words_of old) → Agree (game_of old.checkers stakes) (words_of new) (turn stakes (words_of old)) → AreWithin (game_of old.checkers stakes) (words_of new)
 turned-within stakes old new valid within turned =
-    agree-within old.checkers stakes (words_of new) (turn stakes (words_of old)) turned (turn-within old.checkers stakes valid (words_of old) within)
+    agree-within old.checkers stakes (words_of new) (turn stakes (words_of old)) turned (turn-within (game_of old.checkers stakes) valid (words_of old) within)
 
 -- a turn over the words of some rounds gives those of one round more
-pub one-round : (stakes : Terms) (old new : PairTable) (r : ℕ) → IsValid stakes → Agree old.checkers stakes (words_of new) (turn stakes (words_of old)) → Agree old.checkers stakes (words_of old) (rounds stakes r) → Agree old.checkers stakes (words_of new) (rounds stakes (r + 1))
+pub one-round : (stakes : Terms) (old new : PairTable) (r : ℕ) → IsValid stakes → Agree (game_of old.checkers stakes) (words_of new) (turn stakes (words_of old)) → Agree (game_of old.checkers stakes) (words_of old) (rounds stakes r) → Agree (game_of old.checkers stakes) (words_of new) (rounds stakes (r + 1))
 unfolding rounds
 one-round stakes old new r valid turned has end p k state =
-    rw (add-one r) (turned end p k state ∙ turn-agree old.checkers stakes valid (words_of old) (rounds stakes r) has end p k state)
+    rw (add-one r) (turned end p k state ∙ turn-agree (game_of old.checkers stakes) valid (words_of old) (rounds stakes r) has end p k state)

@@ -14,6 +14,7 @@ use Rattle.directed_fixed.specs.declared.bounds.End.{End}
 use Rattle.directed_fixed.specs.Bounds.{IsWithin, IsWithinUnits}
 use Rattle.cube_actions.specs.declared.kind.Kind.{Kind}
 use Rattle.cube_actions.specs.Stakes.{Terms, kind_at, no_kind, IsValid}
+use Rattle.turn_rule.specs.Games.{game_of}
 use Rattle.turn_rule.specs.Turn.{Words, win, worth, greatest, sum_over}
 use Rattle.turn_rule.specs.States.{IsStateOf, IsState}
 use Rattle.turn_rule.specs.Looks.{Source, AreStakesOf, MayFollow}
@@ -153,10 +154,10 @@ all_members P (x ∷ xs) h (suc i) d below = all_members P xs (λ y m. h y (inr 
 -- after each of the plays the other side has a state of the source, or the game has ended
 pub leave-states : (s : Source) (stakes : Terms) → IsValid stakes → AreStakesOf s stakes → (p : Placement) (k : ℕ) → IsStateOf s.checkers s.kinds p k → (i : ℕ) (one : OneRoll) → IsKept p i one → All (LeavesState s (kind_at stakes k).next) one.ends.items
 leave-states s stakes valid fits p k state i one kept =
-    let state' : IsState s.checkers stakes p k = subst (λ (n : ℕ). IsStateOf s.checkers n p k) fits.kinds state in
+    let state' : IsState (game_of s.checkers stakes) p k = subst (λ (n : ℕ). IsStateOf s.checkers n p k) fits.kinds state in
     all_members (LeavesState s (kind_at stakes k).next) one.ends.items
     (λ q m on. subst (λ (n : ℕ). IsStateOf s.checkers n (swap q) (kind_at stakes k).next) (sym fits.kinds)
-    (next_state s.checkers stakes valid p k state' one.roll q kept.right (to_legal p one kept.ends q m) on))
+    (next_state (game_of s.checkers stakes) valid p k state' one.roll q kept.right (to_legal p one kept.ends q m) on))
 
 pub wins-within : (s : Source) (stakes : Terms) → IsValid stakes → AreStakesOf s stakes → (k : ℕ) → k < length stakes.kinds → (won : Won) → IsWithin s.bound (win (kind_at stakes k) won)
 wins-within s stakes valid fits k here won =

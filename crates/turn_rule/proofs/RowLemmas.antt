@@ -5,6 +5,7 @@ use Rattle.position_rank.specs.Placement.{Placement, IsPosition, IsLive}
 use Rattle.position_rank.specs.Ranks.{layouts, rank_of, square_rank_of}
 use Rattle.position_rank.proofs.RankLaws.{positions-same}
 use Rattle.cube_actions.specs.Stakes.{Terms, nothing}
+use Rattle.turn_rule.specs.Games.{game_of}
 use Rattle.turn_rule.specs.Turn.{turn}
 use Rattle.turn_rule.specs.Tables.{PairTable, words_of}
 use Rattle.turn_rule.specs.States.{IsState, pair_of}
@@ -12,7 +13,7 @@ use Rattle.turn_rule.specs.Rounds.{IsTurnedBefore, AreAlike}
 use Rattle.turn_rule.proofs.TableLemmas.{earlier-place}
 
 module _ (stakes : Terms) (old : PairTable) (p : Placement) (square : ℕ) (position : IsPosition p) (many : sum p.mover ≡ old.checkers) (here : square_rank_of p ≡ square) where
-  same_square : (q : Placement) (k : ℕ) → IsState old.checkers stakes q k → square_rank_of q ≡ square → q ≡ p
+  same_square : (q : Placement) (k : ℕ) → IsState (game_of old.checkers stakes) q k → square_rank_of q ≡ square → q ≡ p
   same_square q k state e = positions-same q p state.position position (state.many ∙ sym many) (e ∙ sym here)
 
   -- a square that isn't live has no state

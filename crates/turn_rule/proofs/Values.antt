@@ -15,6 +15,7 @@ use Rattle.directed_fixed.specs.Rounding.{outwards}
 use Rattle.cube_actions.specs.declared.kind.Double.{Double}
 use Rattle.cube_actions.specs.declared.kind.Taken.{Taken}
 use Rattle.cube_actions.specs.Stakes.{Terms, kind_at, IsValid, IsRightDouble}
+use Rattle.turn_rule.specs.Games.{game_of}
 use Rattle.turn_rule.specs.Turn.{Words, worth, sum_over, roll_value, least, doubled, or_double, turn}
 use Rattle.turn_rule.specs.States.{IsStateOf, IsState, AreWithinOf, AreWithin}
 use Rattle.turn_rule.specs.Looks.{Source, States, AreStakesOf, MayFollow, MayFollowTurn, IsPairOf, Looked, HasDamage}
@@ -232,14 +233,14 @@ paired s states bound value u v w a b c x y pair low high order lower upper =
     })
 
 module _ (s : Source) (stakes : Terms) (valid : IsValid stakes) (fits : AreStakesOf s stakes) (w : Words) (within : AreWithinOf s.checkers s.kinds s.bound w) (p : Placement) (k : ℕ) (state : IsStateOf s.checkers s.kinds p k) where
-  words-fit : AreWithin s.checkers stakes w
+  words-fit : AreWithin (game_of s.checkers stakes) w
   words-fit = subst (λ (b : ℤ). AreWithinOf s.checkers (length stakes.kinds) b w) fits.bound (subst (λ (n : ℕ). AreWithinOf s.checkers n s.bound w) fits.kinds within)
 
-  state-fits : IsState s.checkers stakes p k
+  state-fits : IsState (game_of s.checkers stakes) p k
   state-fits = subst (λ (n : ℕ). IsStateOf s.checkers n p k) fits.kinds state
 
   pub turn-order : turn stakes w Lower p k ≤ℤ turn stakes w Upper p k
-  turn-order = (turn-within s.checkers stakes valid w words-fit p k state-fits).in_order
+  turn-order = (turn-within (game_of s.checkers stakes) valid w words-fit p k state-fits).in_order
 
   pub roll-order : (factor : ℕ) → roll_value Lower stakes w p k factor ≤ℤ roll_value Upper stakes w p k factor
-  roll-order factor = roll-in_order s.checkers stakes valid w words-fit p k factor state-fits
+  roll-order factor = roll-in_order (game_of s.checkers stakes) valid w words-fit p k factor state-fits

@@ -23,6 +23,7 @@ use Rattle.cube_actions.specs.declared.kind.Taken.{Taken}
 use Rattle.cube_actions.specs.declared.name.StakesName.{StakesName}
 use Rattle.cube_actions.specs.declared.name.StakesName.TheVariants.{Cubeless, Money, Jacoby, MoneyBeavers, JacobyBeavers, Match}
 use Rattle.cube_actions.specs.Stakes.{Terms, kind_at, no_kind, nothing, bound_of, IsValid, IsRightDouble, IsRightAnswer}
+use Rattle.turn_rule.specs.declared.game.Game.{Game}
 use Rattle.turn_rule.specs.Turn.{Words, win, if_won, worth, roll_value, least, doubled, or_double, turn, bound_words, rounds}
 use Rattle.turn_rule.specs.States.{IsState, AreWithin}
 use Rattle.turn_rule.proofs.Integers.{le_refl, neg_le, mul_mono, floor_36_below, floor_36_above}
@@ -106,9 +107,9 @@ rounded f low high h =
     let times = mul_mono f low high h in
     omega (arith, ints, times, floor_36_below (pos f *ℤ low), floor_36_below (neg_ℤ (pos f *ℤ high)))
 
-module _ (checkers : ℕ) (stakes : Terms) (valid : IsValid stakes) where
+module _ (game : Game) (valid : IsValid game.stakes) where
   -- after a play that doesn't end the game, the other side has a state of the same game
-  pub next_state : (p : Placement) (k : ℕ) → IsState checkers stakes p k → (roll : Dice) (q : Placement) → IsRoll roll → Among q (legal_ends p roll) → points q ≡ None → IsState checkers stakes (swap q) (kind_at stakes k).next
+  pub next_state : (p : Placement) (k : ℕ) → IsState game p k → (roll : Dice) (q : Placement) → IsRoll roll → Among q (legal_ends p roll) → points q ≡ None → IsState game (swap q) (kind_at game.stakes k).next
   next_state p k state roll q right m on =
       let stays = legal_end-stays p roll q right state.position state.live (legal_ends-sound p roll q (Among-Contains q (legal_ends p roll) m)) in
       let mover_view = stays.0 in
@@ -119,54 +120,54 @@ module _ (checkers : ℕ) (stakes : Terms) (valid : IsValid stakes) where
         kind = (valid.kinds k no_kind state.kind).next;
       }
 
-  module _ (u : Words) (words : AreWithin checkers stakes u) (p : Placement) where
-    pub ends_within : (k : ℕ) → IsState checkers stakes p k → (roll : Dice) (q : Placement) → IsRoll roll → Among q (legal_ends p roll) → IsWithin stakes.bound (record { lower = worth Lower (kind_at stakes k) u q; upper = worth Upper (kind_at stakes k) u q })
+  module _ (u : Words) (words : AreWithin game u) (p : Placement) where
+    pub ends_within : (k : ℕ) → IsState game p k → (roll : Dice) (q : Placement) → IsRoll roll → Among q (legal_ends p roll) → IsWithin game.stakes.bound (record { lower = worth Lower (kind_at game.stakes k) u q; upper = worth Upper (kind_at game.stakes k) u q })
     ends_within k state roll q right m = by_points (points q) refl where
-      by_points : (o : Option Won) → points q ≡ o → IsWithin stakes.bound (record { lower = if_won o (λ won. (win (kind_at stakes k) won).lower) (neg_ℤ (u Upper (swap q) (kind_at stakes k).next)); upper = if_won o (λ won. (win (kind_at stakes k) won).upper) (neg_ℤ (u Lower (swap q) (kind_at stakes k).next)) })
+      by_points : (o : Option Won) → points q ≡ o → IsWithin game.stakes.bound (record { lower = if_won o (λ won. (win (kind_at game.stakes k) won).lower) (neg_ℤ (u Upper (swap q) (kind_at game.stakes k).next)); upper = if_won o (λ won. (win (kind_at game.stakes k) won).upper) (neg_ℤ (u Lower (swap q) (kind_at game.stakes k).next)) })
       by_points None on =
-          let later = words (swap q) (kind_at stakes k).next (next_state p k state roll q right m on) in
+          let later = words (swap q) (kind_at game.stakes k).next (next_state p k state roll q right m on) in
           record { from = neg_le _ _ later.to; in_order = neg_le _ _ later.in_order; to = (let h = later.from in omega (arith, ints, h)) }
-      by_points (Some won) over = win-within stakes.bound (kind_at stakes k) (bound-positive stakes valid) (valid.kinds k no_kind state.kind).wins won
+      by_points (Some won) over = win-within game.stakes.bound (kind_at game.stakes k) (bound-positive game.stakes valid) (valid.kinds k no_kind state.kind).wins won
 
-    roll-within : (k : ℕ) → IsState checkers stakes p k → IsWithin stakes.bound (record { lower = roll_value Lower stakes u p k 1; upper = roll_value Upper stakes u p k 1 })
+    roll-within : (k : ℕ) → IsState game p k → IsWithin game.stakes.bound (record { lower = roll_value Lower game.stakes u p k 1; upper = roll_value Upper game.stakes u p k 1 })
     roll-within k state =
-        let positive = bound-positive stakes valid in
-        let negative : neg_ℤ stakes.bound ≤ℤ pos 0 = omega (arith, ints) in
-        let low = sum-from (worth Lower (kind_at stakes k) u) (neg_ℤ stakes.bound) negative p (λ roll q right m. (ends_within k state roll q right m).from) all_rolls all_rolls-right in
-        let high = sum-upto (worth Upper (kind_at stakes k) u) stakes.bound positive p (λ roll q right m. (ends_within k state roll q right m).to) all_rolls all_rolls-right in
-        let middle = sum-mono (worth Lower (kind_at stakes k) u) (worth Upper (kind_at stakes k) u) p (λ roll q right m. (ends_within k state roll q right m).in_order) all_rolls all_rolls-right in
-        between stakes.bound _ _ (rw total-all_rolls at low) middle (rw total-all_rolls at high)
+        let positive = bound-positive game.stakes valid in
+        let negative : neg_ℤ game.stakes.bound ≤ℤ pos 0 = omega (arith, ints) in
+        let low = sum-from (worth Lower (kind_at game.stakes k) u) (neg_ℤ game.stakes.bound) negative p (λ roll q right m. (ends_within k state roll q right m).from) all_rolls all_rolls-right in
+        let high = sum-upto (worth Upper (kind_at game.stakes k) u) game.stakes.bound positive p (λ roll q right m. (ends_within k state roll q right m).to) all_rolls all_rolls-right in
+        let middle = sum-mono (worth Lower (kind_at game.stakes k) u) (worth Upper (kind_at game.stakes k) u) p (λ roll q right m. (ends_within k state roll q right m).in_order) all_rolls all_rolls-right in
+        between game.stakes.bound _ _ (rw total-all_rolls at low) middle (rw total-all_rolls at high)
 
-    pub roll-in_order : (k factor : ℕ) → IsState checkers stakes p k → roll_value Lower stakes u p k factor ≤ℤ roll_value Upper stakes u p k factor
+    pub roll-in_order : (k factor : ℕ) → IsState game p k → roll_value Lower game.stakes u p k factor ≤ℤ roll_value Upper game.stakes u p k factor
     roll-in_order k factor state =
-        rounded factor _ _ (sum-mono (worth Lower (kind_at stakes k) u) (worth Upper (kind_at stakes k) u) p (λ roll q right m. (ends_within k state roll q right m).in_order) all_rolls all_rolls-right)
+        rounded factor _ _ (sum-mono (worth Lower (kind_at game.stakes k) u) (worth Upper (kind_at game.stakes k) u) p (λ roll q right m. (ends_within k state roll q right m).in_order) all_rolls all_rolls-right)
 
-    doubled-in_order : (k : ℕ) → IsState checkers stakes p k → (double : Double) → IsRightDouble stakes double → doubled Lower stakes u p double ≤ℤ doubled Upper stakes u p double
+    doubled-in_order : (k : ℕ) → IsState game p k → (double : Double) → IsRightDouble game.stakes double → doubled Lower game.stakes u p double ≤ℤ doubled Upper game.stakes u p double
     doubled-in_order k state double right =
-        least-mono Taken (λ taken. roll_value Lower stakes u p taken.kind taken.factor) (λ taken. roll_value Upper stakes u p taken.kind taken.factor) double.pass.lower double.pass.upper double.answers.items right.pass.in_order
-        (λ taken m. roll-in_order taken.kind taken.factor (record { position = state.position; many = state.many; live = state.live; kind = (at_member (IsRightAnswer stakes) double.answers.items right.answers taken m).kind }))
+        least-mono Taken (λ taken. roll_value Lower game.stakes u p taken.kind taken.factor) (λ taken. roll_value Upper game.stakes u p taken.kind taken.factor) double.pass.lower double.pass.upper double.answers.items right.pass.in_order
+        (λ taken m. roll-in_order taken.kind taken.factor (record { position = state.position; many = state.many; live = state.live; kind = (at_member (IsRightAnswer game.stakes) double.answers.items right.answers taken m).kind }))
 
-    or_double-within : (k : ℕ) → IsState checkers stakes p k → (double : Option Double) → IfSome double (IsRightDouble stakes) → (low high : ℤ) → IsWithin stakes.bound (record { lower = low; upper = high }) → IsWithin stakes.bound (record { lower = or_double Lower stakes u p low double; upper = or_double Upper stakes u p high double })
+    or_double-within : (k : ℕ) → IsState game p k → (double : Option Double) → IfSome double (IsRightDouble game.stakes) → (low high : ℤ) → IsWithin game.stakes.bound (record { lower = low; upper = high }) → IsWithin game.stakes.bound (record { lower = or_double Lower game.stakes u p low double; upper = or_double Upper game.stakes u p high double })
     or_double-within k state None right low high h = h
     or_double-within k state (Some double) right low high h = record {
       from = max_from _ _ _ h.from;
       in_order = max_mono _ _ _ _ h.in_order (doubled-in_order k state double right);
-      to = max_upto _ _ _ h.to (least-upto double.pass.upper stakes.bound (map (λ (taken : Taken). roll_value Upper stakes u p taken.kind taken.factor) double.answers.items) right.pass.to);
+      to = max_upto _ _ _ h.to (least-upto double.pass.upper game.stakes.bound (map (λ (taken : Taken). roll_value Upper game.stakes u p taken.kind taken.factor) double.answers.items) right.pass.to);
     }
 
-  pub turn-within : (u : Words) → AreWithin checkers stakes u → AreWithin checkers stakes (turn stakes u)
+  pub turn-within : (u : Words) → AreWithin game u → AreWithin game (turn game.stakes u)
   unfolding turn
-  turn-within u words p k state = or_double-within u words p k state (kind_at stakes k).double (valid.kinds k no_kind state.kind).double _ _ (roll-within u words p k state)
+  turn-within u words p k state = or_double-within u words p k state (kind_at game.stakes k).double (valid.kinds k no_kind state.kind).double _ _ (roll-within u words p k state)
 
-  pub opening-within : AreWithin checkers stakes (bound_words stakes)
+  pub opening-within : AreWithin game (bound_words game.stakes)
   opening-within p k state =
-      let positive = bound-positive stakes valid in
+      let positive = bound-positive game.stakes valid in
       record { from = le_refl _; in_order = omega (arith, ints); to = le_refl _ }
 
-  pub rounds-within : (r : ℕ) → AreWithin checkers stakes (rounds stakes r)
+  pub rounds-within : (r : ℕ) → AreWithin game (rounds game.stakes r)
   unfolding rounds
   rounds-within zero = opening-within
-  rounds-within (suc r) = turn-within (rounds stakes r) (rounds-within r)
+  rounds-within (suc r) = turn-within (rounds game.stakes r) (rounds-within r)
 
 pub bound-small : (stakes : Terms) → IsValid stakes → stakes.bound ≤ℤ pos (2 ^ 36)
 bound-small stakes valid = rw valid.bound (named stakes.name) where

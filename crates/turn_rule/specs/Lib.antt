@@ -1,4 +1,5 @@
 pub mod Turn
+pub mod Games
 pub mod States
 pub mod Tables
 pub mod Rounds

@@ -8,9 +8,10 @@ use Rattle.directed_fixed.specs.Bounds.{Bounds, AreNoLooserPairs}
 use Rattle.cube_actions.specs.declared.kind.Double.{Double}
 use Rattle.cube_actions.specs.declared.kind.Kind.{Kind}
 use Rattle.cube_actions.specs.Stakes.{Terms, kind_at}
-use Rattle.turn_rule.specs.Turn.{Words, win, turn}
+use Rattle.turn_rule.specs.declared.game.Game.{Game}
+use Rattle.turn_rule.specs.Games.{kinds_of}
+use Rattle.turn_rule.specs.Turn.{Words, win, turn, bound_words}
 use Rattle.turn_rule.specs.States.{IsState, pair_of, AreNoLooser}
-use Rattle.turn_rule.specs.Rounds.{bound_pair}
 use Rattle.turn_rule.specs.Exact.{Scoring, exact}
 
 -- A word bounds a fraction, a number over another, as the lower or as the upper end of a pair. There are 2 ^ 32 units of a word to a point.
@@ -23,13 +24,34 @@ pub record Encloses (pair : Bounds) (number : ℤ) (over : ℕ) : Type 0 where
   pub lower : IsBoundOf Lower pair.lower number over
   pub upper : IsBoundOf Upper pair.upper number over
 
--- A scoring of a game lies within its stakes: what a win or a pass gives lies in the stakes' pair, and an unfinished end is worth anything
--- within the bound.
-pub record IsScoring (checkers : ℕ) (stakes : Terms) (scoring : Scoring) : Type 0 where
+-- what a win gives lies in the stakes' pair of this win
+abbrev pub AreWinsWithin : Game → Scoring → Type 0
+AreWinsWithin game scoring =
+    (k : ℕ) (won : Won) → k < kinds_of game
+    → Encloses (win (kind_at game.stakes k) won) (scoring.win k won) scoring.scale
+
+-- what a pass gives lies in the stakes' pair of this pass
+abbrev pub ArePassesWithin : Game → Scoring → Type 0
+ArePassesWithin game scoring =
+    (k : ℕ) → k < kinds_of game
+    → IfSome (kind_at game.stakes k).double (λ double. Encloses double.pass (scoring.pass k) scoring.scale)
+
+-- an unfinished end lies in the pair of its own state
+abbrev pub AreEndsWithin : Game → Words → Scoring → Type 0
+AreEndsWithin game u scoring =
+    (p : Placement) (k : ℕ) → IsState game p k
+    → Encloses (pair_of u p k) (scoring.unfinished p k) scoring.scale
+
+-- what a win or a pass gives lies in the stakes' pair, and an unfinished end in the pair of its own state
+pub record IsScoringWithin (game : Game) (u : Words) (scoring : Scoring) : Type 0 where
   pub scale : 0 < scoring.scale
-  pub wins : (k : ℕ) (won : Won) → k < length stakes.kinds → Encloses (win (kind_at stakes k) won) (scoring.win k won) scoring.scale
-  pub passes : (k : ℕ) → k < length stakes.kinds → IfSome (kind_at stakes k).double (λ double. Encloses double.pass (scoring.pass k) scoring.scale)
-  pub unfinished : (p : Placement) (k : ℕ) → IsState checkers stakes p k → Encloses (bound_pair stakes) (scoring.unfinished p k) scoring.scale
+  pub wins : AreWinsWithin game scoring
+  pub passes : ArePassesWithin game scoring
+  pub unfinished : AreEndsWithin game u scoring
+
+-- A scoring of a game lies within its stakes: an unfinished end is then worth anything within the bound.
+abbrev pub IsScoring : Game → Scoring → Type 0
+IsScoring game = IsScoringWithin game (bound_words game.stakes)
 
 -- a word bounds the exact value of a state in the game of so many turns
 abbrev pub IsBoundAt : End → Terms → Scoring → ℕ → ℤ → Placement → ℕ → Type 0
@@ -40,21 +62,30 @@ abbrev pub EnclosesAt : Terms → Scoring → ℕ → Bounds → Placement → �
 EnclosesAt stakes scoring turns pair p k = Encloses pair (exact stakes scoring turns p k) (scoring.scale * 36 ^ turns)
 
 -- words enclose every state in the game of so many turns
-abbrev pub AreEnclosing : ℕ → Terms → Scoring → ℕ → Words → Type 0
-AreEnclosing checkers stakes scoring turns u = (p : Placement) (k : ℕ) → IsState checkers stakes p k → EnclosesAt stakes scoring turns (pair_of u p k) p k
+abbrev pub AreEnclosing : Game → Scoring → ℕ → Words → Type 0
+AreEnclosing game scoring turns u =
+    (p : Placement) (k : ℕ) → IsState game p k → EnclosesAt game.stakes scoring turns (pair_of u p k) p k
 
 -- A word is sound for its state where from some number of turns on it bounds the exact value, however the game is scored within its stakes.
-abbrev pub IsSound : ℕ → Terms → End → ℤ → Placement → ℕ → Type 0
-IsSound checkers stakes end word p k =
-    (enough : ℕ) × ((turns : ℕ) → enough ≤ turns → (scoring : Scoring) → IsScoring checkers stakes scoring → IsBoundAt end stakes scoring turns word p k)
+abbrev pub IsSound : Game → End → ℤ → Placement → ℕ → Type 0
+IsSound game end word p k =
+    (enough : ℕ)
+    × ((turns : ℕ) → enough ≤ turns → (scoring : Scoring) → IsScoring game scoring
+    → IsBoundAt end game.stakes scoring turns word p k)
 
--- words are sound where each of them is
-abbrev pub AreSound : ℕ → Terms → Words → Type 0
-AreSound checkers stakes u = (end : End) (p : Placement) (k : ℕ) → IsState checkers stakes p k → IsSound checkers stakes end (u end p k) p k
+-- from so many turns on, words enclose every state, however the game is scored within its stakes
+abbrev pub AreSoundFrom : Game → ℕ → Words → Type 0
+AreSoundFrom game enough u =
+    (turns : ℕ) → enough ≤ turns → (scoring : Scoring) → IsScoring game scoring
+    → AreEnclosing game scoring turns u
+
+-- words are sound where from some number of turns on, one for all states, they enclose every state
+abbrev pub AreSound : Game → Words → Type 0
+AreSound game u = (enough : ℕ) × AreSoundFrom game enough u
 
 -- words are consistent where no turn over them is looser than they are
-abbrev pub AreConsistent : ℕ → Terms → Words → Type 0
-AreConsistent checkers stakes u = AreNoLooser checkers stakes (turn stakes u) u
+abbrev pub AreConsistent : Game → Words → Type 0
+AreConsistent game u = AreNoLooser game (turn game.stakes u) u
 
 -- the same answers to a double, and a pass that is known at least as well
 pub record IsNoLooserDouble (a b : Double) : Type 0 where

@@ -1,68 +1,107 @@
-ghost use Rattle.std.specs.Prelude.{◌≡◌, ◌≤◌, ◌+◌, ℕ, pos, neg_ℤ, [], ◌∷◌};
+ghost use Rattle.std.specs.Prelude.{◌≡◌, ◌+◌, ℕ, pos, neg_ℤ, [], ◌∷◌};
 ghost use Rattle.position_rank.specs.Placement.{Placement};
 ghost use Rattle.position_rank.specs.Examples.{placed, off};
 ghost use Rattle.directed_fixed.specs.declared.bounds.End.{End};
 ghost use Rattle.directed_fixed.specs.declared.bounds.End.TheVariants.{Lower, Upper};
-ghost use Rattle.cube_actions.specs.Stakes.{Terms, IsValid, cubeless, exactly};
-ghost use Rattle.turn_rule.specs.Turn.{Words, turn, rounds};
+ghost use Rattle.cube_actions.specs.Stakes.{Terms, cubeless, exactly};
+ghost use Rattle.turn_rule.specs.declared.game.Game.{Game};
+ghost use Rattle.turn_rule.specs.Games.{IsGame, game_of};
+ghost use Rattle.turn_rule.specs.Turn.{Words, turn, bound_words, rounds};
 ghost use Rattle.turn_rule.specs.States.{IsState, AreNoLooser};
-ghost use Rattle.turn_rule.specs.Rounds.{bound_pair};
 ghost use Rattle.turn_rule.specs.Exact.{Scoring, exact};
-ghost use Rattle.turn_rule.specs.Truth.{IsBoundOf, Encloses, IsScoring, EnclosesAt, AreEnclosing, IsSound, AreSound, AreConsistent, AreNoLooserStakes};
+ghost use Rattle.turn_rule.specs.Truth.{IsBoundOf, Encloses, IsScoring, IsScoringWithin, AreEnclosing, IsSound, AreSoundFrom, AreSound, AreConsistent, AreNoLooserStakes};
 ghost use Rattle.turn_rule.specs.Examples.{gains, losses, doubling_game, vague_game, win_points, scored};
 
 /// However a game is scored within its stakes, no exact value is beyond their bound.
 pub fn exact_values_stay_within_the_bound()
-    ensures { (checkers : ℕ) (stakes : Terms) → IsValid stakes → (scoring : Scoring) → IsScoring checkers stakes scoring → (turns : ℕ) (p : Placement) (k : ℕ) → IsState checkers stakes p k → EnclosesAt stakes scoring turns (bound_pair stakes) p k }
+    ensures {
+        (game : Game) → IsGame game → (scoring : Scoring) → IsScoring game scoring
+        → (turns : ℕ) → AreEnclosing game scoring turns (bound_words game.stakes)
+    }
 {}
 
 /// Where words enclose every state, a turn over them encloses every state in the game of one turn more.
 pub fn turns_enclose_one_turn_more()
-    ensures { (checkers : ℕ) (stakes : Terms) → IsValid stakes → (scoring : Scoring) → IsScoring checkers stakes scoring → (turns : ℕ) (u : Words) → AreEnclosing checkers stakes scoring turns u → AreEnclosing checkers stakes scoring (turns + 1) (turn stakes u) }
+    ensures {
+        (game : Game) → IsGame game → (scoring : Scoring) → IsScoring game scoring
+        → (turns : ℕ) (u : Words) → AreEnclosing game scoring turns u
+        → AreEnclosing game scoring (turns + 1) (turn game.stakes u)
+    }
 {}
 
 /// The words after some rounds enclose every state in every game of at least as many turns, however it is scored within its stakes.
 pub fn rounds_enclose_longer_games()
-    ensures { (checkers : ℕ) (stakes : Terms) → IsValid stakes → (scoring : Scoring) → IsScoring checkers stakes scoring → (r turns : ℕ) → r ≤ turns → AreEnclosing checkers stakes scoring turns (rounds stakes r) }
+    ensures { (game : Game) → IsGame game → (r : ℕ) → AreSoundFrom game r (rounds game.stakes r) }
+{}
+
+/// So do words that are no tighter than those after some rounds.
+pub fn words_no_tighter_than_a_round_enclose_longer_games()
+    ensures {
+        (game : Game) → IsGame game → (r : ℕ) (u : Words)
+        → AreNoLooser game (rounds game.stakes r) u → AreSoundFrom game r u
+    }
 {}
 
 /// The words after some rounds are sound.
 pub fn rounds_are_sound()
-    ensures { (checkers : ℕ) (stakes : Terms) → IsValid stakes → (r : ℕ) → AreSound checkers stakes (rounds stakes r) }
+    ensures { (game : Game) → IsGame game → (r : ℕ) → AreSound game (rounds game.stakes r) }
 {}
 
 /// So are words that are no tighter than those after some rounds.
 pub fn words_no_tighter_than_a_round_are_sound()
-    ensures { (checkers : ℕ) (stakes : Terms) → IsValid stakes → (r : ℕ) (u : Words) → AreNoLooser checkers stakes (rounds stakes r) u → AreSound checkers stakes u }
+    ensures {
+        (game : Game) → IsGame game → (r : ℕ) (u : Words)
+        → AreNoLooser game (rounds game.stakes r) u → AreSound game u
+    }
+{}
+
+/// Where words are sound, each word is sound for its state.
+pub fn each_sound_word_is_sound()
+    ensures {
+        (game : Game) (u : Words) → AreSound game u
+        → (end : End) (p : Placement) (k : ℕ) → IsState game p k → IsSound game end (u end p k) p k
+    }
 {}
 
 /// A turn over the words after some rounds is nowhere looser than they are.
 pub fn rounds_are_consistent()
-    ensures { (checkers : ℕ) (stakes : Terms) → IsValid stakes → (r : ℕ) → AreConsistent checkers stakes (rounds stakes r) }
+    ensures { (game : Game) → IsGame game → (r : ℕ) → AreConsistent game (rounds game.stakes r) }
 {}
 
-/// Consistent words that enclose every unfinished end enclose every state, in games of any number of turns.
+/// Consistent words enclose every state, in games of any number of turns, where a win and a pass lie in the stakes' pairs, and an
+/// unfinished end in the pair of its own state.
 pub fn consistent_words_enclose()
-    ensures { (checkers : ℕ) (stakes : Terms) → IsValid stakes → (scoring : Scoring) → IsScoring checkers stakes scoring → (u : Words) → AreConsistent checkers stakes u → AreEnclosing checkers stakes scoring 0 u → (turns : ℕ) → AreEnclosing checkers stakes scoring turns u }
+    ensures {
+        (game : Game) → IsGame game → (u : Words) → AreConsistent game u
+        → (scoring : Scoring) → IsScoringWithin game u scoring
+        → (turns : ℕ) → AreEnclosing game scoring turns u
+    }
 {}
 
 /// Where the stakes' wins and passes are known at least as well, tighter words give a turn that is at least as tight.
 pub fn tighter_stakes_tighten_turns()
-    ensures { (checkers : ℕ) (a b : Terms) → IsValid a → AreNoLooserStakes a b → (u v : Words) → AreNoLooser checkers a u v → AreNoLooser checkers a (turn a u) (turn b v) }
+    ensures {
+        (game : Game) → IsGame game → (other : Terms) → AreNoLooserStakes game.stakes other
+        → (u v : Words) → AreNoLooser game u v
+        → AreNoLooser game (turn game.stakes u) (turn other v)
+    }
 {}
 
 /// Where the stakes' wins and passes are known at least as well, the words after some rounds are at least as tight.
 pub fn tighter_stakes_tighten_rounds()
-    ensures { (checkers : ℕ) (a b : Terms) → IsValid a → AreNoLooserStakes a b → (r : ℕ) → AreNoLooser checkers a (rounds a r) (rounds b r) }
+    ensures {
+        (game : Game) → IsGame game → (other : Terms) → AreNoLooserStakes game.stakes other
+        → (r : ℕ) → AreNoLooser game (rounds game.stakes r) (rounds other r)
+    }
 {}
 
 /// Scorings of the game without a cube and of the doubling game: an unfinished end may be worth three points and no more, and a gammon
 /// counts two points in the one and one in the other.
 pub fn scoring_examples()
-    ensures cubeless { IsScoring 1 cubeless (scored (win_points 1 2 3) (pos 3)) }
-    ensures doubling { IsScoring 1 doubling_game (scored (win_points 1 1 1) (neg_ℤ (pos 3))) }
-    ensures unfinished_beyond { ¬ IsScoring 1 cubeless (scored (win_points 1 2 3) (pos 4)) }
-    ensures gammon_for_one { ¬ IsScoring 1 cubeless (scored (win_points 1 1 3) (pos 0)) }
+    ensures cubeless { IsScoring (game_of 1 cubeless) (scored (win_points 1 2 3) (pos 3)) }
+    ensures doubling { IsScoring (game_of 1 doubling_game) (scored (win_points 1 1 1) (neg_ℤ (pos 3))) }
+    ensures unfinished_beyond { ¬ IsScoring (game_of 1 cubeless) (scored (win_points 1 2 3) (pos 4)) }
+    ensures gammon_for_one { ¬ IsScoring (game_of 1 cubeless) (scored (win_points 1 1 3) (pos 0)) }
 {}
 
 /// Games without a cube that are cut off, after one turn over 36, and after two over 36 * 36 = 1296. From 6 there are 27 rolls of 36 that win
@@ -102,9 +141,9 @@ pub fn bound_of_examples()
 /// From 1 each roll wins a gammon, in every game of a turn or more: so two points are sound at both ends. A unit more isn't at the lower end,
 /// nor a unit less at the upper one.
 pub fn sound_examples()
-    ensures two_points { (end : End) → IsSound 1 cubeless end (pos 8589934592) (placed (1 ∷ []) (1 ∷ [])) 0 }
-    ensures a_unit_more { ¬ IsSound 1 cubeless Lower (pos 8589934593) (placed (1 ∷ []) (1 ∷ [])) 0 }
-    ensures a_unit_less { ¬ IsSound 1 cubeless Upper (pos 8589934591) (placed (1 ∷ []) (1 ∷ [])) 0 }
+    ensures two_points { (end : End) → IsSound (game_of 1 cubeless) end (pos 8589934592) (placed (1 ∷ []) (1 ∷ [])) 0 }
+    ensures a_unit_more { ¬ IsSound (game_of 1 cubeless) Lower (pos 8589934593) (placed (1 ∷ []) (1 ∷ [])) 0 }
+    ensures a_unit_less { ¬ IsSound (game_of 1 cubeless) Upper (pos 8589934591) (placed (1 ∷ []) (1 ∷ [])) 0 }
 {}
 
 /// All stakes are as tight as they are themselves. A game in which a gammon wins two points is tighter than one in which it wins one to

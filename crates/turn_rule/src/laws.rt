@@ -2,7 +2,9 @@ ghost use Rattle.std.specs.Prelude.{◌≡◌, ℕ, ◌+◌, pos, neg_ℤ, [], �
 ghost use Rattle.position_rank.specs.Placement.{Placement};
 ghost use Rattle.position_rank.specs.Examples.{placed, off, bar};
 ghost use Rattle.directed_fixed.specs.Rounding.{floor_36, ceil_36};
-ghost use Rattle.cube_actions.specs.Stakes.{Terms, IsValid, cubeless, exactly};
+ghost use Rattle.cube_actions.specs.Stakes.{IsValid, cubeless, exactly};
+ghost use Rattle.turn_rule.specs.declared.game.Game.{Game};
+ghost use Rattle.turn_rule.specs.Games.{IsGame};
 ghost use Rattle.turn_rule.specs.Turn.{Words, bound_words, turn, rounds};
 ghost use Rattle.turn_rule.specs.States.{AreWithin, AreNoLooser, Agree, pair_of};
 ghost use Rattle.turn_rule.specs.Tables.{squares_of, place_of};
@@ -10,27 +12,39 @@ ghost use Rattle.turn_rule.specs.Examples.{between, gains, losses, doubling_game
 
 /// Over words within the bound of the stakes, lower at most upper, a turn gives such words.
 pub fn turns_stay_within_the_bound()
-    ensures { (checkers : ℕ) (stakes : Terms) → IsValid stakes → (u : Words) → AreWithin checkers stakes u → AreWithin checkers stakes (turn stakes u) }
+    ensures {
+        (game : Game) → IsGame game → (u : Words)
+        → AreWithin game u → AreWithin game (turn game.stakes u)
+    }
 {}
 
 /// After any number of rounds the words are within the bound of the stakes, lower at most upper.
 pub fn rounds_stay_within_the_bound()
-    ensures { (checkers : ℕ) (stakes : Terms) → IsValid stakes → (r : ℕ) → AreWithin checkers stakes (rounds stakes r) }
+    ensures { (game : Game) → IsGame game → (r : ℕ) → AreWithin game (rounds game.stakes r) }
 {}
 
 /// A turn asks only for words on states of the same game.
 pub fn turns_look_at_states_alone()
-    ensures { (checkers : ℕ) (stakes : Terms) → IsValid stakes → (u v : Words) → Agree checkers stakes u v → Agree checkers stakes (turn stakes u) (turn stakes v) }
+    ensures {
+        (game : Game) → IsGame game → (u v : Words)
+        → Agree game u v → Agree game (turn game.stakes u) (turn game.stakes v)
+    }
 {}
 
 /// Tighter words give a turn that is at least as tight.
 pub fn tighter_words_tighten_turns()
-    ensures { (checkers : ℕ) (stakes : Terms) → IsValid stakes → (u v : Words) → AreNoLooser checkers stakes u v → AreNoLooser checkers stakes (turn stakes u) (turn stakes v) }
+    ensures {
+        (game : Game) → IsGame game → (u v : Words)
+        → AreNoLooser game u v → AreNoLooser game (turn game.stakes u) (turn game.stakes v)
+    }
 {}
 
 /// One more round gives words that are at least as tight.
 pub fn rounds_tighten()
-    ensures { (checkers : ℕ) (stakes : Terms) → IsValid stakes → (r : ℕ) → AreNoLooser checkers stakes (rounds stakes (r + 1)) (rounds stakes r) }
+    ensures {
+        (game : Game) → IsGame game → (r : ℕ)
+        → AreNoLooser game (rounds game.stakes (r + 1)) (rounds game.stakes r)
+    }
 {}
 
 /// A 36th of a sum, rounded down and up. There are 2 ^ 32 units to a point.
@@ -50,7 +64,10 @@ pub fn rounded_examples()
 /// From 6 there are 27 rolls of 36 that win a gammon; after the other 9 the other side wins one, as the second round finds.
 /// From 5 there are 31, and with a checker of each side off, each win is a single one: 26 points of 36.
 pub fn worked_examples()
-    ensures before_the_first_round { (p : Placement) (k : ℕ) → pair_of (bound_words cubeless) p k ≡ between 12884901888 12884901888 }
+    ensures before_the_first_round {
+        (p : Placement) (k : ℕ)
+        → pair_of (bound_words cubeless) p k ≡ between 12884901888 12884901888
+    }
     ensures sure_gammon { pair_of (rounds cubeless 1) (placed (1 ∷ []) (1 ∷ [])) 0 ≡ exactly 2 }
     ensures sure_backgammon { pair_of (rounds cubeless 1) (placed (1 ∷ []) (bar ∷ [])) 0 ≡ exactly 3 }
     ensures only_double_sixes { pair_of (rounds cubeless 1) (placed (24 ∷ []) (24 ∷ [])) 0 ≡ between 12169074006 12884901888 }

@@ -4,6 +4,7 @@
 mod bounds;
 mod ends;
 mod exact_laws;
+mod game;
 mod laws;
 mod play_end;
 mod look_laws;
@@ -21,12 +22,13 @@ mod worth;
 pub use bounds::{roll_bounds, turn_bounds};
 pub use ends::RollEnds;
 pub use exact_laws::{
-    bound_of_examples, consistent_words_enclose, exact_doubled_examples, exact_examples,
+    bound_of_examples, consistent_words_enclose, each_sound_word_is_sound, exact_doubled_examples, exact_examples,
     exact_values_stay_within_the_bound, rounds_are_consistent, rounds_are_sound,
     rounds_enclose_longer_games, scoring_examples, sound_examples, tighter_examples,
     tighter_stakes_tighten_rounds, tighter_stakes_tighten_turns, turns_enclose_one_turn_more,
-    words_no_tighter_than_a_round_are_sound,
+    words_no_tighter_than_a_round_are_sound, words_no_tighter_than_a_round_enclose_longer_games,
 };
+pub use game::Game;
 pub use laws::{
     doubled_examples, rounded_examples, rounds_stay_within_the_bound, rounds_tighten,
     table_examples, tighter_words_tighten_turns, turns_look_at_states_alone,

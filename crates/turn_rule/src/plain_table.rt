@@ -1,5 +1,6 @@
 ghost use Rattle.std.specs.Prelude.{◌≡◌, ◌<◌, ◌≤◌, ◌+◌, ℕ, IfOk, OnOk, length, sum};
 ghost use Rattle.directed_fixed.specs.declared.bounds.End.TheVariants.{Lower, Upper};
+ghost use Rattle.turn_rule.specs.Games.{game_of};
 ghost use Rattle.turn_rule.specs.Tables.{IsFull, squares_of, words_of, read_from};
 ghost use Rattle.turn_rule.specs.States.{IsState, AreWithin, pair_of};
 ghost use Rattle.turn_rule.specs.Looks.{AreStakesOf};
@@ -92,7 +93,7 @@ impl PlainTable {
 
     /// The pair of a state.
     pub fn pair(&self, position: &Position, kind: usize) -> Pair
-        requires { IsState self.now.table.checkers self.now.stakes position.now kind }
+        requires { IsState (game_of self.now.table.checkers self.now.stakes) position.now kind }
         ensures { result ≡ pair_of (words_of self.now.table) position.now kind }
     {
         self.current.pair(position, kind)

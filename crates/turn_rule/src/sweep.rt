@@ -3,6 +3,7 @@ ghost use Rattle.position_rank.specs.Placement.{IsLayout, IsPosition, IsLive};
 ghost use Rattle.position_rank.specs.Ranks.{rank_of, square_rank_of};
 ghost use Rattle.directed_fixed.specs.declared.bounds.End.TheVariants.{Lower, Upper};
 ghost use Rattle.cube_actions.specs.Stakes.{nothing};
+ghost use Rattle.turn_rule.specs.Games.{game_of};
 ghost use Rattle.turn_rule.specs.Tables.{IsFull, words_of};
 ghost use Rattle.turn_rule.specs.Turn.{turn};
 ghost use Rattle.turn_rule.specs.States.{IsState, pair_of, AreWithin};
@@ -18,9 +19,9 @@ use position_rank::{Layout, Position};
 
 /// What a state is worth before its turn, over the table's words.
 fn turn_over(ends: &RollEnds, stakes: &Stakes, number: usize, table: &Table) -> Pair
-    requires state { IsState table.now.checkers stakes.now ends.now number }
+    requires state { IsState (game_of table.now.checkers stakes.now) ends.now number }
     requires kinds { table.now.kinds ≡ length stakes.now.kinds }
-    requires within { AreWithin table.now.checkers stakes.now (words_of table.now) }
+    requires within { AreWithin (game_of table.now.checkers stakes.now) (words_of table.now) }
     ensures { result ≡ pair_of (turn stakes.now (words_of table.now)) ends.now number }
 {
     let mut reader = PlainReader::of(table, stakes.bound());
@@ -41,7 +42,7 @@ fn sweep_square(
     requires many { sum position.now.mover ≡ old.now.checkers }
     requires live { IsLive position.now }
     requires kinds { old.now.kinds ≡ length stakes.now.kinds }
-    requires within { AreWithin old.now.checkers stakes.now (words_of old.now) }
+    requires within { AreWithin (game_of old.now.checkers stakes.now) (words_of old.now) }
     requires alike { AreAlike old.now new.old }
     ensures alike { AreAlike old.now new.new }
     ensures full { IsFull new.new }
@@ -71,7 +72,7 @@ fn sweep_row(
     requires mover { IsLayout mover }
     requires many { sum mover ≡ old.now.checkers }
     requires kinds { old.now.kinds ≡ length stakes.now.kinds }
-    requires within { AreWithin old.now.checkers stakes.now (words_of old.now) }
+    requires within { AreWithin (game_of old.now.checkers stakes.now) (words_of old.now) }
     requires alike { AreAlike old.now new.old }
     requires full { IsFull new.old }
     requires before { IsTurnedBefore stakes.now old.now new.old (rank_of mover * length layouts.now) }
@@ -91,7 +92,7 @@ fn sweep_row(
 pub(crate) fn sweep_rows(layouts: &[Layout], stakes: &Stakes, old: &Table, new: &mut Table)
     requires all { AreLayouts old.now.checkers layouts.now }
     requires kinds { old.now.kinds ≡ length stakes.now.kinds }
-    requires within { AreWithin old.now.checkers stakes.now (words_of old.now) }
+    requires within { AreWithin (game_of old.now.checkers stakes.now) (words_of old.now) }
     requires alike { AreAlike old.now new.old }
     requires full { IsFull new.old }
     ensures alike { AreAlike old.now new.new }

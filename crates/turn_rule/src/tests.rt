@@ -3,6 +3,7 @@ ghost use Rattle.std.proofs.Common.{rules};
 ghost use Rattle.position_rank.specs.Placement.{Placement, IsPosition, IsLive};
 ghost use Rattle.cube_actions.specs.Stakes.{cubeless};
 ghost use Rattle.hyper_outside.specs.Causes.{counted};
+ghost use Rattle.turn_rule.specs.Games.{game_of};
 ghost use Rattle.turn_rule.specs.Turn.{Words};
 ghost use Rattle.turn_rule.specs.States.{IsState, IsStateOf, AreWithinOf};
 ghost use Rattle.turn_rule.specs.Looks.{Source};
@@ -34,7 +35,7 @@ fn units(pair: Pair) -> (i64, i64) {
 }
 
 fn units_of(table: &PlainTable, position: &Position, kind: usize) -> (i64, i64)
-    requires { IsState table.now.table.checkers table.now.stakes position.now kind }
+    requires { IsState (game_of table.now.table.checkers table.now.stakes) position.now kind }
 {
     units(table.pair(position, kind))
 }

@@ -8,6 +8,7 @@ use Rattle.move_rules.specs.Ends.{legal_ends, legal_lines, all_lines, lines, lin
 use Rattle.directed_fixed.specs.declared.bounds.End.{End}
 use Rattle.directed_fixed.specs.declared.bounds.End.TheVariants.{Lower, Upper}
 use Rattle.cube_actions.specs.Stakes.{cubeless, exactly}
+use Rattle.turn_rule.specs.Games.{game_of}
 use Rattle.turn_rule.specs.Turn.{turn, rounds}
 use Rattle.turn_rule.specs.States.{pair_of}
 use Rattle.turn_rule.specs.Exact.{Scoring}
@@ -22,12 +23,12 @@ two_points : pair_of (rounds cubeless 1) one_each 0 ≡ exactly 2
 unfolding rounds turn all_rolls counts_of legal_ends legal_lines all_lines lines lines_from places after_move
 two_points = refl
 
-encloses : (scoring : Scoring) → IsScoring 1 cubeless scoring → (turns : ℕ) → 1 ≤ turns → EnclosesAt cubeless scoring turns (exactly 2) one_each 0
-encloses scoring within turns h = rw two_points at (rounds-enclose 1 cubeless cubeless-valid scoring within 1 turns h one_each 0 one_each-state)
+encloses : (scoring : Scoring) → IsScoring (game_of 1 cubeless) scoring → (turns : ℕ) → 1 ≤ turns → EnclosesAt cubeless scoring turns (exactly 2) one_each 0
+encloses scoring within turns h = rw two_points at (rounds-enclose (game_of 1 cubeless) cubeless-valid 1 turns h scoring within one_each 0 one_each-state)
 
 pub returns-clause-two_points : goal.returns-clause-two_points
 returns-clause-two_points c = by_end where
-  by_end : (end : End) → IsSound 1 cubeless end (pos 8589934592) one_each 0
+  by_end : (end : End) → IsSound (game_of 1 cubeless) end (pos 8589934592) one_each 0
   by_end Lower = (1, λ turns more scoring within. (encloses scoring within turns more).lower)
   by_end Upper = (1, λ turns more scoring within. (encloses scoring within turns more).upper)
 
@@ -49,7 +50,7 @@ positive n h = omega arith
 in_order : (a b : ℤ) (turns : ℕ) → IsBoundAt Lower cubeless some_scoring turns a one_each 0 → IsBoundAt Upper cubeless some_scoring turns b one_each 0 → a ≤ℤ b
 in_order a b turns h k = cancelled (1 * 36 ^ turns) a b (positive (36 ^ turns) (one-le-pow turns 36 (omega arith))) (le_trans _ _ _ h k)
 
-within : IsScoring 1 cubeless some_scoring
+within : IsScoring (game_of 1 cubeless) some_scoring
 within = search rules
 
 pub returns-clause-a_unit_more : goal.returns-clause-a_unit_more

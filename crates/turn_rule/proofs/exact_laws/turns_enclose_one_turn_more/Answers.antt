@@ -3,4 +3,5 @@ use Rattle.turn_rule.proofs.Enclosing.{turn-encloses}
 use Rattle.turn_rule.proofs.exact_laws.turns_enclose_one_turn_more.Goals as goal
 
 pub returns : goal.returns
-returns c = λ checkers stakes valid scoring within turns u encloses. rw (add-one turns) (turn-encloses checkers stakes valid scoring within turns u encloses)
+returns c = λ game right scoring within turns u encloses.
+    rw (add-one turns) (turn-encloses game right.stakes scoring within.wins within.passes turns u encloses)

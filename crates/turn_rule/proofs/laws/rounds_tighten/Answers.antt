@@ -3,4 +3,4 @@ use Rattle.turn_rule.proofs.Monotone.{rounds-tighter}
 use Rattle.turn_rule.proofs.laws.rounds_tighten.Goals as goal
 
 pub returns : goal.returns
-returns c = λ checkers stakes valid r. rw (add-one r) (rounds-tighter checkers stakes valid r)
+returns c = λ game right r. rw (add-one r) (rounds-tighter game right.stakes r)

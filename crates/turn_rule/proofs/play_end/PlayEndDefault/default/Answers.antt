@@ -4,7 +4,7 @@ use Rattle.position_rank.specs.Placement.{Placement}
 use Rattle.position_rank.specs.Packed.{counts_of, start_counts}
 use Rattle.position_rank.specs.Ranks.{choose, rising_places}
 use Rattle.turn_rule.specs.PlayEnds.{IsPlayEnd}
-use Rattle.turn_rule.proofs.left.LeftDefault.default.Goals as goal
+use Rattle.turn_rule.proofs.play_end.PlayEndDefault.default.Goals as goal
 
 one_each : IsPlayEnd None (record { mover = start_counts 1; other = start_counts 1 }) 648
 unfolding counts_of choose rising_places
