@@ -7,7 +7,7 @@ use mathlib.Core.Option.{some, some-injective, some-ne-none}
 use Rattle.block_claims.specs.declared.views.Claim.{Claim}
 use Rattle.block_claims.specs.declared.views.ClaimView.{ClaimView}
 use Rattle.block_claims.specs.Views.{often, fresh}
-use Rattle.block_claims.specs.Claiming.{after_claim, joined}
+use Rattle.block_claims.specs.Claiming.{after_claim, with_taken}
 
 abbrev pub one : Bool → ℕ
 one b = cond b 1 0
@@ -47,7 +47,7 @@ often-claimed block round found b r view below = rw (lt-ltb found round below) (
 pub often-missed : (block round found b r : ℕ) (view : ClaimView) → round ≤ found → often b r (after_claim block round found view) ≡ often b r view
 often-missed block round found b r view above = rw (le-ltb found round above) refl
 
-pub often-joined : (b r : ℕ) (view other : ClaimView) → often b r (joined view other) ≡ often b r view + often b r other
+pub often-joined : (b r : ℕ) (view other : ClaimView) → often b r (with_taken view other) ≡ often b r view + often b r other
 often-joined b r view other = sum_by-append (λ (claim : Claim). cond (eqb claim.block b && eqb claim.round r) 1 0) view.claims other.claims
 
 pub often-fresh : (b r : ℕ) → often b r fresh ≡ 0

@@ -7,16 +7,16 @@ use Rattle.std.proofs.lemmas.List.Sums.{sum_by_push}
 use Rattle.atomic_table.proofs.Lists.{at_set, at_snoc, set_else}
 use lib.ListN.{get_elem?}
 use mathlib.Core.Option.{some}
-use Rattle.block_claims.specs.declared.views.Note.{Note}
+use Rattle.block_claims.specs.declared.views.ClaimNote.{ClaimNote}
 use Rattle.block_claims.specs.declared.views.ClaimView.{ClaimView}
-use Rattle.block_claims.specs.Views.{often, times, fresh, Kept}
-use Rattle.block_claims.specs.Claiming.{after_claim, joined}
-use Rattle.block_claims.specs.Events.{Core, raised}
+use Rattle.block_claims.specs.Views.{ClaimCore, often, times, fresh, AreKept}
+use Rattle.block_claims.specs.Claiming.{after_claim, with_taken}
+use Rattle.block_claims.specs.Events.{raised}
 use Rattle.block_claims.proofs.Counting.{self, one, is, sum-replaced, often-claimed, often-missed, often-joined, often-fresh}
 
 -- each noted word is at most the block's word
-abbrev pub AreNoted : List ℕ → List Note → Type 0
-AreNoted words notes = All (λ (note : Note). note.word ≤ get_or words note.block 0) notes
+abbrev pub AreNoted : List ℕ → List ClaimNote → Type 0
+AreNoted words notes = All (λ (note : ClaimNote). note.word ≤ get_or words note.block 0) notes
 
 module _ (words : List ℕ) (block round : ℕ) (inside : block < length words) where
   -- no word falls
@@ -37,10 +37,10 @@ module _ (words : List ℕ) (block round : ℕ) (inside : block < length words) 
   pub word-else : (b : ℕ) → b ≢ block → get_or (raised words block round) b 0 ≡ get_or words b 0
   word-else b other = get_or-set_other words block b (max (get_or words block 0) round) 0 other
 
-  pub noted-still : (notes : List Note) → AreNoted words notes → AreNoted (raised words block round) notes
-  noted-still notes = All-weaker (λ (note : Note). note.word ≤ get_or words note.block 0) (λ (note : Note). note.word ≤ get_or (raised words block round) note.block 0) (λ note h. omega (arith, h, rises note.block)) notes
+  pub noted-still : (notes : List ClaimNote) → AreNoted words notes → AreNoted (raised words block round) notes
+  noted-still notes = All-weaker (λ (note : ClaimNote). note.word ≤ get_or words note.block 0) (λ (note : ClaimNote). note.word ≤ get_or (raised words block round) note.block 0) (λ note h. omega (arith, h, rises note.block)) notes
 
-  pub noted-more : (notes : List Note) → AreNoted words notes → AreNoted (raised words block round) (record { block = block; word = max (get_or words block 0) round } ∷ notes)
+  pub noted-more : (notes : List ClaimNote) → AreNoted words notes → AreNoted (raised words block round) (record { block = block; word = max (get_or words block 0) round } ∷ notes)
   noted-more notes noted zero d h = omega (arith, word-here)
   noted-more notes noted (suc i) d h = noted-still notes noted i d (omega arith)
 
@@ -54,7 +54,7 @@ same_or a b = elim (cases_lt a b) [
   ]
 ]
 
-module _ (blocks : ℕ) (s : Core) (seat : ℕ) (view : ClaimView) (kept : Kept blocks s) (at : get_elem? s.views seat ≡ some view) where
+module _ (blocks : ℕ) (s : ClaimCore) (seat : ℕ) (view : ClaimView) (kept : AreKept blocks s) (at : get_elem? s.views seat ≡ some view) where
   module _ (block round : ℕ) (block_in : block < blocks) (from : 1 ≤ round) where
     inside : block < length s.words
     inside = omega (arith, kept.many, block_in)
@@ -66,7 +66,7 @@ module _ (blocks : ℕ) (s : Core) (seat : ℕ) (view : ClaimView) (kept : Kept 
     ]
 
     -- the word found was at the round or a later one
-    missed : round ≤ get_or s.words block 0 → Kept blocks (record { words = raised s.words block round; homes = s.homes; views = set s.views seat (after_claim block round (get_or s.words block 0) view) })
+    missed : round ≤ get_or s.words block 0 → AreKept blocks (record { words = raised s.words block round; homes = s.homes; views = set s.views seat (after_claim block round (get_or s.words block 0) view) })
     missed above =
         let new = after_claim block round (get_or s.words block 0) view in
         let same : (b r : ℕ) → times b r (set s.views seat new) ≡ times b r s.views = λ b r. omega (arith, sum-replaced (often b r) s.views seat view new at, often-missed block round (get_or s.words block 0) b r view above) in
@@ -81,7 +81,7 @@ module _ (blocks : ℕ) (s : Core) (seat : ℕ) (view : ClaimView) (kept : Kept 
         }
 
     -- the word found was below the round
-    got : get_or s.words block 0 < round → Kept blocks (record { words = raised s.words block round; homes = s.homes; views = set s.views seat (after_claim block round (get_or s.words block 0) view) })
+    got : get_or s.words block 0 < round → AreKept blocks (record { words = raised s.words block round; homes = s.homes; views = set s.views seat (after_claim block round (get_or s.words block 0) view) })
     got below = record {
       many = length-set s.words block (max (get_or s.words block 0) round) ∙ kept.many;
       once = once_of;
@@ -129,11 +129,11 @@ module _ (blocks : ℕ) (s : Core) (seat : ℕ) (view : ClaimView) (kept : Kept 
             rw word (omega (arith, more b (get_or s.words b 0), kept.claimed b (rw word at low))))
       ]
 
-    pub kept-claims : Kept blocks (record { words = raised s.words block round; homes = s.homes; views = set s.views seat (after_claim block round (get_or s.words block 0) view) })
+    pub kept-claims : AreKept blocks (record { words = raised s.words block round; homes = s.homes; views = set s.views seat (after_claim block round (get_or s.words block 0) view) })
     kept-claims = elim (cases_lt (get_or s.words block 0) round) [ inl below ↦ got below | inr above ↦ missed above ]
 
   -- a fresh seat is made
-  pub kept-splits : Kept blocks (record { words = s.words; homes = s.homes; views = s.views ++ fresh ∷ [] })
+  pub kept-splits : AreKept blocks (record { words = s.words; homes = s.homes; views = s.views ++ fresh ∷ [] })
   kept-splits =
       let same : (b r : ℕ) → times b r (s.views ++ fresh ∷ []) ≡ times b r s.views = λ b r. omega (arith, sum_by_push (often b r) s.views fresh, often-fresh b r) in
       record {
@@ -148,9 +148,9 @@ module _ (blocks : ℕ) (s : Core) (seat : ℕ) (view : ClaimView) (kept : Kept 
       }
 
   -- a seat takes in another, which is spent
-  pub kept-joins : (other : ℕ) (taken : ClaimView) → get_elem? s.views other ≡ some taken → other ≢ seat → Kept blocks (record { words = s.words; homes = s.homes; views = set (set s.views seat (joined view taken)) other fresh })
+  pub kept-joins : (other : ℕ) (taken : ClaimView) → get_elem? s.views other ≡ some taken → other ≢ seat → AreKept blocks (record { words = s.words; homes = s.homes; views = set (set s.views seat (with_taken view taken)) other fresh })
   kept-joins other taken there apart =
-      let both = joined view taken in
+      let both = with_taken view taken in
       let first : (b r : ℕ) → times b r (set s.views seat both) + often b r view ≡ times b r s.views + often b r both = λ b r. sum-replaced (often b r) s.views seat view both at in
       let still : get_elem? (set s.views seat both) other ≡ some taken = set_else s.views seat other both apart ∙ there in
       let second : (b r : ℕ) → times b r (set (set s.views seat both) other fresh) + often b r taken ≡ times b r (set s.views seat both) + often b r fresh = λ b r. sum-replaced (often b r) (set s.views seat both) other taken fresh still in
@@ -163,7 +163,7 @@ module _ (blocks : ℕ) (s : Core) (seat : ℕ) (view : ClaimView) (kept : Kept 
         noted = λ j w e. elim (at_set (set s.views seat both) other j fresh w e) [
           | inl spent ↦ subst (λ (v : ClaimView). AreNoted s.words v.notes) spent.1 (λ i d h. absurd (omega (arith, h)))
           | inr rest ↦ elim (at_set s.views seat j both w rest.1) [
-            | inl mine ↦ subst (λ (v : ClaimView). AreNoted s.words v.notes) mine.1 (All-append (λ (note : Note). note.word ≤ get_or s.words note.block 0) view.notes taken.notes (kept.noted seat view at) (kept.noted other taken there))
+            | inl mine ↦ subst (λ (v : ClaimView). AreNoted s.words v.notes) mine.1 (All-append (λ (note : ClaimNote). note.word ≤ get_or s.words note.block 0) view.notes taken.notes (kept.noted seat view at) (kept.noted other taken there))
             | inr old ↦ kept.noted j w old.1
           ]
         ];

@@ -3,14 +3,15 @@ use Rattle.std.specs.Prelude.{◌≡◌, ◌<◌, ◌↔◌, ℕ, Bool, IsTrue, 
 use Rattle.atomic_table.specs.Seated.{TableId}
 use Rattle.atomic_table.specs.Table.{Me, Step}
 use Rattle.block_claims.specs.declared.views.ClaimView.{ClaimView}
+use Rattle.block_claims.specs.Views.{HasEachOnce, WasFound}
 
 -- the claims of so many blocks, by the table that holds their words
-pub record ClaimBoard : Type 0 where
+pub record ClaimTable : Type 0 where
   pub table : TableId
   pub blocks : ℕ
 
 -- a table with a word for each block, and no slots
-pub record Stands (table : TableId) (blocks : ℕ) : Type 0 where
+pub record HasWords (table : TableId) (blocks : ℕ) : Type 0 where
   pub many : table.words ≡ blocks
   pub bare : table.slots ≡ 0
   pub some : 0 < table.words
@@ -28,15 +29,23 @@ after_claim block round found view = record {
 }
 
 -- a seat takes in the claims and the notes of another
-abbrev pub joined : ClaimView → ClaimView → ClaimView
-joined view other = record { claims = view.claims ++ other.claims; notes = view.notes ++ other.notes }
+abbrev pub with_taken : ClaimView → ClaimView → ClaimView
+with_taken view other = record { claims = view.claims ++ other.claims; notes = view.notes ++ other.notes }
 
--- the block was claimed exactly where the word found was below the round
+-- A block was claimed exactly where the word found was below the round. The word was found at a moment at which all was kept.
 pub record IsClaimed (block round : ℕ) (before after : Claimer) (answer : Bool) : Type 0 where
   pub found : ℕ
   pub answer_is : IsTrue answer ↔ (found < round)
   pub seat : after ≡ record { table = before.table; view = after_claim block round found before.view }
+  pub moment : WasFound before.view block found
 
--- the same of a step of the table
-abbrev pub Claims : Step (Unit {0}) → Me (Unit {0}) ClaimView → ℕ → Me (Unit {0}) ClaimView → Type 0
-Claims step before found after = after ≡ (after_claim step.word step.first found before.0, before.1)
+-- what a step of the table that claims a block tells of the word found
+pub record StepClaims (step : Step (Unit {0})) (before : Me (Unit {0}) ClaimView) (found : ℕ) (after : Me (Unit {0}) ClaimView) : Type 0 where
+  pub seat : after ≡ (after_claim step.word step.first found before.0, before.1)
+  pub once : HasEachOnce after.0
+  pub moment : WasFound before.0 step.word found
+
+-- what a step that only looks tells
+pub record StepLooks (step : Step (Unit {0})) (before : Me (Unit {0}) ClaimView) (found : ℕ) (after : Me (Unit {0}) ClaimView) : Type 0 where
+  pub seat : after ≡ before
+  pub once : HasEachOnce after.0

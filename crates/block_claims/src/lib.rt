@@ -8,5 +8,5 @@ mod tests;
 mod views;
 
 pub use claims::{ClaimSeat, Claims};
-pub use laws::{claims_are_kept, each_claim_has_one_seat};
-pub use views::{Claim, ClaimView, Note};
+pub use laws::{claims_are_kept, each_claim_has_one_seat, lost_blocks_are_claimed};
+pub use views::{Claim, ClaimNote, ClaimView};

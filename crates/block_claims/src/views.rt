@@ -7,7 +7,7 @@ pub struct Claim {
 }
 
 /// A word that a block had at some moment. Only contracts speak of it.
-pub struct Note {
+pub struct ClaimNote {
     pub block: u64,
     pub word: u64,
 }
@@ -15,5 +15,5 @@ pub struct Note {
 /// What a seat has claimed, and which words it has noted, the newest first. Only contracts speak of it.
 pub struct ClaimView {
     pub claims: LinkedList<Claim>,
-    pub notes: LinkedList<Note>,
+    pub notes: LinkedList<ClaimNote>,
 }

@@ -2,13 +2,13 @@
 use Rattle.std.proofs.Common.{◌≡◌, ◌+◌, ◌<◌, ◌≤◌, ℕ, zero, suc, [], ◌∷◌, false, List, All, length, get_or, set, inl, inr, arith, ap, sym, subst, ◌∙◌}
 use Rattle.std.proofs.lemmas.Bool.{cases_lt}
 use Rattle.std.proofs.lemmas.List.{get_or-set_same, get_or-set_other, length-set, length-replicate}
-use Rattle.block_claims.specs.Claiming.{ClaimBoard, Claimer}
+use Rattle.block_claims.specs.Claiming.{ClaimTable, Claimer}
 use Rattle.interval_words.specs.Seats.{GameTable, GameSeat, SitsAt}
 use Rattle.worker_sweep.specs.Blocks.{blocks}
 use Rattle.worker_sweep.specs.Workers.{SeatsAndMarks, IsAtWork, IsReady, KeepsNotes, unmarked}
 use Rattle.worker_sweep.proofs.SeatLemmas.{sits-kept}
 
-module _ (board : GameTable) (claims : ClaimBoard) (crew base : ℕ) where
+module _ (board : GameTable) (claims : ClaimTable) (crew base : ℕ) where
   -- a worker that loses no note goes on
   pub works-on : (old new : SeatsAndMarks) → IsAtWork board claims crew base old → KeepsNotes old.seat new.seat → length new.marks ≡ length old.marks → new.claims.table ≡ old.claims.table → new.number ≡ old.number → IsAtWork board claims crew base new
   works-on old new at kept many claimed numbered = record {
@@ -45,7 +45,7 @@ rest-still P xs i x rest k d from below =
     subst P (sym (get_or-set_other xs i k x d (λ e. absurd (omega (arith, from, e))))) (rest k d (omega (arith, from)) (omega (arith, below, length-set xs i x)))
 
 -- a worker that begins
-pub begins : (board : GameTable) (claims : ClaimBoard) (crew number count : ℕ) (seat own : GameSeat) (claimer : Claimer) (new : SeatsAndMarks) → SitsAt board seat → own ≡ seat → claimer.table ≡ claims.table → number < crew → count ≡ blocks board.game.checkers
+pub begins : (board : GameTable) (claims : ClaimTable) (crew number count : ℕ) (seat own : GameSeat) (claimer : Claimer) (new : SeatsAndMarks) → SitsAt board seat → own ≡ seat → claimer.table ≡ claims.table → number < crew → count ≡ blocks board.game.checkers
     → new ≡ record { seat = own; claims = claimer; number = number; marks = unmarked count } → IsReady board claims crew seat.view.base new
 begins board claims crew number count seat own claimer new sits same claimed below many is = subst (IsReady board claims crew seat.view.base) (sym is) (record {
   works = record {

@@ -1,6 +1,6 @@
 -- A worker: its seats, and the blocks that it has swept in this round.
 use Rattle.std.specs.Prelude.{◌≡◌, ℕ, ◌<◌, Bool, true, false, List, length, replicate, slice_index_or, Some}
-use Rattle.block_claims.specs.Claiming.{ClaimBoard, Claimer}
+use Rattle.block_claims.specs.Claiming.{ClaimTable, Claimer}
 use Rattle.interval_words.specs.declared.view.Game.{Game}
 use Rattle.interval_words.specs.Core.{AreNoLooserIn, noted}
 use Rattle.interval_words.specs.Seats.{GameTable, GameSeat, SitsAt}
@@ -37,13 +37,13 @@ pub record WorksAt (board : GameTable) (worker : SeatsAndMarks) : Type 0 where
   pub marks : length worker.marks ≡ blocks board.game.checkers
 
 -- a worker of a board and its claims, one of so many, after so many rounds
-pub record IsAtWork (board : GameTable) (claims : ClaimBoard) (crew base : ℕ) (worker : SeatsAndMarks) : Type 0 where
+pub record IsAtWork (board : GameTable) (claims : ClaimTable) (crew base : ℕ) (worker : SeatsAndMarks) : Type 0 where
   pub works : WorksAt board worker
   pub claimer : worker.claims.table ≡ claims.table
   pub number : worker.number < crew
   pub after : worker.seat.view.base ≡ base
 
 -- the same, and no block is marked
-pub record IsReady (board : GameTable) (claims : ClaimBoard) (crew base : ℕ) (worker : SeatsAndMarks) : Type 0 where
+pub record IsReady (board : GameTable) (claims : ClaimTable) (crew base : ℕ) (worker : SeatsAndMarks) : Type 0 where
   pub works : IsAtWork board claims crew base worker
   pub unmarked : worker.marks ≡ unmarked (blocks board.game.checkers)

@@ -1,5 +1,5 @@
 ghost use Rattle.std.specs.Prelude.{◌≡◌, ℕ, ◌+◌, ◌*◌, ◌<◌, ◌≤◌, ◌||◌, true, IfOk, length, replicate, slice_set};
-ghost use Rattle.block_claims.specs.Claiming.{ClaimBoard};
+ghost use Rattle.block_claims.specs.Claiming.{ClaimTable};
 ghost use Rattle.interval_words.specs.Core.{settled};
 ghost use Rattle.interval_words.specs.Seats.{SitsAt};
 ghost use Rattle.worker_sweep.specs.Blocks.{blocks};
