@@ -146,9 +146,15 @@ impl Words {
 
     /// Looks the words up one end at a time. The reader is sure, and its floor and its notes are these words.
     pub fn reader(&self) -> WordsReader<'_>
-        ensures source { ⟦<WordsReader<'static> as Pairs>⟧.source result ≡ source_of self.now }
-        ensures notes { ⟦<WordsReader<'static> as Pairs>⟧.notes result ≡ words_in_list self.now }
-        ensures stakes { AreStakesOf (⟦<WordsReader<'static> as Pairs>⟧.source result) self.now.game.stakes }
+        ensures source {
+            (⟦<WordsReader<'static> as Pairs>⟧.seen result).source ≡ source_of self.now
+        }
+        ensures notes {
+            (⟦<WordsReader<'static> as Pairs>⟧.seen result).notes ≡ words_in_list self.now
+        }
+        ensures stakes {
+            AreStakesOf (⟦<WordsReader<'static> as Pairs>⟧.seen result).source self.now.game.stakes
+        }
     {
         let _list = &self.list;
         WordsReader { words: self }
@@ -207,11 +213,13 @@ pub struct WordsReader<'a> {
 impl Pairs for WordsReader<'_> {
     ghost stays = { λ _. tt };
 
-    ghost source = { λ reader. source_of reader.words.now };
-
-    ghost notes = { λ reader. words_in_list reader.words.now };
-
-    ghost faults = { λ _. 0 };
+    ghost seen = {
+        λ reader. record {
+            source = source_of reader.words.now;
+            notes = words_in_list reader.words.now;
+            faults = 0;
+        }
+    };
 
     #[inline]
     fn lower_of(&mut self, position: &Position, kind: usize) -> Result<Fixed, LookStop> {

@@ -1,5 +1,5 @@
 -- Look-ups one after another, and what is worked out from them.
-use Rattle.std.proofs.Common.{◌≡◌, ℕ, ◌≤◌, ℤ, neg_ℤ, ◌⊎◌, inl, inr, IsTrue, Ok, Err, arith, subst}
+use Rattle.std.proofs.Common.{◌≡◌, ℕ, ◌≤◌, ℤ, neg_ℤ, ◌⊎◌, inl, inr, IsTrue, Result, Ok, Err, arith, subst}
 use Rattle.std.specs.Int.{int_max, int_min}
 use Rattle.std.proofs.lemmas.Int.{ints, clamps}
 use Rattle.position_rank.specs.Placement.{Placement}
@@ -26,6 +26,10 @@ may_stop-earlier s a b c meant meant' NoMemory h k stopped = stopped
 -- the words got tighter, where they are told
 abbrev pub Tightened : Source → Words → Words → Type 0
 Tightened s new old = IsTrue s.tells → AreNoLooserOf s.checkers s.kinds new old
+
+-- a look-up of one end, with its parts apart
+abbrev pub FindsFrom : End → Source → Words → Words → ℕ → ℕ → States → ℤ → (Words → ℤ) → Result ℤ LookStop → Type 0
+FindsFrom end source old new before now states bound value = Looked source old new before now (HasDamage source states) (IsFound end source new states bound value)
 
 -- a look-up, and then another
 pub then-ok : {A B C : Type 0} (s : Source) (u v w : Words) (a b c : ℕ) (meant meant' meant'' : Damage → Type 0) (right : A → Type 0) (right' : B → Type 0) (right'' : C → Type 0) (x : A) (y : B) (z : C)

@@ -18,7 +18,7 @@ use Rattle.turn_rule.specs.Games.{game_of}
 use Rattle.turn_rule.specs.Turn.{Words, win, worth, greatest, sum_over}
 use Rattle.turn_rule.specs.States.{IsStateOf, IsState}
 use Rattle.turn_rule.specs.Looks.{Source, AreStakesOf, MayFollow}
-use Rattle.turn_rule.specs.Found.{Finds, LeavesState, MayFollowEnds, MayFollowAmong}
+use Rattle.turn_rule.specs.Found.{LeavesState, MayFollowEnds, MayFollowAmong}
 use Rattle.turn_rule.specs.declared.ends.OneRoll.{OneRoll}
 use Rattle.turn_rule.specs.Rolled.{weighted, HasEnds, AreRolled}
 use borrow.Author.Differences.{up, down}
@@ -27,7 +27,7 @@ use Rattle.turn_rule.proofs.Tightness.{tight-times}
 use Rattle.turn_rule.proofs.Tight.{tight-add}
 use Rattle.turn_rule.proofs.Greatest.{greatest-same, total, total-all_rolls, length-all_rolls, roll_at, at_roll, all_rolls-right, AreRolls}
 use Rattle.turn_rule.proofs.Within.{next_state, win-within, bound-positive}
-use Rattle.turn_rule.proofs.Found.{AreAmong, mapped-ok, then-ok, found-as, found-later, found-step}
+use Rattle.turn_rule.proofs.Found.{FindsFrom, AreAmong, mapped-ok, then-ok, found-as, found-later, found-step}
 
 -- ---- the rolls
 
@@ -167,9 +167,9 @@ wins-within s stakes valid fits k here won =
 module _ (end : End) (s : Source) (kind : Kind) (p : Placement) where
   -- a roll after others
   pub next-roll : (u v w : Words) (a b c : ℕ) (i : ℕ) (one : OneRoll) (x y z : ℤ) → IsKept p i one → z ≡ x +ℤ pos one.times *ℤ y
-      → Finds end s u v a b (MayFollowAmong kind.next p (take i all_rolls)) (pos (total (take i all_rolls)) *ℤ s.bound) (λ n. sum_over (take i all_rolls) (worth end kind n) p) (Ok x)
-      → Finds end s v w b c (MayFollowEnds kind.next one.ends.items) s.bound (λ n. greatest (worth end kind n) one.ends.items) (Ok y)
-      → Finds end s u w a c (MayFollowAmong kind.next p (take (i + 1) all_rolls)) (pos (total (take (i + 1) all_rolls)) *ℤ s.bound) (λ n. sum_over (take (i + 1) all_rolls) (worth end kind n) p) (Ok z)
+      → FindsFrom end s u v a b (MayFollowAmong kind.next p (take i all_rolls)) (pos (total (take i all_rolls)) *ℤ s.bound) (λ n. sum_over (take i all_rolls) (worth end kind n) p) (Ok x)
+      → FindsFrom end s v w b c (MayFollowEnds kind.next one.ends.items) s.bound (λ n. greatest (worth end kind n) one.ends.items) (Ok y)
+      → FindsFrom end s u w a c (MayFollowAmong kind.next p (take (i + 1) all_rolls)) (pos (total (take (i + 1) all_rolls)) *ℤ s.bound) (λ n. sum_over (take (i + 1) all_rolls) (worth end kind n) p) (Ok z)
   next-roll u v w a b c i one x y z kept is so_far looked =
       then-ok s u v w a b c _ _ _ _ _ _ x y z so_far looked
       (λ tighter before best.
@@ -195,8 +195,8 @@ module _ (end : End) (s : Source) (kind : Kind) (p : Placement) where
 module _ (end : End) (s : Source) (stakes : Terms) (p : Placement) (k : ℕ) where
   -- after the last roll
   pub all-rolls : (u v : Words) (a b i : ℕ) (x : ℤ) → 21 ≤ i
-      → Finds end s u v a b (MayFollowAmong (kind_at stakes k).next p (take i all_rolls)) (pos (total (take i all_rolls)) *ℤ s.bound) (λ n. sum_over (take i all_rolls) (worth end (kind_at stakes k) n) p) (Ok x)
-      → Finds end s u v a b (MayFollow stakes p k) (pos 36 *ℤ s.bound) (λ n. sum_over all_rolls (worth end (kind_at stakes k) n) p) (Ok x)
+      → FindsFrom end s u v a b (MayFollowAmong (kind_at stakes k).next p (take i all_rolls)) (pos (total (take i all_rolls)) *ℤ s.bound) (λ n. sum_over (take i all_rolls) (worth end (kind_at stakes k) n) p) (Ok x)
+      → FindsFrom end s u v a b (MayFollow stakes p k) (pos 36 *ℤ s.bound) (λ n. sum_over all_rolls (worth end (kind_at stakes k) n) p) (Ok x)
   all-rolls u v a b i x past so_far =
       let all : take i all_rolls ≡ all_rolls = take_all i all_rolls (omega (arith, past, length-all_rolls)) in
       mapped-ok s u v a b _ _ _ _ x x (rw (all, total-all_rolls) at so_far)

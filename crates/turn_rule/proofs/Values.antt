@@ -19,13 +19,13 @@ use Rattle.turn_rule.specs.Games.{game_of}
 use Rattle.turn_rule.specs.Turn.{Words, worth, sum_over, roll_value, least, doubled, or_double, turn}
 use Rattle.turn_rule.specs.States.{IsStateOf, IsState, AreWithinOf, AreWithin}
 use Rattle.turn_rule.specs.Looks.{Source, States, AreStakesOf, MayFollow, MayFollowTurn, IsPairOf, Looked, HasDamage}
-use Rattle.turn_rule.specs.Found.{Finds, MayFollowAnswer}
+use Rattle.turn_rule.specs.Found.{MayFollowAnswer}
 use Rattle.turn_rule.proofs.Integers.{mul_mono, regroup, floor_36_below, floor_36_above}
 use Rattle.turn_rule.proofs.Tightness.{tight-max, tight-times, tight-outwards}
 use Rattle.turn_rule.proofs.Tight.{tight-min, words-refl}
 use Rattle.turn_rule.proofs.Within.{turn-within, roll-in_order}
 use Rattle.turn_rule.proofs.RollSums.{times-neg}
-use Rattle.turn_rule.proofs.Found.{AreAmong, mapped-ok, then-ok, found-as, found-later, found-step, found-through, max-within, min-within}
+use Rattle.turn_rule.proofs.Found.{FindsFrom, AreAmong, mapped-ok, then-ok, found-as, found-later, found-step, found-through, max-within, min-within}
 
 -- ---- a 36th
 
@@ -44,8 +44,8 @@ factored-within end factor bound x h = mean-within end (pos factor *ℤ bound) (
 
 -- what rolling is worth, from the sum
 pub rolled : (end : End) (s : Source) (stakes : Terms) (p : Placement) (k factor : ℕ) (u v : Words) (a b : ℕ) (x y : ℤ) → y ≡ outwards end (pos factor *ℤ x)
-    → Finds end s u v a b (MayFollow stakes p k) (pos 36 *ℤ s.bound) (λ n. sum_over all_rolls (worth end (kind_at stakes k) n) p) (Ok x)
-    → Finds end s u v a b (MayFollow stakes p k) (pos factor *ℤ s.bound) (λ n. roll_value end stakes n p k factor) (Ok y)
+    → FindsFrom end s u v a b (MayFollow stakes p k) (pos 36 *ℤ s.bound) (λ n. sum_over all_rolls (worth end (kind_at stakes k) n) p) (Ok x)
+    → FindsFrom end s u v a b (MayFollow stakes p k) (pos factor *ℤ s.bound) (λ n. roll_value end stakes n p k factor) (Ok y)
 rolled end s stakes p k factor u v a b x y is looked =
     mapped-ok s u v a b _ _ _ _ x y looked
     (λ found.
@@ -97,9 +97,9 @@ least_of end stakes p double answers n = least (at end double.pass) (map (λ (ta
 module _ (end : End) (s : Source) (stakes : Terms) (p : Placement) (double : Double) where
   -- an answer after others
   pub next-answer : (u v w : Words) (a b c : ℕ) (i : ℕ) (taken : Taken) (x y z : ℤ) → i < length double.answers.items → taken ≡ get_or double.answers.items i taken → taken.factor ≤ 4 → pos 0 ≤ℤ s.bound → z ≡ int_min x y
-      → Finds end s u v a b (MayFollowAnswer stakes p (take i double.answers.items)) (pos 4 *ℤ s.bound) (least_of end stakes p double (take i double.answers.items)) (Ok x)
-      → Finds end s v w b c (MayFollow stakes p taken.kind) (pos taken.factor *ℤ s.bound) (λ n. roll_value end stakes n p taken.kind taken.factor) (Ok y)
-      → Finds end s u w a c (MayFollowAnswer stakes p (take (i + 1) double.answers.items)) (pos 4 *ℤ s.bound) (least_of end stakes p double (take (i + 1) double.answers.items)) (Ok z)
+      → FindsFrom end s u v a b (MayFollowAnswer stakes p (take i double.answers.items)) (pos 4 *ℤ s.bound) (least_of end stakes p double (take i double.answers.items)) (Ok x)
+      → FindsFrom end s v w b c (MayFollow stakes p taken.kind) (pos taken.factor *ℤ s.bound) (λ n. roll_value end stakes n p taken.kind taken.factor) (Ok y)
+      → FindsFrom end s u w a c (MayFollowAnswer stakes p (take (i + 1) double.answers.items)) (pos 4 *ℤ s.bound) (least_of end stakes p double (take (i + 1) double.answers.items)) (Ok z)
   next-answer u v w a b c i taken x y z high e factor positive is so_far looked =
       then-ok s u v w a b c _ _ _ _ _ _ x y z so_far looked
       (λ tighter before one.
@@ -121,8 +121,8 @@ module _ (end : End) (s : Source) (stakes : Terms) (p : Placement) (double : Dou
 
   -- after the last answer
   pub all-answers : (u v : Words) (a b i : ℕ) (x : ℤ) → length double.answers.items ≤ i
-      → Finds end s u v a b (MayFollowAnswer stakes p (take i double.answers.items)) (pos 4 *ℤ s.bound) (least_of end stakes p double (take i double.answers.items)) (Ok x)
-      → Finds end s u v a b (MayFollowAnswer stakes p double.answers.items) (pos 4 *ℤ s.bound) (λ n. doubled end stakes n p double) (Ok x)
+      → FindsFrom end s u v a b (MayFollowAnswer stakes p (take i double.answers.items)) (pos 4 *ℤ s.bound) (least_of end stakes p double (take i double.answers.items)) (Ok x)
+      → FindsFrom end s u v a b (MayFollowAnswer stakes p double.answers.items) (pos 4 *ℤ s.bound) (λ n. doubled end stakes n p double) (Ok x)
   all-answers u v a b i x past so_far = rw (take_all i double.answers.items past) at so_far
 
   -- an answer whose words can't be had
@@ -168,7 +168,7 @@ same_some o x y h k = cc
 
 module _ (end : End) (s : Source) (stakes : Terms) (p : Placement) (k : ℕ) where
   pub turn-plain : (u v : Words) (a b : ℕ) (x : ℤ) → (kind_at stakes k).double ≡ None
-      → Finds end s u v a b (MayFollow stakes p k) (pos 1 *ℤ s.bound) (λ n. roll_value end stakes n p k 1) (Ok x) → Finds end s u v a b (MayFollowTurn stakes p k) s.bound (λ n. turn stakes n end p k) (Ok x)
+      → FindsFrom end s u v a b (MayFollow stakes p k) (pos 1 *ℤ s.bound) (λ n. roll_value end stakes n p k 1) (Ok x) → FindsFrom end s u v a b (MayFollowTurn stakes p k) s.bound (λ n. turn stakes n end p k) (Ok x)
   turn-plain u v a b x none looked =
       mapped-ok s u v a b _ _ _ _ x x looked
       (λ found. found-as end s v (MayFollow stakes p k) (MayFollowTurn stakes p k) (pos 1 *ℤ s.bound) s.bound (λ n. roll_value end stakes n p k 1) (λ n. turn stakes n end p k) x x
@@ -176,9 +176,9 @@ module _ (end : End) (s : Source) (stakes : Terms) (p : Placement) (k : ℕ) whe
       (λ n. or_none end stakes n p k none) refl found)
 
   pub turn-doubled : (u v w : Words) (a b c : ℕ) (double : Double) (x y z : ℤ) → (kind_at stakes k).double ≡ Some double → z ≡ int_max x y → y ≤ℤ s.bound
-      → Finds end s u v a b (MayFollow stakes p k) (pos 1 *ℤ s.bound) (λ n. roll_value end stakes n p k 1) (Ok x)
-      → Finds end s v w b c (MayFollowAnswer stakes p double.answers.items) (pos 4 *ℤ s.bound) (λ n. doubled end stakes n p double) (Ok y)
-      → Finds end s u w a c (MayFollowTurn stakes p k) s.bound (λ n. turn stakes n end p k) (Ok z)
+      → FindsFrom end s u v a b (MayFollow stakes p k) (pos 1 *ℤ s.bound) (λ n. roll_value end stakes n p k 1) (Ok x)
+      → FindsFrom end s v w b c (MayFollowAnswer stakes p double.answers.items) (pos 4 *ℤ s.bound) (λ n. doubled end stakes n p double) (Ok y)
+      → FindsFrom end s u w a c (MayFollowTurn stakes p k) s.bound (λ n. turn stakes n end p k) (Ok z)
   turn-doubled u v w a b c double x y z some is most plain looked =
       then-ok s u v w a b c _ _ _ _ _ _ x y z plain looked
       (λ tighter one other.
@@ -213,7 +213,7 @@ between x a b y h k l = omega (arith, ints)
 
 -- the lower end and then the upper end
 pub paired : (s : Source) (states : States) (bound : ℤ) (value : End → Words → ℤ) (u v w : Words) (a b c : ℕ) (x y : ℤ) (pair : Bounds) → pair.lower ≡ int_min x y → pair.upper ≡ int_max x y → (IsTrue s.tells → value Lower w ≤ℤ value Upper w)
-    → Finds Lower s u v a b states bound (value Lower) (Ok x) → Finds Upper s v w b c states bound (value Upper) (Ok y) → Looked s u w a c (HasDamage s states) (IsPairOf s w states bound value) (Ok pair)
+    → FindsFrom Lower s u v a b states bound (value Lower) (Ok x) → FindsFrom Upper s v w b c states bound (value Upper) (Ok y) → Looked s u w a c (HasDamage s states) (IsPairOf s w states bound value) (Ok pair)
 paired s states bound value u v w a b c x y pair low high order lower upper =
     then-ok s u v w a b c _ _ _ _ _ _ x y pair lower upper
     (λ tighter one other.

@@ -1,18 +1,20 @@
 -- One end of a value that is worked out from looked up words.
-use Rattle.std.specs.Prelude.{◌≡◌, ℕ, ℤ, IsTrue, None, Result, List}
+use Rattle.std.specs.Prelude.{◌≡◌, ℕ, ℤ, pos, ◌*ℤ◌, IsTrue, None, Result, List}
 use Rattle.position_rank.specs.Placement.{Placement, swap}
-use Rattle.roll_table.specs.Rolls.{Dice}
+use Rattle.roll_table.specs.Rolls.{Dice, all_rolls}
 use Rattle.move_rules.specs.Listing.{Among}
 use Rattle.move_rules.specs.Ends.{legal_ends}
 use Rattle.game_payoff.specs.Points.{points}
 use Rattle.directed_fixed.specs.declared.bounds.End.{End}
 use Rattle.directed_fixed.specs.Bounds.{IsNoLooser, IsWithinUnits}
 use Rattle.hyper_outside.specs.declared.outside.LookStop.{LookStop}
+use Rattle.cube_actions.specs.declared.kind.Double.{Double}
+use Rattle.cube_actions.specs.declared.kind.Kind.{Kind}
 use Rattle.cube_actions.specs.declared.kind.Taken.{Taken}
-use Rattle.cube_actions.specs.Stakes.{Terms}
-use Rattle.turn_rule.specs.Turn.{Words}
+use Rattle.cube_actions.specs.Stakes.{Terms, kind_at}
+use Rattle.turn_rule.specs.Turn.{Words, worth, greatest, sum_over, doubled}
 use Rattle.turn_rule.specs.States.{IsStateOf, AreNoLooserOf}
-use Rattle.turn_rule.specs.Looks.{Source, States, Looked, HasDamage, IsLeft, MayFollow}
+use Rattle.turn_rule.specs.Looks.{Source, Seen, States, Sought, LooksUp, HasDamage, IsLeft, MayFollow}
 
 -- One end of a value within a bound. Where the source tells its words, it is at least as tight as the value over its floor, and no tighter than
 -- the value over any words that are at least as tight as its notes. None of the states is damaged.
@@ -22,9 +24,11 @@ pub record IsFound (end : End) (source : Source) (noted : Words) (states : State
   pub notes : IsTrue source.tells → (later : Words) → AreNoLooserOf source.checkers source.kinds later noted → IsNoLooser end (value later) found
   pub right : IsTrue source.tells → (p : Placement) (k : ℕ) → states p k → source.damage p k ≡ None
 
--- a look-up of such an end
-abbrev pub Finds : End → Source → Words → Words → ℕ → ℕ → States → ℤ → (Words → ℤ) → Result ℤ LookStop → Type 0
-Finds end source old new before now states bound value = Looked source old new before now (HasDamage source states) (IsFound end source new states bound value)
+-- a look-up of one end of what is sought
+abbrev pub Finds : End → Sought → Seen → Seen → Result ℤ LookStop → Type 0
+Finds end sought old new result =
+    LooksUp old new (HasDamage old.source sought.states)
+    (IsFound end old.source new.notes sought.states (sought.limit old.source.bound) (sought.value end)) result
 
 -- the other side's state after a play that doesn't end the game is one of the source
 abbrev pub LeavesState : Source → ℕ → Placement → Type 0
@@ -45,3 +49,39 @@ MayFollowAmong next p rolls q j = (roll : Dice × ℕ) × Among roll rolls × (e
 -- a state that some roll's play may leave after one of these answers
 abbrev pub MayFollowAnswer : Terms → Placement → List Taken → States
 MayFollowAnswer stakes p answers q j = (taken : Taken) × Among taken answers × MayFollow stakes p taken.kind q j
+
+-- the word of a state
+abbrev pub of_word : Placement → ℕ → Sought
+of_word p k = record { states = IsSame p k; limit = λ bound. bound; value = λ end u. u end p k }
+
+-- what the mover has after a play that ends so
+abbrev pub of_play : Kind → Placement → Sought
+of_play kind q = record {
+  states = IsLeft kind.next q;
+  limit = λ bound. bound;
+  value = λ end u. worth end kind u q;
+}
+
+-- what the best of some plays is worth
+abbrev pub of_plays : Kind → List Placement → Sought
+of_plays kind ends = record {
+  states = MayFollowEnds kind.next ends;
+  limit = λ bound. bound;
+  value = λ end u. greatest (worth end kind u) ends;
+}
+
+-- the sum over the 36 ways of two dice of what the best play is worth
+abbrev pub of_sum : Terms → Placement → ℕ → Sought
+of_sum stakes p k = record {
+  states = MayFollow stakes p k;
+  limit = λ bound. pos 36 *ℤ bound;
+  value = λ end u. sum_over all_rolls (worth end (kind_at stakes k) u) p;
+}
+
+-- what a double is worth
+abbrev pub of_double : Terms → Placement → Double → Sought
+of_double stakes p double = record {
+  states = MayFollowAnswer stakes p double.answers.items;
+  limit = λ bound. pos 4 *ℤ bound;
+  value = λ end u. doubled end stakes u p double;
+}

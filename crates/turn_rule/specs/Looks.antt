@@ -16,7 +16,7 @@ use Rattle.hyper_outside.specs.declared.outside.LookStop.{LookStop}
 use Rattle.hyper_outside.specs.declared.outside.LookStop.TheVariants.{ReadFault, BadPage, NoMemory}
 use Rattle.hyper_outside.specs.declared.outside.PageFault.{PageFault}
 use Rattle.turn_rule.specs.Turn.{Words, roll_value, turn}
-use Rattle.turn_rule.specs.States.{AreNoLooserOf}
+use Rattle.turn_rule.specs.States.{IsStateOf, AreWithinOf, AreNoLooserOf}
 
 -- why the words of a state can't be had, and the place where that is told
 pub record Damage : Type 0 where
@@ -49,12 +49,36 @@ MayStop source before now meant ReadFault = IsFalse source.sure × Rose before n
 MayStop source before now meant (BadPage fault at) = IsFalse source.sure × (IsTrue source.tells → meant (record { fault = fault; at = at }))
 MayStop source before now meant NoMemory = IsFalse source.sure
 
+-- What contracts see of a place of look-ups at one moment: where it looks, the words that no answer is tighter than, and how often a call
+-- of the outside has failed.
+pub record Seen : Type 0 where
+  pub source : Source
+  pub notes : Words
+  pub faults : ℕ
+
+-- a state that a source's words may be looked up for
+abbrev pub IsSourceState : Source → Placement → ℕ → Type 0
+IsSourceState source p k = IsStateOf source.checkers source.kinds p k
+
+-- in each state of a source, lower at most upper, and both within its bound
+abbrev pub AreSourceWords : Source → Words → Type 0
+AreSourceWords source u = AreWithinOf source.checkers source.kinds source.bound u
+
 -- an answer or a stop, after which the count of faults hasn't fallen and no note is looser
 pub record Looked {A : Type 0} (source : Source) (old new : Words) (before now : ℕ) (meant : Damage → Type 0) (right : A → Type 0) (result : Result A LookStop) : Type 0 where
   pub later : before ≤ now
   pub notes : IsTrue source.tells → AreNoLooserOf source.checkers source.kinds new old
   pub answer : IfOk result right
   pub stop : IfErr result (MayStop source before now meant)
+
+-- a look-up between two moments
+abbrev pub LooksUp : {A : Type 0} → Seen → Seen → (Damage → Type 0) → (A → Type 0) → Result A LookStop → Type 0
+LooksUp old new meant right result = Looked old.source old.notes new.notes old.faults new.faults meant right result
+
+-- a look-up of one word of a state
+abbrev pub FindsWord : End → Placement → ℕ → Seen → Seen → Result ℤ LookStop → Type 0
+FindsWord end p k old new result =
+    LooksUp old new (λ damage. old.source.damage p k ≡ Some damage) (IsAnswer end old.source new.notes p k) result
 
 -- stakes that a source's words may be asked for: of so many kinds, and with this bound
 pub record AreStakesOf (source : Source) (stakes : Terms) : Type 0 where
@@ -110,10 +134,46 @@ pub record IsPairOf (source : Source) (noted : Words) (states : States) (bound :
   pub upper_notes : IsTrue source.tells → IsNoLooser Upper (value Upper noted) pair.upper
   pub right : IsTrue source.tells → (p : Placement) (k : ℕ) → states p k → source.damage p k ≡ None
 
+-- What is sought from words: over which states, how far from 0 it may lie where no word lies farther than a bound, and its value at an end.
+pub record Sought : Type 1 where
+  pub states : States
+  pub limit : ℤ → ℤ
+  pub value : End → Words → ℤ
+
+-- a pair of it from a source's words
+abbrev pub IsPairFor : Sought → Source → Words → Bounds → Type 0
+IsPairFor sought source noted = IsPairOf source noted sought.states (sought.limit source.bound) sought.value
+
+-- a look-up of such a pair
+abbrev pub FindsPair : Sought → Seen → Seen → Result Bounds LookStop → Type 0
+FindsPair sought old new result =
+    LooksUp old new (HasDamage old.source sought.states) (IsPairFor sought old.source new.notes) result
+
 -- what rolling in a kind is worth that counts so many times
-abbrev pub IsRollPair : Terms → Placement → ℕ → ℕ → Source → Words → Bounds → Type 0
-IsRollPair stakes p k factor source noted = IsPairOf source noted (MayFollow stakes p k) (pos factor *ℤ source.bound) (λ end u. roll_value end stakes u p k factor)
+abbrev pub of_roll : Terms → Placement → ℕ → ℕ → Sought
+of_roll stakes p k factor = record {
+  states = MayFollow stakes p k;
+  limit = λ bound. pos factor *ℤ bound;
+  value = λ end u. roll_value end stakes u p k factor;
+}
 
 -- what a state is worth before its turn
+abbrev pub of_turn : Terms → Placement → ℕ → Sought
+of_turn stakes p k = record {
+  states = MayFollowTurn stakes p k;
+  limit = λ bound. bound;
+  value = λ end u. turn stakes u end p k;
+}
+
+abbrev pub IsRollPair : Terms → Placement → ℕ → ℕ → Source → Words → Bounds → Type 0
+IsRollPair stakes p k factor = IsPairFor (of_roll stakes p k factor)
+
 abbrev pub IsTurnPair : Terms → Placement → ℕ → Source → Words → Bounds → Type 0
-IsTurnPair stakes p k source noted = IsPairOf source noted (MayFollowTurn stakes p k) source.bound (λ end u. turn stakes u end p k)
+IsTurnPair stakes p k = IsPairFor (of_turn stakes p k)
+
+-- what rolling in a kind is worth over some words, at both ends
+abbrev pub roll_pair : Terms → Words → Placement → ℕ → ℕ → Bounds
+roll_pair stakes u p k factor = record {
+  lower = roll_value Lower stakes u p k factor;
+  upper = roll_value Upper stakes u p k factor;
+}

@@ -1,7 +1,6 @@
 ghost use Rattle.std.specs.Prelude.{◌≡◌, ◌⊎◌, ℕ, ℤ, pos};
 ghost use Rattle.std.specs.Int.{int_max, int_min};
-ghost use Rattle.turn_rule.specs.States.{IsStateOf};
-ghost use Rattle.turn_rule.specs.Looks.{AreStakesOf, Looked, HasDamage, MayFollow, MayFollowTurn, IsRollPair, IsTurnPair};
+ghost use Rattle.turn_rule.specs.Looks.{AreStakesOf, IsSourceState, FindsPair, of_roll, of_turn};
 
 use crate::ends::RollEnds;
 use crate::pairs::Pairs;
@@ -34,11 +33,12 @@ impl RollEnds {
         factor: u8,
         pairs: &mut P,
     ) -> Result<Pair, LookStop>
-        requires stakes { AreStakesOf (P.source pairs.old) stakes.now }
-        requires state { IsStateOf (P.source pairs.old).checkers (P.source pairs.old).kinds self.now kind }
+        requires stakes { AreStakesOf (P.seen pairs.old).source stakes.now }
+        requires state { IsSourceState (P.seen pairs.old).source self.now kind }
         requires factor { (factor ≡ 1) ⊎ (factor ≡ 2) ⊎ (factor ≡ 4) }
-        ensures looked { Looked (P.source pairs.old) (P.notes pairs.old) (P.notes pairs.new) (P.faults pairs.old) (P.faults pairs.new) (HasDamage (P.source pairs.old) (MayFollow stakes.now self.now kind)) (IsRollPair stakes.now self.now kind factor (P.source pairs.old) (P.notes pairs.new)) result }
-        ensures source { P.source pairs.new ≡ P.source pairs.old }
+        ensures looked { FindsPair (of_roll stakes.now self.now kind factor)
+            (P.seen pairs.old) (P.seen pairs.new) result }
+        ensures source { (P.seen pairs.new).source ≡ (P.seen pairs.old).source }
         ensures stays { P.stays pairs.new ≡ P.stays pairs.old }
     {
         let lower = roll_at(End::Lower, self, stakes, kind, factor, pairs)?;
@@ -56,10 +56,11 @@ impl RollEnds {
         kind: usize,
         pairs: &mut P,
     ) -> Result<Pair, LookStop>
-        requires stakes { AreStakesOf (P.source pairs.old) stakes.now }
-        requires state { IsStateOf (P.source pairs.old).checkers (P.source pairs.old).kinds self.now kind }
-        ensures looked { Looked (P.source pairs.old) (P.notes pairs.old) (P.notes pairs.new) (P.faults pairs.old) (P.faults pairs.new) (HasDamage (P.source pairs.old) (MayFollowTurn stakes.now self.now kind)) (IsTurnPair stakes.now self.now kind (P.source pairs.old) (P.notes pairs.new)) result }
-        ensures source { P.source pairs.new ≡ P.source pairs.old }
+        requires stakes { AreStakesOf (P.seen pairs.old).source stakes.now }
+        requires state { IsSourceState (P.seen pairs.old).source self.now kind }
+        ensures looked { FindsPair (of_turn stakes.now self.now kind)
+            (P.seen pairs.old) (P.seen pairs.new) result }
+        ensures source { (P.seen pairs.new).source ≡ (P.seen pairs.old).source }
         ensures stays { P.stays pairs.new ≡ P.stays pairs.old }
     {
         let lower = turn_at(End::Lower, self, stakes, kind, pairs)?;
@@ -77,11 +78,12 @@ pub fn roll_bounds<P: Pairs>(
     pairs: &mut P,
     list: &mut PlayList,
 ) -> Result<Pair, LookStop>
-    requires stakes { AreStakesOf (P.source pairs.old) stakes.now }
-    requires state { IsStateOf (P.source pairs.old).checkers (P.source pairs.old).kinds position.now kind }
+    requires stakes { AreStakesOf (P.seen pairs.old).source stakes.now }
+    requires state { IsSourceState (P.seen pairs.old).source position.now kind }
     requires factor { (factor ≡ 1) ⊎ (factor ≡ 2) ⊎ (factor ≡ 4) }
-    ensures looked { Looked (P.source pairs.old) (P.notes pairs.old) (P.notes pairs.new) (P.faults pairs.old) (P.faults pairs.new) (HasDamage (P.source pairs.old) (MayFollow stakes.now position.now kind)) (IsRollPair stakes.now position.now kind factor (P.source pairs.old) (P.notes pairs.new)) result }
-    ensures source { P.source pairs.new ≡ P.source pairs.old }
+    ensures looked { FindsPair (of_roll stakes.now position.now kind factor)
+        (P.seen pairs.old) (P.seen pairs.new) result }
+    ensures source { (P.seen pairs.new).source ≡ (P.seen pairs.old).source }
     ensures stays { P.stays pairs.new ≡ P.stays pairs.old }
 {
     RollEnds::of(position, list).roll_bounds(stakes, kind, factor, pairs)
@@ -95,10 +97,11 @@ pub fn turn_bounds<P: Pairs>(
     pairs: &mut P,
     list: &mut PlayList,
 ) -> Result<Pair, LookStop>
-    requires stakes { AreStakesOf (P.source pairs.old) stakes.now }
-    requires state { IsStateOf (P.source pairs.old).checkers (P.source pairs.old).kinds position.now kind }
-    ensures looked { Looked (P.source pairs.old) (P.notes pairs.old) (P.notes pairs.new) (P.faults pairs.old) (P.faults pairs.new) (HasDamage (P.source pairs.old) (MayFollowTurn stakes.now position.now kind)) (IsTurnPair stakes.now position.now kind (P.source pairs.old) (P.notes pairs.new)) result }
-    ensures source { P.source pairs.new ≡ P.source pairs.old }
+    requires stakes { AreStakesOf (P.seen pairs.old).source stakes.now }
+    requires state { IsSourceState (P.seen pairs.old).source position.now kind }
+    ensures looked { FindsPair (of_turn stakes.now position.now kind)
+        (P.seen pairs.old) (P.seen pairs.new) result }
+    ensures source { (P.seen pairs.new).source ≡ (P.seen pairs.old).source }
     ensures stays { P.stays pairs.new ≡ P.stays pairs.old }
 {
     RollEnds::of(position, list).turn_bounds(stakes, kind, pairs)

@@ -2,15 +2,13 @@ ghost use Rattle.std.specs.Prelude.{◌≡◌, ◌<◌, ◌≤◌, ◌^◌, ◌�
 ghost use Rattle.position_rank.specs.Placement.{Placement};
 ghost use Rattle.roll_table.specs.Rolls.{all_rolls};
 ghost use Rattle.move_rules.specs.Sequences.{IsLegalEnd};
-ghost use Rattle.cube_actions.specs.Stakes.{IsValid, kind_at};
-ghost use Rattle.turn_rule.specs.Turn.{Words, worth, sum_over};
-ghost use Rattle.turn_rule.specs.States.{IsStateOf};
-ghost use Rattle.turn_rule.specs.Looks.{AreStakesOf, MayFollow};
-ghost use Rattle.turn_rule.specs.Found.{Finds};
+ghost use Rattle.cube_actions.specs.Stakes.{IsValid};
+ghost use Rattle.turn_rule.specs.Looks.{AreStakesOf, IsSourceState};
+ghost use Rattle.turn_rule.specs.Found.{Finds, of_sum};
 ghost use Rattle.turn_rule.specs.Rolled.{HasEnds, AreRolled, weighted};
 
-use crate::play_end::PlayEnd;
 use crate::pairs::Pairs;
+use crate::play_end::PlayEnd;
 use crate::sum::sum_at;
 use arrayvec::ArrayVec;
 use cube_actions::Stakes;
@@ -123,12 +121,13 @@ impl RollEnds {
         number: usize,
         pairs: &mut P,
     ) -> Result<Fixed, LookStop>
-        requires stakes { AreStakesOf (P.source pairs.old) stakes.now }
-        requires state { IsStateOf (P.source pairs.old).checkers (P.source pairs.old).kinds self.now number }
-        ensures found { Finds end (P.source pairs.old) (P.notes pairs.old) (P.notes pairs.new) (P.faults pairs.old) (P.faults pairs.new) (MayFollow stakes.now self.now number) (pos 36 *ℤ (P.source pairs.old).bound) (λ u. sum_over all_rolls (worth end (kind_at stakes.now number) u) self.now) result }
-        ensures source { P.source pairs.new ≡ P.source pairs.old }
+        requires stakes { AreStakesOf (P.seen pairs.old).source stakes.now }
+        requires state { IsSourceState (P.seen pairs.old).source self.now number }
+        ensures found { Finds end (of_sum stakes.now self.now number)
+            (P.seen pairs.old) (P.seen pairs.new) result }
+        ensures source { (P.seen pairs.new).source ≡ (P.seen pairs.old).source }
         ensures stays { P.stays pairs.new ≡ P.stays pairs.old }
-        ensures small { (P.source pairs.old).bound ≤ℤ pos (2 ^ 36) }
+        ensures small { (P.seen pairs.old).source.bound ≤ℤ pos (2 ^ 36) }
         ensures valid { IsValid stakes.now }
     {
         sum_at(

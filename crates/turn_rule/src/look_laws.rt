@@ -1,25 +1,41 @@
 ghost use Rattle.std.specs.Prelude.{◌≡◌, ℕ, IsTrue, IsOk, Result};
 ghost use Rattle.position_rank.specs.Placement.{Placement};
 ghost use Rattle.directed_fixed.specs.Bounds.{Bounds};
-ghost use Rattle.directed_fixed.specs.declared.bounds.End.TheVariants.{Lower, Upper};
 ghost use Rattle.hyper_outside.specs.declared.outside.LookStop.{LookStop};
 ghost use Rattle.cube_actions.specs.Stakes.{Terms};
-ghost use Rattle.turn_rule.specs.Turn.{Words, roll_value, turn};
+ghost use Rattle.turn_rule.specs.Turn.{Words, turn};
 ghost use Rattle.turn_rule.specs.States.{pair_of};
-ghost use Rattle.turn_rule.specs.Looks.{Source, Looked, HasDamage, MayFollow, MayFollowTurn, IsRollPair, IsTurnPair};
+ghost use Rattle.turn_rule.specs.Looks.{
+  Source,
+  Seen,
+  FindsPair,
+  IsRollPair,
+  IsTurnPair,
+  of_roll,
+  of_turn,
+  roll_pair,
+};
 
 /// Where a source's floor and its notes are one list of words, the pair of a turn is the turn over these words.
 pub fn one_list_gives_the_turn()
-    ensures { (source : Source) (u : Words) (stakes : Terms) (p : Placement) (k : ℕ) (pair : Bounds) → IsTrue source.tells → source.floor ≡ u → IsTurnPair stakes p k source u pair → pair ≡ pair_of (turn stakes u) p k }
+    ensures { (source : Source) (u : Words) (stakes : Terms) (p : Placement) (k : ℕ) (pair : Bounds)
+        → IsTrue source.tells → source.floor ≡ u → IsTurnPair stakes p k source u pair
+        → pair ≡ pair_of (turn stakes u) p k }
 {}
 
 /// Where a source's floor and its notes are one list of words, the pair of rolling is what rolling is worth over these words.
 pub fn one_list_gives_the_roll()
-    ensures { (source : Source) (u : Words) (stakes : Terms) (p : Placement) (k factor : ℕ) (pair : Bounds) → IsTrue source.tells → source.floor ≡ u → IsRollPair stakes p k factor source u pair → pair ≡ record { lower = roll_value Lower stakes u p k factor; upper = roll_value Upper stakes u p k factor } }
+    ensures { (source : Source) (u : Words) (stakes : Terms) (p : Placement) (k factor : ℕ) (pair : Bounds)
+        → IsTrue source.tells → source.floor ≡ u → IsRollPair stakes p k factor source u pair
+        → pair ≡ roll_pair stakes u p k factor }
 {}
 
 /// Over a sure source a turn and a roll are answered.
 pub fn sure_sources_answer()
-    ensures turn { (source : Source) (old new : Words) (before now : ℕ) (stakes : Terms) (p : Placement) (k : ℕ) (result : Result Bounds LookStop) → IsTrue source.sure → Looked source old new before now (HasDamage source (MayFollowTurn stakes p k)) (IsTurnPair stakes p k source new) result → IsOk result }
-    ensures roll { (source : Source) (old new : Words) (before now : ℕ) (stakes : Terms) (p : Placement) (k factor : ℕ) (result : Result Bounds LookStop) → IsTrue source.sure → Looked source old new before now (HasDamage source (MayFollow stakes p k)) (IsRollPair stakes p k factor source new) result → IsOk result }
+    ensures turn { (old new : Seen) (stakes : Terms) (p : Placement) (k : ℕ) (result : Result Bounds LookStop)
+        → IsTrue old.source.sure → FindsPair (of_turn stakes p k) old new result → IsOk result }
+    ensures roll { (old new : Seen) (stakes : Terms) (p : Placement) (k factor : ℕ)
+        (result : Result Bounds LookStop)
+        → IsTrue old.source.sure → FindsPair (of_roll stakes p k factor) old new result
+        → IsOk result }
 {}

@@ -1,9 +1,7 @@
-ghost use Rattle.std.specs.Prelude.{◌≡◌, ℕ, Some, IsTrue};
+ghost use Rattle.std.specs.Prelude.{◌≡◌, IsTrue};
 ghost use Rattle.position_rank.specs.Ranks.{square_rank_of};
 ghost use Rattle.directed_fixed.specs.declared.bounds.End.TheVariants.{Lower, Upper};
-ghost use Rattle.turn_rule.specs.Turn.{Words};
-ghost use Rattle.turn_rule.specs.States.{IsStateOf, AreWithinOf};
-ghost use Rattle.turn_rule.specs.Looks.{Source, Looked, IsAnswer};
+ghost use Rattle.turn_rule.specs.Looks.{Seen, IsSourceState, AreSourceWords, FindsWord};
 
 use directed_fixed::Fixed;
 use hyper_outside::LookStop;
@@ -17,35 +15,30 @@ pub trait Pairs {
     /// What no call changes, beside the source.
     ghost stays: { Self → Stays };
 
-    /// The game, the words that no answer is looser than, and the damaged states.
-    ghost source: { Self → Source };
-
-    /// Words that no answer is tighter than, where the source tells its words. No call loosens them.
-    ghost notes: { Self → Words };
-
-    /// How often a call of the outside has failed.
-    ghost faults: { Self → ℕ };
+    /// Where words are looked up, the words that no answer is tighter than, and how often a call of the outside has failed.
+    /// No call loosens these words, where the source tells its words.
+    ghost seen: { Self → Seen };
 
     /// The lower word of a state.
     fn lower_of(&mut self, position: &Position, kind: usize) -> Result<Fixed, LookStop>
-        requires { IsStateOf (source self.old).checkers (source self.old).kinds position.now kind }
-        ensures looked { Looked (source self.old) (notes self.old) (notes self.new) (faults self.old) (faults self.new) (λ damage. (source self.old).damage position.now kind ≡ Some damage) (IsAnswer Lower (source self.old) (notes self.new) position.now kind) result }
-        ensures source { source self.new ≡ source self.old }
+        requires { IsSourceState (seen self.old).source position.now kind }
+        ensures looked { FindsWord Lower position.now kind (seen self.old) (seen self.new) result }
+        ensures source { (seen self.new).source ≡ (seen self.old).source }
         ensures stays { stays self.new ≡ stays self.old };
 
     /// The upper word of a state.
     fn upper_of(&mut self, position: &Position, kind: usize) -> Result<Fixed, LookStop>
-        requires { IsStateOf (source self.old).checkers (source self.old).kinds position.now kind }
-        ensures looked { Looked (source self.old) (notes self.old) (notes self.new) (faults self.old) (faults self.new) (λ damage. (source self.old).damage position.now kind ≡ Some damage) (IsAnswer Upper (source self.old) (notes self.new) position.now kind) result }
-        ensures source { source self.new ≡ source self.old }
+        requires { IsSourceState (seen self.old).source position.now kind }
+        ensures looked { FindsWord Upper position.now kind (seen self.old) (seen self.new) result }
+        ensures source { (seen self.new).source ≡ (seen self.old).source }
         ensures stays { stays self.new ≡ stays self.old };
 
     /// `lower_of` a position whose square rank is at hand, by which its words may be found faster.
     fn lower_at(&mut self, position: &Position, square: u64, kind: usize) -> Result<Fixed, LookStop>
-        requires state { IsStateOf (source self.old).checkers (source self.old).kinds position.now kind }
+        requires state { IsSourceState (seen self.old).source position.now kind }
         requires square { square ≡ square_rank_of position.now }
-        ensures looked { Looked (source self.old) (notes self.old) (notes self.new) (faults self.old) (faults self.new) (λ damage. (source self.old).damage position.now kind ≡ Some damage) (IsAnswer Lower (source self.old) (notes self.new) position.now kind) result }
-        ensures source { source self.new ≡ source self.old }
+        ensures looked { FindsWord Lower position.now kind (seen self.old) (seen self.new) result }
+        ensures source { (seen self.new).source ≡ (seen self.old).source }
         ensures stays { stays self.new ≡ stays self.old }
     {
         let _ = square;
@@ -54,10 +47,10 @@ pub trait Pairs {
 
     /// `upper_of` a position whose square rank is at hand, by which its words may be found faster.
     fn upper_at(&mut self, position: &Position, square: u64, kind: usize) -> Result<Fixed, LookStop>
-        requires state { IsStateOf (source self.old).checkers (source self.old).kinds position.now kind }
+        requires state { IsSourceState (seen self.old).source position.now kind }
         requires square { square ≡ square_rank_of position.now }
-        ensures looked { Looked (source self.old) (notes self.old) (notes self.new) (faults self.old) (faults self.new) (λ damage. (source self.old).damage position.now kind ≡ Some damage) (IsAnswer Upper (source self.old) (notes self.new) position.now kind) result }
-        ensures source { source self.new ≡ source self.old }
+        ensures looked { FindsWord Upper position.now kind (seen self.old) (seen self.new) result }
+        ensures source { (seen self.new).source ≡ (seen self.old).source }
         ensures stays { stays self.new ≡ stays self.old }
     {
         let _ = square;
@@ -65,8 +58,9 @@ pub trait Pairs {
     }
 
     /// The floor is within the bound, each lower word at most its upper word.
-    ghost floor_within: { (s : Self) → IsTrue (source s).tells → AreWithinOf (source s).checkers (source s).kinds (source s).bound (source s).floor };
+    ghost floor_within: { (s : Self) → IsTrue (seen s).source.tells
+        → AreSourceWords (seen s).source (seen s).source.floor };
 
     /// So are the notes.
-    ghost notes_within: { (s : Self) → IsTrue (source s).tells → AreWithinOf (source s).checkers (source s).kinds (source s).bound (notes s) };
+    ghost notes_within: { (s : Self) → IsTrue (seen s).source.tells → AreSourceWords (seen s).source (seen s).notes };
 }

@@ -34,11 +34,11 @@ impl<'a> PlainReader<'a> {
 impl Pairs for PlainReader<'_> {
     ghost stays = { λ s. tt };
 
-    ghost source = { λ s. read_from s.table.now s.bound };
-
-    ghost notes = { λ s. words_of s.table.now };
-
-    ghost faults = { λ s. 0 };
+    ghost seen = { λ s. record {
+      source = read_from s.table.now s.bound;
+      notes = words_of s.table.now;
+      faults = 0;
+    } };
 
     #[inline]
     fn lower_of(&mut self, position: &Position, kind: usize) -> Result<Fixed, LookStop> {

@@ -84,9 +84,10 @@ impl PlainTable {
 
     /// Looks the pairs up one end at a time. The reader is sure, and its floor and its notes are the table's words.
     pub fn reader(&self) -> PlainReader<'_>
-        ensures source { ⟦<PlainReader<'static> as Pairs>⟧.source result ≡ read_from self.now.table self.now.stakes.bound }
-        ensures notes { ⟦<PlainReader<'static> as Pairs>⟧.notes result ≡ words_of self.now.table }
-        ensures stakes { AreStakesOf (⟦<PlainReader<'static> as Pairs>⟧.source result) self.now.stakes }
+        ensures source { (⟦<PlainReader<'static> as Pairs>⟧.seen result).source
+            ≡ read_from self.now.table self.now.stakes.bound }
+        ensures notes { (⟦<PlainReader<'static> as Pairs>⟧.seen result).notes ≡ words_of self.now.table }
+        ensures stakes { AreStakesOf (⟦<PlainReader<'static> as Pairs>⟧.seen result).source self.now.stakes }
     {
         PlainReader::of(&self.current, self.stakes.bound())
     }

@@ -149,11 +149,7 @@ impl Stopping {
 impl Pairs for Stopping {
     ghost stays = { λ s. tt };
 
-    ghost source = { λ s. stopping s.stop };
-
-    ghost notes = { λ s. zeros };
-
-    ghost faults = { λ s. s.faults };
+    ghost seen = { λ s. record { source = stopping s.stop; notes = zeros; faults = s.faults } };
 
     fn lower_of(&mut self, _position: &Position, _kind: usize) -> Result<Fixed, LookStop> {
         self.fail()
@@ -200,11 +196,7 @@ struct Crossed;
 impl Pairs for Crossed {
     ghost stays = { λ s. tt };
 
-    ghost source = { λ s. untold };
-
-    ghost notes = { λ s. zeros };
-
-    ghost faults = { λ s. 0 };
+    ghost seen = { λ s. record { source = untold; notes = zeros; faults = 0 } };
 
     fn lower_of(&mut self, _position: &Position, _kind: usize) -> Result<Fixed, LookStop> {
         Ok(Fixed::whole(3))

@@ -3,10 +3,8 @@ ghost use Rattle.std.specs.Int.{int_max, int_min};
 ghost use Rattle.directed_fixed.specs.Bounds.{IsWithinUnits};
 ghost use Rattle.directed_fixed.specs.Rounding.{floor_36, ceil_36, outwards};
 ghost use Rattle.cube_actions.specs.Stakes.{IsRightDouble, IsValid};
-ghost use Rattle.turn_rule.specs.Turn.{Words, roll_value, doubled, turn};
-ghost use Rattle.turn_rule.specs.States.{IsStateOf};
-ghost use Rattle.turn_rule.specs.Looks.{AreStakesOf, MayFollow, MayFollowTurn};
-ghost use Rattle.turn_rule.specs.Found.{Finds, MayFollowAnswer};
+ghost use Rattle.turn_rule.specs.Looks.{AreStakesOf, IsSourceState, of_roll, of_turn};
+ghost use Rattle.turn_rule.specs.Found.{Finds, of_double};
 
 use crate::ends::RollEnds;
 use crate::pairs::Pairs;
@@ -67,11 +65,12 @@ pub(crate) fn roll_at<P: Pairs>(
     factor: u8,
     pairs: &mut P,
 ) -> Result<Fixed, LookStop>
-    requires stakes { AreStakesOf (P.source pairs.old) stakes.now }
-    requires state { IsStateOf (P.source pairs.old).checkers (P.source pairs.old).kinds ends.now number }
+    requires stakes { AreStakesOf (P.seen pairs.old).source stakes.now }
+    requires state { IsSourceState (P.seen pairs.old).source ends.now number }
     requires factor { factor ≤ 4 }
-    ensures found { Finds end (P.source pairs.old) (P.notes pairs.old) (P.notes pairs.new) (P.faults pairs.old) (P.faults pairs.new) (MayFollow stakes.now ends.now number) (pos factor *ℤ (P.source pairs.old).bound) (λ u. roll_value end stakes.now u ends.now number factor) result }
-    ensures source { P.source pairs.new ≡ P.source pairs.old }
+    ensures found { Finds end (of_roll stakes.now ends.now number factor)
+        (P.seen pairs.old) (P.seen pairs.new) result }
+    ensures source { (P.seen pairs.new).source ≡ (P.seen pairs.old).source }
     ensures stays { P.stays pairs.new ≡ P.stays pairs.old }
     ensures valid { IsValid stakes.now }
 {
@@ -87,12 +86,14 @@ fn doubled_at<P: Pairs>(
     double: &Double,
     pairs: &mut P,
 ) -> Result<Fixed, LookStop>
-    requires stakes { AreStakesOf (P.source pairs.old) stakes.now }
-    requires states { (k : ℕ) → k < (P.source pairs.old).kinds → IsStateOf (P.source pairs.old).checkers (P.source pairs.old).kinds ends.now k }
+    requires stakes { AreStakesOf (P.seen pairs.old).source stakes.now }
+    requires states { (k : ℕ) → k < (P.seen pairs.old).source.kinds
+        → IsSourceState (P.seen pairs.old).source ends.now k }
     requires right { IsRightDouble stakes.now double.now }
-    ensures found { Finds end (P.source pairs.old) (P.notes pairs.old) (P.notes pairs.new) (P.faults pairs.old) (P.faults pairs.new) (MayFollowAnswer stakes.now ends.now double.now.answers.items) (pos 4 *ℤ (P.source pairs.old).bound) (λ u. doubled end stakes.now u ends.now double.now) result }
-    ensures most { IfOk result (λ value. value ≤ℤ (P.source pairs.old).bound) }
-    ensures source { P.source pairs.new ≡ P.source pairs.old }
+    ensures found { Finds end (of_double stakes.now ends.now double.now)
+        (P.seen pairs.old) (P.seen pairs.new) result }
+    ensures most { IfOk result (λ value. value ≤ℤ (P.seen pairs.old).source.bound) }
+    ensures source { (P.seen pairs.new).source ≡ (P.seen pairs.old).source }
     ensures stays { P.stays pairs.new ≡ P.stays pairs.old }
 {
     let mut least = end_of(end, double.pass);
@@ -111,10 +112,11 @@ pub(crate) fn turn_at<P: Pairs>(
     number: usize,
     pairs: &mut P,
 ) -> Result<Fixed, LookStop>
-    requires stakes { AreStakesOf (P.source pairs.old) stakes.now }
-    requires state { IsStateOf (P.source pairs.old).checkers (P.source pairs.old).kinds ends.now number }
-    ensures found { Finds end (P.source pairs.old) (P.notes pairs.old) (P.notes pairs.new) (P.faults pairs.old) (P.faults pairs.new) (MayFollowTurn stakes.now ends.now number) (P.source pairs.old).bound (λ u. turn stakes.now u end ends.now number) result }
-    ensures source { P.source pairs.new ≡ P.source pairs.old }
+    requires stakes { AreStakesOf (P.seen pairs.old).source stakes.now }
+    requires state { IsSourceState (P.seen pairs.old).source ends.now number }
+    ensures found { Finds end (of_turn stakes.now ends.now number)
+        (P.seen pairs.old) (P.seen pairs.new) result }
+    ensures source { (P.seen pairs.new).source ≡ (P.seen pairs.old).source }
     ensures stays { P.stays pairs.new ≡ P.stays pairs.old }
     ensures valid { IsValid stakes.now }
 {

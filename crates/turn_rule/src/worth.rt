@@ -5,13 +5,12 @@ ghost use Rattle.position_rank.specs.Ranks.{square_rank_of};
 ghost use Rattle.game_payoff.specs.declared.payoff.Won.{Won};
 ghost use Rattle.game_payoff.specs.Points.{points};
 ghost use Rattle.directed_fixed.specs.Bounds.{Bounds, IsWithin, at, other};
-ghost use Rattle.turn_rule.specs.Turn.{Words, win, worth, greatest};
-ghost use Rattle.turn_rule.specs.States.{IsStateOf};
-ghost use Rattle.turn_rule.specs.Looks.{Looked, HasDamage, IsAnswer, IsLeft};
-ghost use Rattle.turn_rule.specs.Found.{IsSame, Finds, LeavesState, MayFollowEnds};
+ghost use Rattle.turn_rule.specs.Turn.{win};
+ghost use Rattle.turn_rule.specs.Looks.{IsSourceState};
+ghost use Rattle.turn_rule.specs.Found.{Finds, LeavesState, of_word, of_play, of_plays};
 
-use crate::play_end::PlayEnd;
 use crate::pairs::Pairs;
+use crate::play_end::PlayEnd;
 use cube_actions::Kind;
 use directed_fixed::{End, Fixed, Pair};
 use game_payoff::Won;
@@ -61,10 +60,11 @@ fn word_of<P: Pairs>(
     kind: usize,
     pairs: &mut P,
 ) -> Result<Fixed, LookStop>
-    requires state { IsStateOf (P.source pairs.old).checkers (P.source pairs.old).kinds position.now kind }
+    requires state { IsSourceState (P.seen pairs.old).source position.now kind }
     requires square { square ≡ square_rank_of position.now }
-    ensures found { Finds end (P.source pairs.old) (P.notes pairs.old) (P.notes pairs.new) (P.faults pairs.old) (P.faults pairs.new) (IsSame position.now kind) (P.source pairs.old).bound (λ u. u end position.now kind) result }
-    ensures source { P.source pairs.new ≡ P.source pairs.old }
+    ensures found { Finds end (of_word position.now kind)
+        (P.seen pairs.old) (P.seen pairs.new) result }
+    ensures source { (P.seen pairs.new).source ≡ (P.seen pairs.old).source }
     ensures stays { P.stays pairs.new ≡ P.stays pairs.old }
 {
     match end {
@@ -76,11 +76,17 @@ fn word_of<P: Pairs>(
 /// What the mover has after his play, at one end: his win, or what the other side hasn't.
 /// A lower bound of the one side is an upper bound of the other.
 #[inline]
-fn worth_at<P: Pairs>(end: End, left: &PlayEnd, kind: &Kind, pairs: &mut P) -> Result<Fixed, LookStop>
-    requires state { LeavesState (P.source pairs.old) kind.now.next left.now }
-    requires wins { (won : Won) → IsWithin (P.source pairs.old).bound (win kind.now won) }
-    ensures found { Finds end (P.source pairs.old) (P.notes pairs.old) (P.notes pairs.new) (P.faults pairs.old) (P.faults pairs.new) (IsLeft kind.now.next left.now) (P.source pairs.old).bound (λ u. worth end kind.now u left.now) result }
-    ensures source { P.source pairs.new ≡ P.source pairs.old }
+fn worth_at<P: Pairs>(
+    end: End,
+    left: &PlayEnd,
+    kind: &Kind,
+    pairs: &mut P,
+) -> Result<Fixed, LookStop>
+    requires state { LeavesState (P.seen pairs.old).source kind.now.next left.now }
+    requires wins { (won : Won) → IsWithin (P.seen pairs.old).source.bound (win kind.now won) }
+    ensures found { Finds end (of_play kind.now left.now)
+        (P.seen pairs.old) (P.seen pairs.new) result }
+    ensures source { (P.seen pairs.new).source ≡ (P.seen pairs.old).source }
     ensures stays { P.stays pairs.new ≡ P.stays pairs.old }
 {
     match left.won() {
@@ -100,10 +106,11 @@ pub(crate) fn best_at<P: Pairs>(
     pairs: &mut P,
 ) -> Result<Fixed, LookStop>
     requires some { 0 < length ends.now }
-    requires states { All (LeavesState (P.source pairs.old) kind.now.next) ends.now }
-    requires wins { (won : Won) → IsWithin (P.source pairs.old).bound (win kind.now won) }
-    ensures found { Finds end (P.source pairs.old) (P.notes pairs.old) (P.notes pairs.new) (P.faults pairs.old) (P.faults pairs.new) (MayFollowEnds kind.now.next ends.now) (P.source pairs.old).bound (λ u. greatest (worth end kind.now u) ends.now) result }
-    ensures source { P.source pairs.new ≡ P.source pairs.old }
+    requires states { All (LeavesState (P.seen pairs.old).source kind.now.next) ends.now }
+    requires wins { (won : Won) → IsWithin (P.seen pairs.old).source.bound (win kind.now won) }
+    ensures found { Finds end (of_plays kind.now ends.now)
+        (P.seen pairs.old) (P.seen pairs.new) result }
+    ensures source { (P.seen pairs.new).source ≡ (P.seen pairs.old).source }
     ensures stays { P.stays pairs.new ≡ P.stays pairs.old }
 {
     let mut best = worth_at(end, &ends[0], kind, pairs)?;

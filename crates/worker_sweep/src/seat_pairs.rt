@@ -39,11 +39,13 @@ impl<'a> Pairs for SeatPairs<'a> {
 
     ghost stays = { λ s. (s.board.now, s.seat.view.base) };
 
-    ghost source = { λ s. source_of s.board.now.game s.seat.view.base };
-
-    ghost notes = { λ s. noted s.board.now.game s.seat.view.notes };
-
-    ghost faults = { λ _. 0 };
+    ghost seen = {
+        λ s. record {
+            source = source_of s.board.now.game s.seat.view.base;
+            notes = noted s.board.now.game s.seat.view.notes;
+            faults = 0;
+        }
+    };
 
     #[inline]
     fn lower_of(&mut self, position: &Position, kind: usize) -> Result<Fixed, LookStop> {

@@ -12,16 +12,16 @@ pub best_at-requires-clause-states : goal.best_at-requires-clause-states
 best_at-requires-clause-states g c =
     let kept = kept-at c.args.position.now c.args.kept.now c.loop-one.one-index c.one-item.result c.requires.kept c.loop-one-test.true c.one-item.is in
     rw (c.kind-kind.ensures.kind, c.as_slice.ensures.value, c.loop-one.invariant.source)
-    (leave-states (g.P.Pairs.source c.args.pairs.now) c.args.stakes.now c.bound-bound.ensures.valid c.requires.stakes c.args.position.now c.args.number c.requires.state c.loop-one.one-index c.one-item.result kept)
+    (leave-states (g.P.Pairs.seen c.args.pairs.now).source c.args.stakes.now c.bound-bound.ensures.valid c.requires.stakes c.args.position.now c.args.number c.requires.state c.loop-one.one-index c.one-item.result kept)
 
 pub best_at-requires-clause-wins : goal.best_at-requires-clause-wins
 best_at-requires-clause-wins g c =
     rw (c.kind-kind.ensures.kind, c.loop-one.invariant.source)
-    (wins-within (g.P.Pairs.source c.args.pairs.now) c.args.stakes.now c.bound-bound.ensures.valid c.requires.stakes c.args.number (rw c.requires.stakes.kinds at c.requires.state.kind))
+    (wins-within (g.P.Pairs.seen c.args.pairs.now).source c.args.stakes.now c.bound-bound.ensures.valid c.requires.stakes c.args.number (rw c.requires.stakes.kinds at c.requires.state.kind))
 
 pub returns-in_err-best-clause-found : goal.returns-in_err-best-clause-found
 returns-in_err-best-clause-found g c =
-    let s = g.P.Pairs.source c.args.pairs.now in
+    let s = (g.P.Pairs.seen c.args.pairs.now).source in
     let kept = kept-at c.args.position.now c.args.kept.now c.loop-one.one-index c.one-item.result c.requires.kept c.loop-one-test.true c.one-item.is in
     let stopped = rw (c.loop-one.invariant.source, c.kind-kind.ensures.kind, c.as_slice.ensures.value) at c.in_err-best.ensures.found in
     let p = err_from_is_err_and c.from_residual.result c.from_residual.ensures.1 in
@@ -30,7 +30,7 @@ returns-in_err-best-clause-found g c =
 
 pub add_times-sum-requires-clause-sum : goal.add_times-sum-requires-clause-sum
 add_times-sum-requires-clause-sum g c =
-    let s = g.P.Pairs.source c.args.pairs.now in
+    let s = (g.P.Pairs.seen c.args.pairs.now).source in
     let positive : pos 0 ≤ℤ s.bound = rw c.requires.stakes.bound (bound-positive c.args.stakes.now c.bound-bound.ensures.valid) in
     let small = rw (← c.requires.stakes.bound) at (bound-small c.args.stakes.now c.bound-bound.ensures.valid) in
     sum-small (total (take c.loop-one.one-index all_rolls)) s.bound c.loop-one.sum (few-rolls c.loop-one.one-index) positive small c.loop-one.invariant.found.answer.within
@@ -41,7 +41,7 @@ add_times-sum-requires-clause-times g c =
 
 pub loop-one-preserved : goal.loop-one-preserved
 loop-one-preserved g c =
-    let s = g.P.Pairs.source c.args.pairs.now in
+    let s = (g.P.Pairs.seen c.args.pairs.now).source in
     let kept = kept-at c.args.position.now c.args.kept.now c.loop-one.one-index c.one-item.result c.requires.kept c.loop-one-test.true c.one-item.is in
     let best = rw (c.loop-one.invariant.source, c.kind-kind.ensures.kind, c.as_slice.ensures.value) at c.in_ok-best.ensures.found in
     record {
@@ -53,4 +53,4 @@ loop-one-preserved g c =
 pub returns-clause-found : goal.returns-clause-found
 returns-clause-found g c =
     let past : 21 ≤ c.loop-one.one-index = rolled-end c.args.position.now c.args.kept.now c.loop-one.one-index c.requires.kept c.loop-one-test.false in
-    all-rolls c.args.end (g.P.Pairs.source c.args.pairs.now) c.args.stakes.now c.args.position.now c.args.number _ _ _ _ c.loop-one.one-index c.loop-one.sum past c.loop-one.invariant.found
+    all-rolls c.args.end (g.P.Pairs.seen c.args.pairs.now).source c.args.stakes.now c.args.position.now c.args.number _ _ _ _ c.loop-one.one-index c.loop-one.sum past c.loop-one.invariant.found

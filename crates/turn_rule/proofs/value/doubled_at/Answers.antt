@@ -6,7 +6,7 @@ use Rattle.turn_rule.proofs.value.doubled_at.Goals as goal
 
 pub roll_at-requires-clause-state : goal.roll_at-requires-clause-state
 roll_at-requires-clause-state g c =
-    let s = g.P.Pairs.source c.args.pairs.now in
+    let s = (g.P.Pairs.seen c.args.pairs.now).source in
     let here : c.loop-taken.taken-index < length c.args.double.now.answers.items = rw (← c.loop-taken.invariant.answers) c.loop-taken-test.true in
     let answer = answer-at c.args.stakes.now c.args.double.now c.loop-taken.taken-index c.requires.right here in
     rw (c.loop-taken.invariant.source, c.loop-taken.invariant.answers)
@@ -14,7 +14,7 @@ roll_at-requires-clause-state g c =
 
 pub returns-in_err-value-clause-found : goal.returns-in_err-value-clause-found
 returns-in_err-value-clause-found g c =
-    let s = g.P.Pairs.source c.args.pairs.now in
+    let s = (g.P.Pairs.seen c.args.pairs.now).source in
     let answers = c.args.double.now.answers.items in
     let here : c.loop-taken.taken-index < length answers = rw (← c.loop-taken.invariant.answers) c.loop-taken-test.true in
     let stopped = rw (c.loop-taken.invariant.source, c.loop-taken.invariant.answers) at c.in_err-value.ensures.found in
@@ -24,7 +24,7 @@ returns-in_err-value-clause-found g c =
 
 pub loop-taken-preserved : goal.loop-taken-preserved
 loop-taken-preserved g c =
-    let s = g.P.Pairs.source c.args.pairs.now in
+    let s = (g.P.Pairs.seen c.args.pairs.now).source in
     let answers = c.args.double.now.answers.items in
     let i = c.loop-taken.taken-index in
     let here : i < length answers = rw (← c.loop-taken.invariant.answers) c.loop-taken-test.true in
@@ -42,4 +42,4 @@ loop-taken-preserved g c =
 pub returns-clause-found : goal.returns-clause-found
 returns-clause-found g c =
     let past : length c.args.double.now.answers.items ≤ c.loop-taken.taken-index = rw (← c.loop-taken.invariant.answers) c.loop-taken-test.false in
-    all-answers c.args.end (g.P.Pairs.source c.args.pairs.now) c.args.stakes.now c.args.ends.now c.args.double.now _ _ _ _ c.loop-taken.taken-index c.loop-taken.least past c.loop-taken.invariant.found
+    all-answers c.args.end (g.P.Pairs.seen c.args.pairs.now).source c.args.stakes.now c.args.ends.now c.args.double.now _ _ _ _ c.loop-taken.taken-index c.loop-taken.least past c.loop-taken.invariant.found

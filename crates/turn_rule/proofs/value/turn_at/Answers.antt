@@ -7,7 +7,7 @@ use Rattle.turn_rule.proofs.value.turn_at.Goals as goal
 
 pub returns-in_err-doubled-in-Some-clause-found : goal.returns-in_err-doubled-in-Some-clause-found
 returns-in_err-doubled-in-Some-clause-found g c =
-    let s = g.P.Pairs.source c.args.pairs.now in
+    let s = (g.P.Pairs.seen c.args.pairs.now).source in
     let some : (kind_at c.args.stakes.now c.args.number).double ≡ Some c.in-Some.double = rw (← c.kind.ensures.kind) c.in-Some.is in
     let p = err_from_is_err_and c.from_residual-in_err-doubled-in-Some.result c.from_residual-in_err-doubled-in-Some.ensures.1 in
     rw (p.1, p.2) (then-err s _ _ _ _ _ _ _ _ _ _ _ _ c.in_ok-plain.plain _ c.in_ok-plain.ensures.found (rw c.in_ok-plain.ensures.source at c.in_err-doubled-in-Some.ensures.found)
@@ -16,11 +16,11 @@ returns-in_err-doubled-in-Some-clause-found g c =
 pub returns-in-None-clause-found : goal.returns-in-None-clause-found
 returns-in-None-clause-found g c =
     let none : (kind_at c.args.stakes.now c.args.number).double ≡ None = rw (← c.kind.ensures.kind) c.in-None.is in
-    turn-plain c.args.end (g.P.Pairs.source c.args.pairs.now) c.args.stakes.now c.args.ends.now c.args.number _ _ _ _ c.in_ok-plain.plain none c.in_ok-plain.ensures.found
+    turn-plain c.args.end (g.P.Pairs.seen c.args.pairs.now).source c.args.stakes.now c.args.ends.now c.args.number _ _ _ _ c.in_ok-plain.plain none c.in_ok-plain.ensures.found
 
 pub returns-in_ok-doubled-in-Some-clause-found : goal.returns-in_ok-doubled-in-Some-clause-found
 returns-in_ok-doubled-in-Some-clause-found g c =
-    let s = g.P.Pairs.source c.args.pairs.now in
+    let s = (g.P.Pairs.seen c.args.pairs.now).source in
     let some : (kind_at c.args.stakes.now c.args.number).double ≡ Some c.in-Some.double = rw (← c.kind.ensures.kind) c.in-Some.is in
     turn-doubled c.args.end s c.args.stakes.now c.args.ends.now c.args.number _ _ _ _ _ _ c.in-Some.double c.in_ok-plain.plain c.in_ok-doubled-in-Some.doubled _ some c.max.ensures
     (rw c.in_ok-plain.ensures.source at c.in_ok-doubled-in-Some.ensures.most) c.in_ok-plain.ensures.found (rw c.in_ok-plain.ensures.source at c.in_ok-doubled-in-Some.ensures.found)

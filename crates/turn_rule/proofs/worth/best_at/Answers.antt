@@ -7,14 +7,14 @@ use Rattle.turn_rule.proofs.worth.best_at.Goals as goal
 
 pub returns-in_err-worth_at-clause-found : goal.returns-in_err-worth_at-clause-found
 returns-in_err-worth_at-clause-found g c =
-    let s = g.P.Pairs.source c.args.pairs.now in
+    let s = (g.P.Pairs.seen c.args.pairs.now).source in
     let p = err_from_is_err_and c.from_residual-in_err-worth_at.result c.from_residual-in_err-worth_at.ensures.1 in
     rw (p.1, p.2) (then-err s _ _ _ _ _ _ _ _ _ _ _ _ c.loop-i.best _ c.loop-i.invariant.found (rw c.loop-i.invariant.source at c.in_err-worth_at.ensures.found)
     (damage-among s _ _ (stopped-play c.args.end s c.args.kind.now c.args.ends.now c.index-ends-i.result c.loop-i.i c.loop-i-test.true c.index-ends-i.is)))
 
 pub loop-i-preserved : goal.loop-i-preserved
 loop-i-preserved g c =
-    let s = g.P.Pairs.source c.args.pairs.now in
+    let s = (g.P.Pairs.seen c.args.pairs.now).source in
     record {
       source = c.worth_at-in-loop-i.ensures.source ∙ c.loop-i.invariant.source;
       stays = c.worth_at-in-loop-i.ensures.stays ∙ c.loop-i.invariant.stays;

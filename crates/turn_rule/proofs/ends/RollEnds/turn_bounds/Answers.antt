@@ -7,12 +7,12 @@ use Rattle.turn_rule.proofs.ends.RollEnds.turn_bounds.Goals as goal
 
 pub returns-clause-looked : goal.returns-clause-looked
 returns-clause-looked g c =
-    let s = g.P.Pairs.source c.args.pairs.now in
+    let s = (g.P.Pairs.seen c.args.pairs.now).source in
     let stakes = c.args.stakes.now in
     let p = c.args.self.now in
     let k = c.args.kind in
-    let last = g.P.Pairs.notes c.turn_at-2.new.pairs in
-    let same : g.P.Pairs.source c.turn_at-2.new.pairs ≡ s = c.in_ok-upper.ensures.source ∙ c.in_ok-lower.ensures.source in
+    let last = (g.P.Pairs.seen c.turn_at-2.new.pairs).notes in
+    let same : (g.P.Pairs.seen c.turn_at-2.new.pairs).source ≡ s = c.in_ok-upper.ensures.source ∙ c.in_ok-lower.ensures.source in
     let within = rw same at (g.met.P.Pairs.notes_within c.turn_at-2.new.pairs) in
     paired s (MayFollowTurn stakes p k) s.bound (λ (end : End) (u : Words). turn stakes u end p k) _ _ last _ _ _ c.in_ok-lower.lower c.in_ok-upper.upper _ c.pair_of.ensures.lower c.pair_of.ensures.upper
     (λ tells. turn-order s stakes c.in_ok-lower.ensures.valid c.requires.stakes last (within tells) p k c.requires.state)
