@@ -12,7 +12,7 @@ use Rattle.directed_fixed.specs.Bounds.{other, at}
 use Rattle.directed_fixed.specs.Rounding.{outwards}
 use Rattle.cube_actions.specs.declared.kind.Double.{Double}
 use Rattle.cube_actions.specs.declared.kind.Taken.{Taken}
-use Rattle.cube_actions.specs.Stakes.{Terms, kind_at, no_kind, IsValid, IsRightDouble, IsRightAnswer}
+use Rattle.cube_actions.specs.Stakes.{kind_at, no_kind, IsValid, IsRightDouble, IsRightAnswer}
 use Rattle.turn_rule.specs.declared.game.Game.{Game}
 use Rattle.turn_rule.specs.Turn.{Words, win, if_won, worth, greatest, sum_over, roll_value, least, or_double, turn}
 use Rattle.turn_rule.specs.States.{IsState, Agree}

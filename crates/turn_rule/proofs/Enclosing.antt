@@ -1,5 +1,5 @@
 -- What encloses every state after the next turn encloses every state before it, and so rounds enclose every longer game.
-use Rattle.std.proofs.Common.{◌≡◌, ◌≤◌, ℕ, zero, suc, ℤ, pos, neg_ℤ, ◌*ℤ◌, ◌*◌, ◌^◌, Option, Some, None, IfSome, refl, sym, subst, ap, ◌∙◌, arith}
+use Rattle.std.proofs.Common.{◌≡◌, ℕ, zero, suc, ℤ, pos, neg_ℤ, ◌*ℤ◌, ◌*◌, ◌^◌, Option, Some, None, IfSome, refl, sym, subst, ap, ◌∙◌, arith}
 use Rattle.std.proofs.lemmas.Int.{ints}
 use Rattle.std.proofs.Math.Nat.{pow-succ'}
 use Rattle.position_rank.specs.Placement.{Placement, swap}
@@ -13,14 +13,13 @@ use Rattle.directed_fixed.specs.declared.bounds.End.TheVariants.{Lower, Upper}
 use Rattle.directed_fixed.specs.Bounds.{other, at}
 use Rattle.cube_actions.specs.declared.kind.Double.{Double}
 use Rattle.cube_actions.specs.declared.kind.Taken.{Taken}
-use Rattle.cube_actions.specs.Stakes.{Terms, kind_at, no_kind, IsValid, IsRightDouble, IsRightAnswer}
+use Rattle.cube_actions.specs.Stakes.{kind_at, no_kind, IsValid, IsRightDouble, IsRightAnswer}
 use Rattle.turn_rule.specs.declared.game.Game.{Game}
 use Rattle.turn_rule.specs.Turn.{Words, win, if_won, worth, roll_value, or_double, turn, bound_words, rounds}
 use Rattle.turn_rule.specs.States.{IsState, AreNoLooser, pair_of}
 use Rattle.turn_rule.specs.Exact.{Scoring, Values, left_with, rolled, better_of, before_turn, exact}
 use Rattle.turn_rule.specs.Truth.{IsBoundOf, Encloses, AreWinsWithin, ArePassesWithin, IsScoringWithin, IsScoring, AreEnclosing, IsSound, AreSoundFrom, AreSound, AreConsistent}
 use Rattle.turn_rule.proofs.Within.{next_state, at_member, turn-within, opening-within}
-use Rattle.turn_rule.proofs.Integers.{le_refl}
 use Rattle.turn_rule.proofs.Monotone.{rounds-tighter}
 use Rattle.turn_rule.proofs.Fractions.{bound-at, bound-looser, bound-max, bound-least, bound-sum, bound-neg, bound-times, bound-over, bound-outwards}
 

@@ -55,6 +55,7 @@ pub(crate) fn sum_at<P: Pairs>(
     ensures small { (P.seen pairs.old).source.bound ≤ℤ pos (2 ^ 36) }
     ensures valid { IsValid stakes.now }
 {
+    // What `bound` ensures says that the stakes are valid.
     let _bound = stakes.bound();
     let kind = stakes.kind(number);
     let mut sum = Fixed::whole(0);
