@@ -2,6 +2,7 @@
 use Rattle.std.specs.Prelude.{ℕ, ◌≤◌, List, Option, sum}
 use Rattle.directed_fixed.specs.Bounds.{Bounds}
 use Rattle.cube_actions.specs.Stakes.{cubeless}
+use Rattle.turn_rule.specs.Games.{game_of}
 use Rattle.turn_rule.specs.Exact.{Scoring}
 use Rattle.turn_rule.specs.Truth.{IsScoring, EnclosesAt}
 use Rattle.equity_report.specs.Reports.{bound_text}
@@ -13,4 +14,7 @@ use Rattle.hyper_app.specs.Runs.{IsPut}
 pub record PutsEnclosingPair (old new : Option (List ℕ)) (task : Task) : Type 0 where
   pub pair : Bounds
   pub put : IsPut old new (bound_text task.position task.rounds pair)
-  pub encloses : (turns : ℕ) (scoring : Scoring) → task.rounds ≤ turns → IsScoring (sum task.position.mover) cubeless scoring → EnclosesAt cubeless scoring turns pair task.position 0
+  pub encloses :
+      (turns : ℕ) (scoring : Scoring) → task.rounds ≤ turns
+      → IsScoring (game_of (sum task.position.mover) cubeless) scoring
+      → EnclosesAt cubeless scoring turns pair task.position 0

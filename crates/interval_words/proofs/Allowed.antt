@@ -9,13 +9,14 @@ use Rattle.position_rank.specs.Placement.{Placement}
 use Rattle.directed_fixed.specs.declared.bounds.End.{End}
 use Rattle.directed_fixed.specs.declared.bounds.End.TheVariants.{Lower, Upper}
 use Rattle.directed_fixed.specs.Bounds.{IsNoLooser, IsWithinUnits}
+use Rattle.turn_rule.specs.Games.{IsGame, kinds_of}
 use Rattle.turn_rule.specs.Turn.{Words, rounds}
 use Rattle.turn_rule.specs.States.{IsState, AreWithin}
-use Rattle.interval_words.specs.declared.view.Game.{Game}
+use Rattle.turn_rule.specs.declared.game.Game.{Game}
 use Rattle.interval_words.specs.declared.view.Note.{Note}
 use Rattle.interval_words.specs.declared.view.View.{View}
 use Rattle.interval_words.specs.Numbers.{state_of, word_of, value_of, tightest_word}
-use Rattle.interval_words.specs.Core.{IsGame, Core, IsKept, IsTrueOf, AreReached, kinds_of, words_in_core, noted, known, with_note, settled, joined, spent}
+use Rattle.interval_words.specs.Core.{Core, IsKept, IsTrueOf, AreReached, words_in_core, noted, known, with_note, settled, joined, spent}
 use Rattle.interval_words.specs.Events.{IsLoose, IsRoundDone}
 use Rattle.interval_words.specs.Seats.{AreKnown, Knows}
 use Rattle.interval_words.specs.Rule.{core_of, Holds, IsFresh, Reads, Tightens, Settles}
@@ -40,13 +41,13 @@ one-game view game named a b = some-same game named (sym a ∙ b)
 -- notes that are no tighter than the words after some rounds are within the bound, lower at most upper
 pub known-notes : (game : Game) → IsGame game → (notes : List Note) → AreReached game (noted game notes) → AreKnown game notes
 known-notes game is notes reached = record { within = within; reached = reached } where
-  within : AreWithin game.checkers game.stakes (noted game notes)
+  within : AreWithin game (noted game notes)
   within p k state =
       let low = noted-opening game notes Lower p k state in
       let high = noted-opening game notes Upper p k state in
       let from = reached.1 Lower p k state in
       let to = reached.1 Upper p k state in
-      let round = all-rounds-within game.checkers game.stakes is.stakes reached.0 p k state in
+      let round = all-rounds-within game is.stakes reached.0 p k state in
       record { from = low; in_order = tight-trans Upper _ _ _ (tight-trans Upper _ _ _ from round.in_order) to; to = high }
 
 -- what is true of a core's words is known
@@ -62,14 +63,14 @@ module _ (game : Game) (slots id : ℕ) (me : Mine) (alive : me.0.game ≡ Some 
   fresh : (s : St) → Holds game s → IsTrueOf game (words_in_core (core_of game s)) me.0 → (place : ℕ) → IsFresh me.0 place (value_of (get_or s.words place 0))
   fresh s kept is place = record {
     within = λ named end p k names state same.
-        subst (λ (g : Game). IsState g.checkers g.stakes p k → place ≡ word_of end (state_of (kinds_of g) p k) → IsWithinUnits g.stakes.bound (value_of (get_or s.words place 0))) (one-game me.0 game named alive names)
+        subst (λ (g : Game). IsState g p k → place ≡ word_of end (state_of (kinds_of g) p k) → IsWithinUnits g.stakes.bound (value_of (get_or s.words place 0))) (one-game me.0 game named alive names)
         (λ state same. subst (λ (n : ℕ). IsWithinUnits game.stakes.bound (value_of (get_or s.words n 0))) (sym same) (kept.within end p k state)) state same;
     tight = λ named end p k names state same.
-        subst (λ (g : Game). IsState g.checkers g.stakes p k → place ≡ word_of end (state_of (kinds_of g) p k) → IsNoLooser end (value_of (get_or s.words place 0)) (known g me.0 end p k)) (one-game me.0 game named alive names)
+        subst (λ (g : Game). IsState g p k → place ≡ word_of end (state_of (kinds_of g) p k) → IsNoLooser end (value_of (get_or s.words place 0)) (known g me.0 end p k)) (one-game me.0 game named alive names)
         (λ state same. subst (λ (n : ℕ). IsNoLooser end (value_of (get_or s.words n 0)) (known game me.0 end p k)) (sym same) (tight-tightest end (noted game me.0.notes end p k) (rounds game.stakes me.0.base end p k) _ (is.notes end p k state) (is.base end p k state))) state same;
   }
 
-  pub reads : (end : End) (p : Placement) (k : ℕ) → IsState game.checkers game.stakes p k → Allows (Holds game) slots id me (word_of end (state_of (kinds_of game) p k)) (λ n. n) (Reads (step slots (word_of end (state_of (kinds_of game) p k)) 0 0 none) me)
+  pub reads : (end : End) (p : Placement) (k : ℕ) → IsState game p k → Allows (Holds game) slots id me (word_of end (state_of (kinds_of game) p k)) (λ n. n) (Reads (step slots (word_of end (state_of (kinds_of game) p k)) 0 0 none) me)
   reads end p k state s kept _ at _ =
       let place : ℕ = word_of end (state_of (kinds_of game) p k) in
       let core : Core = core_of game s in

@@ -7,11 +7,12 @@ use Rattle.atomic_table.specs.Seated.{TableId}
 use Rattle.position_rank.specs.Placement.{Placement}
 use Rattle.directed_fixed.specs.declared.bounds.End.{End}
 use Rattle.directed_fixed.specs.Bounds.{IsNoLooser, IsWithinUnits}
-use Rattle.turn_rule.specs.States.{IsState}
-use Rattle.interval_words.specs.declared.view.Game.{Game}
+use Rattle.turn_rule.specs.Games.{IsGame, kinds_of}
+use Rattle.turn_rule.specs.States.{IsState, AreNoLooser}
+use Rattle.turn_rule.specs.declared.game.Game.{Game}
 use Rattle.interval_words.specs.declared.view.View.{View}
 use Rattle.interval_words.specs.Numbers.{state_of, states_in, word_of, value_of, tightest_word}
-use Rattle.interval_words.specs.Core.{IsGame, AreNoLooserIn, AreReached, kinds_of, words_in, noted, known, first_view, with_note, settled, joined}
+use Rattle.interval_words.specs.Core.{AreReached, words_in, noted, known, first_view, with_note, settled, joined}
 use Rattle.interval_words.specs.Events.{IsLoose, IsRoundDone}
 use Rattle.interval_words.specs.Seats.{GameSeat, IsNumber, MayTighten, AreKnown, Knows, noting, settling}
 use Rattle.interval_words.specs.Rule.{Holds, IsFresh, Reads, Tightens, Settles}
@@ -105,7 +106,7 @@ module _ (game : Game) (me : Mine) (view : View) (mine : me.0 ≡ view) (alive :
   pub read-within : IsNumber game state → (value : ℤ) → value_of found ≡ value → IsWithinUnits game.stakes.bound value
   read-within is value same = subst (λ (z : ℤ). IsWithinUnits game.stakes.bound z) same (found-within is)
 
-  pub read-tight : (value : ℤ) → value_of found ≡ value → (p : Placement) (k : ℕ) → IsState game.checkers game.stakes p k → state ≡ state_of (kinds_of game) p k → IsNoLooser end value (known game view end p k)
+  pub read-tight : (value : ℤ) → value_of found ≡ value → (p : Placement) (k : ℕ) → IsState game p k → state ≡ state_of (kinds_of game) p k → IsNoLooser end value (known game view end p k)
   read-tight value same p k is number =
       subst (λ (z : ℤ). IsNoLooser end z (known game view end p k)) same
       (subst (λ (v : View). IsNoLooser end (value_of found) (known game v end p k)) mine (fresh.tight game end p k (ap (λ (v : View). v.game) mine ∙ alive) is (at ∙ ap (word_of end) number)))
@@ -119,13 +120,13 @@ knows-joined game is view other names also knows those = record { notes = λ nam
       let two = (those.notes game also).reached in
       let all : Words = rounds game.stakes (one.0 + two.0) in
       let swapped : two.0 + one.0 ≡ one.0 + two.0 = omega arith in
-      let left : AreNoLooserIn game all (rounds game.stakes one.0) = rounds-later game.checkers game.stakes is.stakes one.0 two.0 in
-      let right : AreNoLooserIn game all (rounds game.stakes two.0) = subst (λ (n : ℕ). AreNoLooserIn game (rounds game.stakes n) (rounds game.stakes two.0)) swapped (rounds-later game.checkers game.stakes is.stakes two.0 one.0) in
+      let left : AreNoLooser game all (rounds game.stakes one.0) = rounds-later game is.stakes one.0 two.0 in
+      let right : AreNoLooser game all (rounds game.stakes two.0) = subst (λ (n : ℕ). AreNoLooser game (rounds game.stakes n) (rounds game.stakes two.0)) swapped (rounds-later game is.stakes two.0 one.0) in
       (one.0 + two.0, noted-append game all view.notes other.notes (tighter-trans game all _ _ left one.1) (tighter-trans game all _ _ right two.1))
 
 -- a first view tells nothing
 pub knows-first : (game : Game) → IsGame game → Knows (first_view game)
-knows-first game is = record { notes = λ named e. subst (λ (g : Game). AreKnown g []) (one-game (first_view game) game named refl e) (known-notes game is [] (0, subst (λ (u : Words). AreNoLooserIn game u (bound_words game.stakes)) (sym (rounds-none game.stakes)) (λ end p k state. tight-refl end _))) }
+knows-first game is = record { notes = λ named e. subst (λ (g : Game). AreKnown g []) (one-game (first_view game) game named refl e) (known-notes game is [] (0, subst (λ (u : Words). AreNoLooser game u (bound_words game.stakes)) (sym (rounds-none game.stakes)) (λ end p k state. tight-refl end _))) }
 
 -- how many words there are, as it is counted
 pub words-as-counted : (checkers : ℕ) (stakes : Terms) (states : ℕ) → states ≡ live_positions checkers * length stakes.kinds → 2 * states ≡ words_in (record { checkers = checkers; stakes = stakes })

@@ -3,11 +3,12 @@ use Rattle.std.proofs.Common.{◌≡◌, ℕ, List, sym, ap, subst, ◌∙◌}
 use Rattle.atomic_table.specs.Table.{Me, Final, Seen}
 use Rattle.directed_fixed.specs.declared.bounds.End.TheVariants.{Lower, Upper}
 use Rattle.directed_fixed.specs.Bounds.{IsWithin}
+use Rattle.turn_rule.specs.Games.{kinds_of}
 use Rattle.turn_rule.specs.Turn.{rounds}
-use Rattle.turn_rule.specs.States.{AreWithin}
-use Rattle.interval_words.specs.declared.view.Game.{Game}
+use Rattle.turn_rule.specs.States.{AreWithin, AreNoLooser}
+use Rattle.turn_rule.specs.declared.game.Game.{Game}
 use Rattle.interval_words.specs.declared.view.View.{View}
-use Rattle.interval_words.specs.Core.{Core, IsKept, IsTrueOf, AreNoLooserIn, kinds_of, words_in_core}
+use Rattle.interval_words.specs.Core.{Core, IsKept, IsTrueOf, words_in_core}
 use Rattle.interval_words.specs.Rule.{core_of, Holds}
 use Rattle.interval_words.specs.WordLists.{AreRight, AreClosed, pair_at}
 use Rattle.interval_words.proofs.Ends.{tight-trans}
@@ -16,9 +17,9 @@ use Rattle.interval_words.proofs.Views.{All-at}
 use Rattle.interval_words.proofs.EachNumber.{each-number}
 
 -- the words of a core are within the bound, lower at most upper
-words-within : (core : Core) → IsKept core → AreWithin core.game.checkers core.game.stakes (words_in_core core)
+words-within : (core : Core) → IsKept core → AreWithin core.game (words_in_core core)
 words-within core kept p k state =
-    let round = all-rounds-within core.game.checkers core.game.stakes kept.game.stakes kept.reached.0 p k state in
+    let round = all-rounds-within core.game kept.game.stakes kept.reached.0 p k state in
     record {
       from = (kept.within Lower p k state).from;
       in_order = tight-trans Upper _ _ _ (tight-trans Upper _ _ _ (kept.reached.1 Lower p k state) round.in_order) (kept.reached.1 Upper p k state);
@@ -34,9 +35,9 @@ module _ (core : Core) (kept : IsKept core) (r : ℕ) where
         subst (λ (n : ℕ). IsWithin core.game.stakes.bound (pair_at core.words n)) (sym is.number) (words-within core kept is.position is.kind is.is);
   }
 
-  closed-at-end : AreNoLooserIn core.game (words_in_core core) (rounds core.game.stakes r) → AreClosed (record { game = core.game; rounds = r; list = core.words })
+  closed-at-end : AreNoLooser core.game (words_in_core core) (rounds core.game.stakes r) → AreClosed (record { game = core.game; rounds = r; list = core.words })
   closed-at-end tight = record {
-    sound = reached-sound core.game.checkers core.game.stakes kept.game.stakes kept.reached.0 (words_in_core core) kept.reached.1;
+    sound = reached-sound core.game kept.game.stakes kept.reached.0 (words_in_core core) kept.reached.1;
     consistent = kept.consistent;
     tight = tight;
   }
@@ -61,5 +62,5 @@ module _ (key game : Game) (same : key ≡ game) (id : ℕ) (me : Me (Unit {0}) 
   closed-of-last =
       let is = All-at (IsTrueOf game (words_in_core core)) end.0.views id me.0 kept.views end.1.1 in
       let bases : me.0.base ≡ r = ap (λ (v : View). v.base) mine ∙ sym base in
-      let tight : AreNoLooserIn game (words_in_core core) (rounds game.stakes r) = subst (λ (n : ℕ). AreNoLooserIn game (words_in_core core) (rounds game.stakes n)) bases is.base in
+      let tight : AreNoLooser game (words_in_core core) (rounds game.stakes r) = subst (λ (n : ℕ). AreNoLooser game (words_in_core core) (rounds game.stakes n)) bases is.base in
       subst (λ (xs : List ℕ). AreClosed (record { game = game; rounds = r; list = xs })) listed (closed-at-end core kept r tight)

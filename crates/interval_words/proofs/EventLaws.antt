@@ -6,12 +6,12 @@ use Rattle.directed_fixed.specs.declared.bounds.End.TheVariants.{Lower, Upper}
 use Rattle.turn_rule.specs.Turn.{Words, turn, rounds, bound_words}
 use Rattle.turn_rule.proofs.Within.{bound-positive}
 use Rattle.cube_actions.specs.Stakes.{Terms, IsValid}
-use Rattle.turn_rule.specs.States.{Agree}
+use Rattle.turn_rule.specs.States.{Agree, AreNoLooser}
 use Rattle.interval_words.specs.Numbers.{AreBoundWords, state_of, states_in, words_of}
 use Rattle.interval_words.proofs.Places.{state-in}
-use Rattle.interval_words.specs.declared.view.Game.{Game}
+use Rattle.turn_rule.specs.declared.game.Game.{Game}
 use Rattle.interval_words.specs.declared.view.View.{View}
-use Rattle.interval_words.specs.Core.{Core, IsKept, IsFirstCore, IsTrueOf, AreNoLooserIn, AreInBound, words_in_core, first_view, settled, joined, spent}
+use Rattle.interval_words.specs.Core.{Core, IsKept, IsFirstCore, IsTrueOf, AreInBound, words_in_core, first_view, settled, joined, spent}
 use Rattle.interval_words.specs.Events.{Event, opens, reads, raises, lowers, settles, splits, joins, view_at, IsAlive, IsAllowed, AreAllowed, after, after_all, with_view}
 use Rattle.interval_words.proofs.Ends.{tight-refl}
 use Rattle.interval_words.proofs.TurnLaws.{turns-tighten, rounds-more, rounds-turn, rounds-none}
@@ -49,7 +49,7 @@ pub kept-opening : (core : Core) → IsFirstCore core → IsKept core
 kept-opening core start = record {
   game = start.game;
   long = start.long;
-  reached = (0, subst (λ (v : Words). AreNoLooserIn core.game v (words_in_core core)) (sym (rounds-none core.game.stakes)) (λ end p k state. rw (start.words end p k state) (tight-refl end _)));
+  reached = (0, subst (λ (v : Words). AreNoLooser core.game v (words_in_core core)) (sym (rounds-none core.game.stakes)) (λ end p k state. rw (start.words end p k state) (tight-refl end _)));
   within = bounded;
   consistent = consistent;
   views = rw start.views (All-nil (IsTrueOf core.game (words_in_core core)));
@@ -61,18 +61,18 @@ kept-opening core start = record {
   bounded Lower p k state = rw (start.words Lower p k state) (record { from = omega (arith, ints, positive); to = omega (arith, ints, positive) })
   bounded Upper p k state = rw (start.words Upper p k state) (record { from = omega (arith, ints, positive); to = omega (arith, ints, positive) })
 
-  closer : AreNoLooserIn core.game (words_in_core core) (bound_words core.game.stakes)
+  closer : AreNoLooser core.game (words_in_core core) (bound_words core.game.stakes)
   closer end p k state = rw (start.words end p k state) (tight-refl end _)
 
-  wider : AreNoLooserIn core.game (bound_words core.game.stakes) (words_in_core core)
+  wider : AreNoLooser core.game (bound_words core.game.stakes) (words_in_core core)
   wider end p k state = rw (start.words end p k state) (tight-refl end _)
 
-  first : AreNoLooserIn core.game (turn core.game.stakes (bound_words core.game.stakes)) (bound_words core.game.stakes)
-  first = subst (λ (v : Words). AreNoLooserIn core.game (turn core.game.stakes v) v) (rounds-none core.game.stakes) (subst (λ (v : Words). AreNoLooserIn core.game v (rounds core.game.stakes 0)) (rounds-turn core.game.stakes 0) (rounds-more core.game.checkers core.game.stakes start.game.stakes 0))
+  first : AreNoLooser core.game (turn core.game.stakes (bound_words core.game.stakes)) (bound_words core.game.stakes)
+  first = subst (λ (v : Words). AreNoLooser core.game (turn core.game.stakes v) v) (rounds-none core.game.stakes) (subst (λ (v : Words). AreNoLooser core.game v (rounds core.game.stakes 0)) (rounds-turn core.game.stakes 0) (rounds-more core.game start.game.stakes 0))
 
-  consistent : AreNoLooserIn core.game (turn core.game.stakes (words_in_core core)) (words_in_core core)
+  consistent : AreNoLooser core.game (turn core.game.stakes (words_in_core core)) (words_in_core core)
   consistent =
-      tighter-trans core.game _ (turn core.game.stakes (bound_words core.game.stakes)) _ (turns-tighten core.game.checkers core.game.stakes start.game.stakes (words_in_core core) (bound_words core.game.stakes) closer)
+      tighter-trans core.game _ (turn core.game.stakes (bound_words core.game.stakes)) _ (turns-tighten core.game start.game.stakes (words_in_core core) (bound_words core.game.stakes) closer)
       (tighter-trans core.game _ (bound_words core.game.stakes) _ first wider)
 
 pub kept-events : (core : Core) (events : List Event) → IsKept core → AreAllowed core events → IsKept (after_all core events)
@@ -86,7 +86,7 @@ module _ (checkers : ℕ) (stakes : Terms) (low : 1 ≤ checkers) (high : checke
 
   pub kept-new-board : (list : List ℕ) (bound : ℤ) (states : ℕ) → bound ≡ stakes.bound → states ≡ states_in checkers (length stakes.kinds) → AreBoundWords bound states list → IsKept (record { game = game; words = list; views = first_view game ∷ [] })
   kept-new-board list bound states is_bound many words = kept-event (record { game = game; words = list; views = [] }) opens (kept-opening (record { game = game; words = list; views = [] }) opening_core) tt where
-    agree : Agree checkers stakes (words_of (length stakes.kinds) list) (bound_words stakes)
+    agree : Agree game (words_of (length stakes.kinds) list) (bound_words stakes)
     agree Lower p k state = words.lower (state_of (length stakes.kinds) p k) (subst (λ (n : ℕ). state_of (length stakes.kinds) p k < n) (sym many) (state-in checkers (length stakes.kinds) p k state)) ∙ ap neg_ℤ is_bound
     agree Upper p k state = words.upper (state_of (length stakes.kinds) p k) (subst (λ (n : ℕ). state_of (length stakes.kinds) p k < n) (sym many) (state-in checkers (length stakes.kinds) p k state)) ∙ is_bound
 

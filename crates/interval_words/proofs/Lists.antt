@@ -6,10 +6,10 @@ use Rattle.std.specs.Int.{int_max}
 use Rattle.std.proofs.lemmas.Bool.{cases_lt}
 use Rattle.std.proofs.lemmas.Int.{ints, clamps, by_lt_z}
 use Rattle.directed_fixed.specs.Bounds.{Bounds, IsWithin, IsWithinUnits}
+use Rattle.turn_rule.specs.Games.{kinds_of}
 use Rattle.interval_words.specs.Numbers.{value_of, state_of}
 use Rattle.interval_words.specs.WordLists.{WordList, AreRight, words_in_list, pair_at, width}
 use Rattle.turn_rule.specs.States.{AreWithin}
-use Rattle.interval_words.specs.Core.{kinds_of}
 use Rattle.interval_words.proofs.Places.{state-in}
 
 module _ (bound : ℤ) (list : List ℕ) (state : ℕ) where
@@ -70,7 +70,7 @@ width-is list state pair lower upper less wide is low high negated summed =
     apart ∙ ap width is
 
 -- right words are within the bound in each state
-pub right-within : (words : WordList) → AreRight words → AreWithin words.game.checkers words.game.stakes (words_in_list words)
+pub right-within : (words : WordList) → AreRight words → AreWithin words.game (words_in_list words)
 right-within words right p k state = right.within (state_of (kinds_of words.game) p k) (state-in words.game.checkers (kinds_of words.game) p k state)
 
 -- one element more of a front, and all of them

@@ -7,12 +7,13 @@ use lib.ListN.{get_elem?}
 use Rattle.position_rank.specs.Placement.{Placement}
 use Rattle.directed_fixed.specs.declared.bounds.End.{End}
 use Rattle.directed_fixed.specs.Bounds.{IsNoLooser}
+use Rattle.turn_rule.specs.Games.{kinds_of}
 use Rattle.turn_rule.specs.Turn.{Words, bound_words}
-use Rattle.turn_rule.specs.States.{IsState}
-use Rattle.interval_words.specs.declared.view.Game.{Game}
+use Rattle.turn_rule.specs.States.{IsState, AreNoLooser}
+use Rattle.turn_rule.specs.declared.game.Game.{Game}
 use Rattle.interval_words.specs.declared.view.Note.{Note}
 use Rattle.interval_words.specs.Numbers.{state_of, word_of, tightest}
-use Rattle.interval_words.specs.Core.{AreNoLooserIn, kinds_of, noted}
+use Rattle.interval_words.specs.Core.{noted}
 use Rattle.interval_words.proofs.Ends.{tightest-mono, tight-refl, tight-trans, tight-tightest, tightest-left, tightest-right}
 use Rattle.interval_words.proofs.Places.{word-same, state-same}
 
@@ -46,7 +47,7 @@ module _ (game : Game) where
   noted-cases note notes end p k P hit miss = by_number note.word (word_of end (state_of (kinds_of game) p k)) (tightest end note.value (noted game notes end p k)) (noted game notes end p k) P hit miss
 
   -- no note loosens
-  pub noted-more : (note : Note) (notes : List Note) → AreNoLooserIn game (noted game (note ∷ notes)) (noted game notes)
+  pub noted-more : (note : Note) (notes : List Note) → AreNoLooser game (noted game (note ∷ notes)) (noted game notes)
   noted-more note notes end p k state = noted-cases note notes end p k (λ z. IsNoLooser end z (noted game notes end p k)) (λ hit. tightest-right end note.value (noted game notes end p k)) (λ miss. tight-refl end (noted game notes end p k))
 
   -- a note is told
@@ -54,10 +55,10 @@ module _ (game : Game) where
   noted-own value notes end p k = noted-cases (record { word = word_of end (state_of (kinds_of game) p k); value = value }) notes end p k (λ z. IsNoLooser end z value) (λ hit. tightest-left end value (noted game notes end p k)) (λ miss. absurd (miss refl))
 
   -- what holds of a note's value, and of what the other notes tell, holds of all that they tell
-  pub noted-each : (value : ℤ) (notes : List Note) (end : End) (p : Placement) (k : ℕ) → IsState game.checkers game.stakes p k → (P : End → Placement → ℕ → ℤ → Type 0)
+  pub noted-each : (value : ℤ) (notes : List Note) (end : End) (p : Placement) (k : ℕ) → IsState game p k → (P : End → Placement → ℕ → ℤ → Type 0)
       → (P end p k (noted game notes end p k) → P end p k (tightest end value (noted game notes end p k)))
-      → ((d : End) (q : Placement) (l : ℕ) → IsState game.checkers game.stakes q l → P d q l (noted game notes d q l))
-      → (d : End) (q : Placement) (l : ℕ) → IsState game.checkers game.stakes q l → P d q l (noted game (record { word = word_of end (state_of (kinds_of game) p k); value = value } ∷ notes) d q l)
+      → ((d : End) (q : Placement) (l : ℕ) → IsState game q l → P d q l (noted game notes d q l))
+      → (d : End) (q : Placement) (l : ℕ) → IsState game q l → P d q l (noted game (record { word = word_of end (state_of (kinds_of game) p k); value = value } ∷ notes) d q l)
   noted-each value notes end p k is P here there d q l state =
       noted-cases (record { word = word_of end (state_of (kinds_of game) p k); value = value }) notes d q l (P d q l)
       (λ hit.
@@ -71,25 +72,25 @@ module _ (game : Game) where
       (λ miss. there d q l state)
 
   -- notes of two lists tell no more than both
-  pub noted-append : (u : Words) (ms ns : List Note) → AreNoLooserIn game u (noted game ms) → AreNoLooserIn game u (noted game ns) → AreNoLooserIn game u (noted game (ms ++ ns))
+  pub noted-append : (u : Words) (ms ns : List Note) → AreNoLooser game u (noted game ms) → AreNoLooser game u (noted game ns) → AreNoLooser game u (noted game (ms ++ ns))
   noted-append u [] ns one two end p k state = two end p k state
   noted-append u (m ∷ ms) ns one two end p k state =
-      let rest : AreNoLooserIn game u (noted game (ms ++ ns)) = noted-append u ms ns (λ d q l at. tight-trans d _ _ _ (one d q l at) (noted-more m ms d q l at)) two in
+      let rest : AreNoLooser game u (noted game (ms ++ ns)) = noted-append u ms ns (λ d q l at. tight-trans d _ _ _ (one d q l at) (noted-more m ms d q l at)) two in
       noted-cases m (ms ++ ns) end p k (IsNoLooser end (u end p k))
       (λ hit. tight-tightest end m.value (noted game (ms ++ ns) end p k) (u end p k) (tight-trans end _ _ _ (one end p k state) (noted-cases m ms end p k (λ z. IsNoLooser end z m.value) (λ same. tightest-left end m.value (noted game ms end p k)) (λ miss. absurd (miss hit)))) (rest end p k state))
       (λ miss. rest end p k state)
 
   -- notes tell no less than the bound
-  pub noted-opening : (notes : List Note) → AreNoLooserIn game (noted game notes) (bound_words game.stakes)
+  pub noted-opening : (notes : List Note) → AreNoLooser game (noted game notes) (bound_words game.stakes)
   noted-opening [] end p k state = tight-refl end (bound_words game.stakes end p k)
   noted-opening (n ∷ ns) end p k state = tight-trans end _ _ _ (noted-more n ns end p k state) (noted-opening ns end p k state)
 
   -- notes of two lists tell no less than those of each
-  pub noted-second : (ms ns : List Note) → AreNoLooserIn game (noted game (ms ++ ns)) (noted game ns)
+  pub noted-second : (ms ns : List Note) → AreNoLooser game (noted game (ms ++ ns)) (noted game ns)
   noted-second [] ns end p k state = tight-refl end (noted game ns end p k)
   noted-second (m ∷ ms) ns end p k state = tight-trans end _ _ _ (noted-more m (ms ++ ns) end p k state) (noted-second ms ns end p k state)
 
-  pub noted-first : (ms ns : List Note) → AreNoLooserIn game (noted game (ms ++ ns)) (noted game ms)
+  pub noted-first : (ms ns : List Note) → AreNoLooser game (noted game (ms ++ ns)) (noted game ms)
   noted-first [] ns end p k state = noted-opening ns end p k state
   noted-first (m ∷ ms) ns end p k state =
       let rest = noted-first ms ns end p k state in

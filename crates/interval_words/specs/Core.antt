@@ -3,31 +3,18 @@ use Rattle.std.specs.Prelude.{◌≡◌, ◌≤◌, ◌==◌, ℕ, ◌+◌, ◌*
 use Rattle.position_rank.specs.Placement.{Placement}
 use Rattle.directed_fixed.specs.declared.bounds.End.{End}
 use Rattle.directed_fixed.specs.Bounds.{IsWithinUnits}
-use Rattle.cube_actions.specs.Stakes.{IsValid}
+use Rattle.turn_rule.specs.Games.{IsGame, kinds_of}
 use Rattle.turn_rule.specs.Turn.{Words, bound_words, rounds}
 use Rattle.turn_rule.specs.States.{IsState, AreNoLooser, Agree}
 use Rattle.turn_rule.specs.Truth.{AreConsistent}
-use Rattle.interval_words.specs.declared.view.Game.{Game}
+use Rattle.turn_rule.specs.declared.game.Game.{Game}
 use Rattle.interval_words.specs.declared.view.Note.{Note}
 use Rattle.interval_words.specs.declared.view.View.{View}
 use Rattle.interval_words.specs.Numbers.{state_of, states_in, word_of, words_of, tightest}
 
--- one to three checkers a side, and valid stakes
-pub record IsGame (game : Game) : Type 0 where
-  pub low : 1 ≤ game.checkers
-  pub high : game.checkers ≤ 3
-  pub stakes : IsValid game.stakes
-
-abbrev pub kinds_of : Game → ℕ
-kinds_of game = length game.stakes.kinds
-
 -- there are two words for each state
 abbrev pub words_in : Game → ℕ
 words_in game = 2 * states_in game.checkers (kinds_of game)
-
--- in each state, the first words are at least as tight as the second
-abbrev pub AreNoLooserIn : Game → Words → Words → Type 0
-AreNoLooserIn game = AreNoLooser game.checkers game.stakes
 
 -- what notes tell of each word: the tightest note of it, or else only the bound
 abbrev pub noted : Game → List Note → Words
@@ -40,18 +27,18 @@ known game view end p k = tightest end (noted game view.notes end p k) (rounds g
 
 -- words that are no tighter than those after some number of rounds
 abbrev pub AreReached : Game → Words → Type 0
-AreReached game u = (r : ℕ) × AreNoLooserIn game (rounds game.stakes r) u
+AreReached game u = (r : ℕ) × AreNoLooser game (rounds game.stakes r) u
 
 -- each word is within the bound
 abbrev pub AreInBound : Game → Words → Type 0
-AreInBound game u = (end : End) (p : Placement) (k : ℕ) → IsState game.checkers game.stakes p k → IsWithinUnits game.stakes.bound (u end p k)
+AreInBound game u = (end : End) (p : Placement) (k : ℕ) → IsState game p k → IsWithinUnits game.stakes.bound (u end p k)
 
 -- a view over words: the game that it names is theirs, no note is tighter than its word, and the words are at least as tight as those after
 -- the rounds of its base
 pub record IsTrueOf (game : Game) (u : Words) (view : View) : Type 0 where
   pub names : (named : Game) → view.game ≡ Some named → named ≡ game
-  pub notes : AreNoLooserIn game u (noted game view.notes)
-  pub base : AreNoLooserIn game u (rounds game.stakes view.base)
+  pub notes : AreNoLooser game u (noted game view.notes)
+  pub base : AreNoLooser game u (rounds game.stakes view.base)
 
 -- a game, the list of its words, and a view for each seat
 pub record Core : Type 0 where
@@ -69,14 +56,14 @@ pub record IsKept (core : Core) : Type 0 where
   pub long : length core.words ≡ words_in core.game
   pub reached : AreReached core.game (words_in_core core)
   pub within : AreInBound core.game (words_in_core core)
-  pub consistent : AreConsistent core.game.checkers core.game.stakes (words_in_core core)
+  pub consistent : AreConsistent core.game (words_in_core core)
   pub views : All (IsTrueOf core.game (words_in_core core)) core.views
 
 -- at the start only the bound is known, and there is no view
 pub record IsFirstCore (core : Core) : Type 0 where
   pub game : IsGame core.game
   pub long : length core.words ≡ words_in core.game
-  pub words : Agree core.game.checkers core.game.stakes (words_in_core core) (bound_words core.game.stakes)
+  pub words : Agree core.game (words_in_core core) (bound_words core.game.stakes)
   pub views : core.views ≡ []
 
 -- a first view of a game, which tells nothing

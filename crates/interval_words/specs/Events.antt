@@ -4,12 +4,13 @@ use Rattle.position_rank.specs.Placement.{Placement}
 use Rattle.directed_fixed.specs.declared.bounds.End.{End}
 use Rattle.directed_fixed.specs.declared.bounds.End.TheVariants.{Lower, Upper}
 use Rattle.directed_fixed.specs.Bounds.{IsNoLooser, IsWithinUnits}
+use Rattle.turn_rule.specs.Games.{kinds_of}
 use Rattle.turn_rule.specs.Turn.{turn, rounds}
-use Rattle.turn_rule.specs.States.{IsState}
-use Rattle.interval_words.specs.declared.view.Game.{Game}
+use Rattle.turn_rule.specs.States.{IsState, AreNoLooser}
+use Rattle.turn_rule.specs.declared.game.Game.{Game}
 use Rattle.interval_words.specs.declared.view.View.{View}
 use Rattle.interval_words.specs.Numbers.{state_of, word_of, value_of, tightest_word}
-use Rattle.interval_words.specs.Core.{Core, AreNoLooserIn, kinds_of, words_in_core, noted, known, first_view, with_note, settled, joined, spent}
+use Rattle.interval_words.specs.Core.{Core, words_in_core, noted, known, first_view, with_note, settled, joined, spent}
 
 -- An event of a view, which is told by its number among the views, and of a word, which is told by its state and its end.
 -- A raise and a lowering bring the word of a value.
@@ -31,18 +32,18 @@ IsAlive core id = (view_at core id).game ≡ Some core.game
 
 -- a value for this end of a state is within the bound, and no tighter than the turn over what the notes tell
 pub record IsLoose (game : Game) (view : View) (end : End) (p : Placement) (k : ℕ) (value : ℤ) : Type 0 where
-  pub state : IsState game.checkers game.stakes p k
+  pub state : IsState game p k
   pub within : IsWithinUnits game.stakes.bound value
   pub loose : IsNoLooser end (turn game.stakes (noted game view.notes) end p k) value
 
 -- what a view tells is at least as tight as the words after one round more than its base
 abbrev pub IsRoundDone : Game → View → Type 0
-IsRoundDone game view = AreNoLooserIn game (known game view) (rounds game.stakes (view.base + 1))
+IsRoundDone game view = AreNoLooser game (known game view) (rounds game.stakes (view.base + 1))
 
 -- when an event is allowed
 abbrev pub IsAllowed : Core → Event → Type 0
 IsAllowed core opens = Unit {0}
-IsAllowed core (reads id end p k) = IsAlive core id × IsState core.game.checkers core.game.stakes p k
+IsAllowed core (reads id end p k) = IsAlive core id × IsState core.game p k
 IsAllowed core (raises id p k word) = IsAlive core id × IsLoose core.game (view_at core id) Lower p k (value_of word)
 IsAllowed core (lowers id p k word) = IsAlive core id × IsLoose core.game (view_at core id) Upper p k (value_of word)
 IsAllowed core (settles id) = IsAlive core id × IsRoundDone core.game (view_at core id)

@@ -3,12 +3,13 @@ use Rattle.std.specs.Prelude.{◌≡◌, ◌<◌, ◌^◌, ℕ, ℤ, List, Some}
 use Rattle.position_rank.specs.Placement.{Placement}
 use Rattle.atomic_table.specs.Seated.{TableId}
 use Rattle.directed_fixed.specs.declared.bounds.End.{End}
+use Rattle.turn_rule.specs.Games.{IsGame, kinds_of}
 use Rattle.turn_rule.specs.States.{IsState, AreWithin}
-use Rattle.interval_words.specs.declared.view.Game.{Game}
+use Rattle.turn_rule.specs.declared.game.Game.{Game}
 use Rattle.interval_words.specs.declared.view.Note.{Note}
 use Rattle.interval_words.specs.declared.view.View.{View}
 use Rattle.interval_words.specs.Numbers.{state_of}
-use Rattle.interval_words.specs.Core.{IsGame, AreReached, kinds_of, words_in, noted, with_note, settled, joined}
+use Rattle.interval_words.specs.Core.{AreReached, words_in, noted, with_note, settled, joined}
 use Rattle.interval_words.specs.Events.{IsLoose}
 
 -- a board: which table it is, and its game
@@ -42,7 +43,7 @@ joining seat other = record seat { view = joined seat.view other.view }
 pub record IsNumber (game : Game) (state : ℕ) : Type 0 where
   pub position : Placement
   pub kind : ℕ
-  pub is : IsState game.checkers game.stakes position kind
+  pub is : IsState game position kind
   pub number : state ≡ state_of (kinds_of game) position kind
 
 -- this is the number of a state, for which the value is loose enough: within the bound, and no tighter than the turn over what the notes tell
@@ -54,7 +55,7 @@ pub record MayTighten (end : End) (game : Game) (view : View) (state : ℕ) (val
 
 -- what notes tell is within the bound, lower at most upper, and no tighter than the words after some number of rounds
 pub record AreKnown (game : Game) (notes : List Note) : Type 0 where
-  pub within : AreWithin game.checkers game.stakes (noted game notes)
+  pub within : AreWithin game (noted game notes)
   pub reached : AreReached game (noted game notes)
 
 -- what every seat keeps of its notes

@@ -2,12 +2,14 @@
 use Rattle.std.specs.Prelude.{◌≡◌, ◌<◌, ℕ, ℤ, ◌-ℤ◌, ◌≤ℤ◌, List, length, slice_index, true, None}
 use Rattle.directed_fixed.specs.declared.bounds.End.TheVariants.{Lower, Upper}
 use Rattle.directed_fixed.specs.Bounds.{Bounds, IsWithin}
+use Rattle.turn_rule.specs.Games.{kinds_of}
+use Rattle.turn_rule.specs.States.{AreNoLooser}
 use Rattle.turn_rule.specs.Turn.{Words, rounds}
 use Rattle.turn_rule.specs.Truth.{AreSound, AreConsistent}
 use Rattle.turn_rule.specs.Looks.{Source}
-use Rattle.interval_words.specs.declared.view.Game.{Game}
+use Rattle.turn_rule.specs.declared.game.Game.{Game}
 use Rattle.interval_words.specs.Numbers.{states_in, word_of, words_of, value_of}
-use Rattle.interval_words.specs.Core.{AreNoLooserIn, kinds_of, words_in}
+use Rattle.interval_words.specs.Core.{words_in}
 
 -- the words of a game after some rounds, two for each state by its number, the lower one first
 pub record WordList : Type 0 where
@@ -41,9 +43,9 @@ pub record IsWidest (words : WordList) (widest : ℤ) : Type 0 where
 
 -- the words are sound, consistent, and at least as tight as those after so many rounds
 pub record AreClosed (words : WordList) : Type 0 where
-  pub sound : AreSound words.game.checkers words.game.stakes (words_in_list words)
-  pub consistent : AreConsistent words.game.checkers words.game.stakes (words_in_list words)
-  pub tight : AreNoLooserIn words.game (words_in_list words) (rounds words.game.stakes words.rounds)
+  pub sound : AreSound words.game (words_in_list words)
+  pub consistent : AreConsistent words.game (words_in_list words)
+  pub tight : AreNoLooser words.game (words_in_list words) (rounds words.game.stakes words.rounds)
 
 -- where these words are looked up: each look-up is answered, and no state is damaged
 abbrev pub source_of : WordList → Source

@@ -3,9 +3,10 @@ ghost use Rattle.position_rank.specs.Placement.{Placement};
 ghost use Rattle.position_rank.specs.Ranks.{square_rank_of};
 ghost use Rattle.directed_fixed.specs.declared.bounds.End.TheVariants.{Lower, Upper};
 ghost use Rattle.directed_fixed.specs.Bounds.{IsNoLooser, IsWithinUnits};
+ghost use Rattle.turn_rule.specs.Games.{kinds_of};
 ghost use Rattle.turn_rule.specs.States.{IsState};
 ghost use Rattle.interval_words.specs.Numbers.{state_of, states_in, word_of, AreBoundWords};
-ghost use Rattle.interval_words.specs.Core.{kinds_of, known, first_view};
+ghost use Rattle.interval_words.specs.Core.{known, first_view};
 ghost use Rattle.interval_words.specs.Events.{IsRoundDone};
 ghost use Rattle.interval_words.specs.WordLists.{AreClosed};
 ghost use Rattle.std.specs.Slots.{slots_items, slots_len, IsFull};
@@ -14,7 +15,7 @@ ghost use Rattle.interval_words.specs.Seats.{GameSeat, SitsAt, IsNumber, MayTigh
 use crate::live_index::LiveIndex;
 use crate::number::{state_count, state_number, state_number_at};
 use crate::rule::{Copying, CoreRule, Joining, Reading, Settling, Tightening};
-use crate::view::{Game, View};
+use crate::view::View;
 use crate::words::Closed;
 use atomic_table::{Seat, Table};
 use cube_actions::Stakes;
@@ -23,6 +24,7 @@ use hyper_outside::NoMemory;
 use position_rank::Position;
 use std::alloc::{AllocError, Global};
 use std::marker::Model;
+use turn_rule::Game;
 
 /// A lower and an upper word for each state of a game, which many threads read and tighten at once, each with a seat of its own.
 /// No call waits for another. Between any two of their steps every word is sound.
@@ -160,7 +162,7 @@ impl Board {
     /// The number of a state, from 0: the position's live rank times the number of kinds, and the kind.
     #[inline]
     pub fn number(&self, position: &Position, kind: usize) -> u64
-        requires { IsState self.now.game.checkers self.now.game.stakes position.now kind }
+        requires { IsState self.now.game position.now kind }
         ensures number { result ≡ state_of (kinds_of self.now.game) position.now kind }
         ensures below { result < states_in self.now.game.checkers (kinds_of self.now.game) }
         ensures state { IsNumber self.now.game result }
@@ -171,7 +173,7 @@ impl Board {
     /// `number` of a position whose square rank is at hand.
     #[inline]
     pub fn number_at(&self, position: &Position, square: u64, kind: usize) -> u64
-        requires state { IsState self.now.game.checkers self.now.game.stakes position.now kind }
+        requires state { IsState self.now.game position.now kind }
         requires square { square ≡ square_rank_of position.now }
         ensures number { result ≡ state_of (kinds_of self.now.game) position.now kind }
         ensures below { result < states_in self.now.game.checkers (kinds_of self.now.game) }
@@ -202,7 +204,7 @@ impl Board {
         ensures seat { seat.new ≡ noting seat.old (word_of end state) result }
         ensures knows { Knows seat.new.view }
         ensures within { IsWithinUnits self.now.game.stakes.bound result }
-        ensures tight { (p : Placement) (k : ℕ) → IsState self.now.game.checkers self.now.game.stakes p k → state ≡ state_of (kinds_of self.now.game) p k → IsNoLooser end result (known self.now.game seat.old.view end p k) }
+        ensures tight { (p : Placement) (k : ℕ) → IsState self.now.game p k → state ≡ state_of (kinds_of self.now.game) p k → IsNoLooser end result (known self.now.game seat.old.view end p k) }
     {
         let place = self.place(end, state);
         let word = self.table.shared.load::<Reading>(&mut seat.seat, place);
@@ -217,7 +219,7 @@ impl Board {
         ensures seat { seat.new ≡ noting seat.old (word_of Lower state) result }
         ensures knows { Knows seat.new.view }
         ensures within { IsWithinUnits self.now.game.stakes.bound result }
-        ensures tight { (p : Placement) (k : ℕ) → IsState self.now.game.checkers self.now.game.stakes p k → state ≡ state_of (kinds_of self.now.game) p k → IsNoLooser Lower result (known self.now.game seat.old.view Lower p k) }
+        ensures tight { (p : Placement) (k : ℕ) → IsState self.now.game p k → state ≡ state_of (kinds_of self.now.game) p k → IsNoLooser Lower result (known self.now.game seat.old.view Lower p k) }
     {
         self.read(seat, End::Lower, state)
     }
@@ -230,7 +232,7 @@ impl Board {
         ensures seat { seat.new ≡ noting seat.old (word_of Upper state) result }
         ensures knows { Knows seat.new.view }
         ensures within { IsWithinUnits self.now.game.stakes.bound result }
-        ensures tight { (p : Placement) (k : ℕ) → IsState self.now.game.checkers self.now.game.stakes p k → state ≡ state_of (kinds_of self.now.game) p k → IsNoLooser Upper result (known self.now.game seat.old.view Upper p k) }
+        ensures tight { (p : Placement) (k : ℕ) → IsState self.now.game p k → state ≡ state_of (kinds_of self.now.game) p k → IsNoLooser Upper result (known self.now.game seat.old.view Upper p k) }
     {
         self.read(seat, End::Upper, state)
     }

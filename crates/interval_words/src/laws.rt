@@ -2,10 +2,12 @@ ghost use Rattle.std.specs.Prelude.{ℕ, ℤ, List, ◌∷◌, ◌++◌};
 ghost use Rattle.position_rank.specs.Placement.{Placement};
 ghost use Rattle.directed_fixed.specs.declared.bounds.End.{End};
 ghost use Rattle.directed_fixed.specs.Bounds.{IsNoLooser};
-ghost use Rattle.interval_words.specs.declared.view.Game.{Game};
+ghost use Rattle.turn_rule.specs.Games.{IsGame, kinds_of};
+ghost use Rattle.turn_rule.specs.States.{AreNoLooser};
+ghost use Rattle.turn_rule.specs.declared.game.Game.{Game};
 ghost use Rattle.interval_words.specs.declared.view.Note.{Note};
 ghost use Rattle.interval_words.specs.Numbers.{state_of, word_of};
-ghost use Rattle.interval_words.specs.Core.{Core, IsGame, IsKept, IsFirstCore, AreNoLooserIn, kinds_of, words_in_core, noted};
+ghost use Rattle.interval_words.specs.Core.{Core, IsKept, IsFirstCore, words_in_core, noted};
 ghost use Rattle.interval_words.specs.Seats.{AreKnown};
 ghost use Rattle.turn_rule.specs.Truth.{AreSound};
 ghost use Rattle.interval_words.specs.Events.{Event, IsAllowed, AreAllowed, after, after_all};
@@ -22,15 +24,15 @@ pub fn every_event_keeps_the_core()
 
 /// The words of a core in which everything holds are sound, and so is what a seat's notes tell.
 pub fn kept_words_are_sound()
-    ensures words { (core : Core) → IsKept core → AreSound core.game.checkers core.game.stakes (words_in_core core) }
-    ensures notes { (game : Game) (notes : List Note) → IsGame game → AreKnown game notes → AreSound game.checkers game.stakes (noted game notes) }
+    ensures words { (core : Core) → IsKept core → AreSound core.game (words_in_core core) }
+    ensures notes { (game : Game) (notes : List Note) → IsGame game → AreKnown game notes → AreSound game (noted game notes) }
 {}
 
 /// Each note is told, and more notes tell no less. So a word that is read is at least as tight as each value that was raised to or read
 /// before with the same seat, since its last round.
 pub fn notes_only_tighten()
     ensures told { (game : Game) (notes : List Note) (value : ℤ) (end : End) (p : Placement) (k : ℕ) → IsNoLooser end (noted game (record { word = word_of end (state_of (kinds_of game) p k); value = value } ∷ notes) end p k) value }
-    ensures one_more { (game : Game) (note : Note) (notes : List Note) → AreNoLooserIn game (noted game (note ∷ notes)) (noted game notes) }
-    ensures first_of_both { (game : Game) (first second : List Note) → AreNoLooserIn game (noted game (first ++ second)) (noted game first) }
-    ensures second_of_both { (game : Game) (first second : List Note) → AreNoLooserIn game (noted game (first ++ second)) (noted game second) }
+    ensures one_more { (game : Game) (note : Note) (notes : List Note) → AreNoLooser game (noted game (note ∷ notes)) (noted game notes) }
+    ensures first_of_both { (game : Game) (first second : List Note) → AreNoLooser game (noted game (first ++ second)) (noted game first) }
+    ensures second_of_both { (game : Game) (first second : List Note) → AreNoLooser game (noted game (first ++ second)) (noted game second) }
 {}

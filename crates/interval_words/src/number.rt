@@ -1,5 +1,6 @@
 ghost use Rattle.std.specs.Prelude.{◌≡◌, ◌<◌, ◌^◌, length};
 ghost use Rattle.position_rank.specs.Ranks.{square_rank_of};
+ghost use Rattle.turn_rule.specs.Games.{game_of};
 ghost use Rattle.turn_rule.specs.States.{IsState};
 ghost use Rattle.interval_words.specs.Numbers.{state_of, states_in};
 
@@ -15,7 +16,7 @@ pub(crate) fn state_number(
     position: &Position,
     kind: usize,
 ) -> u64
-    requires { IsState index.now stakes.now position.now kind }
+    requires { IsState (game_of index.now stakes.now) position.now kind }
     ensures number { result ≡ state_of (length stakes.now.kinds) position.now kind }
     ensures below { result < states_in index.now (length stakes.now.kinds) }
 {
@@ -31,7 +32,7 @@ pub(crate) fn state_number_at(
     square: u64,
     kind: usize,
 ) -> u64
-    requires state { IsState index.now stakes.now position.now kind }
+    requires state { IsState (game_of index.now stakes.now) position.now kind }
     requires square { square ≡ square_rank_of position.now }
     ensures number { result ≡ state_of (length stakes.now.kinds) position.now kind }
     ensures below { result < states_in index.now (length stakes.now.kinds) }

@@ -2,6 +2,7 @@ ghost use Rattle.std.specs.Prelude.{◌≡◌, ◌≤ℤ◌, pos, [], ◌∷◌,
 ghost use Rattle.position_rank.specs.Placement.{IsPosition, IsLive};
 ghost use Rattle.position_rank.specs.Packed.{counts_of};
 ghost use Rattle.cube_actions.specs.Stakes.{cubeless, point_units};
+ghost use Rattle.turn_rule.specs.Games.{game_of};
 ghost use Rattle.turn_rule.specs.States.{IsState};
 ghost use Rattle.interval_words.specs.Seats.{SitsAt};
 
@@ -33,7 +34,7 @@ fn raise_near(board: &Board, seat: &mut BoardSeat, near: &Position, value: Fixed
     requires stakes { board.now.game.stakes ≡ cubeless }
     requires seat { SitsAt board.now seat.old }
     requires near { near.now ≡ record { mover = counts_of (1 ∷ []); other = counts_of (1 ∷ []) } }
-    requires state { IsState 1 cubeless near.now 0 }
+    requires state { IsState (game_of 1 cubeless) near.now 0 }
     requires from { pos 0 ≤ℤ value }
     requires to { value ≤ℤ point_units 2 }
     ensures seat { SitsAt board.now seat.new }

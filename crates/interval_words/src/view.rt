@@ -1,13 +1,6 @@
-use cube_actions::Stakes;
 use directed_fixed::Fixed;
 use std::collections::LinkedList;
-
-/// What a game is played with: how many checkers a side has, and for what.
-#[derive(Drop)]
-pub struct Game {
-    pub checkers: u8,
-    pub stakes: Stakes,
-}
+use turn_rule::Game;
 
 /// A word was seen to be at least as tight as this value.
 #[derive(Drop)]

@@ -122,7 +122,7 @@ impl Words {
     /// The pair of a state.
     #[inline]
     pub fn pair(&self, position: &Position, kind: usize) -> Pair
-        requires { IsState self.now.game.checkers self.now.game.stakes position.now kind }
+        requires { IsState self.now.game position.now kind }
         ensures pair { result ≡ pair_of (words_in_list self.now) position.now kind }
         ensures within { IsWithin self.now.game.stakes.bound result }
     {
@@ -207,7 +207,7 @@ impl Closed {
 #[derive(Drop)]
 pub struct WordsReader<'a> {
     words: &'a Words,
-    ghost within: { AreWithin words.now.game.checkers words.now.game.stakes (words_in_list words.now) },
+    ghost within: { AreWithin words.now.game (words_in_list words.now) },
 }
 
 impl Pairs for WordsReader<'_> {

@@ -1,6 +1,6 @@
 use cube_actions::Stakes;
 
-/// What a game is played with: how many checkers a side has, and for what. No value of this type is made: contracts speak of it.
+/// What a game is played with: how many checkers a side has, and for what.
 #[derive(Drop)]
 pub struct Game {
     pub checkers: u8,

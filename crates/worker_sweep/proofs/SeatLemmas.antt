@@ -5,14 +5,15 @@ use Rattle.position_rank.specs.Placement.{Placement}
 use Rattle.directed_fixed.specs.declared.bounds.End.{End}
 use Rattle.directed_fixed.specs.declared.bounds.End.TheVariants.{Lower, Upper}
 use Rattle.directed_fixed.specs.Bounds.{Bounds, at, IsNoLooser, IsWithinUnits}
+use Rattle.turn_rule.specs.Games.{kinds_of}
 use Rattle.turn_rule.specs.Turn.{turn, rounds}
-use Rattle.turn_rule.specs.States.{IsState, AreWithin}
+use Rattle.turn_rule.specs.States.{IsState, AreWithin, AreNoLooser}
 use Rattle.turn_rule.specs.Looks.{Looked, IsAnswer}
 use Rattle.cube_actions.specs.Stakes.{IsValid}
-use Rattle.interval_words.specs.declared.view.Game.{Game}
+use Rattle.turn_rule.specs.declared.game.Game.{Game}
 use Rattle.interval_words.specs.declared.view.View.{View}
 use Rattle.interval_words.specs.Numbers.{state_of, word_of}
-use Rattle.interval_words.specs.Core.{AreNoLooserIn, kinds_of, noted, known}
+use Rattle.interval_words.specs.Core.{noted, known}
 use Rattle.interval_words.specs.Seats.{GameTable, GameSeat, SitsAt, MayTighten, Knows, noting}
 use Rattle.interval_words.proofs.Ends.{tight-refl, tight-trans, tightest-right}
 use Rattle.interval_words.proofs.Views.{noted-more, noted-own}
@@ -40,14 +41,14 @@ module _ (board : GameTable) (old new : GameSeat) (word : ℕ) (value : ℤ) (no
     table = ap (λ s. s.table) noting_is;
     game = ap (λ s. s.view.game) noting_is;
     base = ap (λ s. s.view.base) noting_is;
-    notes = λ game names. subst (λ (s : GameSeat). AreNoLooserIn game (noted game s.view.notes) (noted game old.view.notes)) (sym noting_is) (noted-more game (record { word = word; value = value }) old.view.notes);
+    notes = λ game names. subst (λ (s : GameSeat). AreNoLooser game (noted game s.view.notes) (noted game old.view.notes)) (sym noting_is) (noted-more game (record { word = word; value = value }) old.view.notes);
   }
 
   pub sits-noting : SitsAt board new
   sits-noting = sits-kept board old new keeps-noting sits
 
-  pub floor-noting : AreWithin board.game.checkers board.game.stakes (rounds board.game.stakes old.view.base) → AreWithin board.game.checkers board.game.stakes (rounds board.game.stakes new.view.base)
-  floor-noting within = subst (λ (n : ℕ). AreWithin board.game.checkers board.game.stakes (rounds board.game.stakes n)) (sym keeps-noting.base) within
+  pub floor-noting : AreWithin board.game (rounds board.game.stakes old.view.base) → AreWithin board.game (rounds board.game.stakes new.view.base)
+  floor-noting within = subst (λ (n : ℕ). AreWithin board.game (rounds board.game.stakes n)) (sym keeps-noting.base) within
 
   -- what was noted of a state is told
   pub told-noting : (end : End) (p : Placement) (k : ℕ) → word ≡ word_of end (state_of (kinds_of board.game) p k) → IsNoLooser end (noted board.game new.view.notes end p k) value
@@ -55,7 +56,7 @@ module _ (board : GameTable) (old new : GameSeat) (word : ℕ) (value : ℤ) (no
       subst (λ (s : GameSeat). IsNoLooser end (noted board.game s.view.notes end p k) value) (sym noting_is)
       (subst (λ (w : ℕ). IsNoLooser end (noted board.game (record { word = w; value = value } ∷ old.view.notes) end p k) value) (sym at) (noted-own board.game value old.view.notes end p k))
 
-pub knows-within : (board : GameTable) (seat : GameSeat) → SitsAt board seat → Knows seat.view → AreWithin board.game.checkers board.game.stakes (noted board.game seat.view.notes)
+pub knows-within : (board : GameTable) (seat : GameSeat) → SitsAt board seat → Knows seat.view → AreWithin board.game (noted board.game seat.view.notes)
 knows-within board seat sits knows = (knows.notes board.game sits.game).within
 
 -- what is known is at least as tight as the base
@@ -80,7 +81,7 @@ looked-noting board old new state value end p k noting_is sits at within fresh =
 
 -- a value that is loose enough may be brought, also after other notes
 pub may-tighten : (board : GameTable) (old new : GameSeat) (state : ℕ) (value : ℤ) (end : End) (p : Placement) (k : ℕ) → IsValid board.game.stakes → KeepsNotes old new → SitsAt board old → state ≡ state_of (kinds_of board.game) p k
-    → IsState board.game.checkers board.game.stakes p k → IsWithinUnits board.game.stakes.bound value → IsNoLooser end (turn board.game.stakes (noted board.game old.view.notes) end p k) value → MayTighten end board.game new.view state value
+    → IsState board.game p k → IsWithinUnits board.game.stakes.bound value → IsNoLooser end (turn board.game.stakes (noted board.game old.view.notes) end p k) value → MayTighten end board.game new.view state value
 may-tighten board old new state value end p k valid kept sits at is within loose = record {
   position = p;
   kind = k;
@@ -88,13 +89,13 @@ may-tighten board old new state value end p k valid kept sits at is within loose
   loose = record {
     state = is;
     within = within;
-    loose = tight-trans end _ _ _ (turns-tighten board.game.checkers board.game.stakes valid (noted board.game new.view.notes) (noted board.game old.view.notes) (kept.notes board.game sits.game) end p k is) loose;
+    loose = tight-trans end _ _ _ (turns-tighten board.game valid (noted board.game new.view.notes) (noted board.game old.view.notes) (kept.notes board.game sits.game) end p k is) loose;
   };
 }
 
 -- both values of a pair were brought, one after the other
 pub told-both : (board : GameTable) (old middle new : GameSeat) (state : ℕ) (low high : ℤ) (pair : Bounds) (p : Placement) (k : ℕ) → low ≡ pair.lower → high ≡ pair.upper → middle ≡ noting old (word_of Lower state) low → new ≡ noting middle (word_of Upper state) high → SitsAt board old → state ≡ state_of (kinds_of board.game) p k
-    → IsState board.game.checkers board.game.stakes p k → (end : End) → IsNoLooser end (noted board.game new.view.notes end p k) (at end pair)
+    → IsState board.game p k → (end : End) → IsNoLooser end (noted board.game new.view.notes end p k) (at end pair)
 told-both board old middle new state low high pair p k low_is high_is one two sits at_state is Lower =
     let first = sits-noting board old middle (word_of Lower state) low one sits in
     subst (IsNoLooser Lower (noted board.game new.view.notes Lower p k)) low_is
@@ -107,7 +108,7 @@ told-both board old middle new state low high pair p k low_is high_is one two si
 pub done-more : (board middle new : GameTable) (first second third : GameSeat) (p : Placement) (kind : ℕ) → middle ≡ board → new ≡ middle → KeepsNotes first second → KeepsNotes second third → first.view.game ≡ Some board.game
     → ((end : End) (k : ℕ) → k < kind → IsNoLooser end (noted middle.game second.view.notes end p k) (rounds board.game.stakes (first.view.base + 1) end p k))
     → ((end : End) → IsNoLooser end (noted new.game third.view.notes end p kind) (rounds middle.game.stakes (second.view.base + 1) end p kind))
-    → ((k : ℕ) → k < kind + 1 → IsState board.game.checkers board.game.stakes p k)
+    → ((k : ℕ) → k < kind + 1 → IsState board.game p k)
     → (end : End) (k : ℕ) → k < kind + 1 → IsNoLooser end (noted new.game third.view.notes end p k) (rounds board.game.stakes (first.view.base + 1) end p k)
 done-more board middle new first second third p kind same_middle same_new one two names before last states end k below = elim (cases_lt k kind) [
   | inl earlier ↦ (

@@ -6,10 +6,11 @@ use Rattle.directed_fixed.specs.declared.bounds.End.{End}
 use Rattle.directed_fixed.specs.declared.bounds.End.TheVariants.{Lower, Upper}
 use Rattle.directed_fixed.specs.Bounds.{Bounds, at, IsNoLooser}
 use Rattle.cube_actions.specs.Stakes.{Terms}
+use Rattle.turn_rule.specs.States.{AreNoLooser}
 use Rattle.turn_rule.specs.Turn.{Words, turn, rounds}
 use Rattle.turn_rule.specs.Looks.{Source, IsTurnPair}
-use Rattle.interval_words.specs.declared.view.Game.{Game}
-use Rattle.interval_words.specs.Core.{AreNoLooserIn, noted}
+use Rattle.turn_rule.specs.declared.game.Game.{Game}
+use Rattle.interval_words.specs.Core.{noted}
 use Rattle.interval_words.specs.Seats.{GameTable, GameSeat, SitsAt}
 use Rattle.interval_words.proofs.Allowed.{one-game}
 use Rattle.interval_words.proofs.TurnLaws.{rounds-turn}
@@ -17,14 +18,14 @@ use Rattle.worker_sweep.specs.Workers.{KeepsNotes}
 
 -- while words are looked up, the seat keeps its notes
 pub keeps-looked : (board now : GameTable) (old new : GameSeat) → now ≡ board → new.view.base ≡ old.view.base → SitsAt board old → SitsAt now new
-    → AreNoLooserIn board.game (noted now.game new.view.notes) (noted board.game old.view.notes) → KeepsNotes old new
+    → AreNoLooser board.game (noted now.game new.view.notes) (noted board.game old.view.notes) → KeepsNotes old new
 keeps-looked board now old new same base before after tighter = record {
   table = after.table ∙ (ap (λ b. b.table) same ∙ sym before.table);
   game = after.game ∙ (ap (λ b. Some b.game) same ∙ sym before.game);
   base = base;
   notes = λ game names.
       let is : board.game ≡ game = one-game old.view board.game game before.game names in
-      subst (λ (g : Game). AreNoLooserIn g (noted g new.view.notes) (noted g old.view.notes)) is (subst (λ (b : GameTable). AreNoLooserIn board.game (noted b.game new.view.notes) (noted board.game old.view.notes)) same tighter);
+      subst (λ (g : Game). AreNoLooser g (noted g new.view.notes) (noted g old.view.notes)) is (subst (λ (b : GameTable). AreNoLooser board.game (noted b.game new.view.notes) (noted board.game old.view.notes)) same tighter);
 }
 
 -- a turn over the words after the rounds of the base is at least as tight as after one round more

@@ -4,8 +4,9 @@ use Rattle.std.proofs.lemmas.Bool.{or_cases, cases_lt}
 use Rattle.std.proofs.lemmas.List.{get_or-set_other}
 use Rattle.position_rank.specs.LiveRanks.{live_positions}
 use Rattle.interval_words.proofs.Allowed.{one-game}
-use Rattle.interval_words.specs.declared.view.Game.{Game}
-use Rattle.interval_words.specs.Core.{AreNoLooserIn, noted}
+use Rattle.turn_rule.specs.States.{AreNoLooser}
+use Rattle.turn_rule.specs.declared.game.Game.{Game}
+use Rattle.interval_words.specs.Core.{noted}
 use Rattle.interval_words.specs.Seats.{GameTable, GameSeat, SitsAt, joining}
 use Rattle.worker_sweep.specs.Blocks.{AreSwept, IsSwept, block_start}
 use Rattle.worker_sweep.specs.Workers.{KeepsNotes, is_marked}
@@ -20,7 +21,7 @@ module _ (old other new : GameSeat) (joins : new ≡ joining old other) (same : 
     table = ap (λ s. s.table) joins;
     game = ap (λ s. s.view.game) joins;
     base = base-new;
-    notes = λ game names. subst (λ (s : GameSeat). AreNoLooserIn game (noted game s.view.notes) (noted game old.view.notes)) (sym joins) (append-left game old.view.notes other.view.notes);
+    notes = λ game names. subst (λ (s : GameSeat). AreNoLooser game (noted game s.view.notes) (noted game old.view.notes)) (sym joins) (append-left game old.view.notes other.view.notes);
   }
 
   pub honest-joined : (mine theirs both : List Bool) → ((game : Game) → old.view.game ≡ Some game → (block : ℕ) → is_marked mine block ≡ true → IsSwept game old.view block)
@@ -34,7 +35,7 @@ module _ (old other new : GameSeat) (joins : new ≡ joining old other) (same : 
       elim (or_cases (is_marked mine block) (is_marked theirs block) (sym (either block) ∙ marked)) [
         | inl own ↦ swept-still game old.view new.view from to base-new (keeps-joined.notes game named) (swept_old game named block own)
         | inr taken ↦ (
-            let tighter = subst (λ (s : GameSeat). AreNoLooserIn game (noted game s.view.notes) (noted game other.view.notes)) (sym joins) (append-right game old.view.notes other.view.notes) in
+            let tighter = subst (λ (s : GameSeat). AreNoLooser game (noted game s.view.notes) (noted game other.view.notes)) (sym joins) (append-right game old.view.notes other.view.notes) in
             swept-still game other.view new.view from to (base-new ∙ sym same) tighter (swept_other game (game_is ∙ named) block taken))
       ]
 

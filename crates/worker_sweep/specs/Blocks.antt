@@ -6,7 +6,7 @@ use Rattle.directed_fixed.specs.declared.bounds.End.{End}
 use Rattle.directed_fixed.specs.Bounds.{IsNoLooser}
 use Rattle.turn_rule.specs.Turn.{rounds}
 use Rattle.turn_rule.specs.States.{IsState}
-use Rattle.interval_words.specs.declared.view.Game.{Game}
+use Rattle.turn_rule.specs.declared.game.Game.{Game}
 use Rattle.interval_words.specs.declared.view.View.{View}
 use Rattle.interval_words.specs.Core.{known}
 
@@ -21,7 +21,7 @@ block_start checkers block = min (block * 256) (live_positions checkers)
 -- what a view tells of the states of these live ranks is at least as tight as the words after one round more than its base
 abbrev pub AreSwept : Game → View → ℕ → ℕ → Type 0
 AreSwept game view from to =
-    (end : End) (p : Placement) (k : ℕ) → IsState game.checkers game.stakes p k → from ≤ live_rank_of p → live_rank_of p < to
+    (end : End) (p : Placement) (k : ℕ) → IsState game p k → from ≤ live_rank_of p → live_rank_of p < to
     → IsNoLooser end (known game view end p k) (rounds game.stakes (view.base + 1) end p k)
 
 -- the same of the states of a block

@@ -2,7 +2,7 @@
 use Rattle.std.specs.Prelude.{ℕ, length, true, None}
 use Rattle.turn_rule.specs.Turn.{rounds}
 use Rattle.turn_rule.specs.Looks.{Source}
-use Rattle.interval_words.specs.declared.view.Game.{Game}
+use Rattle.turn_rule.specs.declared.game.Game.{Game}
 
 -- each look-up is answered, and none is looser than the word after the rounds of the seat's base
 abbrev pub source_of : Game → ℕ → Source

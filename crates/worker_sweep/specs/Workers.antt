@@ -1,8 +1,9 @@
 -- A worker: its seats, and the blocks that it has swept in this round.
 use Rattle.std.specs.Prelude.{◌≡◌, ℕ, ◌<◌, Bool, true, false, List, length, replicate, slice_index_or, Some}
 use Rattle.block_claims.specs.Claiming.{ClaimTable, Claimer}
-use Rattle.interval_words.specs.declared.view.Game.{Game}
-use Rattle.interval_words.specs.Core.{AreNoLooserIn, noted}
+use Rattle.turn_rule.specs.declared.game.Game.{Game}
+use Rattle.turn_rule.specs.States.{AreNoLooser}
+use Rattle.interval_words.specs.Core.{noted}
 use Rattle.interval_words.specs.Seats.{GameTable, GameSeat, SitsAt}
 use Rattle.worker_sweep.specs.Blocks.{blocks, IsSwept}
 
@@ -29,7 +30,7 @@ pub record KeepsNotes (old new : GameSeat) : Type 0 where
   pub table : new.table ≡ old.table
   pub game : new.view.game ≡ old.view.game
   pub base : new.view.base ≡ old.view.base
-  pub notes : (game : Game) → old.view.game ≡ Some game → AreNoLooserIn game (noted game new.view.notes) (noted game old.view.notes)
+  pub notes : (game : Game) → old.view.game ≡ Some game → AreNoLooser game (noted game new.view.notes) (noted game old.view.notes)
 
 -- a worker of a board, with a mark for each of its blocks
 pub record WorksAt (board : GameTable) (worker : SeatsAndMarks) : Type 0 where

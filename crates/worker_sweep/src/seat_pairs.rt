@@ -5,9 +5,10 @@ ghost use Rattle.directed_fixed.specs.Bounds.{IsNoLooser, IsWithinUnits, at};
 ghost use Rattle.directed_fixed.specs.declared.bounds.End.{End};
 ghost use Rattle.directed_fixed.specs.declared.bounds.End.TheVariants.{Lower, Upper};
 ghost use Rattle.cube_actions.specs.Stakes.{IsValid};
+ghost use Rattle.turn_rule.specs.Games.{kinds_of};
 ghost use Rattle.turn_rule.specs.Turn.{turn, rounds};
 ghost use Rattle.turn_rule.specs.States.{IsState, AreWithin};
-ghost use Rattle.interval_words.specs.Core.{noted, kinds_of};
+ghost use Rattle.interval_words.specs.Core.{noted};
 ghost use Rattle.interval_words.specs.Seats.{SitsAt};
 ghost use Rattle.worker_sweep.specs.Blocks.{AreSwept};
 ghost use Rattle.worker_sweep.specs.Workers.{KeepsNotes};
@@ -25,8 +26,8 @@ struct SeatPairs<'a> {
     board: &'a Board,
     seat: BoardSeat,
     ghost sits: { SitsAt board.now seat },
-    ghost floor: { AreWithin board.now.game.checkers board.now.game.stakes (rounds board.now.game.stakes seat.view.base) },
-    ghost noted_within: { AreWithin board.now.game.checkers board.now.game.stakes (noted board.now.game seat.view.notes) },
+    ghost floor: { AreWithin board.now.game (rounds board.now.game.stakes seat.view.base) },
+    ghost noted_within: { AreWithin board.now.game (noted board.now.game seat.view.notes) },
 }
 
 impl<'a> Pairs for SeatPairs<'a> {
@@ -99,7 +100,7 @@ impl<'a> SeatPairs<'a> {
     /// Tightens both words of a state to a pair.
     fn tighten(&mut self, position: &Position, kind: usize, pair: Pair)
         requires valid { IsValid self.old.board.now.game.stakes }
-        requires state { IsState self.old.board.now.game.checkers self.old.board.now.game.stakes position.now kind }
+        requires state { IsState self.old.board.now.game position.now kind }
         requires within { (end : End) → IsWithinUnits self.old.board.now.game.stakes.bound (at end pair) }
         requires loose { (end : End) → IsNoLooser end (turn self.old.board.now.game.stakes (noted self.old.board.now.game self.old.seat.view.notes) end position.now kind) (at end pair) }
         ensures board { self.new.board.now ≡ self.old.board.now }
@@ -115,7 +116,7 @@ impl<'a> SeatPairs<'a> {
 /// Tightens the words of a state by its turn over them.
 fn sweep_state(pairs: &mut SeatPairs, ends: &RollEnds, kind: usize)
     requires valid { IsValid pairs.old.board.now.game.stakes }
-    requires state { IsState pairs.old.board.now.game.checkers pairs.old.board.now.game.stakes ends.now kind }
+    requires state { IsState pairs.old.board.now.game ends.now kind }
     ensures board { pairs.new.board.now ≡ pairs.old.board.now }
     ensures kept { KeepsNotes pairs.old.seat pairs.new.seat }
     ensures done { (end : End) → IsNoLooser end (noted pairs.new.board.now.game pairs.new.seat.view.notes end ends.now kind) (rounds pairs.old.board.now.game.stakes (pairs.old.seat.view.base + 1) end ends.now kind) }

@@ -4,6 +4,6 @@ use Rattle.interval_words.proofs.laws.kept_words_are_sound.Goals as goal
 
 pub returns : goal.returns
 returns c = record {
-  words = λ core kept. reached-sound core.game.checkers core.game.stakes kept.game.stakes kept.reached.0 (words_in_core core) kept.reached.1;
-  notes = λ game notes is known. reached-sound game.checkers game.stakes is.stakes known.reached.0 (noted game notes) known.reached.1;
+  words = λ core kept. reached-sound core.game kept.game.stakes kept.reached.0 (words_in_core core) kept.reached.1;
+  notes = λ game notes is known. reached-sound game is.stakes known.reached.0 (noted game notes) known.reached.1;
 }

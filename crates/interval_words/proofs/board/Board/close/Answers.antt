@@ -1,6 +1,6 @@
 use Rattle.std.proofs.Common.{ap}
 use Rattle.interval_words.proofs.Closing.{right-of-last, closed-of-last}
-use Rattle.interval_words.proofs.board.Placement.close.Goals as goal
+use Rattle.interval_words.proofs.board.Board.close.Goals as goal
 
 pub new-requires-clause-right : goal.new-requires-clause-right
 new-requires-clause-right c =

@@ -1,11 +1,12 @@
 use Rattle.std.proofs.Common.{ap, arith, sym, ◌∙◌, subst}
-use Rattle.interval_words.specs.declared.view.Game.{Game}
+use Rattle.turn_rule.specs.Games.{IsGame}
+use Rattle.turn_rule.specs.declared.game.Game.{Game}
 use Rattle.interval_words.specs.declared.view.View.{View}
-use Rattle.interval_words.specs.Core.{IsGame, joined}
+use Rattle.interval_words.specs.Core.{joined}
 use Rattle.interval_words.specs.Seats.{Knows}
 use Rattle.interval_words.proofs.Calls.{word-zero, knows-joined}
 use Rattle.interval_words.proofs.Allowed.{joins}
-use Rattle.interval_words.proofs.board.Placement.join.Goals as goal
+use Rattle.interval_words.proofs.board.Board.join.Goals as goal
 
 pub join_seat-requires : goal.join_seat-requires
 join_seat-requires c = (

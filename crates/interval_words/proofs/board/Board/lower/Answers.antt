@@ -1,7 +1,7 @@
 use Rattle.std.proofs.Common.{ap, arith, sym, ◌∙◌}
 use Rattle.directed_fixed.specs.declared.bounds.End.TheVariants.{Upper}
 use Rattle.interval_words.proofs.Calls.{tightens-at, noting-at, value_of-word}
-use Rattle.interval_words.proofs.board.Placement.lower.Goals as goal
+use Rattle.interval_words.proofs.board.Board.lower.Goals as goal
 
 pub fetch_min-requires : goal.fetch_min-requires
 fetch_min-requires c = (

@@ -1,13 +1,13 @@
 use Rattle.std.proofs.Common.{◌≡◌, ◌*◌, ℕ, List, ap, arith, sym, subst, ◌∙◌, length}
 use Rattle.cube_actions.specs.Stakes.{Terms, IsValid}
-use Rattle.interval_words.specs.declared.view.Game.{Game}
+use Rattle.turn_rule.specs.declared.game.Game.{Game}
 use Rattle.interval_words.specs.declared.view.View.{View}
 use Rattle.interval_words.specs.Seats.{Knows}
 use Rattle.interval_words.specs.Core.{words_in, first_view}
 use Rattle.interval_words.specs.Numbers.{AreBoundWords, states_in}
 use Rattle.interval_words.proofs.Calls.{knows-first}
 use Rattle.interval_words.proofs.EventLaws.{kept-new-board}
-use Rattle.interval_words.proofs.board.Placement.new.Goals as goal
+use Rattle.interval_words.proofs.board.Board.new.Goals as goal
 
 pub of_words-requires : goal.of_words-requires
 of_words-requires c =

@@ -1,7 +1,7 @@
 use Rattle.std.proofs.Common.{ap, ◌∙◌}
+use Rattle.turn_rule.specs.Games.{kinds_of}
 use Rattle.interval_words.specs.Numbers.{state_of}
-use Rattle.interval_words.specs.Core.{kinds_of}
-use Rattle.interval_words.proofs.board.Placement.number_at.Goals as goal
+use Rattle.interval_words.proofs.board.Board.number_at.Goals as goal
 
 pub returns-clause-number : goal.returns-clause-number
 returns-clause-number c = c.state_number_at.ensures.number ∙ ap (λ b. state_of (kinds_of b.game) c.args.position.now c.args.kind) c.self.view_is

@@ -2,7 +2,7 @@ use Rattle.std.proofs.Common.{ap, arith}
 use Rattle.directed_fixed.specs.declared.bounds.End.TheVariants.{Lower, Upper}
 use Rattle.interval_words.specs.Core.{words_in}
 use Rattle.interval_words.proofs.Calls.{place-in}
-use Rattle.interval_words.proofs.board.Placement.place.Goals as goal
+use Rattle.interval_words.proofs.board.Board.place.Goals as goal
 
 pub overflow_mul-result : goal.overflow_mul-result
 overflow_mul-result c = omega (arith, place-in _ Lower c.args.state c.requires, ap (λ b. words_in b.game) c.self.view_is, c.self.invariant.small)

@@ -1,7 +1,7 @@
 use Rattle.std.proofs.Common.{ap, arith, sym, ◌∙◌}
 use Rattle.directed_fixed.specs.declared.bounds.End.TheVariants.{Lower}
 use Rattle.interval_words.proofs.Calls.{tightens-at, noting-at, value_of-word}
-use Rattle.interval_words.proofs.board.Placement.raise.Goals as goal
+use Rattle.interval_words.proofs.board.Board.raise.Goals as goal
 
 pub fetch_max-requires : goal.fetch_max-requires
 fetch_max-requires c = (

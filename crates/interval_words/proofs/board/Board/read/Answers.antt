@@ -1,6 +1,6 @@
 use Rattle.std.proofs.Common.{ap, arith, sym, ◌∙◌}
 use Rattle.interval_words.proofs.Calls.{reads-at, noting-at, read-some, read-within, read-tight, read-value}
-use Rattle.interval_words.proofs.board.Placement.read.Goals as goal
+use Rattle.interval_words.proofs.board.Board.read.Goals as goal
 
 pub load-word-requires : goal.load-word-requires
 load-word-requires c = (

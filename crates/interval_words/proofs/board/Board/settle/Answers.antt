@@ -1,6 +1,6 @@
 use Rattle.std.proofs.Common.{ap, arith, sym, ◌∙◌}
 use Rattle.interval_words.proofs.Calls.{settles-at, settled-at, word-zero}
-use Rattle.interval_words.proofs.board.Placement.settle.Goals as goal
+use Rattle.interval_words.proofs.board.Board.settle.Goals as goal
 
 pub load-requires : goal.load-requires
 load-requires c = (

@@ -1,7 +1,7 @@
 use Rattle.std.proofs.Common.{ap, arith, sym, ◌∙◌}
 use Rattle.interval_words.proofs.Calls.{word-zero}
 use Rattle.interval_words.proofs.Allowed.{splits}
-use Rattle.interval_words.proofs.board.Placement.split.Goals as goal
+use Rattle.interval_words.proofs.board.Board.split.Goals as goal
 
 pub split_seat-requires : goal.split_seat-requires
 split_seat-requires c = (
