@@ -46,3 +46,14 @@ win_points single gammon backgammon Backgammon = pos backgammon
 -- over a scale of 1, such wins, a pass of one point, and an unfinished end that is worth so much to whose turn it is
 abbrev pub scored : (Won → ℤ) → ℤ → Scoring
 scored wins unfinished = record { scale = 1; win = λ k won. wins won; pass = λ k. pos 1; unfinished = λ p k. unfinished }
+
+-- a win counts its points, and a game that is cut off so much to the side whose turn it is
+abbrev pub cut_off_at : ℤ → Scoring
+cut_off_at = scored (win_points 1 2 3)
+
+-- a win counts its points, or one point however the game was won, and a game that is cut off counts nothing
+abbrev pub points_won : Scoring
+points_won = cut_off_at (pos 0)
+
+abbrev pub games_won : Scoring
+games_won = scored (win_points 1 1 1) (pos 0)

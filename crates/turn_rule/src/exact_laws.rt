@@ -10,23 +10,19 @@ ghost use Rattle.turn_rule.specs.Turn.{Words, turn, bound_words, rounds};
 ghost use Rattle.turn_rule.specs.States.{IsState, AreNoLooser};
 ghost use Rattle.turn_rule.specs.Exact.{Scoring, exact};
 ghost use Rattle.turn_rule.specs.Truth.{IsBoundOf, Encloses, IsScoring, IsScoringWithin, AreEnclosing, IsSound, AreSoundFrom, AreSound, AreConsistent, AreNoLooserStakes};
-ghost use Rattle.turn_rule.specs.Examples.{gains, losses, doubling_game, vague_game, win_points, scored};
+ghost use Rattle.turn_rule.specs.Examples.{gains, losses, doubling_game, vague_game, win_points, scored, cut_off_at, points_won, games_won};
 
 /// However a game is scored within its stakes, no exact value is beyond their bound.
 pub fn exact_values_stay_within_the_bound()
-    ensures {
-        (game : Game) → IsGame game → (scoring : Scoring) → IsScoring game scoring
-        → (turns : ℕ) → AreEnclosing game scoring turns (bound_words game.stakes)
-    }
+    ensures { (game : Game) → IsGame game → (scoring : Scoring) → IsScoring game scoring
+        → (turns : ℕ) → AreEnclosing game scoring turns (bound_words game.stakes) }
 {}
 
 /// Where words enclose every state, a turn over them encloses every state in the game of one turn more.
 pub fn turns_enclose_one_turn_more()
-    ensures {
-        (game : Game) → IsGame game → (scoring : Scoring) → IsScoring game scoring
+    ensures { (game : Game) → IsGame game → (scoring : Scoring) → IsScoring game scoring
         → (turns : ℕ) (u : Words) → AreEnclosing game scoring turns u
-        → AreEnclosing game scoring (turns + 1) (turn game.stakes u)
-    }
+        → AreEnclosing game scoring (turns + 1) (turn game.stakes u) }
 {}
 
 /// The words after some rounds enclose every state in every game of at least as many turns, however it is scored within its stakes.
@@ -36,10 +32,8 @@ pub fn rounds_enclose_longer_games()
 
 /// So do words that are no tighter than those after some rounds.
 pub fn words_no_tighter_than_a_round_enclose_longer_games()
-    ensures {
-        (game : Game) → IsGame game → (r : ℕ) (u : Words)
-        → AreNoLooser game (rounds game.stakes r) u → AreSoundFrom game r u
-    }
+    ensures { (game : Game) → IsGame game → (r : ℕ) (u : Words)
+        → AreNoLooser game (rounds game.stakes r) u → AreSoundFrom game r u }
 {}
 
 /// The words after some rounds are sound.
@@ -49,18 +43,15 @@ pub fn rounds_are_sound()
 
 /// So are words that are no tighter than those after some rounds.
 pub fn words_no_tighter_than_a_round_are_sound()
-    ensures {
-        (game : Game) → IsGame game → (r : ℕ) (u : Words)
-        → AreNoLooser game (rounds game.stakes r) u → AreSound game u
-    }
+    ensures { (game : Game) → IsGame game → (r : ℕ) (u : Words)
+        → AreNoLooser game (rounds game.stakes r) u → AreSound game u }
 {}
 
 /// Where words are sound, each word is sound for its state.
 pub fn each_sound_word_is_sound()
-    ensures {
-        (game : Game) (u : Words) → AreSound game u
-        → (end : End) (p : Placement) (k : ℕ) → IsState game p k → IsSound game end (u end p k) p k
-    }
+    ensures { (game : Game) (u : Words) → AreSound game u
+        → (end : End) (p : Placement) (k : ℕ) → IsState game p k
+        → IsSound game end (u end p k) p k }
 {}
 
 /// A turn over the words after some rounds is nowhere looser than they are.
@@ -71,36 +62,31 @@ pub fn rounds_are_consistent()
 /// Consistent words enclose every state, in games of any number of turns, where a win and a pass lie in the stakes' pairs, and an
 /// unfinished end in the pair of its own state.
 pub fn consistent_words_enclose()
-    ensures {
-        (game : Game) → IsGame game → (u : Words) → AreConsistent game u
+    ensures { (game : Game) → IsGame game → (u : Words) → AreConsistent game u
         → (scoring : Scoring) → IsScoringWithin game u scoring
-        → (turns : ℕ) → AreEnclosing game scoring turns u
-    }
+        → (turns : ℕ) → AreEnclosing game scoring turns u }
 {}
 
 /// Where the stakes' wins and passes are known at least as well, tighter words give a turn that is at least as tight.
 pub fn tighter_stakes_tighten_turns()
-    ensures {
-        (game : Game) → IsGame game → (other : Terms) → AreNoLooserStakes game.stakes other
+    ensures { (game : Game) → IsGame game → (other : Terms) → AreNoLooserStakes game.stakes other
         → (u v : Words) → AreNoLooser game u v
-        → AreNoLooser game (turn game.stakes u) (turn other v)
-    }
+        → AreNoLooser game (turn game.stakes u) (turn other v) }
 {}
 
 /// Where the stakes' wins and passes are known at least as well, the words after some rounds are at least as tight.
 pub fn tighter_stakes_tighten_rounds()
-    ensures {
-        (game : Game) → IsGame game → (other : Terms) → AreNoLooserStakes game.stakes other
-        → (r : ℕ) → AreNoLooser game (rounds game.stakes r) (rounds other r)
-    }
+    ensures { (game : Game) → IsGame game → (other : Terms) → AreNoLooserStakes game.stakes other
+        → (r : ℕ) → AreNoLooser game (rounds game.stakes r) (rounds other r) }
 {}
 
 /// Scorings of the game without a cube and of the doubling game: an unfinished end may be worth three points and no more, and a gammon
 /// counts two points in the one and one in the other.
 pub fn scoring_examples()
-    ensures cubeless { IsScoring (game_of 1 cubeless) (scored (win_points 1 2 3) (pos 3)) }
-    ensures doubling { IsScoring (game_of 1 doubling_game) (scored (win_points 1 1 1) (neg_ℤ (pos 3))) }
-    ensures unfinished_beyond { ¬ IsScoring (game_of 1 cubeless) (scored (win_points 1 2 3) (pos 4)) }
+    ensures cubeless { IsScoring (game_of 1 cubeless) (cut_off_at (pos 3)) }
+    ensures doubling { IsScoring (game_of 1 doubling_game)
+        (scored (win_points 1 1 1) (neg_ℤ (pos 3))) }
+    ensures unfinished_beyond { ¬ IsScoring (game_of 1 cubeless) (cut_off_at (pos 4)) }
     ensures gammon_for_one { ¬ IsScoring (game_of 1 cubeless) (scored (win_points 1 1 3) (pos 0)) }
 {}
 
@@ -110,21 +96,28 @@ pub fn scoring_examples()
 /// double sixes win, 3 points. Where an unfinished end is then worth a point to the other side, whose turn it is, the other 35 rolls lose 35
 /// points; where it costs that side two, they win 70.
 pub fn exact_examples()
-    ensures cut_off_at_once { (p : Placement) (k : ℕ) → exact cubeless (scored (win_points 1 2 3) (pos 2)) 0 p k ≡ pos 2 }
-    ensures one_roll_ahead { exact cubeless (scored (win_points 1 2 3) (pos 0)) 1 (placed (6 ∷ []) (1 ∷ [])) 0 ≡ pos 54 }
-    ensures both_rolls_ahead { exact cubeless (scored (win_points 1 2 3) (pos 0)) 2 (placed (6 ∷ []) (1 ∷ [])) 0 ≡ pos 1296 }
-    ensures single_wins { exact cubeless (scored (win_points 1 2 3) (pos 0)) 2 (placed (5 ∷ off ∷ []) (1 ∷ off ∷ [])) 0 ≡ pos 936 }
-    ensures unfinished_is_lost { exact cubeless (scored (win_points 1 2 3) (pos 1)) 1 (placed (24 ∷ []) (24 ∷ [])) 0 ≡ neg_ℤ (pos 32) }
-    ensures unfinished_is_won { exact cubeless (scored (win_points 1 2 3) (neg_ℤ (pos 2))) 1 (placed (24 ∷ []) (24 ∷ [])) 0 ≡ pos 73 }
+    ensures cut_off_at_once { (p : Placement) (k : ℕ)
+        → exact cubeless (cut_off_at (pos 2)) 0 p k ≡ pos 2 }
+    ensures one_roll_ahead { exact cubeless points_won 1 (placed (6 ∷ []) (1 ∷ [])) 0 ≡ pos 54 }
+    ensures both_rolls_ahead { exact cubeless points_won 2 (placed (6 ∷ []) (1 ∷ [])) 0 ≡ pos 1296 }
+    ensures single_wins { exact cubeless points_won 2 (placed (5 ∷ off ∷ []) (1 ∷ off ∷ [])) 0
+        ≡ pos 936 }
+    ensures unfinished_is_lost { exact cubeless (cut_off_at (pos 1)) 1
+        (placed (24 ∷ []) (24 ∷ [])) 0 ≡ neg_ℤ (pos 32) }
+    ensures unfinished_is_won { exact cubeless (cut_off_at (neg_ℤ (pos 2))) 1
+        (placed (24 ∷ []) (24 ∷ [])) 0 ≡ pos 73 }
 {}
 
 /// Two turns of the doubling game, where the other side bears off its last checker at its roll: values over 36 * 36 = 1296. With 31 winning
 /// rolls of 36 a double is passed, which is worth the whole point. With 19 it is taken, and doubles 2 * 36 = 72. With 6 there is none, and
 /// 24 * 36 = 864 are lost.
 pub fn exact_doubled_examples()
-    ensures passed { exact doubling_game (scored (win_points 1 1 1) (pos 0)) 2 (placed (5 ∷ off ∷ []) (1 ∷ off ∷ [])) 0 ≡ pos 1296 }
-    ensures taken { exact doubling_game (scored (win_points 1 1 1) (pos 0)) 2 (placed (5 ∷ 2 ∷ []) (1 ∷ off ∷ [])) 0 ≡ pos 144 }
-    ensures not_doubled { exact doubling_game (scored (win_points 1 1 1) (pos 0)) 2 (placed (6 ∷ 5 ∷ []) (1 ∷ off ∷ [])) 0 ≡ neg_ℤ (pos 864) }
+    ensures passed { exact doubling_game games_won 2 (placed (5 ∷ off ∷ []) (1 ∷ off ∷ [])) 0
+        ≡ pos 1296 }
+    ensures taken { exact doubling_game games_won 2 (placed (5 ∷ 2 ∷ []) (1 ∷ off ∷ [])) 0
+        ≡ pos 144 }
+    ensures not_doubled { exact doubling_game games_won 2 (placed (6 ∷ 5 ∷ []) (1 ∷ off ∷ [])) 0
+        ≡ neg_ℤ (pos 864) }
 {}
 
 /// 936 points of 1296 are 3101920824.88.. units, which lie between these two numbers, but not above the greater one nor below the less. A
@@ -141,9 +134,12 @@ pub fn bound_of_examples()
 /// From 1 each roll wins a gammon, in every game of a turn or more: so two points are sound at both ends. A unit more isn't at the lower end,
 /// nor a unit less at the upper one.
 pub fn sound_examples()
-    ensures two_points { (end : End) → IsSound (game_of 1 cubeless) end (pos 8589934592) (placed (1 ∷ []) (1 ∷ [])) 0 }
-    ensures a_unit_more { ¬ IsSound (game_of 1 cubeless) Lower (pos 8589934593) (placed (1 ∷ []) (1 ∷ [])) 0 }
-    ensures a_unit_less { ¬ IsSound (game_of 1 cubeless) Upper (pos 8589934591) (placed (1 ∷ []) (1 ∷ [])) 0 }
+    ensures two_points { (end : End)
+        → IsSound (game_of 1 cubeless) end (pos 8589934592) (placed (1 ∷ []) (1 ∷ [])) 0 }
+    ensures a_unit_more { ¬ IsSound (game_of 1 cubeless) Lower (pos 8589934593)
+        (placed (1 ∷ []) (1 ∷ [])) 0 }
+    ensures a_unit_less { ¬ IsSound (game_of 1 cubeless) Upper (pos 8589934591)
+        (placed (1 ∷ []) (1 ∷ [])) 0 }
 {}
 
 /// All stakes are as tight as they are themselves. A game in which a gammon wins two points is tighter than one in which it wins one to

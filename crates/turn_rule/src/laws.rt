@@ -12,10 +12,8 @@ ghost use Rattle.turn_rule.specs.Examples.{between, gains, losses, doubling_game
 
 /// Over words within the bound of the stakes, lower at most upper, a turn gives such words.
 pub fn turns_stay_within_the_bound()
-    ensures {
-        (game : Game) → IsGame game → (u : Words)
-        → AreWithin game u → AreWithin game (turn game.stakes u)
-    }
+    ensures { (game : Game) → IsGame game → (u : Words)
+        → AreWithin game u → AreWithin game (turn game.stakes u) }
 {}
 
 /// After any number of rounds the words are within the bound of the stakes, lower at most upper.
@@ -25,26 +23,20 @@ pub fn rounds_stay_within_the_bound()
 
 /// A turn asks only for words on states of the same game.
 pub fn turns_look_at_states_alone()
-    ensures {
-        (game : Game) → IsGame game → (u v : Words)
-        → Agree game u v → Agree game (turn game.stakes u) (turn game.stakes v)
-    }
+    ensures { (game : Game) → IsGame game → (u v : Words)
+        → Agree game u v → Agree game (turn game.stakes u) (turn game.stakes v) }
 {}
 
 /// Tighter words give a turn that is at least as tight.
 pub fn tighter_words_tighten_turns()
-    ensures {
-        (game : Game) → IsGame game → (u v : Words)
-        → AreNoLooser game u v → AreNoLooser game (turn game.stakes u) (turn game.stakes v)
-    }
+    ensures { (game : Game) → IsGame game → (u v : Words)
+        → AreNoLooser game u v → AreNoLooser game (turn game.stakes u) (turn game.stakes v) }
 {}
 
 /// One more round gives words that are at least as tight.
 pub fn rounds_tighten()
-    ensures {
-        (game : Game) → IsGame game → (r : ℕ)
-        → AreNoLooser game (rounds game.stakes (r + 1)) (rounds game.stakes r)
-    }
+    ensures { (game : Game) → IsGame game → (r : ℕ)
+        → AreNoLooser game (rounds game.stakes (r + 1)) (rounds game.stakes r) }
 {}
 
 /// A 36th of a sum, rounded down and up. There are 2 ^ 32 units to a point.
@@ -64,25 +56,31 @@ pub fn rounded_examples()
 /// From 6 there are 27 rolls of 36 that win a gammon; after the other 9 the other side wins one, as the second round finds.
 /// From 5 there are 31, and with a checker of each side off, each win is a single one: 26 points of 36.
 pub fn worked_examples()
-    ensures before_the_first_round {
-        (p : Placement) (k : ℕ)
-        → pair_of (bound_words cubeless) p k ≡ between 12884901888 12884901888
-    }
+    ensures before_the_first_round { (p : Placement) (k : ℕ)
+        → pair_of (bound_words cubeless) p k ≡ between 12884901888 12884901888 }
     ensures sure_gammon { pair_of (rounds cubeless 1) (placed (1 ∷ []) (1 ∷ [])) 0 ≡ exactly 2 }
-    ensures sure_backgammon { pair_of (rounds cubeless 1) (placed (1 ∷ []) (bar ∷ [])) 0 ≡ exactly 3 }
-    ensures only_double_sixes { pair_of (rounds cubeless 1) (placed (24 ∷ []) (24 ∷ [])) 0 ≡ between 12169074006 12884901888 }
-    ensures one_roll_ahead { pair_of (rounds cubeless 1) (placed (6 ∷ []) (1 ∷ [])) 0 ≡ gains 3221225472 9663676416 }
-    ensures both_rolls_ahead { pair_of (rounds cubeless 2) (placed (6 ∷ []) (1 ∷ [])) 0 ≡ exactly 1 }
-    ensures rounded_outwards { pair_of (rounds cubeless 2) (placed (5 ∷ off ∷ []) (1 ∷ off ∷ [])) 0 ≡ gains 3101920824 3101920825 }
+    ensures sure_backgammon { pair_of (rounds cubeless 1) (placed (1 ∷ []) (bar ∷ [])) 0
+        ≡ exactly 3 }
+    ensures only_double_sixes { pair_of (rounds cubeless 1) (placed (24 ∷ []) (24 ∷ [])) 0
+        ≡ between 12169074006 12884901888 }
+    ensures one_roll_ahead { pair_of (rounds cubeless 1) (placed (6 ∷ []) (1 ∷ [])) 0
+        ≡ gains 3221225472 9663676416 }
+    ensures both_rolls_ahead { pair_of (rounds cubeless 2) (placed (6 ∷ []) (1 ∷ [])) 0
+        ≡ exactly 1 }
+    ensures rounded_outwards { pair_of (rounds cubeless 2) (placed (5 ∷ off ∷ []) (1 ∷ off ∷ [])) 0
+        ≡ gains 3101920824 3101920825 }
 {}
 
 /// A game in which the mover may always double, where the other side bears off its last checker at its next roll.
 /// With 31 winning rolls of 36 a double is passed. With 19 it is taken, and doubles 2 points of 36. With 6 there is none, and 24 points of 36 are lost.
 pub fn doubled_examples()
     ensures valid { IsValid doubling_game }
-    ensures passed { pair_of (rounds doubling_game 2) (placed (5 ∷ off ∷ []) (1 ∷ off ∷ [])) 0 ≡ exactly 1 }
-    ensures taken { pair_of (rounds doubling_game 2) (placed (5 ∷ 2 ∷ []) (1 ∷ off ∷ [])) 0 ≡ gains 477218588 477218589 }
-    ensures not_doubled { pair_of (rounds doubling_game 2) (placed (6 ∷ 5 ∷ []) (1 ∷ off ∷ [])) 0 ≡ losses 2863311531 2863311530 }
+    ensures passed { pair_of (rounds doubling_game 2) (placed (5 ∷ off ∷ []) (1 ∷ off ∷ [])) 0
+        ≡ exactly 1 }
+    ensures taken { pair_of (rounds doubling_game 2) (placed (5 ∷ 2 ∷ []) (1 ∷ off ∷ [])) 0
+        ≡ gains 477218588 477218589 }
+    ensures not_doubled { pair_of (rounds doubling_game 2) (placed (6 ∷ 5 ∷ []) (1 ∷ off ∷ [])) 0
+        ≡ losses 2863311531 2863311530 }
 {}
 
 /// How many squares there are of one, two and three checkers a side, and where the pairs of a position stand: its mover's layout is the

@@ -55,7 +55,8 @@ impl PlainTable {
     pub fn new(alloc: Global, checkers: u8, stakes: &Stakes) -> Result<PlainTable, NoMemory>
         requires low { 1 ≤ checkers }
         requires high { checkers ≤ 3 }
-        ensures game { IfOk result (λ table. (table.table.checkers ≡ checkers) × (table.stakes ≡ stakes.now)) }
+        ensures game { IfOk result
+            (λ table. (table.table.checkers ≡ checkers) × (table.stakes ≡ stakes.now)) }
         ensures rounds { IfOk result (λ table. HasRounds table 0) }
     {
         let bound = stakes.bound();
@@ -87,7 +88,8 @@ impl PlainTable {
         ensures source { (⟦<PlainReader<'static> as Pairs>⟧.seen result).source
             ≡ read_from self.now.table self.now.stakes.bound }
         ensures notes { (⟦<PlainReader<'static> as Pairs>⟧.seen result).notes ≡ words_of self.now.table }
-        ensures stakes { AreStakesOf (⟦<PlainReader<'static> as Pairs>⟧.seen result).source self.now.stakes }
+        ensures stakes { AreStakesOf (⟦<PlainReader<'static> as Pairs>⟧.seen result).source
+            self.now.stakes }
     {
         PlainReader::of(&self.current, self.stakes.bound())
     }

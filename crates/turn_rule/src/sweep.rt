@@ -46,8 +46,11 @@ fn sweep_square(
     requires alike { AreAlike old.now new.old }
     ensures alike { AreAlike old.now new.new }
     ensures full { IsFull new.new }
-    ensures turned { (k : ℕ) → k < old.now.kinds → pair_of (words_of new.new) position.now k ≡ pair_of (turn stakes.now (words_of old.now)) position.now k }
-    ensures before { (place : ℕ) → place < square_rank_of position.now * old.now.kinds → slice_index_or new.new.pairs place nothing ≡ slice_index_or new.old.pairs place nothing }
+    ensures turned { (k : ℕ) → k < old.now.kinds
+        → pair_of (words_of new.new) position.now k
+        ≡ pair_of (turn stakes.now (words_of old.now)) position.now k }
+    ensures before { (place : ℕ) → place < square_rank_of position.now * old.now.kinds
+        → slice_index_or new.new.pairs place nothing ≡ slice_index_or new.old.pairs place nothing }
 {
     ends.fill(position, list);
     let kinds = new.kinds();
@@ -75,10 +78,12 @@ fn sweep_row(
     requires within { AreWithin (game_of old.now.checkers stakes.now) (words_of old.now) }
     requires alike { AreAlike old.now new.old }
     requires full { IsFull new.old }
-    requires before { IsTurnedBefore stakes.now old.now new.old (rank_of mover * length layouts.now) }
+    requires before { IsTurnedBefore stakes.now old.now new.old
+        (rank_of mover * length layouts.now) }
     ensures alike { AreAlike old.now new.new }
     ensures full { IsFull new.new }
-    ensures turned { IsTurnedBefore stakes.now old.now new.new (rank_of mover * length layouts.now + length layouts.now) }
+    ensures turned { let next = rank_of mover * length layouts.now + length layouts.now in
+        IsTurnedBefore stakes.now old.now new.new next }
 {
     for other in layouts {
         let position = Position::new(mover, *other).unwrap();
@@ -97,7 +102,8 @@ pub(crate) fn sweep_rows(layouts: &[Layout], stakes: &Stakes, old: &Table, new: 
     requires full { IsFull new.old }
     ensures alike { AreAlike old.now new.new }
     ensures full { IsFull new.new }
-    ensures turned { IsTurnedBefore stakes.now old.now new.new (length layouts.now * length layouts.now) }
+    ensures turned { IsTurnedBefore stakes.now old.now new.new
+        (length layouts.now * length layouts.now) }
 {
     let mut list = PlayList::new();
     let mut ends = RollEnds::of(&Position::start(1), &mut list);

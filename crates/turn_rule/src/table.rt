@@ -23,7 +23,8 @@ impl Model for Table {
 
     ghost view = { λ a. record { checkers = a.checkers; kinds = a.kinds; pairs = a.pairs.items } };
 
-    ghost invariant = { λ a. IsFull (record { checkers = a.checkers; kinds = a.kinds; pairs = a.pairs.items }) };
+    ghost invariant = { λ a. IsFull
+        (record { checkers = a.checkers; kinds = a.kinds; pairs = a.pairs.items }) };
 }
 
 impl Table {
@@ -63,6 +64,7 @@ impl Table {
         ensures full { IsFull self.now }
         ensures small { length self.now.pairs < 2 ^ 63 }
     {
+        // A list's length fits a `usize`, which `small` tells.
         let _many = self.pairs.len();
         self.kinds
     }
@@ -86,7 +88,9 @@ impl Table {
         requires low { 1 ≤ checkers }
         requires high { checkers ≤ 3 }
         requires kinds { kinds ≤ 14 }
-        ensures { IfOk result (λ table. table ≡ record { checkers = checkers; kinds = kinds; pairs = replicate (squares_of checkers * kinds) pair }) }
+        ensures { let pairs = replicate (squares_of checkers * kinds) pair in
+            IfOk result (λ table.
+            table ≡ record { checkers = checkers; kinds = kinds; pairs = pairs }) }
     {
         let layouts = layout_count(checkers) as usize;
         let pairs = vec![in alloc; pair; layouts * layouts * kinds]?;
