@@ -3,7 +3,7 @@ use Rattle.std.specs.Prelude.{ℕ, ◌==◌, List, sum, Result, Ok, Err, if◌th
 use Rattle.hyper_app.specs.declared.task.Task.{Task}
 use Rattle.position_rank.specs.Placement.{Placement}
 use Rattle.position_rank.specs.declared.text.BadPosition.{BadPosition}
-use Rattle.position_rank.specs.Text.{read_text}
+use Rattle.position_rank.specs.Text.{read_position}
 use Rattle.hyper_outside.specs.declared.outside.BadWords.{BadWords}
 use Rattle.command_line.specs.Words.{Asked, reading}
 use Rattle.cube_actions.specs.Stakes.{cubeless}
@@ -24,7 +24,7 @@ with_position asked (Ok p) = fitting asked.checkers asked.rounds p
 with_position asked (Err bad) = Err (Position bad)
 
 abbrev pub with_words : Result Asked BadWords → Result Task Refusal
-with_words (Ok asked) = with_position asked (read_text asked.position)
+with_words (Ok asked) = with_position asked (read_position asked.position)
 with_words (Err bad) = Err (Words bad)
 
 -- the words are read first, then the position, and then the numbers of checkers are compared

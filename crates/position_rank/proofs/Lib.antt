@@ -2,9 +2,11 @@ pub mod Cells
 pub mod Choose
 pub mod LiveLaws
 pub mod Made
+pub mod PlaceTexts
 pub mod RankLaws
 pub mod Rising
 pub mod SameLayouts
+pub mod StartLive
 mod TextPlacements
 mod TextLists
 mod TextPrint

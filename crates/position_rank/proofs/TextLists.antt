@@ -1,5 +1,5 @@
 -- Tests of all the elements of a list, and lists that are taken apart from the front.
-use Rattle.std.proofs.Common.{◌≡◌, ◌≤◌, ◌<◌, ◌+◌, ℕ, zero, suc, Bool, true, false, cond, ◌&&◌, ◌||◌, ◌⊎◌, inl, inr, Option, Some, All, find, take, subst, MatchBool, List, [], ◌∷◌, ◌++◌, length, refl, arith}
+use Rattle.std.proofs.Common.{◌≡◌, ◌≤◌, ◌<◌, ◌+◌, ℕ, zero, suc, Bool, true, false, ◌&&◌, ◌||◌, inl, inr, All, take, subst, MatchBool, List, [], ◌∷◌, ◌++◌, length, refl, arith}
 use Rattle.std.proofs.lemmas.Bool.{cases_lt}
 use Rattle.std.specs.List.{list_all, list_any, range_with_len, AllWithin, HoldsAt}
 
@@ -51,15 +51,3 @@ none-in-range test a (suc n) i e low high =
       | inl later ↦ none-in-range test (a + 1) n i both.1 (omega arith) (omega arith)
       | inr here ↦ (let same : a ≡ i = omega arith in subst (λ j. test j ≡ false) same both.0)
     ]
-
-found : {X : Type 0} (b : Bool) (x : X) (o : Option X) (y : X) → cond b (Some x) o ≡ Some y → ((b ≡ true) × (x ≡ y)) ⊎ (o ≡ Some y)
-found true x o y e = inl (refl, cc)
-found false x o y e = inr e
-
--- what is found in a range is one of its numbers
-pub found-in-range : (test : ℕ → Bool) (a n i : ℕ) → find test (range_with_len a n) ≡ Some i → i < a + n
-found-in-range test a zero i e = absurd (cc)
-found-in-range test a (suc n) i e = elim (found (test a) a (find test (range_with_len (a + 1) n)) i e) [
-  | inl here ↦ (let at = here.1 in omega arith)
-  | inr later ↦ (let low = found-in-range test (a + 1) n i later in omega arith)
-]

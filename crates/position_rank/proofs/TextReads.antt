@@ -1,14 +1,14 @@
 -- From words to places, and from the first few places to all of them.
-use Rattle.std.proofs.Common.{◌≡◌, ◌≤◌, ℕ, Bool, true, false, ◌&&◌, List, [], ◌∷◌, length, All, Option, Some, None, nat_eq, refl, arith, length-take}
+use Rattle.std.proofs.Common.{◌≡◌, ◌≤◌, ℕ, Bool, true, false, ◌&&◌, List, [], ◌∷◌, length, All, Option, Some, None, refl, arith, length-take}
 use Rattle.std.proofs.lemmas.Bool.Decides.{nat_tests}
 use Rattle.std.proofs.lemmas.List.{take_all}
-use Rattle.std.specs.Cmp.Lexicographic.{pointwise}
 use Rattle.std.specs.List.{filter_map, cons_option}
-use Rattle.position_rank.specs.Text.{place, place_text, have_shape, are_places, numbers_fit, read_places, read_words}
+use Rattle.position_rank.specs.Text.{place, have_shape, are_places, numbers_fit, read_places, read_words, before_slash, after_slash}
 use Rattle.position_rank.specs.declared.text.TheConstants.{KEPT}
-use Rattle.position_rank.proofs.TextLists.{Each-take, Each-at, found-in-range}
+use Rattle.position_rank.proofs.PlaceTexts.{place-text}
+use Rattle.position_rank.proofs.TextLists.{Each-take, Each-at}
 use Rattle.position_rank.proofs.TextPrint.{ArePlaces}
-use Rattle.position_rank.proofs.TextSides.{first, before, after}
+use Rattle.position_rank.proofs.TextSides.{first}
 
 onto-places : (o : Option ℕ) (places : List ℕ) → ((p : ℕ) → o ≡ Some p → p ≤ 25) → ArePlaces places → ArePlaces (cons_option o places)
 onto-places None places h k = k
@@ -16,7 +16,7 @@ onto-places (Some p) places h k = (h p refl, k)
 
 pub words-places : (ws : List (List ℕ)) → ArePlaces (filter_map place ws)
 words-places [] = tt
-words-places (w ∷ ws) = onto-places (place w) (filter_map place ws) (λ p e. let low = found-in-range (λ (p : ℕ). pointwise nat_eq (place_text p) w) 0 26 p e in omega arith) (words-places ws)
+words-places (w ∷ ws) = onto-places (place w) (filter_map place ws) (λ p e. (place-text w p e).0) (words-places ws)
 
 pub first-places : (ws : List (List ℕ)) (places : List ℕ) → places ≡ first (filter_map place ws) → All (λ p. p ≤ 25) places
 first-places ws places e = rw e (Each-at (λ p. p ≤ 25) (first (filter_map place ws)) (Each-take (λ p. p ≤ 25) KEPT (filter_map place ws) (words-places ws)))
@@ -38,6 +38,6 @@ read_places-first mover other = by-fit (numbers_fit mover other) refl where
       rw (take_all KEPT mover kept.0, take_all KEPT other kept.1) refl
   by-fit false e = rw (unfit-first mover other e, e) refl
 
-pub read_words-done : (ws : List (List ℕ)) (mover other : List ℕ) → have_shape ws ≡ true → (are_places (before ws) && are_places (after ws)) ≡ true → mover ≡ first (filter_map place (before ws)) → other ≡ first (filter_map place (after ws)) → read_places mover other ≡ read_words ws
+pub read_words-done : (ws : List (List ℕ)) (mover other : List ℕ) → have_shape ws ≡ true → (are_places (before_slash ws) && are_places (after_slash ws)) ≡ true → mover ≡ first (filter_map place (before_slash ws)) → other ≡ first (filter_map place (after_slash ws)) → read_places mover other ≡ read_words ws
 read_words-done ws mover other shape places m o =
-    rw (m, o) (rw (shape, places) (read_places-first (filter_map place (before ws)) (filter_map place (after ws))))
+    rw (m, o) (rw (shape, places) (read_places-first (filter_map place (before_slash ws)) (filter_map place (after_slash ws))))

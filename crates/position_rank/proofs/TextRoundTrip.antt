@@ -1,114 +1,66 @@
 -- Reading the text of a live position gives the position.
-use Rattle.std.proofs.Common.{◌≡◌, ◌≤◌, ◌<◌, ◌+◌, ℕ, zero, suc, Bool, true, false, not, cond, ◌&&◌, eqb, nat_eq, nat_lt, nat_le, List, [], ◌∷◌, ◌++◌, length, map, replicate, sum, slice_index, count_by, codes, Option, Some, None, Ok, refl, sym, ap, subst, ◌∙◌, inl, inr, arith}
+use Rattle.std.proofs.Common.{◌≡◌, ◌≤◌, ◌<◌, ◌+◌, ℕ, zero, suc, Bool, true, false, not, cond, ◌&&◌, eqb, nat_eq, nat_lt, nat_le, List, [], ◌∷◌, ◌++◌, length, map, replicate, sum, slice_index, count_by, codes, Ok, refl, sym, ap, subst, ◌∙◌, inl, inr, arith}
 use Rattle.std.proofs.lemmas.Bool.{cases_lt, cases_eq, ne_eqb}
 use Rattle.std.proofs.lemmas.Bool.Decides.{nat_tests}
 use Rattle.std.proofs.lemmas.List.{ext_get_or}
 use Rattle.std.proofs.lemmas.List.Splits.{slice_split_none, slice_split_at}
 use Rattle.std.proofs.lemmas.List.Sums.{sum_by-append, sum_by-cons}
-use Rattle.std.specs.Fmt.{digits}
 use Rattle.std.specs.List.{list_all, list_any, filter_map, flat_map, range_with_len, join_with_byte, slice_split}
 use Rattle.position_rank.specs.Placement.{Placement, IsPosition, IsLive}
 use Rattle.position_rank.specs.Packed.{counts_of}
 use Rattle.position_rank.specs.PackedLaws.{length-counts_of, counts_of-at, sum-counts_of}
-use Rattle.position_rank.specs.Text.{place, place_text, words, is_slash, have_shape, are_places, numbers_fit, share_point, all_off, read_placement, read_words, read_text, places_below, places_of, position_words, position_text}
+use Rattle.position_rank.specs.Text.{place, place_text, words, is_slash, have_shape, are_places, numbers_fit, share_point, all_off, read_placement, read_words, read_position, places_below, places_of, position_words, position_text, before_slash, after_slash}
+use Rattle.position_rank.proofs.PlaceTexts.{both-true, not-true, lacks, read-back}
 use Rattle.position_rank.proofs.TextPlacements.{is_shared}
 use Rattle.position_rank.proofs.TextLists.{Each, Each-append, Each-at}
 use Rattle.position_rank.proofs.TextPrint.{ArePlaces, held, places_of-places, position_words-full}
-use Rattle.position_rank.proofs.TextSides.{before, after, before-slash, after-slash, before-word, after-word, count-slash, count-word}
-
--- ---- the text of each place
-
-abbrev has_no_space : List ℕ → Bool
-has_no_space word = list_all (λ byte. not (eqb byte 32)) word
-
-abbrev is_that : Option ℕ → ℕ → Bool
-is_that None p = false
-is_that (Some q) p = eqb q p
-
-abbrev reads_back : ℕ → Bool
-reads_back p = has_no_space (place_text p) && (not (is_slash (place_text p)) && is_that (place (place_text p)) p)
-
-all-read-back : list_all reads_back (range_with_len 0 26) ≡ true
-unfolding digits
-all-read-back = refl
-
-both-true : (a b : Bool) → (a && b) ≡ true → (a ≡ true) × (b ≡ true)
-both-true true b e = (refl, e)
-both-true false b e = absurd (cc)
-
-each-in-range : (test : ℕ → Bool) (a n i : ℕ) → list_all test (range_with_len a n) ≡ true → a ≤ i → i < a + n → test i ≡ true
-each-in-range test a zero i e low high = absurd (omega arith)
-each-in-range test a (suc n) i e low high =
-    let both = both-true (test a) (list_all test (range_with_len (a + 1) n)) e in
-    elim (cases_lt a i) [
-      | inl later ↦ each-in-range test (a + 1) n i both.1 (omega arith) (omega arith)
-      | inr here ↦ (let same : a ≡ i = omega arith in subst (λ j. test j ≡ true) same both.0)
-    ]
-
-record ReadsBack (p : ℕ) : Type 0 where
-  no_space : has_no_space (place_text p) ≡ true
-  no_slash : is_slash (place_text p) ≡ false
-  same : place (place_text p) ≡ Some p
-
-that-one : (o : Option ℕ) (p : ℕ) → is_that o p ≡ true → o ≡ Some p
-that-one None p e = absurd (cc)
-that-one (Some q) p e = let same : q ≡ p = grind (arith, nat_tests) in ap Some same
-
-not-true : (b : Bool) → not b ≡ true → b ≡ false
-not-true true e = absurd (cc)
-not-true false e = refl
-
-read-back : (p : ℕ) → p ≤ 25 → ReadsBack p
-read-back p h =
-    let one = both-true _ _ (each-in-range reads_back 0 26 p all-read-back (omega arith) (omega arith)) in
-    let two = both-true _ _ one.1 in
-    record { no_space = one.0; no_slash = not-true _ two.0; same = that-one _ p two.1 }
+use Rattle.position_rank.proofs.TextSides.{before-slash, after-slash, before-word, after-word, count-slash, count-word}
 
 -- ---- the words of the text
 
-spaceless : (word : List ℕ) → has_no_space word ≡ true → Each (λ byte. eqb byte 32 ≡ false) word
+spaceless : (word : List ℕ) → lacks 32 word ≡ true → Each (λ byte. eqb byte 32 ≡ false) word
 spaceless [] e = tt
-spaceless (byte ∷ word) e = let both = both-true (not (eqb byte 32)) (has_no_space word) e in (not-true _ both.0, spaceless word both.1)
+spaceless (byte ∷ word) e = let both = both-true (not (eqb byte 32)) (lacks 32 word) e in (not-true _ both.0, spaceless word both.1)
 
-split-join : (word : List ℕ) (ws : List (List ℕ)) → Each (λ w. has_no_space w ≡ true) (word ∷ ws) → slice_split (λ byte. eqb byte 32) (join_with_byte 32 (word ∷ ws)) ≡ word ∷ ws
+split-join : (word : List ℕ) (ws : List (List ℕ)) → Each (λ w. lacks 32 w ≡ true) (word ∷ ws) → slice_split (λ byte. eqb byte 32) (join_with_byte 32 (word ∷ ws)) ≡ word ∷ ws
 split-join word [] h = slice_split_none (λ byte. eqb byte 32) word (Each-at (λ byte. eqb byte 32 ≡ false) word (spaceless word h.0))
 split-join word (next ∷ ws) h =
     slice_split_at (λ byte. eqb byte 32) word 32 (join_with_byte 32 (next ∷ ws)) (Each-at (λ byte. eqb byte 32 ≡ false) word (spaceless word h.0)) refl
     ∙ ap (λ rest. word ∷ rest) (split-join next ws h.1)
 
-split-joined : (ws : List (List ℕ)) → 0 < length ws → Each (λ w. has_no_space w ≡ true) ws → slice_split (λ byte. eqb byte 32) (join_with_byte 32 ws) ≡ ws
+split-joined : (ws : List (List ℕ)) → 0 < length ws → Each (λ w. lacks 32 w ≡ true) ws → slice_split (λ byte. eqb byte 32) (join_with_byte 32 ws) ≡ ws
 split-joined [] some h = absurd (omega arith)
 split-joined (word ∷ ws) some h = split-join word ws h
 
-side-spaceless : (places : List ℕ) → ArePlaces places → Each (λ w. has_no_space w ≡ true) (map place_text places)
+side-spaceless : (places : List ℕ) → ArePlaces places → Each (λ w. lacks 32 w ≡ true) (map place_text places)
 side-spaceless [] h = tt
 side-spaceless (p ∷ places) h = ((read-back p h.0).no_space, side-spaceless places h.1)
 
 words-again : (m o : List ℕ) → ArePlaces m → ArePlaces o → words (join_with_byte 32 (map place_text m ++ codes "/" ∷ map place_text o)) ≡ map place_text m ++ codes "/" ∷ map place_text o
 words-again m o hm ho =
     split-joined (map place_text m ++ codes "/" ∷ map place_text o) (some (map place_text m) (map place_text o))
-    (Each-append (λ w. has_no_space w ≡ true) (map place_text m) (codes "/" ∷ map place_text o) (side-spaceless m hm) (refl, side-spaceless o ho)) where
+    (Each-append (λ w. lacks 32 w ≡ true) (map place_text m) (codes "/" ∷ map place_text o) (side-spaceless m hm) (refl, side-spaceless o ho)) where
       some : (xs ys : List (List ℕ)) → 0 < length (xs ++ codes "/" ∷ ys)
       some [] ys = omega arith
       some (x ∷ xs) ys = omega arith
 
 -- ---- the sides of the words
 
-before-side : (places : List ℕ) (ws : List (List ℕ)) → ArePlaces places → before (map place_text places ++ codes "/" ∷ ws) ≡ map place_text places
+before-side : (places : List ℕ) (ws : List (List ℕ)) → ArePlaces places → before_slash (map place_text places ++ codes "/" ∷ ws) ≡ map place_text places
 before-side [] ws h = before-slash (codes "/") ws refl
-before-side (p ∷ places) ws h = before-word (place_text p) (map place_text places ++ codes "/" ∷ ws) (read-back p h.0).no_slash ∙ ap (λ rest. place_text p ∷ rest) (before-side places ws h.1)
+before-side (p ∷ places) ws h = before-word (place_text p) (map place_text places ++ codes "/" ∷ ws) (read-back p h.0).other_word ∙ ap (λ rest. place_text p ∷ rest) (before-side places ws h.1)
 
-after-side : (places : List ℕ) (ws : List (List ℕ)) → ArePlaces places → after (map place_text places ++ codes "/" ∷ ws) ≡ ws
+after-side : (places : List ℕ) (ws : List (List ℕ)) → ArePlaces places → after_slash (map place_text places ++ codes "/" ∷ ws) ≡ ws
 after-side [] ws h = after-slash (codes "/") ws refl
-after-side (p ∷ places) ws h = after-word (place_text p) (map place_text places ++ codes "/" ∷ ws) (read-back p h.0).no_slash ∙ after-side places ws h.1
+after-side (p ∷ places) ws h = after-word (place_text p) (map place_text places ++ codes "/" ∷ ws) (read-back p h.0).other_word ∙ after-side places ws h.1
 
 no-slash : (places : List ℕ) → ArePlaces places → count_by is_slash (map place_text places) ≡ 0
 no-slash [] h = refl
-no-slash (p ∷ places) h = count-word (place_text p) (map place_text places) (read-back p h.0).no_slash ∙ omega (arith, no-slash places h.1)
+no-slash (p ∷ places) h = count-word (place_text p) (map place_text places) (read-back p h.0).other_word ∙ omega (arith, no-slash places h.1)
 
 one-slash : (m o : List ℕ) → ArePlaces m → ArePlaces o → count_by is_slash (map place_text m ++ codes "/" ∷ map place_text o) ≡ 1
 one-slash [] o hm ho = count-slash (codes "/") (map place_text o) refl ∙ omega (arith, no-slash o ho)
-one-slash (p ∷ m) o hm ho = count-word (place_text p) (map place_text m ++ codes "/" ∷ map place_text o) (read-back p hm.0).no_slash ∙ omega (arith, one-slash m o hm.1 ho)
+one-slash (p ∷ m) o hm ho = count-word (place_text p) (map place_text m ++ codes "/" ∷ map place_text o) (read-back p hm.0).other_word ∙ omega (arith, one-slash m o hm.1 ho)
 
 full-words : (ws : List (List ℕ)) → Each (λ word. 0 < length word) ws → list_all (λ word. nat_lt 0 (length word)) ws ≡ true
 full-words [] h = refl
@@ -190,7 +142,7 @@ read-again m o hm ho shape fit =
     rw (shape, before-side m (map place_text o) hm, after-side m (map place_text o) hm)
     (rw (side-places m hm, side-places o ho) (rw (places-again m hm, places-again o ho) (rw fit refl)))
 
-pub read-printed : (p : Placement) → IsPosition p → IsLive p → read_text (position_text p) ≡ Ok p
+pub read-printed : (p : Placement) → IsPosition p → IsLive p → read_position (position_text p) ≡ Ok p
 read-printed p position live =
     let m = places_of p.mover in
     let o = places_of p.other in

@@ -3,24 +3,18 @@ use Rattle.std.proofs.Common.{◌≡◌, ◌≤◌, ◌<◌, ◌+◌, ℕ, zero,
 use Rattle.std.proofs.lemmas.List.{append-nil, take_all}
 use Rattle.std.proofs.lemmas.List.Sums.{sum_by-cons}
 use Rattle.std.proofs.Math.Seq.{drop-cons}
-use Rattle.std.specs.List.{filter_map, before_first, after_first, prefix_len}
-use Rattle.position_rank.specs.Text.{place, is_slash, are_places}
+use Rattle.std.specs.List.{filter_map, prefix_len}
+use Rattle.position_rank.specs.Text.{place, is_slash, before_slash, after_slash, are_places}
 use Rattle.position_rank.specs.declared.text.TheConstants.{KEPT}
 
 abbrev pub first : List ℕ → List ℕ
 first places = take KEPT places
 
-abbrev pub before : List (List ℕ) → List (List ℕ)
-before ws = before_first is_slash ws
-
-abbrev pub after : List (List ℕ) → List (List ℕ)
-after ws = after_first is_slash ws
-
 -- what the places so far and the words that are left give
 abbrev pub outcome : Bool → List ℕ → List ℕ → List (List ℕ) → Option (List ℕ × List ℕ)
 outcome true mover other left = cond (are_places left) (Some (first mover, first (other ++ filter_map place left))) None
 outcome false mover other left =
-    cond (are_places (before left) && are_places (after left)) (Some (first (mover ++ filter_map place (before left)), first (other ++ filter_map place (after left)))) None
+    cond (are_places (before_slash left) && are_places (after_slash left)) (Some (first (mover ++ filter_map place (before_slash left)), first (other ++ filter_map place (after_slash left)))) None
 
 abbrev pub slashes_left : Bool → ℕ
 slashes_left past = cond past 0 1
@@ -32,19 +26,19 @@ pub record IsRead (all : List (List ℕ)) (past : Bool) (mover other : List ℕ)
   pub mover_kept : length mover ≤ KEPT
   pub other_kept : length other ≤ KEPT
 
-pub before-slash : (w : List ℕ) (ws : List (List ℕ)) → is_slash w ≡ true → before (w ∷ ws) ≡ []
+pub before-slash : (w : List ℕ) (ws : List (List ℕ)) → is_slash w ≡ true → before_slash (w ∷ ws) ≡ []
 before-slash w ws e = rw e refl
 
-pub after-slash : (w : List ℕ) (ws : List (List ℕ)) → is_slash w ≡ true → after (w ∷ ws) ≡ ws
+pub after-slash : (w : List ℕ) (ws : List (List ℕ)) → is_slash w ≡ true → after_slash (w ∷ ws) ≡ ws
 after-slash w ws e = rw e refl
 
-pub before-word : (w : List ℕ) (ws : List (List ℕ)) → is_slash w ≡ false → before (w ∷ ws) ≡ w ∷ before ws
+pub before-word : (w : List ℕ) (ws : List (List ℕ)) → is_slash w ≡ false → before_slash (w ∷ ws) ≡ w ∷ before_slash ws
 before-word w ws e =
     let n = prefix_len (λ x. not (is_slash x)) ws in
     let next : 1 + n ≡ suc n = omega arith in
     rw e (rw next refl)
 
-pub after-word : (w : List ℕ) (ws : List (List ℕ)) → is_slash w ≡ false → after (w ∷ ws) ≡ after ws
+pub after-word : (w : List ℕ) (ws : List (List ℕ)) → is_slash w ≡ false → after_slash (w ∷ ws) ≡ after_slash ws
 after-word w ws e =
     let n = prefix_len (λ x. not (is_slash x)) ws in
     let next : 1 + n + 1 ≡ suc (n + 1) = omega arith in
@@ -93,7 +87,7 @@ read-other ws true mover other kept w left p h b e at k = rw k (record {
 pub read-mover : (ws : List (List ℕ)) (past : Bool) (mover other kept : List ℕ) (w : List ℕ) (left : List (List ℕ)) (p : ℕ) → IsRead ws past mover other (w ∷ left) → past ≡ false → is_slash w ≡ false → place w ≡ Some p → kept ≡ first (mover ++ p ∷ []) → IsRead ws past kept other left
 read-mover ws true mover other kept w left p h b e at k = absurd (cc)
 read-mover ws false mover other kept w left p h b e at k = rw k (record {
-  same = h.same ∙ rw (before-word w left e, after-word w left e) (rw (at, first-onto mover p (filter_map place (before left))) refl);
+  same = h.same ∙ rw (before-word w left e, after-word w left e) (rw (at, first-onto mover p (filter_map place (before_slash left))) refl);
   slashes = omega (arith, h.slashes, count-word w left e);
   mover_kept = first-kept (mover ++ p ∷ []);
   other_kept = h.other_kept;
@@ -107,14 +101,14 @@ told-some : {X : Type 0} (b : Bool) (x y : X) → cond b (Some x) None ≡ Some 
 told-some true x y e = (refl, cc)
 told-some false x y e = absurd (cc)
 
-pub read-wrong : (ws : List (List ℕ)) (past : Bool) (mover other : List ℕ) (w : List ℕ) (left : List (List ℕ)) → IsRead ws past mover other (w ∷ left) → is_slash w ≡ false → place w ≡ None → (are_places (before ws) && are_places (after ws)) ≡ false
+pub read-wrong : (ws : List (List ℕ)) (past : Bool) (mover other : List ℕ) (w : List ℕ) (left : List (List ℕ)) → IsRead ws past mover other (w ∷ left) → is_slash w ≡ false → place w ≡ None → (are_places (before_slash ws) && are_places (after_slash ws)) ≡ false
 read-wrong ws true mover other w left h e at = told-none _ _ (h.same ∙ rw at refl)
 read-wrong ws false mover other w left h e at = told-none _ _ (h.same ∙ rw (before-word w left e, after-word w left e) (rw at refl))
 
 pub record AreSides (ws : List (List ℕ)) (mover other : List ℕ) : Type 0 where
-  pub places : (are_places (before ws) && are_places (after ws)) ≡ true
-  pub mover_is : mover ≡ first (filter_map place (before ws))
-  pub other_is : other ≡ first (filter_map place (after ws))
+  pub places : (are_places (before_slash ws) && are_places (after_slash ws)) ≡ true
+  pub mover_is : mover ≡ first (filter_map place (before_slash ws))
+  pub other_is : other ≡ first (filter_map place (after_slash ws))
 
 pub read-done : (ws : List (List ℕ)) (past : Bool) (mover other : List ℕ) → IsRead ws past mover other [] → AreSides ws mover other
 read-done ws false mover other h = absurd (omega (arith, h.slashes))

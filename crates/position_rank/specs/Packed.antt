@@ -1,6 +1,7 @@
 -- A side's checkers from the places where they stand.
 use Rattle.std.specs.Prelude.{◌≡◌, ℕ, ◌+◌, ◌-◌, ◌≤◌, List, [], ◌∷◌, map, count_by, sum, drop, take, ◌==◌, nat_le, if◌then◌else◌}
 use Rattle.std.specs.List.{range_with_len}
+use Rattle.position_rank.specs.Placement.{Placement}
 
 -- 1 at the place of a checker, 0 at the others
 abbrev pub at_place : ℕ → ℕ → ℕ
@@ -13,6 +14,10 @@ counts_of places = map (λ place. count_by (λ p. p == place) places) (range_wit
 -- one checker on each point from 24 down, so many in all
 abbrev pub start_counts : ℕ → List ℕ
 start_counts checkers = counts_of (range_with_len (25 - checkers) checkers)
+
+-- both sides at the start of a game, with so many checkers each
+abbrev pub start_placement : ℕ → Placement
+start_placement checkers = record { mover = start_counts checkers; other = start_counts checkers }
 
 -- one to three places in falling order, and 0 where no checker is left
 pub record IsPacked (high middle low checkers : ℕ) : Type 0 where

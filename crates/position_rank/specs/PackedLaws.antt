@@ -1,4 +1,5 @@
--- Laws of the counts of places. They show that a layout's places can be had back from its counts.
+-- Laws of the counts of places, proved. They show that a layout's places can be had back from its counts. No contract cites them. They
+-- stand here and not in proofs/, as the model of `Layout` names the last ones, and a model can name nothing of its crate outside specs/.
 use Rattle.std.proofs.Common.{◌≡◌, ℕ, zero, suc, ◌+◌, ◌-◌, ◌<◌, ◌≤◌, Bool, true, false, List, [], ◌∷◌, length, replicate, get_or, set, sum, drop, count_by, take, eqb, ltb, leb, cond, All, refl, ap, sym, subst, ◌∙◌, inl, inr, arith, length-set, length-drop, length-take, get_or-set_same, get_or-set_other}
 use Rattle.std.specs.List.{range_with_len}
 use Rattle.std.proofs.lemmas.List.{drop-set-lt, drop-set-add, drop-replicate, ext_get_or, get_or-drop}

@@ -1,8 +1,8 @@
 -- Positions as texts.
-use Rattle.std.specs.Prelude.{ℕ, zero, suc, ◌-◌, ◌==◌, nat_eq, nat_lt, nat_le, Bool, not, ◌&&◌, ◌||◌, List, [], ◌∷◌, ◌++◌, length, map, sum, count_by, find, replicate, codes, decimal, Option, is_some, Result, Ok, Err, slice_index, if◌then◌else◌}
+use Rattle.std.specs.Prelude.{ℕ, zero, suc, ◌-◌, ◌==◌, nat_eq, nat_lt, nat_le, Bool, not, ◌&&◌, ◌||◌, List, [], ◌∷◌, ◌++◌, length, map, sum, count_by, find, replicate, take, codes, decimal, Option, is_some, Result, Ok, Err, slice_index, if◌then◌else◌}
 use Rattle.std.specs.List.{slice_split, before_first, after_first, filter_map, flat_map, list_all, list_any, range_with_len, join_with_byte}
 use Rattle.std.specs.Cmp.Lexicographic.{pointwise}
-use Rattle.position_rank.specs.declared.text.TheConstants.{MOST_CHECKERS}
+use Rattle.position_rank.specs.declared.text.TheConstants.{MOST_CHECKERS, KEPT}
 use Rattle.position_rank.specs.declared.text.BadPosition.{BadPosition}
 use Rattle.position_rank.specs.declared.text.BadPosition.TheVariants.{Shape, Place, Count, SharedPoint, Over}
 use Rattle.position_rank.specs.Placement.{Placement}
@@ -23,12 +23,23 @@ words text = slice_split (λ byte. byte == 32) text
 abbrev pub is_slash : List ℕ → Bool
 is_slash word = pointwise nat_eq word (codes "/")
 
+-- the words before the slash, and those after it
+abbrev pub before_slash : List (List ℕ) → List (List ℕ)
+before_slash ws = before_first is_slash ws
+
+abbrev pub after_slash : List (List ℕ) → List (List ℕ)
+after_slash ws = after_first is_slash ws
+
 -- no word is empty, and the slash stands once
 abbrev pub have_shape : List (List ℕ) → Bool
 have_shape ws = list_all (λ word. nat_lt 0 (length word)) ws && count_by is_slash ws == 1
 
 abbrev pub are_places : List (List ℕ) → Bool
 are_places ws = list_all (λ word. is_some (place word)) ws
+
+-- the first places of a side, one more than it may have
+abbrev pub kept_places : List (List ℕ) → List ℕ
+kept_places ws = take KEPT (filter_map place ws)
 
 -- both sides have the same number of places, which is neither 0 nor too large
 abbrev pub numbers_fit : List ℕ → List ℕ → Bool
@@ -57,14 +68,14 @@ read_places mover other =
 -- a position from its words, the mover's before the slash and the other side's after it
 abbrev pub read_words : List (List ℕ) → Result Placement BadPosition
 read_words ws =
-    let mover = before_first is_slash ws in
-    let other = after_first is_slash ws in
+    let mover = before_slash ws in
+    let other = after_slash ws in
     if not (have_shape ws) then Err Shape
     else if not (are_places mover && are_places other) then Err Place
     else read_places (filter_map place mover) (filter_map place other)
 
-abbrev pub read_text : List ℕ → Result Placement BadPosition
-read_text text = read_words (words text)
+abbrev pub read_position : List ℕ → Result Placement BadPosition
+read_position text = read_words (words text)
 
 -- the places below this one, the highest first
 abbrev pub places_below : ℕ → List ℕ

@@ -3,6 +3,7 @@
 
 mod layout;
 mod live;
+mod place;
 mod position;
 mod rank;
 #[cfg(test)]
@@ -13,6 +14,7 @@ pub use layout::{BadLayout, Layout};
 pub use live::{
     live_count, live_rank, live_ranks_tell_positions, live_unrank, squares_hold_their_positions,
 };
+pub use place::{place_name, push_word, read_place};
 pub use position::Position;
 pub use rank::{layout_count, ranks_tell_layouts, square_ranks_tell_positions};
 pub use text::{

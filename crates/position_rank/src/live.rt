@@ -68,11 +68,13 @@ fn count_below(checkers: u8, square: u64) -> u64
 
 /// Live positions of as many checkers and of equal live rank are the same.
 pub fn live_ranks_tell_positions()
-    ensures { (p q : Placement) → IsPosition p → IsPosition q → IsLive p → IsLive q → sum p.mover ≡ sum q.mover → live_rank_of p ≡ live_rank_of q → p ≡ q }
+    ensures { (p q : Placement) → IsPosition p → IsPosition q → IsLive p → IsLive q
+        → sum p.mover ≡ sum q.mover → live_rank_of p ≡ live_rank_of q → p ≡ q }
 {}
 
 /// The position at a square is the one with that square rank, and the test for live positions is right.
 pub fn squares_hold_their_positions()
-    ensures at { (p : Placement) → IsPosition p → placement_at (sum p.mover) (square_rank_of p) ≡ p }
+    ensures at { (p : Placement) → IsPosition p
+        → placement_at (sum p.mover) (square_rank_of p) ≡ p }
     ensures live { (p : Placement) → IsTrue (is_live p) ↔ IsLive p }
 {}

@@ -1,5 +1,6 @@
-ghost use Rattle.std.specs.Prelude.{◌≡◌, ℕ, ◌+◌, ◌-◌, ◌*◌, ◌<◌, ◌≤◌, ◌↔◌, IsTrue, IsSome, IsNone, IfSome, List, length, sum, slice_index};
-ghost use Rattle.position_rank.specs.Packed.{start_counts};
+ghost use Rattle.std.specs.Prelude.{◌≡◌, ℕ, ◌+◌, ◌-◌, ◌*◌, ◌<◌, ◌≤◌, ◌↔◌, IsTrue, IsSome, IsNone, IfSome, List, [], ◌∷◌, length, sum, slice_index};
+ghost use Rattle.position_rank.specs.Examples.{placed};
+ghost use Rattle.position_rank.specs.Packed.{start_placement};
 ghost use Rattle.position_rank.specs.Ranks.{layouts, square_rank_of};
 ghost use Rattle.position_rank.specs.Placement.{Placement, IsLayout, IsPosition, IsLive, swap, moved, above, hit};
 
@@ -28,7 +29,8 @@ impl Position {
     /// `None` exactly where the sides have different numbers of checkers.
     pub fn new(mover: Layout, other: Layout) -> Option<Position>
         ensures same { IsSome result ↔ (sum mover ≡ sum other) }
-        ensures value { IfSome result (λ p. (p ≡ record { mover = mover; other = other }) × IsPosition p) }
+        ensures value { IfSome result (λ p.
+            (p ≡ record { mover = mover; other = other }) × IsPosition p) }
     {
         if mover.checkers() == other.checkers() {
             Some(Position { mover, other })
@@ -41,8 +43,9 @@ impl Position {
     pub fn start(checkers: u8) -> Position
         requires low { 1 ≤ checkers }
         requires high { checkers ≤ 3 }
-        ensures start { result ≡ record { mover = start_counts checkers; other = start_counts checkers } }
+        ensures start { result ≡ start_placement checkers }
         ensures valid { IsPosition result }
+        ensures live { IsLive result }
         ensures checkers { sum result.mover ≡ checkers }
     {
         let side = Layout::start(checkers);
@@ -151,7 +154,8 @@ impl Position {
         requires high { place ≤ 26 }
         ensures below { result < place }
         ensures held { 0 < result → 0 < slice_index self.now.mover result }
-        ensures empty { (between : ℕ) → result < between → between < place → slice_index self.now.mover between ≡ 0 }
+        ensures empty { (between : ℕ) → result < between → between < place
+            → slice_index self.now.mover between ≡ 0 }
     {
         self.mover.highest_below(place)
     }
@@ -162,7 +166,10 @@ impl Position {
         requires point { 1 ≤ to }
         requires to { to ≤ 24 }
         requires checker { 0 < slice_index self.now.mover from }
-        ensures { result ≡ record { mover = moved self.now.mover from to; other = hit self.now.other (25 - to) } }
+        ensures { result ≡ record {
+          mover = moved self.now.mover from to;
+          other = hit self.now.other (25 - to);
+        } }
     {
         let mover = self.mover.moved(from, to);
         if self.other.count(25 - to) == 1 {
@@ -196,9 +203,9 @@ impl Position {
 }
 
 impl Default for Position {
-    ghost is_default = { λ _. Unit {0} };
+    ghost is_default = { λ position. position ≡ placed (1 ∷ []) (1 ∷ []) };
 
-    /// One checker of each side on its first point.
+    /// One checker of each side, on its first point.
     fn default() -> Self {
         Position {
             mover: Layout::on_first(),

@@ -52,10 +52,12 @@ pub(crate) fn top_place(rank: u32, number: u8) -> u8
 
 /// Layouts of as many checkers and of equal rank are the same.
 pub fn ranks_tell_layouts()
-    ensures { (a b : List ℕ) → IsLayout a → IsLayout b → sum a ≡ sum b → rank_of a ≡ rank_of b → a ≡ b }
+    ensures { (a b : List ℕ) → IsLayout a → IsLayout b → sum a ≡ sum b
+        → rank_of a ≡ rank_of b → a ≡ b }
 {}
 
 /// Positions of as many checkers and of equal square rank are the same.
 pub fn square_ranks_tell_positions()
-    ensures { (p q : Placement) → IsPosition p → IsPosition q → sum p.mover ≡ sum q.mover → square_rank_of p ≡ square_rank_of q → p ≡ q }
+    ensures { (p q : Placement) → IsPosition p → IsPosition q
+        → sum p.mover ≡ sum q.mover → square_rank_of p ≡ square_rank_of q → p ≡ q }
 {}

@@ -1,13 +1,13 @@
 ghost use Rattle.std.specs.Prelude.{◌≡◌, ◌↔◌, ◌+◌, ◌*◌, ◌≤◌, ◌&&◌, ℕ, [], ◌∷◌, ◌++◌, All, Ok, IfOk, IfSome, IsSome, IsTrue, count_by, fold, length, map, sum, replicate, take};
 ghost use Rattle.std.specs.List.{before_first, after_first, filter_map};
 ghost use Rattle.position_rank.specs.Placement.{Placement, IsPosition, IsLive};
-ghost use Rattle.position_rank.specs.Text.{place, place_text, words, is_slash, have_shape, are_places, share_point, all_off, read_places, read_text, places_of, position_text};
+ghost use Rattle.position_rank.specs.Text.{place, place_text, words, is_slash, before_slash, after_slash, kept_places, have_shape, are_places, share_point, all_off, read_places, read_position, places_of, position_text};
 ghost use Rattle.position_rank.specs.TextParts.{add_word};
 
 use crate::layout::Layout;
+use crate::place::{place_name, push_word, read_place};
 use crate::position::Position;
 use arrayvec::{ArrayString, ArrayVec};
-use itoa::Buffer;
 
 /// How many checkers a side of a position that is read has at most.
 pub const MOST_CHECKERS: usize = 3;
@@ -35,7 +35,7 @@ pub enum BadPosition {
 /// The live position that a text describes, as `6 off / bar 3`. Of several errors the first in the order of
 /// `BadPosition` is answered.
 pub fn read_position(text: &str) -> Result<Position, BadPosition>
-    ensures text { result ≡ read_text text.now }
+    ensures text { result ≡ read_position text.now }
     ensures position { IfOk result IsPosition }
     ensures live { IfOk result IsLive }
 {
@@ -59,7 +59,8 @@ pub fn print_position(position: &Position) -> ArrayString<32>
 
 /// Reading what a live position prints gives the position back.
 pub fn printed_positions_are_read()
-    ensures { (p : Placement) → IsPosition p → IsLive p → read_text (position_text p) ≡ Ok p }
+    ensures { (p : Placement) → IsPosition p → IsLive p
+        → read_position (position_text p) ≡ Ok p }
 {}
 
 fn has_shape(text: &str) -> bool
@@ -72,9 +73,13 @@ fn has_shape(text: &str) -> bool
 /// The first few places of each side. `None` exactly where a word is neither a place nor the slash.
 fn read_sides(text: &str) -> Option<(Side, Side)>
     requires { count_by is_slash (words text.now) ≡ 1 }
-    ensures places { IsSome result ↔ IsTrue (are_places (before_first is_slash (words text.now)) && are_places (after_first is_slash (words text.now))) }
-    ensures mover { IfSome result (λ sides. sides.0.items ≡ take KEPT (filter_map place (before_first is_slash (words text.now)))) }
-    ensures other { IfSome result (λ sides. sides.1.items ≡ take KEPT (filter_map place (after_first is_slash (words text.now)))) }
+    ensures places { IsSome result
+        ↔ IsTrue (are_places (before_slash (words text.now))
+        && are_places (after_slash (words text.now))) }
+    ensures mover { IfSome result (λ sides.
+        sides.0.items ≡ kept_places (before_slash (words text.now))) }
+    ensures other { IfSome result (λ sides.
+        sides.1.items ≡ kept_places (after_slash (words text.now))) }
 {
     let mut mover = Side::new();
     let mut other = Side::new();
@@ -92,25 +97,6 @@ fn read_sides(text: &str) -> Option<(Side, Side)>
         }
     }
     Some((mover, other))
-}
-
-fn read_place(word: &str) -> Option<u8>
-    ensures { result ≡ place word.now }
-{
-    (0..26).find(|place| place_name(*place).as_str() == word)
-}
-
-fn place_name(place: u8) -> ArrayString<3>
-    ensures text { result.bytes ≡ place_text place }
-    ensures short { length result.bytes ≤ 3 }
-{
-    let mut name = ArrayString::new();
-    match place {
-        0 => name.push_str("off"),
-        25 => name.push_str("bar"),
-        _ => name.push_str(Buffer::new().format(place)),
-    }
-    name
 }
 
 fn keep(side: &mut Side, place: u8)
@@ -163,7 +149,8 @@ fn is_off(side: &Layout) -> bool
 
 fn push_side(text: &mut ArrayString<32>, side: &Layout)
     requires { length text.old.bytes + 4 * sum side.now ≤ 32 }
-    ensures words { text.new.bytes ≡ fold add_word text.old.bytes (map place_text (places_of side.now)) }
+    ensures words { text.new.bytes
+        ≡ fold add_word text.old.bytes (map place_text (places_of side.now)) }
     ensures length { length text.new.bytes ≤ length text.old.bytes + 4 * sum side.now }
 {
     for place in (0..26).rev() {
@@ -174,22 +161,13 @@ fn push_side(text: &mut ArrayString<32>, side: &Layout)
 fn push_place(text: &mut ArrayString<32>, place: u8, times: u8)
     requires place { place ≤ 25 }
     requires room { length text.old.bytes + 4 * times ≤ 32 }
-    ensures words { text.new.bytes ≡ fold add_word text.old.bytes (replicate times (place_text place)) }
+    ensures words { text.new.bytes
+        ≡ fold add_word text.old.bytes (replicate times (place_text place)) }
     ensures length { length text.new.bytes ≤ length text.old.bytes + 4 * times }
 {
     for _ in 0..times {
         push_word(text, place_name(place).as_str());
     }
-}
-
-fn push_word(text: &mut ArrayString<32>, word: &str)
-    requires { length text.old.bytes + 1 + length word.now ≤ 32 }
-    ensures { text.new.bytes ≡ add_word text.old.bytes word.now }
-{
-    if !text.is_empty() {
-        text.push(' ');
-    }
-    text.push_str(word);
 }
 
 #[cfg(test)]
