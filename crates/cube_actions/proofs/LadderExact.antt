@@ -8,9 +8,9 @@ use Rattle.cube_actions.specs.declared.phase.Phase.TheVariants.{Normal, Crawford
 use Rattle.cube_actions.specs.Scores.{MatchScore, same_score, same_phase}
 use Rattle.cube_actions.specs.Ladder.{in_order, is_of_match, can_be, ladder, IsOfMatch, ComesBefore}
 use Rattle.cube_actions.specs.Starts.{place_of}
-use Rattle.cube_actions.proofs.Ladders.{one_to_five}
-use Rattle.cube_actions.proofs.Places.{passed_at, found_at}
-use Rattle.cube_actions.proofs.Winning.{same_score-true, same_phase-true, in_five-valid, all_in_five}
+use Rattle.cube_actions.proofs.LadderOfFive.{one_to_five}
+use Rattle.cube_actions.proofs.FirstPassing.{passed_at, found_at}
+use Rattle.cube_actions.proofs.WinsLeadDown.{same_score-true, same_phase-true, in_five-valid, all_in_five}
 
 abbrev five : List ℕ
 five = 1 ∷ 2 ∷ 3 ∷ 4 ∷ 5 ∷ []

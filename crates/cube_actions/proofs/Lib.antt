@@ -1,8 +1,8 @@
 mod LadderExact
-mod Ladders
+mod LadderOfFive
 mod MatchTerms
 mod NamesDistinct
 mod NamesKnown
 mod NamesRead
-mod Places
-mod Winning
+mod FirstPassing
+mod WinsLeadDown

@@ -17,9 +17,9 @@ use Rattle.cube_actions.specs.Ladder.{ladder, in_order}
 use Rattle.cube_actions.specs.MatchKinds.{match_kinds, every_kind, can_come, number_in, after_play, after_take, may_double}
 use Rattle.cube_actions.specs.Starts.{StartPairs, AreStarts, place_of, start_pair}
 use Rattle.cube_actions.specs.Matches.{terms_of, match_kind, value_of_win, next_value, next_score, stays_near}
-use Rattle.cube_actions.proofs.Ladders.{one_to_five, filter_few}
-use Rattle.cube_actions.proofs.Places.{passed_at, found_at}
-use Rattle.cube_actions.proofs.Winning.{same_score-true}
+use Rattle.cube_actions.proofs.LadderOfFive.{one_to_five, filter_few}
+use Rattle.cube_actions.proofs.FirstPassing.{passed_at, found_at}
+use Rattle.cube_actions.proofs.WinsLeadDown.{same_score-true}
 
 -- the numbers that a kind names are those of kinds
 number_fits : MatchScore → MatchKind → Bool

@@ -11,7 +11,7 @@ use Rattle.cube_actions.specs.declared.name.StakesName.TheVariants.{Cubeless, Mo
 use Rattle.cube_actions.specs.Scores.{MatchScore}
 use Rattle.cube_actions.specs.MatchKinds.{every_kind, match_kinds, can_come}
 use Rattle.cube_actions.specs.Names.{names_of, name_of, same_name, is_kind_name, money_names}
-use Rattle.cube_actions.proofs.Places.{passed_at}
+use Rattle.cube_actions.proofs.FirstPassing.{passed_at}
 use Rattle.cube_actions.proofs.NamesKnown.{same_name-refl}
 
 all_apart : List KindName → Bool

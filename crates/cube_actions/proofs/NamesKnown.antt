@@ -11,7 +11,7 @@ use Rattle.cube_actions.specs.declared.name.KindName.{KindName}
 use Rattle.cube_actions.specs.declared.name.KindName.TheVariants.{Alone, Centred, Mine, Theirs, InMatch}
 use Rattle.cube_actions.specs.MatchKinds.{same_side, same_owner}
 use Rattle.cube_actions.specs.Names.{same_name}
-use Rattle.cube_actions.proofs.Places.{found_at}
+use Rattle.cube_actions.proofs.FirstPassing.{found_at}
 
 same_side-true : (a b : Side) → same_side a b ≡ true → a ≡ b
 same_side-true Near Near h = refl

@@ -12,7 +12,7 @@ use Rattle.cube_actions.specs.declared.side.Side.TheVariants.{Near, Far}
 use Rattle.cube_actions.specs.declared.name.KindName.{KindName}
 use Rattle.cube_actions.specs.declared.name.KindName.TheVariants.{Alone, Centred, Mine, Theirs, InMatch}
 use Rattle.cube_actions.specs.Names.{every_name, is_kind_name, kind_text, read_name}
-use Rattle.cube_actions.proofs.Places.{either, found_at, passed_at}
+use Rattle.cube_actions.proofs.FirstPassing.{either, found_at, passed_at}
 
 IsRead : KindName → Type 0
 IsRead name = read_name (kind_text name) ≡ Some name

@@ -19,7 +19,7 @@ use Rattle.move_rules.specs.declared.applied.BadPlay.{BadPlay}
 use Rattle.move_rules.specs.declared.applied.BadPlay.TheVariants.{WrongDice, NoChecker, BarFirst, NotHome, Closed, HitMark, TooFew, HigherDie}
 use Rattle.move_rules.proofs.EndsExact.{after_move-sound, after_move-complete}
 use Rattle.move_rules.proofs.FirstLines.{IsPlays}
-use Rattle.move_rules.proofs.Pairs.{Among-at}
+use Rattle.move_rules.proofs.EarlierAndLater.{Among-at}
 use Rattle.move_rules.proofs.RollLines.{double-listing, pair-listing}
 
 -- ---- one move

@@ -12,7 +12,7 @@ use Rattle.move_rules.specs.Order.{ComesBefore, IsFirst, ends_of, plays_of}
 use Rattle.move_rules.specs.declared.play.Entry.{Entry}
 use Rattle.move_rules.specs.declared.play.Move.{Move}
 use Rattle.move_rules.proofs.Members.{Among-left, Among-right, Among-cases, Among-map, map-cases, Contains-Among, Among-Contains}
-use Rattle.move_rules.proofs.Pairs.{Pairs, Pairs-push, Pairs-map, Pairs-of_map, Pairs-before, Among-at, AllPairs-of}
+use Rattle.move_rules.proofs.EarlierAndLater.{Pairs, Pairs-push, Pairs-map, Pairs-of_map, Pairs-before, Among-at, AllPairs-of}
 use Rattle.move_rules.proofs.FullLines.{Before}
 use Rattle.move_rules.proofs.RollLines.{IsListing}
 

@@ -12,8 +12,8 @@ use Rattle.move_rules.specs.Order.{ComesBefore}
 use Rattle.move_rules.specs.declared.play.Move.{Move}
 use Rattle.move_rules.proofs.Members.{Among-flat_map, flat_map-cases}
 use Rattle.move_rules.proofs.EndsExact.{after_move-sound, after_move-complete, of_places, to_places, of_option, leaves_from}
-use Rattle.move_rules.proofs.Added.{full_from-none, full_from-some}
-use Rattle.move_rules.proofs.Pairs.{Pairs, Pairs-down}
+use Rattle.move_rules.proofs.LinesAdded.{full_from-none, full_from-some}
+use Rattle.move_rules.proofs.EarlierAndLater.{Pairs, Pairs-down}
 
 -- these moves lead from p to q
 abbrev pub IsPlayed : Placement → List Move → Placement → Type 0

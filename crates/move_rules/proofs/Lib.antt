@@ -1,11 +1,11 @@
 pub mod Members
 pub mod StayLive
 pub mod EndsExact
-mod Added
-mod Counted
-mod Pairs
-mod FullLines
-mod RollLines
+pub mod LinesAdded
+pub mod LineCounts
+pub mod EarlierAndLater
+pub mod FullLines
+pub mod RollLines
 mod FirstLines
 pub mod SomeEnd
 mod FaultLaws

@@ -11,7 +11,7 @@ use Rattle.move_rules.specs.Order.{ComesBefore}
 use Rattle.move_rules.specs.declared.play.Move.{Move}
 use Rattle.move_rules.proofs.Members.{Among-left, Among-right, Among-cases}
 use Rattle.move_rules.proofs.EndsExact.{same_dice}
-use Rattle.move_rules.proofs.Pairs.{Pairs, Pairs-append}
+use Rattle.move_rules.proofs.EarlierAndLater.{Pairs, Pairs-append}
 use Rattle.move_rules.proofs.FullLines.{IsPlayed, dice_used, IsDraw, Before, sequence-played, played-sequence, full-sound, full-complete, full-ordered}
 
 pub record IsListing (p : Placement) (roll : Dice) (lines : List Line) : Type 0 where

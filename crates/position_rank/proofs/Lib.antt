@@ -1,10 +1,10 @@
-pub mod Cells
+pub mod PackedCells
 pub mod Choose
 pub mod LiveLaws
-pub mod Made
+pub mod LayoutsFromPlaces
 pub mod PlaceTexts
 pub mod RankLaws
-pub mod Rising
+pub mod RisingPlaces
 pub mod SameLayouts
 pub mod StartLive
 mod TextPlacements

@@ -11,9 +11,9 @@ use Rattle.position_rank.specs.Packed.{counts_of}
 use Rattle.position_rank.specs.PackedLaws.{one, count-below, count-same}
 use Rattle.position_rank.specs.Ranks.{choose, layouts, rising_places, sum_of_ways, rank_of, square_rank_of}
 use Rattle.position_rank.specs.LiveRanks.{are_apart, is_in_play, is_live, highest_place, falling_places, layout_at, placement_at, live_below, live_positions, live_rank_of}
-use Rattle.position_rank.proofs.Cells.{one-le}
+use Rattle.position_rank.proofs.PackedCells.{one-le}
 use Rattle.position_rank.proofs.Choose.{choose-more, choose-one, rises, two-below, three-below}
-use Rattle.position_rank.proofs.Rising.{often-cons, RiseFrom, counts_of-rising_places, rising_places-rise, rising_places-within, length-rising_places, counts_of-same}
+use Rattle.position_rank.proofs.RisingPlaces.{often-cons, RiseFrom, counts_of-rising_places, rising_places-rise, rising_places-within, length-rising_places, counts_of-same}
 use Rattle.position_rank.proofs.RankLaws.{layouts-one, layouts-two, layouts-three, ways-one, ways-two, ways-three, rank-below, square-below, positions-same}
 
 All-range : (a n : ℕ) → All (λ x. (a ≤ x) × (x < a + n)) (range_with_len a n)

@@ -7,7 +7,7 @@ use Rattle.position_rank.specs.Packed.{counts_of, packed_counts, IsPacked}
 use Rattle.position_rank.specs.PackedLaws.{sum-packed}
 use Rattle.position_rank.specs.Ranks.{choose, layouts, rising_places, sum_of_ways, rank_of, square_rank_of}
 use Rattle.position_rank.proofs.Choose.{choose-one, choose-two, choose-three, choose-two-more, choose-three-more, choose-two-rises, choose-three-rises, two-below, three-below, two-same, three-same}
-use Rattle.position_rank.proofs.Rising.{often-cons, RiseFrom, rising_places-counts_of, counts_of-rising_places, rising_places-rise, rising_places-within, length-rising_places, counts_of-same}
+use Rattle.position_rank.proofs.RisingPlaces.{often-cons, RiseFrom, rising_places-counts_of, counts_of-rising_places, rising_places-rise, rising_places-within, length-rising_places, counts_of-same}
 
 -- the ranks of one, two and three places in rising order
 pub ways-one : (x : ℕ) → sum_of_ways 1 (x ∷ []) ≡ x

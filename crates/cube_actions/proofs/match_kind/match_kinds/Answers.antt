@@ -2,7 +2,7 @@ use Rattle.std.proofs.Common.{◌≡◌, ◌∙◌, ap, length, arith}
 use Rattle.std.proofs.lemmas.List.{take_all}
 use Rattle.std.specs.List.{filter}
 use Rattle.cube_actions.specs.MatchKinds.{can_come, match_kinds}
-use Rattle.cube_actions.proofs.Ladders.{kept_few}
+use Rattle.cube_actions.proofs.LadderOfFive.{kept_few}
 use Rattle.cube_actions.proofs.match_kind.match_kinds.Goals as goal
 
 pub push-requires : goal.push-requires

@@ -3,7 +3,7 @@ use Rattle.std.proofs.lemmas.Iterator.{YieldsList-from_slice}
 use Rattle.std.proofs.lemmas.Iterator.Search.{position_from_yields_List}
 use Rattle.std.specs.Option.{unwrap_or}
 use Rattle.cube_actions.specs.MatchKinds.{same_kind}
-use Rattle.cube_actions.proofs.Places.{place_found}
+use Rattle.cube_actions.proofs.FirstPassing.{place_found}
 use Rattle.cube_actions.proofs.match_kind.number_in.Goals as goal
 
 pub returns : goal.returns

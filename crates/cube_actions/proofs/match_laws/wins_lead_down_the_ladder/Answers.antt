@@ -1,4 +1,4 @@
-use Rattle.cube_actions.proofs.Winning.{after_win-before, listed-valid}
+use Rattle.cube_actions.proofs.WinsLeadDown.{after_win-before, listed-valid}
 use Rattle.cube_actions.proofs.match_laws.wins_lead_down_the_ladder.Goals as goal
 
 pub returns : goal.returns

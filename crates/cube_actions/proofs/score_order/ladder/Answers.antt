@@ -2,7 +2,7 @@ use Rattle.std.proofs.Common.{◌≡◌, ◌∙◌, ap, length, arith}
 use Rattle.std.proofs.lemmas.List.{take_all}
 use Rattle.std.specs.List.{filter}
 use Rattle.cube_actions.specs.Ladder.{is_of_match}
-use Rattle.cube_actions.proofs.Ladders.{kept_of_five, length-five, kept_few}
+use Rattle.cube_actions.proofs.LadderOfFive.{kept_of_five, length-five, kept_few}
 use Rattle.cube_actions.proofs.score_order.ladder.Goals as goal
 
 pub push-requires : goal.push-requires

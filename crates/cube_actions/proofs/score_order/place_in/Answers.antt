@@ -1,6 +1,6 @@
 use Rattle.std.proofs.Common.{length, ap, ◌∙◌, rules, tests}
 use Rattle.std.specs.Option.{unwrap_or}
-use Rattle.cube_actions.proofs.Places.{place_found}
+use Rattle.cube_actions.proofs.FirstPassing.{place_found}
 use Rattle.std.proofs.lemmas.Iterator.{YieldsList-from_slice}
 use Rattle.std.proofs.lemmas.Iterator.Search.{position_from_yields_List}
 use Rattle.cube_actions.specs.Scores.{same_score}

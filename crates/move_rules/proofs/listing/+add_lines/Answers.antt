@@ -3,7 +3,7 @@ use Rattle.std.proofs.lemmas.Bool.Decides.{nat_tests}
 use Rattle.move_rules.specs.Ends.{Line}
 use Rattle.move_rules.specs.Listing.{full, Adds, lines_of}
 use Rattle.move_rules.specs.declared.play.Move.{Move}
-use Rattle.move_rules.proofs.Added.{full-end, adds-begin, room-here, rest-is, rest-right, rest-length, length-lines, popped-is, adds-some, adds-none}
+use Rattle.move_rules.proofs.LinesAdded.{full-end, adds-begin, room-here, rest-is, rest-right, rest-length, length-lines, popped-is, adds-some, adds-none}
 use Rattle.move_rules.proofs.listing.+add_lines.Goals as goal
 use Rattle.move_rules.proofs.listing.+add_lines.Goals.{in-Some, in_default}
 

@@ -1,6 +1,6 @@
 use Rattle.std.proofs.Common.{length}
 use Rattle.move_rules.specs.Listing.{lines_of}
-use Rattle.move_rules.proofs.Added.{AddsUpTo}
+use Rattle.move_rules.proofs.LinesAdded.{AddsUpTo}
 use Rattle.move_rules.proofs.listing.+add_lines.Given as goal
 
 abbrev pub decreases-add_lines : goal.decreases-add_lines

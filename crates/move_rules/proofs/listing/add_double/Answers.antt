@@ -1,7 +1,7 @@
 use Rattle.std.proofs.Common.{List, ap}
 use Rattle.move_rules.specs.Listing.{lines_of}
 use Rattle.move_rules.specs.declared.play.Entry.{Entry}
-use Rattle.move_rules.proofs.Added.{adds-double}
+use Rattle.move_rules.proofs.LinesAdded.{adds-double}
 use Rattle.move_rules.proofs.listing.add_double.Goals as goal
 
 pub returns : goal.returns

@@ -1,8 +1,8 @@
 use Rattle.std.proofs.Common.{◌≡◌, ◌<◌, length, refl, arith}
 use Rattle.std.proofs.lemmas.Bool.Decides.{nat_tests}
 use Rattle.move_rules.specs.Listing.{lines_of}
-use Rattle.move_rules.proofs.Added.{or_else-adds, length-lines}
-use Rattle.move_rules.proofs.Counted.{full-few}
+use Rattle.move_rules.proofs.LinesAdded.{or_else-adds, length-lines}
+use Rattle.move_rules.proofs.LineCounts.{full-few}
 use Rattle.move_rules.proofs.listing.add_if_none.Goals as goal
 
 pub add_all-requires-clause-room : goal.add_all-requires-clause-room

@@ -1,8 +1,8 @@
 use Rattle.std.proofs.Common.{List, length, ap, arith}
 use Rattle.move_rules.specs.Listing.{lines_of}
 use Rattle.move_rules.specs.declared.play.Entry.{Entry}
-use Rattle.move_rules.proofs.Added.{Adds-length, adds-pair, length-lines}
-use Rattle.move_rules.proofs.Counted.{pair-few}
+use Rattle.move_rules.proofs.LinesAdded.{Adds-length, adds-pair, length-lines}
+use Rattle.move_rules.proofs.LineCounts.{pair-few}
 use Rattle.move_rules.proofs.listing.add_pair.Goals as goal
 
 pub add_all-requires-clause-room : goal.add_all-requires-clause-room

@@ -1,7 +1,7 @@
 use Rattle.std.proofs.Common.{◌≡◌, subst, refl, true, false, List}
 use Rattle.move_rules.specs.Listing.{Reaches, lines_of}
 use Rattle.move_rules.specs.declared.play.Entry.{Entry}
-use Rattle.move_rules.proofs.Added.{reaches-at, reaches-more}
+use Rattle.move_rules.proofs.LinesAdded.{reaches-at, reaches-more}
 use Rattle.move_rules.proofs.listing.reaches.Goals as goal
 
 pub returns-then-same : goal.returns-then-same

@@ -1,5 +1,5 @@
 use Rattle.std.proofs.Common.{arith}
-use Rattle.cube_actions.proofs.Ladders.{ladder_few}
+use Rattle.cube_actions.proofs.LadderOfFive.{ladder_few}
 use Rattle.cube_actions.proofs.starts.Starts.add.Goals as goal
 
 pub push-requires : goal.push-requires

@@ -4,7 +4,7 @@ use Rattle.cube_actions.specs.Scores.{MatchScore, IsScore}
 use Rattle.cube_actions.specs.Matches.{next_score}
 use Rattle.cube_actions.specs.Ladder.{ladder}
 use Rattle.cube_actions.specs.Starts.{place_of}
-use Rattle.cube_actions.proofs.Winning.{listed-valid}
+use Rattle.cube_actions.proofs.WinsLeadDown.{listed-valid}
 use Rattle.cube_actions.proofs.stakes.matches.Game.next_value.Goals as goal
 
 pub next_score-next-requires : goal.next_score-next-requires

@@ -8,7 +8,7 @@ use Rattle.position_rank.specs.Placement.{Placement}
 use Rattle.move_rules.specs.Ends.{Line, after_move, down_from, places}
 use Rattle.move_rules.specs.Listing.{full, full_from}
 use Rattle.move_rules.specs.declared.play.Move.{Move}
-use Rattle.move_rules.proofs.Added.{full_from-empty, full_from-none, full_from-some}
+use Rattle.move_rules.proofs.LinesAdded.{full_from-empty, full_from-none, full_from-some}
 use Rattle.move_rules.proofs.EndsExact.{after_move-sound}
 use Rattle.move_rules.proofs.StayLive.{mover-stays}
 

@@ -10,8 +10,8 @@ use Rattle.cube_actions.specs.Scores.{MatchScore, IsScore, last_game, needs, oth
 use Rattle.cube_actions.specs.Ladder.{in_order, is_of_match, ladder}
 use Rattle.cube_actions.specs.Starts.{place_of}
 use Rattle.cube_actions.specs.Matches.{next_score}
-use Rattle.cube_actions.proofs.Ladders.{one_to_five}
-use Rattle.cube_actions.proofs.Places.{passed_at, found_at}
+use Rattle.cube_actions.proofs.LadderOfFive.{one_to_five}
+use Rattle.cube_actions.proofs.FirstPassing.{passed_at, found_at}
 
 -- the score that follows when a side has won so many points
 abbrev pub after_win : MatchScore → Side → ℕ → MatchScore
