@@ -1,5 +1,5 @@
 pub mod Fronts
-pub mod Laws
 pub mod Held
 pub mod Stocks
 pub mod PlaceLemmas
+mod Writing

@@ -1,5 +1,5 @@
 -- Calls that are counted, with those that are to fail.
-use Rattle.std.specs.Prelude.{ℕ, ◌==◌, List, take, Option, find}
+use Rattle.std.specs.Prelude.{ℕ, ◌==◌, List, [], ◌∷◌, ◌++◌, take, Option, find}
 use Rattle.std.specs.Option.{option_map, option_map_or}
 use Rattle.hyper_outside.specs.Causes.{counted}
 
@@ -7,6 +7,14 @@ use Rattle.hyper_outside.specs.Causes.{counted}
 pub record CallList : Type 0 where
   pub made : ℕ
   pub failing : List (ℕ × ℕ)
+
+-- none was made, and none is to fail
+abbrev pub no_calls : CallList
+no_calls = record { made = 0; failing = [] }
+
+-- one call more is to fail, and still adds so much
+abbrev pub with_failing : CallList → ℕ → ℕ → CallList
+with_failing calls call front = record calls { failing = calls.failing ++ (call, front) ∷ [] }
 
 -- after one more call
 abbrev pub called : CallList → CallList

@@ -1,12 +1,17 @@
 -- Bytes in memory with room for more, and the sinks over them.
-use Rattle.std.specs.Prelude.{ℕ, ◌-◌, nat_lt, nat_le, Bool, ◌||◌, List, ◌++◌, length, is_some, if◌then◌else◌}
+use Rattle.std.specs.Prelude.{ℕ, ◌+◌, ◌-◌, nat_lt, nat_le, Bool, ◌||◌, List, [], ◌++◌, length, Some, is_some, if◌then◌else◌}
+use Rattle.hyper_outside.specs.Sink.{Output}
 use Rattle.hyper_outside.specs.Causes.{counted}
-use Rattle.hyper_outside.specs.Calls.{CallList, called, listed, front_of}
+use Rattle.hyper_outside.specs.Calls.{CallList, no_calls, called, listed, front_of}
 
 -- the bytes, and how many more there is room for
 pub record Bytes : Type 0 where
   pub bytes : List ℕ
   pub room : ℕ
+
+-- with room for so many bytes more
+abbrev pub with_room : Bytes → ℕ → Bytes
+with_room pile bytes = record pile { room = pile.room + bytes }
 
 -- with these bytes at the end
 abbrev pub more : Bytes → List ℕ → Bytes
@@ -16,6 +21,13 @@ more pile added = record { bytes = pile.bytes ++ added; room = pile.room - lengt
 pub record Honest : Type 0 where
   pub pile : Bytes
   pub faults : ℕ
+
+-- no bytes, room for so many, no fault
+abbrev pub honest_with : ℕ → Honest
+honest_with room = record { pile = record { bytes = []; room = room }; faults = 0 }
+
+abbrev pub honest_output : Honest → Output
+honest_output sink = record { told = Some sink.pile.bytes; faults = sink.faults }
 
 -- after a put of these bytes: where they don't fit nothing is added
 abbrev pub after_honest : Honest → List ℕ → Honest
@@ -28,6 +40,13 @@ pub record Demanding : Type 0 where
   pub pile : Bytes
   pub calls : CallList
   pub faults : ℕ
+
+-- no bytes, no room, no call
+abbrev pub no_bytes : Demanding
+no_bytes = record { pile = record { bytes = []; room = 0 }; calls = no_calls; faults = 0 }
+
+abbrev pub demanding_output : Demanding → Output
+demanding_output sink = record { told = Some sink.pile.bytes; faults = sink.faults }
 
 -- a put of these bytes fails: it is listed, or there is no room for them
 abbrev pub put_fails : Demanding → List ℕ → Bool

@@ -1,7 +1,8 @@
 -- Files in memory, with room for more.
-use Rattle.std.specs.Prelude.{ℕ, zero, suc, ◌+◌, ◌-◌, nat_lt, nat_le, Bool, ◌||◌, ◌&&◌, List, [], ◌∷◌, length, Option, Some, None, is_some, unwrap_or, if◌then◌else◌}
+use Rattle.std.specs.Prelude.{ℕ, zero, suc, ◌+◌, ◌-◌, nat_lt, nat_le, Bool, ◌||◌, ◌&&◌, List, [], ◌∷◌, ◌++◌, length, Option, Some, None, is_some, unwrap_or, if◌then◌else◌}
 use Rattle.std.specs.Option.{option_map}
 use Rattle.std.specs.Str.{bytes_eq}
+use Rattle.hyper_outside.specs.Files.{bytes_from}
 
 -- a name with its bytes
 pub record File : Type 0 where
@@ -31,6 +32,14 @@ pub record Stock : Type 0 where
   pub places : ℕ
   pub room : ℕ
 
+-- no files, no places and no room
+abbrev pub no_stock : Stock
+no_stock = record { files = []; places = 0; room = 0 }
+
+-- the same with so many places
+abbrev pub with_places : Stock → ℕ → Stock
+with_places stock places = record stock { places = places }
+
 -- the bytes under a name, none where it isn't there
 abbrev pub bytes_of : Stock → List ℕ → List ℕ
 bytes_of stock name = unwrap_or (held_bytes stock.files name) []
@@ -51,6 +60,22 @@ stocked stock name bytes = record {
   room = stock.room + length (bytes_of stock name) - length bytes;
 }
 
+-- with a file of a new name, which takes a place and its room
+abbrev pub filed : Stock → List ℕ → List ℕ → Stock
+filed stock name bytes = record {
+  files = stock.files ++ record { name = name; bytes = bytes } ∷ [];
+  places = stock.places - 1;
+  room = stock.room - length bytes;
+}
+
 -- with places for more names and room for more bytes
 abbrev pub roomier : Stock → ℕ → ℕ → Stock
 roomier stock names bytes = record stock { places = stock.places + names; room = stock.room + bytes }
+
+-- with a file more, and the room of it
+abbrev pub with_file : Stock → List ℕ → List ℕ → Stock
+with_file stock name bytes = stocked (roomier stock 1 (length bytes)) name bytes
+
+-- how many bytes can be read of a name from this place on
+abbrev pub length_from : ℕ → List File → List ℕ → ℕ
+length_from at files name = length (bytes_from at (held_bytes files name))

@@ -1,5 +1,5 @@
 ghost use Rattle.std.specs.Prelude.{◌≡◌, ℕ, List, [], ◌∷◌, ◌++◌, OnOk, OnErr};
-ghost use Rattle.hyper_outside.specs.Calls.{CallList, called, listed, front_of};
+ghost use Rattle.hyper_outside.specs.Calls.{CallList, no_calls, with_failing, called, listed, front_of};
 
 use crate::outside::NoMemory;
 use std::alloc::Global;
@@ -22,7 +22,7 @@ impl Model for Calls {
 
 impl Calls {
     pub fn new(alloc: Global) -> Calls
-        ensures { result ≡ record { made = 0; failing = [] } }
+        ensures { result ≡ no_calls }
     {
         Calls {
             made: 0,
@@ -32,7 +32,7 @@ impl Calls {
 
     /// Lists a call that is to fail, with the length of the front that it still adds.
     pub fn fail(&mut self, call: u64, prefix: usize) -> Result<(), NoMemory>
-        ensures ok { OnOk result (self.new ≡ record self.old { failing = self.old.failing ++ (call, prefix) ∷ [] }) }
+        ensures ok { OnOk result (self.new ≡ with_failing self.old call prefix) }
         ensures err { OnErr result (self.new ≡ self.old) }
     {
         self.failing.push((call, prefix))?;

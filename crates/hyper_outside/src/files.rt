@@ -2,8 +2,9 @@ ghost use Rattle.std.specs.Prelude.{◌≡◌, ℕ, ◌+◌, ◌≤◌, List, []
 ghost use Rattle.std.specs.Option.{option_copied, option_map};
 ghost use Rattle.hyper_outside.specs.Causes.{HasCause};
 ghost use Rattle.hyper_outside.specs.Files.{SameFiles, KeepsOthers, Reads, Starts, Appends, bytes_from};
-ghost use Rattle.hyper_outside.specs.Store.{held_bytes, stocked, roomier};
-ghost use Rattle.hyper_outside.specs.MemFiles.{is_listed, start_fails, append_fails, after_read, after_start, after_append};
+ghost use Rattle.hyper_outside.specs.Calls.{with_failing};
+ghost use Rattle.hyper_outside.specs.Store.{held_bytes, length_from, with_file, with_places, roomier};
+ghost use Rattle.hyper_outside.specs.MemFiles.{no_files, restocked, is_listed, start_fails, append_fails, after_read, after_start, after_append};
 
 use crate::calls::{Calls, front};
 use crate::outside::{Failed, Files, NoMemory};
@@ -31,7 +32,7 @@ impl Model for MemFiles {
 impl MemFiles {
     /// No files, and no room.
     pub fn new(alloc: Global) -> MemFiles
-        ensures { result ≡ record { stock = record { files = []; places = 0; room = 0 }; calls = record { made = 0; failing = [] }; read_faults = 0; write_faults = 0 } }
+        ensures { result ≡ no_files }
     {
         MemFiles {
             store: Store::new(alloc),
@@ -43,16 +44,18 @@ impl MemFiles {
 
     /// Puts a file, and takes the room of it. After `NoMemory` the files are as before, and there may be more room.
     pub fn with_file(&mut self, name: &str, bytes: &[u8]) -> Result<(), NoMemory>
-        ensures ok { OnOk result (self.new ≡ record self.old { stock = stocked (roomier self.old.stock 1 (length bytes.now)) name.now bytes.now }) }
-        ensures err { OnErr result (self.new ≡ record self.old { stock = record self.old.stock { places = self.new.stock.places; room = self.new.stock.room } }) }
+        ensures ok { OnOk result (self.new ≡ restocked self.old (with_file self.old.stock name.now bytes.now)) }
+        ensures err { OnErr result (self.new ≡ restocked self.old self.new.stock) }
+        ensures files { OnErr result (self.new.stock.files ≡ self.old.stock.files) }
     {
         self.store.put_file(name, bytes)
     }
 
     /// Takes room for so many names and bytes more. After `NoMemory` there may be more names' room.
     pub fn room(&mut self, names: usize, bytes: usize) -> Result<(), NoMemory>
-        ensures ok { OnOk result (self.new ≡ record self.old { stock = roomier self.old.stock names bytes }) }
-        ensures err { OnErr result (self.new ≡ record self.old { stock = record self.old.stock { places = self.new.stock.places } }) }
+        ensures ok { OnOk result (self.new ≡ restocked self.old (roomier self.old.stock names bytes)) }
+        ensures err { OnErr result
+            (self.new ≡ restocked self.old (with_places self.old.stock self.new.stock.places)) }
         ensures places { self.old.stock.places ≤ self.new.stock.places }
     {
         self.store.take_room(names, bytes)
@@ -60,7 +63,8 @@ impl MemFiles {
 
     /// Lists a call that is to fail, counted from 1 over all calls of `Files`, and how many bytes it still adds if it is an append.
     pub fn fail_call(&mut self, call: u64, prefix: usize) -> Result<(), NoMemory>
-        ensures ok { OnOk result (self.new ≡ record self.old { calls = record self.old.calls { failing = self.old.calls.failing ++ (call, prefix) ∷ [] } }) }
+        ensures ok { OnOk result
+            (self.new ≡ record self.old { calls = with_failing self.old.calls call prefix }) }
         ensures err { OnErr result (self.new ≡ self.old) }
     {
         self.calls.fail(call, prefix)
@@ -104,7 +108,8 @@ impl Files for MemFiles {
     fn read_at(&mut self, name: &str, at: u64, buf: &mut [u8]) -> Result<usize, Failed>
         ensures within { IfOk result (λ count. count ≤ length buf.old) }
         ensures reads { IfOk result (Reads (held_bytes self.old.stock.files name.now) at buf.old buf.new) }
-        ensures most { IfOk result (λ count. count ≡ min (length buf.old) (length (bytes_from at (held_bytes self.old.stock.files name.now)))) }
+        ensures most { IfOk result
+            (λ count. count ≡ min (length buf.old) (length_from at self.old.stock.files name.now)) }
         ensures failed { OnErr result (buf.new ≡ buf.old) }
         ensures cause { HasCause self.old.read_faults self.new.read_faults result }
         ensures answer { is_ok result ≡ not (is_listed self.old) }

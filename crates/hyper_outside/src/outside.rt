@@ -2,7 +2,7 @@ ghost use Rattle.std.specs.Prelude.{◌≡◌, ℕ, ◌≤◌, List, Bool, IsTru
 ghost use Rattle.std.specs.Option.{option_map};
 ghost use Rattle.hyper_outside.specs.Causes.{HasCause};
 ghost use Rattle.hyper_outside.specs.Files.{SameFiles, KeepsOthers, Reads, Starts, Appends};
-ghost use Rattle.hyper_outside.specs.Sink.{Puts};
+ghost use Rattle.hyper_outside.specs.Sink.{Output, Puts};
 
 use std::alloc::{AllocError, AllocFailed};
 
@@ -73,16 +73,12 @@ pub struct BadWords {
 
 /// Where the output goes.
 pub trait Sink {
-    /// The bytes that were put, where it tells them.
-    ghost told: { Self → Option (List ℕ) };
+    /// The bytes that were put, where it tells them, and how often it has failed.
+    ghost output: { Self → Output };
 
-    /// How often it has failed.
-    ghost faults: { Self → ℕ };
-
-    /// Adds the bytes. After `Failed` a front of them was added.
+    /// Adds the bytes. After `Failed`, which comes only where the count of faults rose, a front of them was added.
     fn put(&mut self, bytes: &[u8]) -> Result<(), Failed>
-        ensures puts { Puts (told self.old) (told self.new) bytes.now result }
-        ensures cause { HasCause (faults self.old) (faults self.new) result };
+        ensures { Puts (output self.old) (output self.new) bytes.now result };
 }
 
 /// Files by their names.

@@ -1,14 +1,14 @@
-ghost use Rattle.std.specs.Prelude.{◌≡◌, ℕ, ◌+◌, ◌≤◌, ◌↔◌, nat_le, not, List, [], ◌∷◌, ◌++◌, length, Some, None, IfOk, OnOk, OnErr, is_ok};
-ghost use Rattle.std.specs.Io.KnownBytes.{Appends};
-ghost use Rattle.hyper_outside.specs.Causes.{HasCause};
-ghost use Rattle.hyper_outside.specs.Sink.{Puts};
-ghost use Rattle.hyper_outside.specs.Pile.{after_honest, put_fails, after_put};
+ghost use Rattle.std.specs.Prelude.{◌≡◌, ℕ, ◌+◌, ◌≤◌, ◌↔◌, nat_le, not, List, [], ◌∷◌, ◌++◌, length, take, IfOk, IfSome, IfNone, OnOk, OnErr, is_ok};
+ghost use Rattle.std.specs.Io.KnownBytes.{Appends, Keeps};
+ghost use Rattle.hyper_outside.specs.Sink.{Puts, Takes};
+ghost use Rattle.hyper_outside.specs.Calls.{with_failing};
+ghost use Rattle.hyper_outside.specs.Pile.{honest_with, no_bytes, with_room, after_honest, put_fails, after_put, honest_output, demanding_output};
 
 use crate::calls::{Calls, front};
 use crate::outside::{Failed, NoMemory, Sink};
 use crate::pile::Pile;
 use std::alloc::Global;
-use std::io::Write;
+use std::io::{ErrorKind, Write};
 use std::marker::Model;
 
 /// A sink in memory that is taken at its start. It fails only where bytes don't fit in the room that is left.
@@ -19,7 +19,8 @@ pub struct HonestSink {
 }
 
 impl Model for HonestSink {
-    ghost use Rattle.hyper_outside.specs.Pile.{Honest};
+    ghost use Rattle.hyper_outside.specs.Calls.{with_failing};
+    ghost use Rattle.hyper_outside.specs.Pile.{honest_with, no_bytes, with_room, Honest};
 
     ghost Value = { Honest };
 
@@ -29,7 +30,7 @@ impl Model for HonestSink {
 impl HonestSink {
     /// An empty sink with room for so many bytes.
     pub fn with_room(alloc: Global, bytes: usize) -> Result<HonestSink, NoMemory>
-        ensures { IfOk result (λ sink. sink ≡ record { pile = record { bytes = []; room = bytes }; faults = 0 }) }
+        ensures { IfOk result (λ sink. sink ≡ honest_with bytes) }
     {
         let mut pile = Pile::new(alloc);
         pile.take_room(bytes)?;
@@ -45,14 +46,11 @@ impl HonestSink {
 }
 
 impl Sink for HonestSink {
-    ghost told = { λ s. Some s.pile.bytes };
-
-    ghost faults = { λ s. s.faults };
+    ghost output = { honest_output };
 
     /// `Failed` exactly where the bytes don't fit in the room left, and then nothing is added.
     fn put(&mut self, bytes: &[u8]) -> Result<(), Failed>
-        ensures puts { Puts (Some self.old.pile.bytes) (Some self.new.pile.bytes) bytes.now result }
-        ensures cause { HasCause self.old.faults self.new.faults result }
+        ensures put { Puts (honest_output self.old) (honest_output self.new) bytes.now result }
         ensures answer { is_ok result ≡ nat_le (length bytes.now) self.old.pile.room }
         ensures after { self.new ≡ after_honest self.old bytes.now }
     {
@@ -74,7 +72,8 @@ pub struct MemSink {
 }
 
 impl Model for MemSink {
-    ghost use Rattle.hyper_outside.specs.Pile.{Demanding};
+    ghost use Rattle.hyper_outside.specs.Calls.{with_failing};
+    ghost use Rattle.hyper_outside.specs.Pile.{honest_with, no_bytes, with_room, Demanding};
 
     ghost Value = { Demanding };
 
@@ -84,7 +83,7 @@ impl Model for MemSink {
 impl MemSink {
     /// An empty sink with no room.
     pub fn new(alloc: Global) -> MemSink
-        ensures { result ≡ record { pile = record { bytes = []; room = 0 }; calls = record { made = 0; failing = [] }; faults = 0 } }
+        ensures { result ≡ no_bytes }
     {
         MemSink {
             pile: Pile::new(alloc),
@@ -95,7 +94,8 @@ impl MemSink {
 
     /// Takes room for so many bytes more.
     pub fn room(&mut self, bytes: usize) -> Result<(), NoMemory>
-        ensures ok { OnOk result (self.new ≡ record self.old { pile = record self.old.pile { room = self.old.pile.room + bytes } }) }
+        ensures ok { OnOk result
+            (self.new ≡ record self.old { pile = with_room self.old.pile bytes }) }
         ensures err { OnErr result (self.new ≡ self.old) }
     {
         self.pile.take_room(bytes)
@@ -103,7 +103,8 @@ impl MemSink {
 
     /// Lists a call that is to fail, counted from 1, and how many bytes it still adds.
     pub fn fail_call(&mut self, call: u64, prefix: usize) -> Result<(), NoMemory>
-        ensures ok { OnOk result (self.new ≡ record self.old { calls = record self.old.calls { failing = self.old.calls.failing ++ (call, prefix) ∷ [] } }) }
+        ensures ok { OnOk result
+            (self.new ≡ record self.old { calls = with_failing self.old.calls call prefix }) }
         ensures err { OnErr result (self.new ≡ self.old) }
     {
         self.calls.fail(call, prefix)
@@ -118,14 +119,12 @@ impl MemSink {
 }
 
 impl Sink for MemSink {
-    ghost told = { λ s. Some s.pile.bytes };
+    ghost output = { demanding_output };
 
-    ghost faults = { λ s. s.faults };
-
-    /// `Failed` exactly where the call is listed or the bytes don't fit in the room left. Where they don't fit nothing is added.
+    /// `Failed` exactly where the call is listed or the bytes don't fit in the room left. Where they don't fit
+    /// nothing is added.
     fn put(&mut self, bytes: &[u8]) -> Result<(), Failed>
-        ensures puts { Puts (Some self.old.pile.bytes) (Some self.new.pile.bytes) bytes.now result }
-        ensures cause { HasCause self.old.faults self.new.faults result }
+        ensures put { Puts (demanding_output self.old) (demanding_output self.new) bytes.now result }
         ensures answer { is_ok result ≡ not (put_fails self.old bytes.now) }
         ensures after { self.new ≡ after_put self.old bytes.now }
     {
@@ -160,23 +159,45 @@ impl<W> RealSink<W> {
     }
 }
 
+/// Hands bytes to a writer, and answers how many it took: none where it was interrupted. `None` comes where it failed,
+/// or took none otherwise.
+fn hand_over<W: Write>(writer: &mut W, bytes: &[u8]) -> Option<usize>
+    ensures within { IfSome result (λ count. count ≤ length bytes.now) }
+    ensures taken { IfSome result
+        (λ count. Appends (W.contents writer.old) (W.contents writer.new) (take count bytes.now)) }
+    ensures failed { IfNone result (Keeps (W.contents writer.old) (W.contents writer.new)) }
+{
+    match writer.write(bytes) {
+        Ok(0) => None,
+        Ok(count) => Some(count),
+        Err(error) if error.kind() == ErrorKind::Interrupted => Some(0),
+        Err(_) => None,
+    }
+}
+
 impl<W: Write> Sink for RealSink<W> {
-    ghost told = { λ _. None };
+    ghost use Rattle.hyper_outside.specs.Sink.{untold};
 
-    ghost faults = { λ s. s.faults };
+    ghost output = { λ s. untold s.faults };
 
-    /// Hands the bytes to the writer. `Failed` comes where the writer failed.
+    /// Hands the bytes to the writer, once and in order. `Failed` comes where the writer failed or took none; then
+    /// it has taken a front of them.
     fn put(&mut self, bytes: &[u8]) -> Result<(), Failed>
-        ensures puts { Puts None None bytes.now result }
-        ensures cause { HasCause self.old.faults self.new.faults result }
-        ensures written { OnOk result (Appends (W.contents self.old.inner) (W.contents self.new.inner) bytes.now) }
+        ensures put { Puts (untold self.old.faults) (untold self.new.faults) bytes.now result }
+        ensures taken { Takes (W.contents self.old.inner) (W.contents self.new.inner) bytes.now result }
     {
-        match self.inner.write_all(bytes) {
-            Ok(()) => Ok(()),
-            Err(_) => {
-                self.faults = self.faults.saturating_add(1);
-                Err(Failed)
+        let mut rest = bytes;
+        for _ in 0..u64::MAX {
+            if rest.is_empty() {
+                return Ok(());
             }
+            let Some(count) = hand_over(&mut self.inner, rest) else {
+                break;
+            };
+            let (_, left) = rest.split_at(count);
+            rest = left;
         }
+        self.faults = self.faults.saturating_add(1);
+        Err(Failed)
     }
 }

@@ -3,7 +3,7 @@ ghost use Rattle.std.specs.Prelude.{position, ◌≡◌, ℕ, ◌+◌, ◌-◌, 
 ghost use Rattle.std.specs.List.{AllZip};
 ghost use Rattle.std.specs.Option.{option_copied};
 ghost use Rattle.hyper_outside.specs.Places.{HasMemory, IsGrown, IsSpare};
-ghost use Rattle.hyper_outside.specs.Store.{held_bytes, place_of, takes, takes_name, stocked, bytes_of, roomier};
+ghost use Rattle.hyper_outside.specs.Store.{held_bytes, place_of, takes, takes_name, no_stock, stocked, filed, with_file, bytes_of, roomier};
 
 use crate::outside::NoMemory;
 use std::alloc::Global;
@@ -106,7 +106,7 @@ impl Model for Store {
 
 impl Store {
     pub fn new(alloc: Global) -> Store
-        ensures { result ≡ record { files = []; places = 0; room = 0 } }
+        ensures { result ≡ no_stock }
     {
         Store {
             files: Vec::new(alloc),
@@ -139,7 +139,7 @@ impl Store {
     fn add_file(&mut self, name: &str, bytes: &[u8]) -> Result<(), NoMemory>
         requires place { 0 < self.old.places }
         requires room { length bytes.now ≤ self.old.room }
-        ensures ok { OnOk result (self.new ≡ record { files = self.old.files ++ record { name = name.now; bytes = bytes.now } ∷ []; places = self.old.places - 1; room = self.old.room - length bytes.now }) }
+        ensures ok { OnOk result (self.new ≡ filed self.old name.now bytes.now) }
         ensures err { OnErr result (self.new ≡ self.old) }
         ensures short { length name.now ≤ 255 → IsOk result }
     {
@@ -225,7 +225,7 @@ impl Store {
 
     /// Puts a file, and takes the room of it. After `NoMemory` the files are as before.
     pub fn put_file(&mut self, name: &str, bytes: &[u8]) -> Result<(), NoMemory>
-        ensures ok { OnOk result (self.new ≡ stocked (roomier self.old 1 (length bytes.now)) name.now bytes.now) }
+        ensures ok { OnOk result (self.new ≡ with_file self.old name.now bytes.now) }
         ensures err { OnErr result (self.new.files ≡ self.old.files) }
     {
         self.take_room(1, bytes.len())?;

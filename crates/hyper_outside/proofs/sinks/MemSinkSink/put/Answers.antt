@@ -3,7 +3,10 @@ use Rattle.hyper_outside.specs.Calls.{front_of}
 use Rattle.hyper_outside.proofs.Fronts.{front-rest}
 use Rattle.hyper_outside.proofs.sinks.MemSinkSink.put.Goals as goal
 
-pub returns-clause-puts : goal.returns-clause-puts
-returns-clause-puts c =
+pub returns-clause-put : goal.returns-clause-put
+returns-clause-put c =
     let left = front-rest c.count-failing.result c.args.bytes.now in
-    (front_of c.count-failing.result c.args.bytes.now, left.0, left.1, search rules)
+    record {
+      gains = (front_of c.count-failing.result c.args.bytes.now, left.0, left.1, search rules);
+      cause = search rules;
+    }
