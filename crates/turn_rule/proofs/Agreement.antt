@@ -1,5 +1,5 @@
 -- A turn looks only at words of states.
-use Rattle.std.proofs.Common.{◌≡◌, ℕ, ℤ, pos, neg_ℤ, ◌+ℤ◌, ◌*ℤ◌, List, [], ◌∷◌, map, Option, Some, None, IfSome, inl, inr, refl, ap, ◌∙◌}
+use Rattle.std.proofs.Common.{◌≡◌, ℕ, ℤ, pos, neg_ℤ, ◌+ℤ◌, ◌*ℤ◌, List, [], ◌∷◌, map, Option, Some, None, inl, inr, refl, ap, ◌∙◌}
 use Rattle.std.specs.Int.{int_max, int_min}
 use Rattle.position_rank.specs.Placement.{Placement, swap}
 use Rattle.roll_table.specs.Rolls.{Dice, IsRoll, all_rolls}
@@ -12,12 +12,15 @@ use Rattle.directed_fixed.specs.Bounds.{other, at}
 use Rattle.directed_fixed.specs.Rounding.{outwards}
 use Rattle.cube_actions.specs.declared.kind.Double.{Double}
 use Rattle.cube_actions.specs.declared.kind.Taken.{Taken}
-use Rattle.cube_actions.specs.Stakes.{kind_at, no_kind, IsValid, IsRightDouble, IsRightAnswer}
+use Rattle.cube_actions.specs.Stakes.{Terms, kind_at, IsValid}
 use Rattle.turn_rule.specs.declared.game.Game.{Game}
 use Rattle.turn_rule.specs.Turn.{Words, win, if_won, worth, greatest, sum_over, roll_value, least, or_double, turn}
-use Rattle.turn_rule.specs.States.{IsState, Agree}
+use Rattle.turn_rule.specs.States.{Agree}
+use Rattle.turn_rule.specs.Looks.{MayFollow, MayFollowTurn}
+use Rattle.turn_rule.specs.Following.{AgreeOn}
+use Rattle.turn_rule.proofs.Follows.{may-follow, answer-follows}
 use Rattle.turn_rule.proofs.Greatest.{AreRolls, all_rolls-right}
-use Rattle.turn_rule.proofs.Within.{next_state, at_member}
+use Rattle.turn_rule.proofs.Within.{follow-turn-state}
 
 greatest-agree : (f g : Placement → ℤ) (qs : List Placement) → ((q : Placement) → Among q qs → f q ≡ g q) → greatest f qs ≡ greatest g qs
 greatest-agree f g [] h = refl
@@ -39,26 +42,30 @@ least-agree X f g v [] h = refl
 least-agree X f g v (x ∷ xs) h =
     ap (λ (z : ℤ). least (int_min v z) (map f xs)) (h x (inl refl)) ∙ least-agree X f g (int_min v (g x)) xs (λ y m. h y (inr m))
 
-module _ (game : Game) (valid : IsValid game.stakes) (u v : Words) (same : Agree game u v) where
-  worth-agree : (end : End) (p : Placement) (k : ℕ) → IsState game p k → (roll : Dice) (q : Placement) → IsRoll roll → Among q (legal_ends p roll) → worth end (kind_at game.stakes k) u q ≡ worth end (kind_at game.stakes k) v q
-  worth-agree end p k state roll q right m = by_points (points q) refl where
-    by_points : (o : Option Won) → points q ≡ o → if_won o (λ won. at end (win (kind_at game.stakes k) won)) (neg_ℤ (u (other end) (swap q) (kind_at game.stakes k).next)) ≡ if_won o (λ won. at end (win (kind_at game.stakes k) won)) (neg_ℤ (v (other end) (swap q) (kind_at game.stakes k).next))
-    by_points None on = ap neg_ℤ (same (other end) (swap q) (kind_at game.stakes k).next (next_state game valid p k state roll q right m on))
+-- at one state, only the words of states that may follow count
+module _ (stakes : Terms) (u v : Words) (end : End) (p : Placement) where
+  worth-agree : (k : ℕ) → AgreeOn (MayFollow stakes p k) (other end) u v → (roll : Dice) (q : Placement) → IsRoll roll → Among q (legal_ends p roll) → worth end (kind_at stakes k) u q ≡ worth end (kind_at stakes k) v q
+  worth-agree k same roll q right m = by_points (points q) refl where
+    by_points : (o : Option Won) → points q ≡ o → if_won o (λ won. at end (win (kind_at stakes k) won)) (neg_ℤ (u (other end) (swap q) (kind_at stakes k).next)) ≡ if_won o (λ won. at end (win (kind_at stakes k) won)) (neg_ℤ (v (other end) (swap q) (kind_at stakes k).next))
+    by_points None on = ap neg_ℤ (same (swap q) (kind_at stakes k).next (may-follow stakes p k roll q right m on))
     by_points (Some won) over = refl
 
-  roll-agree : (end : End) (p : Placement) (k factor : ℕ) → IsState game p k → roll_value end game.stakes u p k factor ≡ roll_value end game.stakes v p k factor
-  roll-agree end p k factor state =
-      ap (λ (z : ℤ). outwards end (pos factor *ℤ z)) (sum-agree (worth end (kind_at game.stakes k) u) (worth end (kind_at game.stakes k) v) p (worth-agree end p k state) all_rolls all_rolls-right)
+  pub roll-agree : (k factor : ℕ) → AgreeOn (MayFollow stakes p k) (other end) u v → roll_value end stakes u p k factor ≡ roll_value end stakes v p k factor
+  roll-agree k factor same =
+      ap (λ (z : ℤ). outwards end (pos factor *ℤ z)) (sum-agree (worth end (kind_at stakes k) u) (worth end (kind_at stakes k) v) p (worth-agree k same) all_rolls all_rolls-right)
 
-  or_double-agree : (end : End) (p : Placement) (k : ℕ) → IsState game p k → (double : Option Double) → IfSome double (IsRightDouble game.stakes) → (plain : ℤ) → or_double end game.stakes u p plain double ≡ or_double end game.stakes v p plain double
-  or_double-agree end p k state None right plain = refl
-  or_double-agree end p k state (Some double) right plain =
-      ap (λ (z : ℤ). int_max plain z) (least-agree Taken (λ taken. roll_value end game.stakes u p taken.kind taken.factor) (λ taken. roll_value end game.stakes v p taken.kind taken.factor) (at end double.pass) double.answers.items
-      (λ taken m. roll-agree end p taken.kind taken.factor (record { position = state.position; many = state.many; live = state.live; kind = (at_member (IsRightAnswer game.stakes) double.answers.items right.answers taken m).kind })))
+  or_double-agree : (double : Option Double) → ((d : Double) → double ≡ Some d → (taken : Taken) → Among taken d.answers.items → AgreeOn (MayFollow stakes p taken.kind) (other end) u v) → (plain : ℤ) → or_double end stakes u p plain double ≡ or_double end stakes v p plain double
+  or_double-agree None same plain = refl
+  or_double-agree (Some double) same plain =
+      ap (λ (z : ℤ). int_max plain z) (least-agree Taken (λ taken. roll_value end stakes u p taken.kind taken.factor) (λ taken. roll_value end stakes v p taken.kind taken.factor) (at end double.pass) double.answers.items
+      (λ taken m. roll-agree taken.kind taken.factor (same double refl taken m)))
 
-  pub turn-agree : Agree game (turn game.stakes u) (turn game.stakes v)
+  pub turn-agree-at : (k : ℕ) → AgreeOn (MayFollowTurn stakes p k) (other end) u v → turn stakes u end p k ≡ turn stakes v end p k
   unfolding turn
-  turn-agree end p k state =
-      let kind = kind_at game.stakes k in
-      ap (λ (z : ℤ). or_double end game.stakes u p z kind.double) (roll-agree end p k 1 state)
-      ∙ or_double-agree end p k state kind.double (valid.kinds k no_kind state.kind).double (roll_value end game.stakes v p k 1)
+  turn-agree-at k same =
+      let kind = kind_at stakes k in
+      ap (λ (z : ℤ). or_double end stakes u p z kind.double) (roll-agree k 1 (λ q j may. same q j (inl may)))
+      ∙ or_double-agree kind.double (λ d is taken m q j may. same q j (answer-follows stakes p k d is taken m q j may)) (roll_value end stakes v p k 1)
+
+pub turn-agree : (game : Game) → IsValid game.stakes → (u v : Words) → Agree game u v → Agree game (turn game.stakes u) (turn game.stakes v)
+turn-agree game valid u v same end p k state = turn-agree-at game.stakes u v end p k (λ q j may. same (other end) q j (follow-turn-state game valid p k state q j may))

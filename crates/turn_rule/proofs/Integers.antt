@@ -61,6 +61,11 @@ regroup c d x =
     let times : c * (up (pos d *ℤ x) + d * down x) ≡ c * (down (pos d *ℤ x) + d * up x) = ap (λ (n : ℕ). c * n) product in
     omega (arith, ints, times)
 
+pub times-neg : (w : ℕ) (b : ℤ) → pos w *ℤ neg_ℤ b ≡ neg_ℤ (pos w *ℤ b)
+times-neg w b =
+    let apart : up (neg_ℤ b) + up b ≡ down (neg_ℤ b) + down b = omega (arith, ints) in
+    omega (arith, ints, ap (λ (n : ℕ). w * n) apart)
+
 -- a whole quotient by 36 is the floor, or the ceiling
 pub floor_36-is : (z q : ℤ) → (pos 36 *ℤ q) ≤ℤ z → z <ℤ (pos 36 *ℤ q +ℤ pos 36) → q ≡ floor_36 z
 floor_36-is z q h k = omega (arith, ints, floor_36_below z, floor_36_above z)

@@ -1,5 +1,6 @@
 pub mod Integers
 pub mod Greatest
+pub mod Follows
 pub mod Within
 pub mod Agreement
 pub mod Tightness

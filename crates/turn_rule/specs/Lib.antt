@@ -9,5 +9,6 @@ pub mod Found
 pub mod Rolled
 pub mod Exact
 pub mod Truth
+pub mod Following
 pub mod Examples
 pub mod TestPairs

@@ -4,6 +4,7 @@
 mod bounds;
 mod ends;
 mod exact_laws;
+mod following_laws;
 mod game;
 mod laws;
 mod look_laws;
@@ -27,6 +28,11 @@ pub use exact_laws::{
     rounds_enclose_longer_games, scoring_examples, sound_examples, tighter_examples,
     tighter_stakes_tighten_rounds, tighter_stakes_tighten_turns, turns_enclose_one_turn_more,
     words_no_tighter_than_a_round_are_sound, words_no_tighter_than_a_round_enclose_longer_games,
+};
+pub use following_laws::{
+    bounds_that_follow_give_bounds, equal_words_that_follow_give_equal_values,
+    tighter_words_that_follow_give_tighter_values, values_stay_within_the_bound,
+    what_may_follow_is_a_state,
 };
 pub use game::Game;
 pub use laws::{
