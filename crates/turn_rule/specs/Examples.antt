@@ -1,12 +1,14 @@
 -- Games and scorings of worked examples.
-use Rattle.std.specs.Prelude.{ℕ, ℤ, pos, neg_ℤ, [], ◌∷◌, Some, None}
+use Rattle.std.specs.Prelude.{ℕ, zero, suc, ℤ, pos, neg_ℤ, [], ◌∷◌, Some, None}
+use Rattle.position_rank.specs.Placement.{Placement}
 use Rattle.game_payoff.specs.declared.payoff.Won.{Won}
 use Rattle.game_payoff.specs.declared.payoff.Won.TheVariants.{Single, Gammon, Backgammon}
 use Rattle.directed_fixed.specs.Bounds.{Bounds}
 use Rattle.cube_actions.specs.declared.kind.Kind.{Kind}
+use Rattle.cube_actions.specs.declared.kind.Double.{Double}
 use Rattle.cube_actions.specs.declared.name.StakesName.TheVariants.{Cubeless, Money}
 use Rattle.cube_actions.specs.Stakes.{Terms, exactly, point_units}
-use Rattle.turn_rule.specs.Exact.{Scoring}
+use Rattle.turn_rule.specs.Exact.{Scoring, rolled, after_double, exact}
 
 -- each win is a point, and the mover may always double: a pass costs the other side a point, and if it takes the double, the roll counts twice
 abbrev pub always_double : Kind
@@ -57,3 +59,20 @@ points_won = cut_off_at (pos 0)
 
 abbrev pub games_won : Scoring
 games_won = scored (win_points 1 1 1) (pos 0)
+
+-- the Jacoby rule: while the cube is centred a win counts one point however it was won, and then it counts its points
+abbrev pub by_cube : ℕ → Won → ℤ
+by_cube zero = win_points 1 1 1
+by_cube (suc k) = win_points 1 2 3
+
+-- such wins, a pass of one point, and a game that is cut off counts nothing
+abbrev pub jacoby_won : Scoring
+jacoby_won = record { scale = 1; win = by_cube; pass = λ k. pos 1; unfinished = λ p k. pos 0 }
+
+-- rolling in a game of two turns
+abbrev pub rolled_first : Terms → Scoring → Placement → ℕ → ℤ
+rolled_first stakes scoring p k = rolled stakes scoring 1 (exact stakes scoring 1) p k
+
+-- doubling in a game of two turns, where it is answered as suits the other side
+abbrev pub doubled_first : Terms → Scoring → Placement → ℕ → Double → ℤ
+doubled_first stakes scoring p k double = after_double stakes scoring 1 (exact stakes scoring 1) p k double

@@ -1,8 +1,9 @@
-ghost use Rattle.std.specs.Prelude.{◌≡◌, ◌+◌, ℕ, pos, neg_ℤ, [], ◌∷◌};
+ghost use Rattle.std.specs.Prelude.{◌≡◌, ◌+◌, ◌^◌, ◌*ℤ◌, ℕ, pos, neg_ℤ, [], ◌∷◌};
 ghost use Rattle.position_rank.specs.Placement.{Placement};
 ghost use Rattle.position_rank.specs.Examples.{placed, off};
 ghost use Rattle.directed_fixed.specs.declared.bounds.End.{End};
 ghost use Rattle.directed_fixed.specs.declared.bounds.End.TheVariants.{Lower, Upper};
+ghost use Rattle.cube_actions.specs.Money.{jacoby, jacoby_beavers, double_of, take, beaver};
 ghost use Rattle.cube_actions.specs.Stakes.{Terms, cubeless, exactly};
 ghost use Rattle.turn_rule.specs.declared.game.Game.{Game};
 ghost use Rattle.turn_rule.specs.Games.{IsGame, game_of};
@@ -10,7 +11,7 @@ ghost use Rattle.turn_rule.specs.Turn.{Words, turn, bound_words, rounds};
 ghost use Rattle.turn_rule.specs.States.{IsState, AreNoLooser};
 ghost use Rattle.turn_rule.specs.Exact.{Scoring, exact};
 ghost use Rattle.turn_rule.specs.Truth.{IsBoundOf, Encloses, IsScoring, IsScoringWithin, AreEnclosing, IsSound, AreSoundFrom, AreSound, AreConsistent, AreNoLooserStakes};
-ghost use Rattle.turn_rule.specs.Examples.{gains, losses, doubling_game, vague_game, win_points, scored, cut_off_at, points_won, games_won};
+ghost use Rattle.turn_rule.specs.Examples.{gains, losses, doubling_game, vague_game, win_points, scored, cut_off_at, points_won, games_won, jacoby_won, rolled_first, doubled_first};
 
 /// However a game is scored within its stakes, no exact value is beyond their bound.
 pub fn exact_values_stay_within_the_bound()
@@ -118,6 +119,29 @@ pub fn exact_doubled_examples()
         ≡ pos 144 }
     ensures not_doubled { exact doubling_game games_won 2 (placed (6 ∷ 5 ∷ []) (1 ∷ off ∷ [])) 0
         ≡ neg_ℤ (pos 864) }
+{}
+
+/// Two turns with a real cube, values over 1296. The Jacoby rule, from `6 / 1` with the cube centred: 27 rolls win a point and 9 lose one,
+/// 18 * 36 = 648. Doubled and taken, each win is a gammon that counts four, and 18 * 4 * 36 = 2592: so the double is passed, for 1296.
+/// With beavers, from `8 / 1`, 17 rolls win and 19 lose: -2 * 36 = -72. A take would lose 288 and a beaver 576, so there is no double.
+pub fn exact_cube_examples()
+    ensures rolling { rolled_first jacoby jacoby_won (placed (6 ∷ []) (1 ∷ [])) 0 ≡ pos 648 }
+    ensures pass { pos (36 ^ 2) *ℤ jacoby_won.pass 0 ≡ pos 1296 }
+    ensures take { pos 2 *ℤ rolled_first jacoby jacoby_won (placed (6 ∷ []) (1 ∷ [])) 2
+        ≡ pos 2592 }
+    ensures double { doubled_first jacoby jacoby_won (placed (6 ∷ []) (1 ∷ [])) 0
+        (double_of (take ∷ [])) ≡ pos 1296 }
+    ensures value { exact jacoby jacoby_won 2 (placed (6 ∷ []) (1 ∷ [])) 0 ≡ pos 1296 }
+    ensures behind_rolling { rolled_first jacoby_beavers jacoby_won (placed (8 ∷ []) (1 ∷ [])) 0
+        ≡ neg_ℤ (pos 72) }
+    ensures behind_take { pos 2 *ℤ rolled_first jacoby_beavers jacoby_won
+        (placed (8 ∷ []) (1 ∷ [])) 2 ≡ neg_ℤ (pos 288) }
+    ensures behind_beaver { pos 4 *ℤ rolled_first jacoby_beavers jacoby_won
+        (placed (8 ∷ []) (1 ∷ [])) 2 ≡ neg_ℤ (pos 576) }
+    ensures behind_double { doubled_first jacoby_beavers jacoby_won (placed (8 ∷ []) (1 ∷ [])) 0
+        (double_of (take ∷ beaver ∷ [])) ≡ neg_ℤ (pos 576) }
+    ensures behind_value { exact jacoby_beavers jacoby_won 2 (placed (8 ∷ []) (1 ∷ [])) 0
+        ≡ neg_ℤ (pos 72) }
 {}
 
 /// 936 points of 1296 are 3101920824.88.. units, which lie between these two numbers, but not above the greater one nor below the less. A

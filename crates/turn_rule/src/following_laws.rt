@@ -55,7 +55,8 @@ pub fn bounds_that_follow_give_bounds()
         → ArePassesWithin game scoring
         → (turns : ℕ) (later : Values) (p : Placement) (k : ℕ) → k < kinds_of game
         → (end : End) (u : Words)
-        → AreBoundsOn (MayFollowTurn game.stakes p k) (other end) u later (scoring.scale * 36 ^ turns)
+        → AreBoundsOn (MayFollowTurn game.stakes p k) (other end) u later
+        (scoring.scale * 36 ^ turns)
         → IsBoundOf end (turn game.stakes u end p k)
         (before_turn game.stakes scoring turns later p k)
         (scoring.scale * 36 ^ (turns + 1)) }
