@@ -1,5 +1,5 @@
 -- What encloses every state after the next turn encloses every state before it, and so rounds enclose every longer game.
-use Rattle.std.proofs.Common.{◌≡◌, ◌≤◌, ◌<◌, ℕ, zero, suc, ℤ, pos, neg_ℤ, ◌*ℤ◌, ◌*◌, ◌^◌, Option, Some, None, IfSome, inl, refl, sym, subst, ap, ◌∙◌, arith}
+use Rattle.std.proofs.Common.{◌≡◌, ◌<◌, ℕ, zero, suc, ℤ, pos, neg_ℤ, ◌*ℤ◌, ◌*◌, ◌^◌, Option, Some, None, IfSome, inl, refl, sym, subst, ap, ◌∙◌, arith}
 use Rattle.std.proofs.lemmas.Int.{ints}
 use Rattle.std.proofs.Math.Nat.{pow-succ'}
 use Rattle.position_rank.specs.Placement.{Placement, swap}

@@ -1,5 +1,5 @@
 -- What leads to a state that may follow.
-use Rattle.std.proofs.Common.{◌≡◌, ℕ, Option, Some, None, inr, refl}
+use Rattle.std.proofs.Common.{◌≡◌, ℕ, Some, None, inr, refl}
 use Rattle.position_rank.specs.Placement.{Placement, swap}
 use Rattle.roll_table.specs.Rolls.{Dice, IsRoll}
 use Rattle.move_rules.specs.Ends.{legal_ends}

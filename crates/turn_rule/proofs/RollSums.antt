@@ -1,5 +1,5 @@
 -- Sums over rolls of what the best plays are worth over looked up words.
-use Rattle.std.proofs.Common.{◌≡◌, ◌<◌, ◌≤◌, ◌+◌, ◌^◌, ◌*◌, ◌∙◌, ℕ, zero, suc, ℤ, pos, neg_ℤ, ◌+ℤ◌, ◌*ℤ◌, ◌≤ℤ◌, List, [], ◌∷◌, length, map, take, get_or, All, ◌⊎◌, inl, inr, Ok, add-one, ap, sym, subst, refl, arith}
+use Rattle.std.proofs.Common.{◌≡◌, ◌<◌, ◌≤◌, ◌+◌, ◌^◌, ◌∙◌, ℕ, zero, suc, ℤ, pos, neg_ℤ, ◌+ℤ◌, ◌*ℤ◌, ◌≤ℤ◌, List, [], ◌∷◌, length, map, take, get_or, All, ◌⊎◌, inl, inr, Ok, add-one, ap, sym, subst, refl, arith}
 use Rattle.std.proofs.lemmas.Int.{ints}
 use Rattle.std.proofs.lemmas.List.{take_all, length-map}
 use Rattle.position_rank.specs.Placement.{Placement, swap}
@@ -21,8 +21,7 @@ use Rattle.turn_rule.specs.Looks.{Source, AreStakesOf, MayFollow}
 use Rattle.turn_rule.specs.Found.{LeavesState, MayFollowEnds, MayFollowAmong}
 use Rattle.turn_rule.specs.declared.ends.OneRoll.{OneRoll}
 use Rattle.turn_rule.specs.Rolled.{weighted, HasEnds, AreRolled}
-use borrow.Author.Differences.{up, down}
-use Rattle.turn_rule.proofs.Integers.{mul_mono}
+use Rattle.turn_rule.proofs.Integers.{mul_mono, times-neg}
 use Rattle.turn_rule.proofs.Tightness.{tight-times}
 use Rattle.turn_rule.proofs.Tight.{tight-add}
 use Rattle.turn_rule.proofs.Greatest.{greatest-same, total, total-all_rolls, length-all_rolls, roll_at, at_roll, all_rolls-right, AreRolls}
@@ -83,11 +82,6 @@ total-some (first ∷ rest) (suc i) = let later = total-some rest i in omega (ar
 
 spread : (w n : ℕ) (b : ℤ) → pos (w + n) *ℤ b ≡ pos w *ℤ b +ℤ pos n *ℤ b
 spread w n b = omega (arith, ints)
-
-pub times-neg : (w : ℕ) (b : ℤ) → pos w *ℤ neg_ℤ b ≡ neg_ℤ (pos w *ℤ b)
-times-neg w b =
-    let apart : up (neg_ℤ b) + up b ≡ down (neg_ℤ b) + down b = omega (arith, ints) in
-    omega (arith, ints, ap (λ (n : ℕ). w * n) apart)
 
 bounds-add : (a b c x y z : ℤ) → c ≡ a +ℤ b → IsWithinUnits a x → neg_ℤ b ≤ℤ y → y ≤ℤ b → z ≡ x +ℤ y → IsWithinUnits c z
 bounds-add a b c x y z is h low high added = record { from = omega (arith, ints, h.from); to = omega (arith, ints, h.to) }

@@ -1,4 +1,4 @@
--- Over a sure source each look-up is answered, and where its floor and its notes are one list, the answer is exact.
+-- Over a sure source each look-up is answered, and where its floor and its notes give one value, the answer is exact.
 use Rattle.std.proofs.Common.{◌≡◌, ℕ, ℤ, ◌≤ℤ◌, IsTrue, Result, Ok, Err, refl, subst}
 use Rattle.std.specs.Result.{IsOk}
 use Rattle.directed_fixed.specs.declared.bounds.End.{End}
@@ -20,9 +20,9 @@ pub sure-answer : {A : Type 0} (s : Source) (u v : Words) (a b : ℕ) (meant : D
 sure-answer s u v a b meant right (Ok x) sure looked = refl
 sure-answer s u v a b meant right (Err stop) sure looked = absurd (never_stops s a b meant stop sure looked.stop)
 
-pub exact-pair : (s : Source) (noted : Words) (states : States) (bound : ℤ) (value : End → Words → ℤ) (pair : Bounds) → IsTrue s.tells → s.floor ≡ noted → IsPairOf s noted states bound value pair
+pub exact-pair : (s : Source) (noted : Words) (states : States) (bound : ℤ) (value : End → Words → ℤ) (pair : Bounds) → IsTrue s.tells → ((end : End) → value end s.floor ≡ value end noted) → IsPairOf s noted states bound value pair
     → pair ≡ record { lower = value Lower noted; upper = value Upper noted }
 exact-pair s noted states bound value pair tells same is =
     both_ends pair _ _
-    (tight-both Lower pair.lower (value Lower noted) (subst (λ (u : Words). value Lower u ≤ℤ pair.lower) same (is.lower_floor tells)) (is.lower_notes tells))
-    (tight-both Upper pair.upper (value Upper noted) (subst (λ (u : Words). pair.upper ≤ℤ value Upper u) same (is.upper_floor tells)) (is.upper_notes tells))
+    (tight-both Lower pair.lower (value Lower noted) (subst (λ (z : ℤ). z ≤ℤ pair.lower) (same Lower) (is.lower_floor tells)) (is.lower_notes tells))
+    (tight-both Upper pair.upper (value Upper noted) (subst (λ (z : ℤ). pair.upper ≤ℤ z) (same Upper) (is.upper_floor tells)) (is.upper_notes tells))

@@ -20,11 +20,10 @@ use Rattle.turn_rule.specs.Turn.{Words, worth, sum_over, roll_value, least, doub
 use Rattle.turn_rule.specs.States.{IsStateOf, IsState, AreWithinOf, AreWithin}
 use Rattle.turn_rule.specs.Looks.{Source, States, AreStakesOf, MayFollow, MayFollowTurn, IsPairOf, Looked, HasDamage}
 use Rattle.turn_rule.specs.Found.{MayFollowAnswer}
-use Rattle.turn_rule.proofs.Integers.{mul_mono, regroup, floor_36_below, floor_36_above}
+use Rattle.turn_rule.proofs.Integers.{mul_mono, regroup, floor_36_below, floor_36_above, times-neg}
 use Rattle.turn_rule.proofs.Tightness.{tight-max, tight-times, tight-outwards}
 use Rattle.turn_rule.proofs.Tight.{tight-min, words-refl}
 use Rattle.turn_rule.proofs.Within.{turn-within, roll-in_order}
-use Rattle.turn_rule.proofs.RollSums.{times-neg}
 use Rattle.turn_rule.proofs.Found.{FindsFrom, AreAmong, mapped-ok, then-ok, found-as, found-later, found-step, found-through, max-within, min-within}
 
 -- ---- a 36th

@@ -28,8 +28,8 @@ use Rattle.turn_rule.specs.declared.game.Game.{Game}
 use Rattle.turn_rule.specs.Turn.{Words, win, if_won, worth, sum_over, roll_value, least, doubled, or_double, turn, bound_words, rounds}
 use Rattle.turn_rule.specs.States.{IsState, AreWithin, pair_of}
 use Rattle.turn_rule.specs.Games.{kinds_of}
-use Rattle.turn_rule.specs.Looks.{MayFollow, MayFollowTurn}
-use Rattle.turn_rule.specs.Following.{AreWithinOn, roll_pair}
+use Rattle.turn_rule.specs.Looks.{MayFollow, MayFollowTurn, roll_pair}
+use Rattle.turn_rule.specs.Following.{AreWithinOn}
 use Rattle.turn_rule.proofs.Follows.{may-follow, answer-follows}
 use Rattle.turn_rule.proofs.Integers.{le_refl, neg_le, mul_mono, regroup, times-neg, floor_36_below, floor_36_above}
 use Rattle.turn_rule.proofs.Greatest.{all_rolls-right, sum-mono, sum-upto, sum-from, total-all_rolls}

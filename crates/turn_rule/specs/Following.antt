@@ -2,10 +2,8 @@
 use Rattle.std.specs.Prelude.{◌≡◌, ℕ, ℤ}
 use Rattle.position_rank.specs.Placement.{Placement}
 use Rattle.directed_fixed.specs.declared.bounds.End.{End}
-use Rattle.directed_fixed.specs.declared.bounds.End.TheVariants.{Lower, Upper}
-use Rattle.directed_fixed.specs.Bounds.{Bounds, IsNoLooser, IsWithin}
-use Rattle.cube_actions.specs.Stakes.{Terms}
-use Rattle.turn_rule.specs.Turn.{Words, roll_value}
+use Rattle.directed_fixed.specs.Bounds.{IsNoLooser, IsWithin}
+use Rattle.turn_rule.specs.Turn.{Words}
 use Rattle.turn_rule.specs.States.{pair_of}
 use Rattle.turn_rule.specs.Exact.{Values}
 use Rattle.turn_rule.specs.Truth.{IsBoundOf}
@@ -28,8 +26,3 @@ AreBoundsOn states end u values over =
 -- on these states, lower at most upper, and both within a bound
 abbrev pub AreWithinOn : States → ℤ → Words → Type 0
 AreWithinOn states bound u = (p : Placement) (k : ℕ) → states p k → IsWithin bound (pair_of u p k)
-
--- both ends of what rolling in a kind is worth that counts so many times
-abbrev pub roll_pair : Terms → Words → Placement → ℕ → ℕ → Bounds
-roll_pair stakes u p k factor =
-    record { lower = roll_value Lower stakes u p k factor; upper = roll_value Upper stakes u p k factor }

@@ -9,8 +9,8 @@ ghost use Rattle.turn_rule.specs.Turn.{Words, roll_value, turn};
 ghost use Rattle.turn_rule.specs.States.{IsState, pair_of};
 ghost use Rattle.turn_rule.specs.Exact.{Scoring, Values, rolled, before_turn};
 ghost use Rattle.turn_rule.specs.Truth.{IsBoundOf, AreWinsWithin, ArePassesWithin};
-ghost use Rattle.turn_rule.specs.Looks.{MayFollow, MayFollowTurn};
-ghost use Rattle.turn_rule.specs.Following.{AgreeOn, AreNoLooserOn, AreBoundsOn, AreWithinOn, roll_pair};
+ghost use Rattle.turn_rule.specs.Looks.{MayFollow, MayFollowTurn, roll_pair};
+ghost use Rattle.turn_rule.specs.Following.{AgreeOn, AreNoLooserOn, AreBoundsOn, AreWithinOn};
 
 /// What may follow a state of a game is a state of that game.
 pub fn what_may_follow_is_a_state()

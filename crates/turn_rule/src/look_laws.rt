@@ -1,6 +1,8 @@
 ghost use Rattle.std.specs.Prelude.{◌≡◌, ℕ, IsTrue, IsOk, Result};
 ghost use Rattle.position_rank.specs.Placement.{Placement};
+ghost use Rattle.directed_fixed.specs.declared.bounds.End.{End};
 ghost use Rattle.directed_fixed.specs.Bounds.{Bounds};
+ghost use Rattle.turn_rule.specs.Following.{AgreeOn};
 ghost use Rattle.hyper_outside.specs.declared.outside.LookStop.{LookStop};
 ghost use Rattle.cube_actions.specs.Stakes.{Terms};
 ghost use Rattle.turn_rule.specs.Turn.{Words, turn};
@@ -11,23 +13,28 @@ ghost use Rattle.turn_rule.specs.Looks.{
   FindsPair,
   IsRollPair,
   IsTurnPair,
+  MayFollow,
+  MayFollowTurn,
   of_roll,
   of_turn,
   roll_pair,
 };
 
-/// Where a source's floor and its notes are one list of words, the pair of a turn is the turn over these words.
+/// Where a source's floor and its notes are the same words on the states that may follow, the pair of a turn is the turn over these words.
 pub fn one_list_gives_the_turn()
     ensures { (source : Source) (u : Words) (stakes : Terms) (p : Placement) (k : ℕ) (pair : Bounds)
-        → IsTrue source.tells → source.floor ≡ u → IsTurnPair stakes p k source u pair
-        → pair ≡ pair_of (turn stakes u) p k }
+        → IsTrue source.tells
+        → ((end : End) → AgreeOn (MayFollowTurn stakes p k) end source.floor u)
+        → IsTurnPair stakes p k source u pair → pair ≡ pair_of (turn stakes u) p k }
 {}
 
-/// Where a source's floor and its notes are one list of words, the pair of rolling is what rolling is worth over these words.
+/// Where a source's floor and its notes are the same words on the states that may follow, the pair of rolling is what rolling is worth
+/// over these words.
 pub fn one_list_gives_the_roll()
     ensures { (source : Source) (u : Words) (stakes : Terms) (p : Placement) (k factor : ℕ) (pair : Bounds)
-        → IsTrue source.tells → source.floor ≡ u → IsRollPair stakes p k factor source u pair
-        → pair ≡ roll_pair stakes u p k factor }
+        → IsTrue source.tells
+        → ((end : End) → AgreeOn (MayFollow stakes p k) end source.floor u)
+        → IsRollPair stakes p k factor source u pair → pair ≡ roll_pair stakes u p k factor }
 {}
 
 /// Over a sure source a turn and a roll are answered.

@@ -1,9 +1,13 @@
 use Rattle.std.proofs.Common.{pos, ◌*ℤ◌}
 use Rattle.directed_fixed.specs.declared.bounds.End.{End}
+use Rattle.directed_fixed.specs.Bounds.{other}
 use Rattle.turn_rule.specs.Turn.{Words, roll_value}
 use Rattle.turn_rule.specs.Looks.{MayFollow}
+use Rattle.turn_rule.proofs.Agreement.{roll-agree}
 use Rattle.turn_rule.proofs.Sure.{exact-pair}
 use Rattle.turn_rule.proofs.look_laws.one_list_gives_the_roll.Goals as goal
 
 pub returns : goal.returns
-returns c = λ source u stakes p k factor pair tells same is. exact-pair source u (MayFollow stakes p k) (pos factor *ℤ source.bound) (λ (end : End) (w : Words). roll_value end stakes w p k factor) pair tells same is
+returns c = λ source u stakes p k factor pair tells same is.
+    exact-pair source u (MayFollow stakes p k) (pos factor *ℤ source.bound) (λ (end : End) (w : Words). roll_value end stakes w p k factor) pair tells
+    (λ end. roll-agree stakes source.floor u end p k factor (same (other end))) is

@@ -1,8 +1,12 @@
 use Rattle.directed_fixed.specs.declared.bounds.End.{End}
+use Rattle.directed_fixed.specs.Bounds.{other}
 use Rattle.turn_rule.specs.Turn.{Words, turn}
 use Rattle.turn_rule.specs.Looks.{MayFollowTurn}
+use Rattle.turn_rule.proofs.Agreement.{turn-agree-at}
 use Rattle.turn_rule.proofs.Sure.{exact-pair}
 use Rattle.turn_rule.proofs.look_laws.one_list_gives_the_turn.Goals as goal
 
 pub returns : goal.returns
-returns c = λ source u stakes p k pair tells same is. exact-pair source u (MayFollowTurn stakes p k) source.bound (λ (end : End) (w : Words). turn stakes w end p k) pair tells same is
+returns c = λ source u stakes p k pair tells same is.
+    exact-pair source u (MayFollowTurn stakes p k) source.bound (λ (end : End) (w : Words). turn stakes w end p k) pair tells
+    (λ end. turn-agree-at stakes source.floor u end p k (same (other end))) is
