@@ -6,8 +6,8 @@ use Rattle.std.specs.List.{list_all, AllPairs, Contains}
 use Rattle.cube_actions.specs.declared.phase.Phase.{Phase}
 use Rattle.cube_actions.specs.declared.phase.Phase.TheVariants.{Normal, Crawford, Post}
 use Rattle.cube_actions.specs.Scores.{MatchScore, same_score, same_phase}
-use Rattle.cube_actions.specs.Ladder.{in_order, is_of_match, can_be, ladder, IsOfMatch, ComesBefore}
-use Rattle.cube_actions.specs.Starts.{place_of}
+use Rattle.cube_actions.specs.Ladder.{in_order, is_of_match, can_be, ladder, IsOfMatch, ScoreComesBefore}
+use Rattle.cube_actions.specs.Starts.{ladder_place}
 use Rattle.cube_actions.proofs.LadderOfFive.{one_to_five}
 use Rattle.cube_actions.proofs.FirstPassing.{passed_at, found_at}
 use Rattle.cube_actions.proofs.WinsLeadDown.{same_score-true, same_phase-true, in_five-valid, all_in_five}
@@ -36,13 +36,13 @@ of_phase p all Post = passed_at p phases 2 Normal all (omega arith)
 is_listed : ℕ → ℕ → ℕ → Phase → Bool
 is_listed n near far phase =
     let score : MatchScore = record { near = near; far = far; phase = phase } in
-    not (is_of_match n score) || nat_lt (place_of n score) (length (ladder n))
+    not (is_of_match n score) || nat_lt (ladder_place n score) (length (ladder n))
 
 tried : (n : ℕ) → 1 ≤ n → n ≤ 5 → list_all (λ near. list_all (λ far. list_all (is_listed n near far) phases) five) five ≡ true
 unfolding is_listed ladder in_order
 tried = one_to_five (λ n. list_all (λ near. list_all (λ far. list_all (is_listed n near far) phases) five) five ≡ true) refl refl refl refl refl
 
-listed-true : (n near far : ℕ) (phase : Phase) → is_listed n near far phase ≡ true → is_of_match n (record { near = near; far = far; phase = phase }) ≡ true → place_of n (record { near = near; far = far; phase = phase }) < length (ladder n)
+listed-true : (n near far : ℕ) (phase : Phase) → is_listed n near far phase ≡ true → is_of_match n (record { near = near; far = far; phase = phase }) ≡ true → ladder_place n (record { near = near; far = far; phase = phase }) < length (ladder n)
 unfolding is_listed
 listed-true n near far phase h of_match = grind (arith, nat_tests)
 
@@ -51,7 +51,7 @@ fits n near far Normal h = let low = h.valid.fits.normal refl in grind (arith, n
 fits n near far Crawford h = let low = h.valid.fits.crawford refl in grind (arith, nat_tests, h.valid.needs.in_order, h.within)
 fits n near far Post h = let low = h.valid.fits.post refl in let won = h.won refl in grind (arith, nat_tests, h.valid.needs.in_order, h.within)
 
-pub listed : (n : ℕ) → 1 ≤ n → n ≤ 5 → (score : MatchScore) → IsOfMatch n score → place_of n score < length (ladder n)
+pub listed : (n : ℕ) → 1 ≤ n → n ≤ 5 → (score : MatchScore) → IsOfMatch n score → ladder_place n score < length (ladder n)
 listed n from to score h =
     let needs = h.valid.needs in
     let rows = among_five (λ near. list_all (λ far. list_all (is_listed n near far) phases) five) (tried n from to) score.near needs.from (omega (arith, needs.in_order, needs.to)) in
@@ -80,7 +80,7 @@ in_ladder n from to score (k, low, e) =
 pub to_ladder : (n : ℕ) → 1 ≤ n → n ≤ 5 → (score : MatchScore) → IsOfMatch n score → Contains (ladder n) score
 to_ladder n from to score h =
     let here = listed n from to score h in
-    (place_of n score, here, sym (same_score-true score (get_or (ladder n) (place_of n score) score) (found_at (same_score score) (ladder n) score here)))
+    (ladder_place n score, here, sym (same_score-true score (get_or (ladder n) (ladder_place n score) score) (found_at (same_score score) (ladder n) score here)))
 
 -- whether a score comes before another
 before : MatchScore → MatchScore → Bool
@@ -110,7 +110,7 @@ either_of true y z h = inl refl
 either_of false true z h = inr (inl refl)
 either_of false false z h = inr (inr h)
 
-before-true : (a b : MatchScore) → before a b ≡ true → ComesBefore a b
+before-true : (a b : MatchScore) → before a b ≡ true → ScoreComesBefore a b
 unfolding before
 before-true a b h =
     elim (either_of (nat_lt (a.near + a.far) (b.near + b.far)) _ _ h) [
@@ -123,5 +123,5 @@ sorted : (n : ℕ) → 1 ≤ n → n ≤ 5 → all_pairs before (ladder n) ≡ t
 unfolding all_pairs before ladder in_order
 sorted = one_to_five (λ n. all_pairs before (ladder n) ≡ true) refl refl refl refl refl
 
-pub ladder_sorted : (n : ℕ) → 1 ≤ n → n ≤ 5 → AllPairs ComesBefore (ladder n)
+pub ladder_sorted : (n : ℕ) → 1 ≤ n → n ≤ 5 → AllPairs ScoreComesBefore (ladder n)
 ladder_sorted n from to i j d low within = before-true _ _ (pairs-true before (ladder n) (sorted n from to) i j d low within)

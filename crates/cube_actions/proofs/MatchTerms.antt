@@ -15,7 +15,7 @@ use Rattle.cube_actions.specs.Stakes.{Terms, IsValid, IsRightKind, IsRightDouble
 use Rattle.cube_actions.specs.Scores.{MatchScore, last_game, same_score, needs, other_side}
 use Rattle.cube_actions.specs.Ladder.{ladder, in_order}
 use Rattle.cube_actions.specs.MatchKinds.{match_kinds, every_kind, can_come, number_in, after_play, after_take, may_double}
-use Rattle.cube_actions.specs.Starts.{StartPairs, AreStarts, place_of, start_pair}
+use Rattle.cube_actions.specs.Starts.{StartPairs, AreStarts, ladder_place, start_pair}
 use Rattle.cube_actions.specs.Matches.{terms_of, match_kind, value_of_win, next_value, next_score, stays_near}
 use Rattle.cube_actions.proofs.LadderOfFive.{one_to_five, filter_few}
 use Rattle.cube_actions.proofs.FirstPassing.{passed_at, found_at}
@@ -32,14 +32,14 @@ tried : (n : ℕ) → 1 ≤ n → n ≤ 5 → list_all (λ score. list_all (numb
 unfolding number_fits match_kinds ladder in_order
 tried = one_to_five (λ n. list_all (λ score. list_all (number_fits score) (match_kinds score)) (ladder n) ≡ true) refl refl refl refl refl
 
-numbers_fit : (n : ℕ) → 1 ≤ n → n ≤ 5 → (score : MatchScore) → place_of n score < length (ladder n) → list_all (number_fits score) (match_kinds score) ≡ true
+numbers_fit : (n : ℕ) → 1 ≤ n → n ≤ 5 → (score : MatchScore) → ladder_place n score < length (ladder n) → list_all (number_fits score) (match_kinds score) ≡ true
 numbers_fit n from to score listed =
-    let here = get_or (ladder n) (place_of n score) last_game in
+    let here = get_or (ladder n) (ladder_place n score) last_game in
     let same : score ≡ here = same_score-true score here (found_at (same_score score) (ladder n) last_game listed) in
-    let row = passed_at (λ s. list_all (number_fits s) (match_kinds s)) (ladder n) (place_of n score) last_game (tried n from to) listed in
+    let row = passed_at (λ s. list_all (number_fits s) (match_kinds s)) (ladder n) (ladder_place n score) last_game (tried n from to) listed in
     subst (λ (s : MatchScore). list_all (number_fits s) (match_kinds s) ≡ true) (sym same) row
 
-pub cubes_small : (n : ℕ) → 1 ≤ n → n ≤ 5 → (score : MatchScore) → place_of n score < length (ladder n) → All (λ kind. (1 ≤ kind.cube) × (kind.cube ≤ 8)) (match_kinds score)
+pub cubes_small : (n : ℕ) → 1 ≤ n → n ≤ 5 → (score : MatchScore) → ladder_place n score < length (ladder n) → All (λ kind. (1 ≤ kind.cube) × (kind.cube ≤ 8)) (match_kinds score)
 unfolding number_fits
 cubes_small n from to score listed k d within =
     let fits = passed_at (number_fits score) (match_kinds score) k d (numbers_fit n from to score listed) within in
@@ -61,7 +61,7 @@ won_within = record { from = omega (arith, ints); in_order = omega (arith, ints)
 
 start_within : (starts : StartPairs) (score : MatchScore) → AreStarts starts → IsWithin (point_units 1) (start_pair starts score)
 start_within starts score valid =
-    let place = place_of starts.match_length score in
+    let place = ladder_place starts.match_length score in
     elim (cases_lt place (length starts.pairs)) [
       | inl held ↦ valid.within place nothing held
       | inr none ↦ rw (get_or_past starts.pairs place nothing none) nothing_within
@@ -115,7 +115,7 @@ right_kind score starts kind valid fits =
       });
     }
 
-pub terms-valid : (score : MatchScore) (starts : StartPairs) → AreStarts starts → place_of starts.match_length score < length (ladder starts.match_length) → IsValid (terms_of score starts)
+pub terms-valid : (score : MatchScore) (starts : StartPairs) → AreStarts starts → ladder_place starts.match_length score < length (ladder starts.match_length) → IsValid (terms_of score starts)
 terms-valid score starts valid listed =
     let fit = numbers_fit starts.match_length valid.from valid.to score listed in
     record {

@@ -8,7 +8,7 @@ use Rattle.cube_actions.specs.declared.side.Side.{Side}
 use Rattle.cube_actions.specs.declared.side.Side.TheVariants.{Near, Far}
 use Rattle.cube_actions.specs.Scores.{MatchScore, IsScore, last_game, needs, other_side, same_score, same_phase}
 use Rattle.cube_actions.specs.Ladder.{in_order, is_of_match, ladder}
-use Rattle.cube_actions.specs.Starts.{place_of}
+use Rattle.cube_actions.specs.Starts.{ladder_place}
 use Rattle.cube_actions.specs.Matches.{next_score}
 use Rattle.cube_actions.proofs.LadderOfFive.{one_to_five}
 use Rattle.cube_actions.proofs.FirstPassing.{passed_at, found_at}
@@ -18,7 +18,7 @@ abbrev pub after_win : MatchScore → Side → ℕ → MatchScore
 after_win score winner won = next_score score.phase (needs score winner - won) (needs score (other_side winner))
 
 comes_before : ℕ → MatchScore → Side → ℕ → Bool
-comes_before n score winner won = nat_le (needs score winner) won || nat_lt (place_of n (after_win score winner won)) (place_of n score)
+comes_before n score winner won = nat_le (needs score winner) won || nat_lt (ladder_place n (after_win score winner won)) (ladder_place n score)
 
 abbrev all_before : ℕ → List MatchScore → Bool
 all_before n scores =
@@ -59,15 +59,15 @@ few_needed : (score : MatchScore) (side : Side) → IsScore score → needs scor
 few_needed score Near valid = omega (arith, valid.needs.in_order, valid.needs.to)
 few_needed score Far valid = valid.needs.to
 
-comes-true : (n : ℕ) (score : MatchScore) (winner : Side) (won : ℕ) → comes_before n score winner won ≡ true → won < needs score winner → place_of n (after_win score winner won) < place_of n score
+comes-true : (n : ℕ) (score : MatchScore) (winner : Side) (won : ℕ) → comes_before n score winner won ≡ true → won < needs score winner → ladder_place n (after_win score winner won) < ladder_place n score
 unfolding comes_before
 comes-true n score winner won h less = grind (arith, nat_tests)
 
-pub after_win-before : (n : ℕ) → 1 ≤ n → n ≤ 5 → (score : MatchScore) → IsScore score → place_of n score < length (ladder n) → (winner : Side) (won : ℕ) → 1 ≤ won → won < needs score winner → place_of n (after_win score winner won) < place_of n score
+pub after_win-before : (n : ℕ) → 1 ≤ n → n ≤ 5 → (score : MatchScore) → IsScore score → ladder_place n score < length (ladder n) → (winner : Side) (won : ℕ) → 1 ≤ won → won < needs score winner → ladder_place n (after_win score winner won) < ladder_place n score
 after_win-before n from to score valid listed winner won some less =
-    let here = get_or (ladder n) (place_of n score) last_game in
+    let here = get_or (ladder n) (ladder_place n score) last_game in
     let same : score ≡ here = same_score-true score here (found_at (same_score score) (ladder n) last_game listed) in
-    let row = passed_at (λ s. list_all (λ side. list_all (comes_before n s side) (1 ∷ 2 ∷ 3 ∷ 4 ∷ [])) (Near ∷ Far ∷ [])) (ladder n) (place_of n score) last_game (tried n from to) listed in
+    let row = passed_at (λ s. list_all (λ side. list_all (comes_before n s side) (1 ∷ 2 ∷ 3 ∷ 4 ∷ [])) (Near ∷ Far ∷ [])) (ladder n) (ladder_place n score) last_game (tried n from to) listed in
     let mine : list_all (λ winner. list_all (comes_before n score winner) (1 ∷ 2 ∷ 3 ∷ 4 ∷ [])) (Near ∷ Far ∷ []) ≡ true = subst (λ (s : MatchScore). list_all (λ winner. list_all (comes_before n s winner) (1 ∷ 2 ∷ 3 ∷ 4 ∷ [])) (Near ∷ Far ∷ []) ≡ true) (sym same) row in
     let few = few_needed score winner valid in
     comes-true n score winner won (among_four (comes_before n score winner) (of_side (λ side. list_all (comes_before n score side) (1 ∷ 2 ∷ 3 ∷ 4 ∷ [])) mine winner) won some (omega arith)) less
@@ -90,8 +90,8 @@ pub all_in_five : (n : ℕ) → 1 ≤ n → n ≤ 5 → list_all (is_of_match 5)
 unfolding ladder in_order
 all_in_five = one_to_five (λ n. list_all (is_of_match 5) (ladder n) ≡ true) refl refl refl refl refl
 
-pub listed-valid : (n : ℕ) → 1 ≤ n → n ≤ 5 → (score : MatchScore) → place_of n score < length (ladder n) → IsScore score
+pub listed-valid : (n : ℕ) → 1 ≤ n → n ≤ 5 → (score : MatchScore) → ladder_place n score < length (ladder n) → IsScore score
 listed-valid n from to score listed =
-    let here = get_or (ladder n) (place_of n score) last_game in
+    let here = get_or (ladder n) (ladder_place n score) last_game in
     let same : score ≡ here = same_score-true score here (found_at (same_score score) (ladder n) last_game listed) in
-    subst IsScore (sym same) (in_five-valid here.near here.far here.phase (passed_at (is_of_match 5) (ladder n) (place_of n score) last_game (all_in_five n from to) listed))
+    subst IsScore (sym same) (in_five-valid here.near here.far here.phase (passed_at (is_of_match 5) (ladder n) (ladder_place n score) last_game (all_in_five n from to) listed))

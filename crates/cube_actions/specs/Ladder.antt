@@ -34,8 +34,8 @@ pub record IsOfMatch (match_length : ℕ) (score : MatchScore) : Type 0 where
 
 -- A score comes before another where both sides together need fewer points, or as many and the near side fewer, or where the needs are the
 -- same and it is after the Crawford game, which the other is.
-abbrev pub ComesBefore : MatchScore → MatchScore → Type 0
-ComesBefore a b =
+abbrev pub ScoreComesBefore : MatchScore → MatchScore → Type 0
+ScoreComesBefore a b =
     (a.near + a.far < b.near + b.far)
     ⊎ ((a.near + a.far ≡ b.near + b.far) × (a.near < b.near))
     ⊎ ((a.near ≡ b.near) × (a.far ≡ b.far) × (a.phase ≡ Post) × (b.phase ≡ Crawford))

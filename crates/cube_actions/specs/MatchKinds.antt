@@ -34,11 +34,11 @@ both_to_move place =
     record { mover = Near; cube = place.0; owner = place.1 } ∷ record { mover = Far; cube = place.0; owner = place.1 } ∷ []
 
 -- the places of the cube, by its rising value, and owned by the near side before the far side
-abbrev pub places : List (ℕ × Option Side)
-places = (1, None) ∷ (2, Some Near) ∷ (2, Some Far) ∷ (4, Some Near) ∷ (4, Some Far) ∷ (8, Some Near) ∷ (8, Some Far) ∷ []
+abbrev pub cube_places : List (ℕ × Option Side)
+cube_places = (1, None) ∷ (2, Some Near) ∷ (2, Some Far) ∷ (4, Some Near) ∷ (4, Some Far) ∷ (8, Some Near) ∷ (8, Some Far) ∷ []
 
 abbrev pub every_kind : List MatchKind
-every_kind = flat_map both_to_move places
+every_kind = flat_map both_to_move cube_places
 
 -- the kinds of state at a score, in order
 unfoldable pub match_kinds : MatchScore → List MatchKind

@@ -19,14 +19,14 @@ pub record AreStarts (starts : StartPairs) : Type 0 where
   pub within : All (IsWithin (point_units 1)) starts.pairs
 
 -- how many scores stand before this one in the ladder of a match, or all if it isn't there
-abbrev pub place_of : ℕ → MatchScore → ℕ
-place_of match_length score = position_or_len (same_score score) (ladder match_length)
+abbrev pub ladder_place : ℕ → MatchScore → ℕ
+ladder_place match_length score = position_or_len (same_score score) (ladder match_length)
 
 -- the score is one of the match, and the pairs of all scores before it are held
 pub record Covers (starts : StartPairs) (score : MatchScore) : Type 0 where
-  pub listed : place_of starts.match_length score < length (ladder starts.match_length)
-  pub held : place_of starts.match_length score ≤ length starts.pairs
+  pub listed : ladder_place starts.match_length score < length (ladder starts.match_length)
+  pub held : ladder_place starts.match_length score ≤ length starts.pairs
 
 -- what the near side of a score has
 abbrev pub start_pair : StartPairs → MatchScore → Bounds
-start_pair starts score = slice_index_or starts.pairs (place_of starts.match_length score) nothing
+start_pair starts score = slice_index_or starts.pairs (ladder_place starts.match_length score) nothing

@@ -4,25 +4,25 @@ ghost use Rattle.directed_fixed.specs.Bounds.{Bounds};
 ghost use Rattle.cube_actions.specs.declared.kind.Kind.{Kind};
 ghost use Rattle.cube_actions.specs.declared.phase.Phase.TheVariants.{Normal, Crawford, Post};
 ghost use Rattle.cube_actions.specs.declared.side.Side.{Side};
-ghost use Rattle.cube_actions.specs.Ladder.{IsOfMatch, ComesBefore, ladder};
+ghost use Rattle.cube_actions.specs.Ladder.{IsOfMatch, ScoreComesBefore, ladder};
 ghost use Rattle.cube_actions.specs.MatchKinds.{match_kinds};
 ghost use Rattle.cube_actions.specs.MatchExamples.{one_and_two, one_and_two_kinds, two_and_three, two_and_three_kinds};
 ghost use Rattle.cube_actions.specs.Matches.{answers_in, next_score, terms_of};
 ghost use Rattle.cube_actions.specs.Scores.{MatchScore, IsScore, needs, other_side};
-ghost use Rattle.cube_actions.specs.Starts.{StartPairs, place_of};
+ghost use Rattle.cube_actions.specs.Starts.{StartPairs, ladder_place};
 
 /// A ladder has the scores of its match, each after those that come before it by the rule.
 pub fn ladders_are_exact()
     ensures scores { (match_length : ℕ) → 1 ≤ match_length → match_length ≤ 5 → (score : MatchScore) → (Contains (ladder match_length) score ↔ IsOfMatch match_length score) }
-    ensures order { (match_length : ℕ) → 1 ≤ match_length → match_length ≤ 5 → AllPairs ComesBefore (ladder match_length) }
+    ensures order { (match_length : ℕ) → 1 ≤ match_length → match_length ≤ 5 → AllPairs ScoreComesBefore (ladder match_length) }
 {}
 
 /// A win that doesn't end the match leads to a score of the match that comes earlier in the ladder.
 pub fn wins_lead_down_the_ladder()
     ensures { (match_length : ℕ) (score : MatchScore) (winner : Side) (won : ℕ)
-        → 1 ≤ match_length → match_length ≤ 5 → place_of match_length score < length (ladder match_length)
+        → 1 ≤ match_length → match_length ≤ 5 → ladder_place match_length score < length (ladder match_length)
         → 1 ≤ won → won < needs score winner
-        → place_of match_length (next_score score.phase (needs score winner - won) (needs score (other_side winner))) < place_of match_length score }
+        → ladder_place match_length (next_score score.phase (needs score winner - won) (needs score (other_side winner))) < ladder_place match_length score }
 {}
 
 /// The ladder of a match of three points, and how many scores there are.

@@ -9,13 +9,13 @@ millionths_down value = int_div_euclid (value *ℤ pos 1000000) (pos (2 ^ 32))
 abbrev pub millionths_up : ℤ → ℤ
 millionths_up value = neg_ℤ (millionths_down (neg_ℤ value))
 
--- a digit's character
-abbrev pub digit : ℕ → ℕ
-digit n = 48 + n
+-- the character of a decimal digit
+abbrev pub decimal_digit : ℕ → ℕ
+decimal_digit n = 48 + n
 
 -- the six digits of a number below a million
 abbrev pub six_digits : ℕ → List ℕ
-six_digits n = map (λ (power : ℕ). digit (n / power % 10)) (100000 ∷ 10000 ∷ 1000 ∷ 100 ∷ 10 ∷ 1 ∷ [])
+six_digits n = map (λ (power : ℕ). decimal_digit (n / power % 10)) (100000 ∷ 10000 ∷ 1000 ∷ 100 ∷ 10 ∷ 1 ∷ [])
 
 -- the whole part, a point and six digits
 abbrev pub size_text : ℕ → List ℕ

@@ -11,7 +11,8 @@ use itoa::Buffer;
 pub fn print_down(value: Fixed) -> ArrayString<32>
     ensures text { result.bytes ≡ millionths_text (millionths_down value) }
     ensures below { (pos (2 ^ 32) *ℤ millionths_down value) ≤ℤ (value *ℤ pos 1000000) }
-    ensures greatest { (value *ℤ pos 1000000) <ℤ (pos (2 ^ 32) *ℤ (millionths_down value +ℤ pos 1)) }
+    ensures greatest { (value *ℤ pos 1000000)
+        <ℤ (pos (2 ^ 32) *ℤ (millionths_down value +ℤ pos 1)) }
 {
     print_millionths(millionths_below(value.units()))
 }
@@ -20,7 +21,8 @@ pub fn print_down(value: Fixed) -> ArrayString<32>
 pub fn print_up(value: Fixed) -> ArrayString<32>
     ensures text { result.bytes ≡ millionths_text (millionths_up value) }
     ensures above { (value *ℤ pos 1000000) ≤ℤ (pos (2 ^ 32) *ℤ millionths_up value) }
-    ensures least { (pos (2 ^ 32) *ℤ millionths_up value) <ℤ (value *ℤ pos 1000000 +ℤ pos (2 ^ 32)) }
+    ensures least { (pos (2 ^ 32) *ℤ millionths_up value)
+        <ℤ (value *ℤ pos 1000000 +ℤ pos (2 ^ 32)) }
 {
     print_millionths(-millionths_below(-value.units()))
 }

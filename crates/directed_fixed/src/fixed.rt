@@ -1,7 +1,9 @@
-ghost use Rattle.std.specs.Prelude.{◌≡◌, ◌^◌, ◌↔◌, ℕ, ℤ, pos, neg_ℤ, ◌+ℤ◌, ◌*ℤ◌, ◌≤ℤ◌, IsSome, IfSome};
+ghost use Rattle.std.specs.Prelude.{◌≡◌, ◌^◌, ◌↔◌, ℕ, ℤ, pos, neg_ℤ, ◌+ℤ◌, ◌-ℤ◌, ◌*ℤ◌, ◌≤ℤ◌, IsSome, IfSome};
 ghost use Rattle.std.specs.Int.{int_max, int_min};
 ghost use Rattle.directed_fixed.specs.Bounds.{IsWithinUnits};
+ghost use Rattle.directed_fixed.specs.declared.word.TheConstants.{WORD_OFFSET};
 
+use crate::word::WORD_OFFSET;
 use std::marker::Model;
 
 /// The units of one point.
@@ -66,6 +68,27 @@ impl Fixed {
     {
         Fixed {
             units: self.units + other.units,
+        }
+    }
+
+    /// The value so many times.
+    pub fn times(self, times: u32) -> Fixed
+        requires { IsWithinUnits (pos (2 ^ 56)) (pos times *ℤ self) }
+        ensures { result ≡ (pos times *ℤ self) }
+    {
+        Fixed {
+            units: i64::from(times) * self.units,
+        }
+    }
+
+    /// The value that a word stands for.
+    #[inline]
+    pub fn of_word(word: u64) -> Fixed
+        requires { IsWithinUnits (pos (2 ^ 56)) (pos word -ℤ WORD_OFFSET) }
+        ensures { result ≡ (pos word -ℤ WORD_OFFSET) }
+    {
+        Fixed {
+            units: word as i64 - WORD_OFFSET,
         }
     }
 

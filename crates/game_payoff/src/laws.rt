@@ -10,11 +10,14 @@ pub fn worked_examples()
     ensures near_end_of_the_winners_home { points (placed (off ∷ []) (19 ∷ [])) ≡ Some Backgammon }
     ensures just_outside_it { points (placed (off ∷ []) (18 ∷ [])) ≡ Some Gammon }
     ensures about_to_bear_off { points (placed (off ∷ []) (1 ∷ [])) ≡ Some Gammon }
-    ensures one_of_two_in_the_winners_home { points (placed (off ∷ off ∷ []) (19 ∷ 3 ∷ [])) ≡ Some Backgammon }
-    ensures none_of_three_in_it { points (placed (off ∷ off ∷ off ∷ []) (18 ∷ 12 ∷ 1 ∷ [])) ≡ Some Gammon }
+    ensures one_of_two_in_the_winners_home { points (placed (off ∷ off ∷ []) (19 ∷ 3 ∷ []))
+        ≡ Some Backgammon }
+    ensures none_of_three_in_it { points (placed (off ∷ off ∷ off ∷ []) (18 ∷ 12 ∷ 1 ∷ []))
+        ≡ Some Gammon }
     ensures one_borne_off { points (placed (off ∷ off ∷ []) (1 ∷ off ∷ [])) ≡ Some Single }
     ensures one_borne_off_and_one_on_the_bar { points (placed (off ∷ off ∷ off ∷ []) (bar ∷ bar ∷ off ∷ [])) ≡ Some Single }
     ensures one_checker_left { points (placed (1 ∷ []) (bar ∷ [])) ≡ None }
-    ensures one_of_three_left { points (placed (24 ∷ off ∷ off ∷ []) (bar ∷ bar ∷ bar ∷ [])) ≡ None }
+    ensures one_of_three_left { points (placed (24 ∷ off ∷ off ∷ []) (bar ∷ bar ∷ bar ∷ []))
+        ≡ None }
     ensures both_on_the_bar { points (placed (bar ∷ []) (bar ∷ [])) ≡ None }
 {}

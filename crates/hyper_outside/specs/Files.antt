@@ -27,9 +27,9 @@ pub record Reads (file : Option (List ℕ)) (at : ℕ) (old new : List ℕ) (cou
   pub rest : drop count new ≡ drop count old
 
 -- the name has no bytes, or, after a failure, all is as it was
-abbrev pub Starts : {T E : Type 0} → Contents → Contents → List ℕ → Result T E → Type 0
-Starts old new name (Ok x) = new name ≡ Some []
-Starts old new name (Err e) = new name ≡ old name
+abbrev pub StartsEmpty : {T E : Type 0} → Contents → Contents → List ℕ → Result T E → Type 0
+StartsEmpty old new name (Ok x) = new name ≡ Some []
+StartsEmpty old new name (Err e) = new name ≡ old name
 
 -- the bytes stand at the end of the name's, which is made if it isn't there
 abbrev pub Adds : Contents → Contents → List ℕ → List ℕ → Type 0

@@ -1,7 +1,7 @@
 ghost use Rattle.std.specs.Prelude.{◌≡◌, ℕ, ◌+◌, ◌≤◌, List, [], ◌∷◌, ◌++◌, IsTrue, not, true, min, length, take, drop, Option, IfOk, OnOk, OnErr, is_ok};
 ghost use Rattle.std.specs.Option.{option_copied, option_map};
 ghost use Rattle.hyper_outside.specs.Causes.{HasCause};
-ghost use Rattle.hyper_outside.specs.Files.{SameFiles, KeepsOthers, Reads, Starts, Appends, bytes_from};
+ghost use Rattle.hyper_outside.specs.Files.{SameFiles, KeepsOthers, Reads, StartsEmpty, Appends, bytes_from};
 ghost use Rattle.hyper_outside.specs.Calls.{with_failing};
 ghost use Rattle.hyper_outside.specs.Store.{held_bytes, length_from, with_file, with_places, roomier};
 ghost use Rattle.hyper_outside.specs.MemFiles.{no_files, restocked, is_listed, start_fails, append_fails, after_read, after_start, after_append};
@@ -124,7 +124,7 @@ impl Files for MemFiles {
 
     /// `Failed` exactly where the call is listed or there is no place for the name.
     fn start(&mut self, name: &str) -> Result<(), Failed>
-        ensures starts { Starts (held_bytes self.old.stock.files) (held_bytes self.new.stock.files) name.now result }
+        ensures starts { StartsEmpty (held_bytes self.old.stock.files) (held_bytes self.new.stock.files) name.now result }
         ensures others { KeepsOthers name.now (held_bytes self.old.stock.files) (held_bytes self.new.stock.files) }
         ensures cause { HasCause self.old.write_faults self.new.write_faults result }
         ensures answer { is_ok result ≡ not (start_fails self.old name.now) }

@@ -1,7 +1,7 @@
 ghost use Rattle.std.specs.Prelude.{◌≡◌, ℕ, ◌≤◌, List, Bool, IsTrue, Option, IfOk, length};
 ghost use Rattle.std.specs.Option.{option_map};
 ghost use Rattle.hyper_outside.specs.Causes.{HasCause};
-ghost use Rattle.hyper_outside.specs.Files.{SameFiles, KeepsOthers, Reads, Starts, Appends};
+ghost use Rattle.hyper_outside.specs.Files.{SameFiles, KeepsOthers, Reads, StartsEmpty, Appends};
 ghost use Rattle.hyper_outside.specs.Sink.{Output, Puts};
 
 use std::alloc::{AllocError, AllocFailed};
@@ -115,7 +115,7 @@ pub trait Files {
 
     /// Leaves the name with no bytes. After `Failed` all is as before.
     fn start(&mut self, name: &str) -> Result<(), Failed>
-        ensures starts { IsTrue (tells self.old) → Starts (held self.old) (held self.new) name.now result }
+        ensures starts { IsTrue (tells self.old) → StartsEmpty (held self.old) (held self.new) name.now result }
         ensures others { IsTrue (tells self.old) → KeepsOthers name.now (held self.old) (held self.new) }
         ensures tells { tells self.new ≡ tells self.old }
         ensures cause { HasCause (write_faults self.old) (write_faults self.new) result }

@@ -11,7 +11,7 @@ use Rattle.move_rules.specs.Moves.{IsMove, MayLeave}
 use Rattle.move_rules.specs.Sequences.{IsSequence, CanPlay, IsLegal}
 use Rattle.move_rules.specs.Ends.{Line, after_move}
 use Rattle.move_rules.specs.Listing.{full, or_else, double_lines, pair_lines, Among}
-use Rattle.move_rules.specs.Faults.{number, HasFault, IsFirstFault, IsFirstWrong, IsWholeFault, DiffersBy, first_die}
+use Rattle.move_rules.specs.Faults.{fault_order, HasFault, IsFirstFault, IsFirstWrong, IsWholeFault, DiffersBy, first_die}
 use Rattle.move_rules.specs.Order.{ends_of}
 use Rattle.move_rules.specs.declared.play.Entry.{Entry}
 use Rattle.move_rules.specs.declared.play.Move.{Move}
@@ -102,7 +102,7 @@ pub made-err : (p : Placement) (move : Move) (o : Option Placement) (r : Result 
     → IfErr r (λ fault. (dice : List ℕ) → Contains dice move.die → IsFirstFault p dice move fault)
 made-err p move o r e f low high held bar home =
     subst (λ (x : Result Placement BadPlay). IfErr x (λ fault. (dice : List ℕ) → Contains dice move.die → IsFirstFault p dice move fault)) (sym e) (go o f) where
-      none : (earlier : BadPlay) (dice : List ℕ) → Contains dice move.die → number earlier < 5 → HasFault p dice move earlier → ⊥
+      none : (earlier : BadPlay) (dice : List ℕ) → Contains dice move.die → fault_order earlier < 5 → HasFault p dice move earlier → ⊥
       none WrongDice dice there less h = h there
       none NoChecker dice there less h = omega (arith, low, high, held, h)
       none BarFirst dice there less h = omega (arith, bar, h.0, h.1)

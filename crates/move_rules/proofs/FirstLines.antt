@@ -7,8 +7,8 @@ use Rattle.position_rank.specs.Placement.{Placement}
 use Rattle.roll_table.specs.Rolls.{Dice}
 use Rattle.move_rules.specs.Sequences.{IsLegal, IsLegalEnd}
 use Rattle.move_rules.specs.Ends.{Line}
-use Rattle.move_rules.specs.Listing.{Among, Reaches, Adds, lines_of}
-use Rattle.move_rules.specs.Order.{ComesBefore, IsFirst, ends_of, plays_of}
+use Rattle.move_rules.specs.Listing.{Among, HasEnd, AddsNewEnds, lines_of}
+use Rattle.move_rules.specs.Order.{PlayComesBefore, IsFirst, ends_of, plays_of}
 use Rattle.move_rules.specs.declared.play.Entry.{Entry}
 use Rattle.move_rules.specs.declared.play.Move.{Move}
 use Rattle.move_rules.proofs.Members.{Among-left, Among-right, Among-cases, Among-map, map-cases, Contains-Among, Among-Contains}
@@ -16,7 +16,7 @@ use Rattle.move_rules.proofs.EarlierAndLater.{Pairs, Pairs-push, Pairs-map, Pair
 use Rattle.move_rules.proofs.FullLines.{Before}
 use Rattle.move_rules.proofs.RollLines.{IsListing}
 
-before-one_way : (one other : List Move) → ComesBefore one other → ComesBefore other one → ⊥
+before-one_way : (one other : List Move) → PlayComesBefore one other → PlayComesBefore other one → ⊥
 before-one_way [] other h k = absurd h
 before-one_way (m ∷ one) [] h k = absurd h
 before-one_way (m ∷ one) (n ∷ other) (inl a) (inl b) = omega (arith, a, b)
@@ -36,27 +36,27 @@ Apart line other = line.1 ≢ other.1
 -- these were found of those
 pub record Found (lines found : List Line) : Type 0 where
   pub within : (line : Line) → Among line found → Among line lines
-  pub reached : (line : Line) → Among line lines → Reaches found line.1
+  pub reached : (line : Line) → Among line lines → HasEnd found line.1
   pub apart : Pairs Apart found
   pub ordered : Pairs Before found
   pub first : (line other : Line) → Among line found → Among other lines → other.1 ≡ line.1 → Before other line → ⊥
 
-reaches : (found : List Line) (line : Line) → Among line found → Reaches found line.1
+reaches : (found : List Line) (line : Line) → Among line found → HasEnd found line.1
 reaches found line h = Among-map (λ (l : Line). l.1) line found h
 
-reached-more : (found : List Line) (line : Line) (end : Placement) → Reaches found end → Reaches (found ++ line ∷ []) end
+reached-more : (found : List Line) (line : Line) (end : Placement) → HasEnd found end → HasEnd (found ++ line ∷ []) end
 reached-more found line end h =
     let r = map-cases (λ (l : Line). l.1) end found h in
-    subst (λ (q : Placement). Reaches (found ++ line ∷ []) q) (sym r.2) (reaches (found ++ line ∷ []) r.0 (Among-left r.0 found (line ∷ []) r.1))
+    subst (λ (q : Placement). HasEnd (found ++ line ∷ []) q) (sym r.2) (reaches (found ++ line ∷ []) r.0 (Among-left r.0 found (line ∷ []) r.1))
 
 -- the last of them
 last-cases : (x : Line) (lines : List Line) (line : Line) → Among x (lines ++ line ∷ []) → Among x lines ⊎ (x ≡ line)
 last-cases x lines line h = elim (Among-cases x lines (line ∷ []) h) [ inl a ↦ inl a | inr b ↦ (elim b [ inl e ↦ inr e | inr k ↦ absurd k ]) ]
 
-found-old : (done found : List Line) (line : Line) (more : List Line) → Pairs Before (done ++ line ∷ more) → Found done found → Reaches found line.1 → Found (done ++ line ∷ []) found
+found-old : (done found : List Line) (line : Line) (more : List Line) → Pairs Before (done ++ line ∷ more) → Found done found → HasEnd found line.1 → Found (done ++ line ∷ []) found
 found-old done found line more ordered was old = record {
   within = λ l h. Among-left l done (line ∷ []) (was.within l h);
-  reached = λ l h. elim (last-cases l done line h) [ inl a ↦ was.reached l a | inr e ↦ subst (λ (x : Line). Reaches found x.1) (sym e) old ];
+  reached = λ l h. elim (last-cases l done line h) [ inl a ↦ was.reached l a | inr e ↦ subst (λ (x : Line). HasEnd found x.1) (sym e) old ];
   apart = was.apart;
   ordered = was.ordered;
   first = λ l other h i e before. elim (last-cases other done line i) [
@@ -65,14 +65,14 @@ found-old done found line more ordered was old = record {
   ];
 }
 
-found-new : (done found : List Line) (line : Line) (more : List Line) → Pairs Before (done ++ line ∷ more) → Found done found → (Reaches found line.1 → ⊥) → Found (done ++ line ∷ []) (found ++ line ∷ [])
+found-new : (done found : List Line) (line : Line) (more : List Line) → Pairs Before (done ++ line ∷ more) → Found done found → (HasEnd found line.1 → ⊥) → Found (done ++ line ∷ []) (found ++ line ∷ [])
 found-new done found line more ordered was new = record {
   within = λ l h. elim (last-cases l found line h) [ inl a ↦ Among-left l done (line ∷ []) (was.within l a) | inr e ↦ Among-right l done (line ∷ []) (inl e) ];
   reached = λ l h. elim (last-cases l done line h) [
     | inl a ↦ reached-more found line l.1 (was.reached l a)
     | inr e ↦ reaches (found ++ line ∷ []) l (Among-right l found (line ∷ []) (inl e))
   ];
-  apart = Pairs-push Apart found line was.apart (λ l h e. new (subst (λ (q : Placement). Reaches found q) e (reaches found l h)));
+  apart = Pairs-push Apart found line was.apart (λ l h e. new (subst (λ (q : Placement). HasEnd found q) e (reaches found l h)));
   ordered = Pairs-push Before found line was.ordered (λ l h. Pairs-before Before done line more l ordered (was.within l h));
   first = λ l other h i e before. elim (last-cases l found line h) [
     | inl a ↦ (elim (last-cases other done line i) [
@@ -80,7 +80,7 @@ found-new done found line more ordered was new = record {
       | inr same ↦ before-one_way l.0 line.0 (Pairs-before Before done line more l ordered (was.within l a)) (subst (λ (x : Line). Before x l) same before)
     ])
     | inr is_line ↦ (elim (last-cases other done line i) [
-      | inl b ↦ new (subst (λ (q : Placement). Reaches found q) (e ∙ ap (λ (x : Line). x.1) is_line) (was.reached other b))
+      | inl b ↦ new (subst (λ (q : Placement). HasEnd found q) (e ∙ ap (λ (x : Line). x.1) is_line) (was.reached other b))
       | inr same ↦ (
           let twice : Before line line = subst (λ (x : Line). Before x line) same (subst (λ (x : Line). Before other x) is_line before) in
           before-one_way line.0 line.0 twice twice)
@@ -88,7 +88,7 @@ found-new done found line more ordered was new = record {
   ];
 }
 
-found-all : (lines done found after : List Line) → Pairs Before (done ++ lines) → Found done found → Adds found lines after → Found (done ++ lines) after
+found-all : (lines done found after : List Line) → Pairs Before (done ++ lines) → Found done found → AddsNewEnds found lines after → Found (done ++ lines) after
 found-all [] done found after ordered was e = subst (λ (x : List Line). Found (done ++ []) x) (sym e) (subst (λ (x : List Line). Found x found) (sym (append-nil done)) was)
 found-all (line ∷ lines) done found after ordered was (inl (old, adds)) =
     let again : (done ++ line ∷ []) ++ lines ≡ done ++ line ∷ lines = append_assoc done (line ∷ []) lines in
@@ -109,7 +109,7 @@ pub record IsPlays (p : Placement) (roll : Dice) (entries : List Entry) : Type 0
   pub ends : (q : Placement) → Contains (ends_of entries) q ↔ IsLegalEnd p roll q
   pub distinct : AllPairs (λ one another. one ≢ another) (ends_of entries)
   pub first : All (λ entry. IsFirst p roll entry.play.items entry.end) entries
-  pub in_order : AllPairs ComesBefore (plays_of entries)
+  pub in_order : AllPairs PlayComesBefore (plays_of entries)
 
 abbrev line_of : Entry → Line
 line_of entry = (entry.play.items, entry.end)
@@ -118,13 +118,13 @@ ends-are : (entries : List Entry) → map (λ (line : Line). line.1) (lines_of e
 ends-are [] = refl
 ends-are (entry ∷ entries) = ap (λ (x : List Placement). entry.end ∷ x) (ends-are entries)
 
-pub plays-of_adds : (p : Placement) (roll : Dice) (lines : List Line) (entries : List Entry) → IsListing p roll lines → Adds [] lines (lines_of entries) → IsPlays p roll entries
+pub plays-of_adds : (p : Placement) (roll : Dice) (lines : List Line) (entries : List Entry) → IsListing p roll lines → AddsNewEnds [] lines (lines_of entries) → IsPlays p roll entries
 plays-of_adds p roll lines entries listing adds =
     let found : Found lines (lines_of entries) = found-all lines [] [] (lines_of entries) listing.ordered nothing-found adds in
     record {
       ends = λ q. (
         λ h. (
-            let there : Reaches (lines_of entries) q = subst (λ (x : List Placement). Among q x) (sym (ends-are entries)) (Contains-Among q (ends_of entries) h) in
+            let there : HasEnd (lines_of entries) q = subst (λ (x : List Placement). Among q x) (sym (ends-are entries)) (Contains-Among q (ends_of entries) h) in
             let r = map-cases (λ (line : Line). line.1) q (lines_of entries) there in
             (r.0.0, subst (λ (x : Placement). IsLegal p roll r.0.0 x) (sym r.2) (listing.sound r.0 (found.within r.0 r.1)))),
         λ h. Among-Contains q (ends_of entries) (subst (λ (x : List Placement). Among q x) (ends-are entries) (found.reached (h.0, q) (listing.complete h.0 q h.1))),
@@ -137,5 +137,5 @@ plays-of_adds p roll lines entries listing adds =
             legal = listing.sound line (found.within line there);
             first = λ others o before. found.first line (others, line.1) there (listing.complete others line.1 o) refl before;
           });
-      in_order = AllPairs-of ComesBefore (plays_of entries) (Pairs-map ComesBefore (λ (entry : Entry). entry.play.items) entries (Pairs-of_map Before line_of entries found.ordered));
+      in_order = AllPairs-of PlayComesBefore (plays_of entries) (Pairs-map PlayComesBefore (λ (entry : Entry). entry.play.items) entries (Pairs-of_map Before line_of entries found.ordered));
     }

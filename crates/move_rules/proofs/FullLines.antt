@@ -8,7 +8,7 @@ use Rattle.move_rules.specs.Moves.{IsMove}
 use Rattle.move_rules.specs.Sequences.{IsSequence}
 use Rattle.move_rules.specs.Ends.{Line, after_move, places}
 use Rattle.move_rules.specs.Listing.{full, full_from, Among}
-use Rattle.move_rules.specs.Order.{ComesBefore}
+use Rattle.move_rules.specs.Order.{PlayComesBefore}
 use Rattle.move_rules.specs.declared.play.Move.{Move}
 use Rattle.move_rules.proofs.Members.{Among-flat_map, flat_map-cases}
 use Rattle.move_rules.proofs.EndsExact.{after_move-sound, after_move-complete, of_places, to_places, of_option, leaves_from}
@@ -74,9 +74,9 @@ full-complete (move ∷ rest) moves p q (next, made, later) =
 -- ---- in their order
 
 abbrev pub Before : Line → Line → Type 0
-Before line other = ComesBefore line.0 other.0
+Before line other = PlayComesBefore line.0 other.0
 
-pub before-after : (moves one other : List Move) → ComesBefore one other → ComesBefore (moves ++ one) (moves ++ other)
+pub before-after : (moves one other : List Move) → PlayComesBefore one other → PlayComesBefore (moves ++ one) (moves ++ other)
 before-after [] one other h = h
 before-after (move ∷ moves) one other h = inr (inr (refl, before-after moves one other h))
 
@@ -103,5 +103,5 @@ full-ordered (die ∷ dice) moves p =
     (λ j k x y less i h.
     let a = full_from-begins dice moves p die k x i in
     let b = full_from-begins dice moves p die j y h in
-    let first : ComesBefore (record { from = k; die = die } ∷ a.0) (record { from = j; die = die } ∷ b.0) = inr (inl (refl, less)) in
-    subst (λ (m : List Move). ComesBefore m y.0) (sym a.1) (subst (λ (m : List Move). ComesBefore (moves ++ record { from = k; die = die } ∷ a.0) m) (sym b.1) (before-after moves _ _ first)))
+    let first : PlayComesBefore (record { from = k; die = die } ∷ a.0) (record { from = j; die = die } ∷ b.0) = inr (inl (refl, less)) in
+    subst (λ (m : List Move). PlayComesBefore m y.0) (sym a.1) (subst (λ (m : List Move). PlayComesBefore (moves ++ record { from = k; die = die } ∷ a.0) m) (sym b.1) (before-after moves _ _ first)))

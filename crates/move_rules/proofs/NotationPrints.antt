@@ -12,7 +12,7 @@ use Rattle.roll_table.specs.Rolls.{dice_of}
 use Rattle.move_rules.specs.Moves.{IsMove}
 use Rattle.move_rules.specs.Sequences.{IsSequence}
 use Rattle.move_rules.specs.Written.{IsHit}
-use Rattle.move_rules.specs.Notation.{mark, step_word, word_of, play_of_words, HitsPoint, IsPlayText, is_hit, next_board, words_from, play_text, CanFollow, AreStepsOf}
+use Rattle.move_rules.specs.Notation.{mark, step_word, step_text, play_of_words, HitsPoint, IsPlayText, is_hit, next_board, words_from, play_text, CanFollow, AreStepsOf}
 use Rattle.move_rules.specs.declared.play.Move.{Move}
 use Rattle.move_rules.specs.declared.written.Step.{Step}
 use Rattle.move_rules.proofs.EndsExact.{after_move-complete}
@@ -67,7 +67,7 @@ hit-told p move = (λ h. grind (arith, nat_tests), λ h. grind (arith, nat_tests
 record HasSteps (p : Placement) (moves : List Move) : Type 0 where
   steps : List Step
   of : AreStepsOf p moves steps
-  words : map word_of steps ≡ words_from p moves
+  words : map step_text steps ≡ words_from p moves
   hits : All HitsPoint steps
   many : length steps ≡ length moves
 
@@ -83,7 +83,7 @@ has-steps p (move ∷ moves) f =
     record {
       steps = step ∷ rest.steps;
       of = (refl, refl, told, rest.of);
-      words = ap (λ ws. word_of step ∷ ws) rest.words;
+      words = ap (λ ws. step_text step ∷ ws) rest.words;
       hits = All-cons HitsPoint step rest.steps (λ h. let hit = told.0 h in omega (arith, hit.0)) rest.hits;
       many = omega (arith, rest.many);
     }

@@ -9,7 +9,7 @@ use Rattle.std.specs.Fmt.{digits}
 use Rattle.std.specs.List.{All, list_all, range_with_len}
 use Rattle.std.specs.Option.{MatchOption}
 use Rattle.position_rank.specs.Text.{place, place_text}
-use Rattle.move_rules.specs.Notation.{mark, step_word, word_of}
+use Rattle.move_rules.specs.Notation.{mark, step_word, step_text}
 use Rattle.move_rules.specs.declared.written.Step.{Step}
 
 -- ---- the text of each place
@@ -126,18 +126,18 @@ cut-mark text to false cut none p true low e = absurd (none refl (place_text p) 
 cut-mark text to false cut none p false low e = (sym (append-nil to) ∙ (sym cut ∙ (e ∙ append-nil (place_text p))), refl)
 
 -- where a step's word is cut
-cut-word : (word : List ℕ) (r : Option (Bor (List ℕ) × Bor (List ℕ))) → IsSplitOnceResult 47 word r → (step : Step) → word ≡ word_of step → MatchOption r ⊥ (λ x. (x.0.now ≡ place_text step.from) × (x.1.now ≡ place_text step.to ++ mark step.hit))
+cut-word : (word : List ℕ) (r : Option (Bor (List ℕ) × Bor (List ℕ))) → IsSplitOnceResult 47 word r → (step : Step) → word ≡ step_text step → MatchOption r ⊥ (λ x. (x.0.now ≡ place_text step.from) × (x.1.now ≡ place_text step.to ++ mark step.hit))
 cut-word word r cases step e =
     split_after 47 word (place_text step.from) (place_text step.to ++ mark step.hit) r cases (lit< tt) (e ∙ step_word-cut step.from step.to step.hit)
     (lacks-at 47 (place_text step.from) (read-back step.from step.within).no_slash)
 
-pub no-cut : (word : List ℕ) (r : Option (Bor (List ℕ) × Bor (List ℕ))) → IsSplitOnceResult 47 word r → r ≡ None → (step : Step) → word ≡ word_of step → ⊥
+pub no-cut : (word : List ℕ) (r : Option (Bor (List ℕ) × Bor (List ℕ))) → IsSplitOnceResult 47 word r → r ≡ None → (step : Step) → word ≡ step_text step → ⊥
 no-cut word r cases none step e = rw none at (cut-word word r cases step e)
 
 -- the parts that were found are those of any step with this word
 pub record IsCut (word from to : List ℕ) (hit : Bool) : Type 0 where
   pub whole : (f t : ℕ) → from ≡ place_text f → to ≡ place_text t → word ≡ step_word f t hit
-  pub only : (step : Step) → word ≡ word_of step → (from ≡ place_text step.from) × (to ≡ place_text step.to) × (hit ≡ step.hit)
+  pub only : (step : Step) → word ≡ step_text step → (from ≡ place_text step.from) × (to ≡ place_text step.to) × (hit ≡ step.hit)
 
 pub is-cut : (word : List ℕ) (r : Option (Bor (List ℕ) × Bor (List ℕ))) → IsSplitOnceResult 47 word r → (from rest : Bor (List ℕ)) → r ≡ Some (from, rest)
     → (to : List ℕ) (hit : Bool) → rest.now ≡ to ++ mark hit → (hit ≡ false → (front : List ℕ) → rest.now ≡ front ++ mark true → ⊥) → IsCut word from.now to hit

@@ -7,7 +7,7 @@ use Rattle.move_rules.specs.Moves.{IsMove}
 use Rattle.move_rules.specs.Sequences.{IsSequence, CanPlay, IsLegal}
 use Rattle.move_rules.specs.Ends.{Line}
 use Rattle.move_rules.specs.Listing.{full, or_else, double_lines, pair_lines, Among}
-use Rattle.move_rules.specs.Order.{ComesBefore}
+use Rattle.move_rules.specs.Order.{PlayComesBefore}
 use Rattle.move_rules.specs.declared.play.Move.{Move}
 use Rattle.move_rules.proofs.Members.{Among-left, Among-right, Among-cases}
 use Rattle.move_rules.proofs.EndsExact.{same_dice}
@@ -182,7 +182,7 @@ at_most_two p roll moves q (inr (inr (inr (inl h)))) = omega (arith, used-length
 at_most_two p roll moves q (inr (inr (inr (inr h)))) = omega (arith, h.0)
 
 -- the moves whose first die is the higher come before
-higher-first : (one other : List Move) (a b : ℕ) (later rest : List ℕ) → dice_used one ≡ a ∷ later → dice_used other ≡ b ∷ rest → b < a → ComesBefore one other
+higher-first : (one other : List Move) (a b : ℕ) (later rest : List ℕ) → dice_used one ≡ a ∷ later → dice_used other ≡ b ∷ rest → b < a → PlayComesBefore one other
 higher-first [] other a b later rest e f h = absurd (grind arith)
 higher-first (m ∷ one) [] a b later rest e f h = absurd (grind arith)
 higher-first (m ∷ one) (n ∷ other) a b later rest e f h =

@@ -9,15 +9,15 @@ use Rattle.move_rules.specs.declared.applied.BadPlay.{BadPlay}
 use Rattle.move_rules.specs.declared.applied.BadPlay.TheVariants.{WrongDice, NoChecker, BarFirst, NotHome, Closed, HitMark, TooFew, HigherDie}
 
 -- the order in which faults are looked for
-abbrev pub number : BadPlay → ℕ
-number WrongDice = 1
-number NoChecker = 2
-number BarFirst = 3
-number NotHome = 4
-number Closed = 5
-number HitMark = 6
-number TooFew = 7
-number HigherDie = 8
+abbrev pub fault_order : BadPlay → ℕ
+fault_order WrongDice = 1
+fault_order NoChecker = 2
+fault_order BarFirst = 3
+fault_order NotHome = 4
+fault_order Closed = 5
+fault_order HitMark = 6
+fault_order TooFew = 7
+fault_order HigherDie = 8
 
 -- a move with these dice left has this fault
 abbrev pub HasFault : Placement → List ℕ → Move → BadPlay → Type 0
@@ -33,7 +33,7 @@ HasFault p dice move HigherDie = ⊥
 -- it has this fault, and none that is looked for before
 pub record IsFirstFault (p : Placement) (dice : List ℕ) (move : Move) (fault : BadPlay) : Type 0 where
   pub fault_is : HasFault p dice move fault
-  pub none_before : (earlier : BadPlay) → number earlier < number fault → HasFault p dice move earlier → ⊥
+  pub none_before : (earlier : BadPlay) → fault_order earlier < fault_order fault → HasFault p dice move earlier → ⊥
 
 -- the first wrong move has this fault
 abbrev pub IsFirstWrong : Placement → List ℕ → List Move → BadPlay → Type 0

@@ -40,13 +40,13 @@ Among x [] = ⊥
 Among x (y ∷ ys) = (x ≡ y) ⊎ Among x ys
 
 -- one of these lines leads to this end
-abbrev pub Reaches : List Line → Placement → Type 0
-Reaches lines end = Among end (map (λ (line : Line). line.1) lines)
+abbrev pub HasEnd : List Line → Placement → Type 0
+HasEnd lines end = Among end (map (λ (line : Line). line.1) lines)
 
 -- of these lines, each that leads to a new end was added to those that had been found
-abbrev pub Adds : List Line → List Line → List Line → Type 0
-Adds found [] after = after ≡ found
-Adds found (line ∷ lines) after = (Reaches found line.1 × Adds found lines after) ⊎ ((Reaches found line.1 → ⊥) × Adds (found ++ line ∷ []) lines after)
+abbrev pub AddsNewEnds : List Line → List Line → List Line → Type 0
+AddsNewEnds found [] after = after ≡ found
+AddsNewEnds found (line ∷ lines) after = (HasEnd found line.1 × AddsNewEnds found lines after) ⊎ ((HasEnd found line.1 → ⊥) × AddsNewEnds (found ++ line ∷ []) lines after)
 
 -- entries as lines
 abbrev pub lines_of : List Entry → List Line

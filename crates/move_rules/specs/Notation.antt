@@ -18,8 +18,8 @@ mark hit = if hit then codes "*" else []
 abbrev pub step_word : ℕ → ℕ → Bool → List ℕ
 step_word from to hit = place_text from ++ codes "/" ++ place_text to ++ mark hit
 
-abbrev pub word_of : Step → List ℕ
-word_of step = step_word step.from step.to step.hit
+abbrev pub step_text : Step → List ℕ
+step_text step = step_word step.from step.to step.hit
 
 -- words with single spaces, or a dash where there are none
 abbrev pub play_of_words : List (List ℕ) → List ℕ
@@ -32,7 +32,7 @@ HitsPoint step = IsTrue step.hit → 0 < step.to
 
 -- a text is that of at most four steps, none of which hits off the board
 pub record IsPlayText (text : List ℕ) (steps : List Step) : Type 0 where
-  pub words : text ≡ play_of_words (map word_of steps)
+  pub words : text ≡ play_of_words (map step_text steps)
   pub hits : All HitsPoint steps
   pub few : length steps ≤ 4
 

@@ -8,16 +8,16 @@ use Rattle.move_rules.specs.Sequences.{IsLegal}
 
 -- A sequence comes before another by its first move that differs: the one by the higher die, else the one from the higher place.
 -- Nothing comes before or after the sequence of no moves.
-abbrev pub ComesBefore : List Move → List Move → Type 0
-ComesBefore [] others = ⊥
-ComesBefore (move ∷ moves) [] = ⊥
-ComesBefore (move ∷ moves) (other ∷ others) =
-    (other.die < move.die) ⊎ ((move.die ≡ other.die) × (other.from < move.from)) ⊎ ((move ≡ other) × ComesBefore moves others)
+abbrev pub PlayComesBefore : List Move → List Move → Type 0
+PlayComesBefore [] others = ⊥
+PlayComesBefore (move ∷ moves) [] = ⊥
+PlayComesBefore (move ∷ moves) (other ∷ others) =
+    (other.die < move.die) ⊎ ((move.die ≡ other.die) × (other.from < move.from)) ⊎ ((move ≡ other) × PlayComesBefore moves others)
 
 -- a legal sequence that leaves this end, and none that leaves it comes before
 pub record IsFirst (p : Placement) (roll : Dice) (moves : List Move) (end : Placement) : Type 0 where
   pub legal : IsLegal p roll moves end
-  pub first : (others : List Move) → IsLegal p roll others end → ComesBefore others moves → ⊥
+  pub first : (others : List Move) → IsLegal p roll others end → PlayComesBefore others moves → ⊥
 
 -- the ends of some entries
 abbrev pub ends_of : List Entry → List Placement

@@ -1,8 +1,8 @@
 ghost use Rattle.std.specs.Prelude.{◌≡◌, ◌≢◌, IsTrue, ℕ, ◌+◌, ◌≤◌, ◌<◌, ◌↔◌, List, [], ◌∷◌, length, All, AllPairs, Contains};
 ghost use Rattle.position_rank.specs.Placement.{Placement, IsPosition};
 ghost use Rattle.move_rules.specs.Ends.{Line};
-ghost use Rattle.move_rules.specs.Listing.{full, or_else, double_lines, pair_lines, Adds, Reaches, lines_of};
-ghost use Rattle.move_rules.specs.Order.{ComesBefore, IsFirst, ends_of, plays_of};
+ghost use Rattle.move_rules.specs.Listing.{full, or_else, double_lines, pair_lines, AddsNewEnds, HasEnd, lines_of};
+ghost use Rattle.move_rules.specs.Order.{PlayComesBefore, IsFirst, ends_of, plays_of};
 ghost use Rattle.move_rules.specs.Sequences.{IsLegalEnd};
 
 use crate::moves::after_move;
@@ -17,7 +17,7 @@ pub fn plays(position: &Position, roll: Roll, list: &mut PlayList)
     ensures ends { (q : Placement) → Contains (ends_of list.new.items) q ↔ IsLegalEnd position.now roll q }
     ensures distinct { AllPairs (λ one another. one ≢ another) (ends_of list.new.items) }
     ensures first { All (λ entry. IsFirst position.now roll entry.play.items entry.end) list.new.items }
-    ensures in_order { AllPairs ComesBefore (plays_of list.new.items) }
+    ensures in_order { AllPairs PlayComesBefore (plays_of list.new.items) }
     ensures some { 0 < length list.new.items }
 {
     // No more than three places hold a checker of the mover, so the list has room.
@@ -38,7 +38,7 @@ fn add_double(position: &Position, die: u8, list: &mut PlayList)
     requires low { 1 ≤ die }
     requires high { die ≤ 6 }
     requires empty { list.old.items ≡ [] }
-    ensures { Adds [] (double_lines position.now die) (lines_of list.new.items) }
+    ensures { AddsNewEnds [] (double_lines position.now die) (lines_of list.new.items) }
 {
     let dice = [die; 4];
     add_if_none(position, &dice, list);
@@ -54,7 +54,7 @@ fn add_pair(position: &Position, high: u8, low: u8, list: &mut PlayList)
     requires in_order { low < high }
     requires to { high ≤ 6 }
     requires empty { list.old.items ≡ [] }
-    ensures { Adds [] (pair_lines position.now high low) (lines_of list.new.items) }
+    ensures { AddsNewEnds [] (pair_lines position.now high low) (lines_of list.new.items) }
 {
     add_all(position, &[high, low], list);
     add_all(position, &[low, high], list);
@@ -63,36 +63,36 @@ fn add_pair(position: &Position, high: u8, low: u8, list: &mut PlayList)
     add_if_none(position, &[], list);
 }
 
-/// Adds the lines that use these dice in this order if the list is empty.
+/// AddsNewEnds the lines that use these dice in this order if the list is empty.
 fn add_if_none(position: &Position, dice: &[u8], list: &mut PlayList)
     requires valid { IsPosition position.now }
     requires dice { All (λ die. (1 ≤ die) × (die ≤ 6)) dice.now }
     requires few { length dice.now ≤ 4 }
-    ensures { (found : List Line) → Adds [] found (lines_of list.old.items) → Adds [] (or_else found (full dice.now [] position.now)) (lines_of list.new.items) }
+    ensures { (found : List Line) → AddsNewEnds [] found (lines_of list.old.items) → AddsNewEnds [] (or_else found (full dice.now [] position.now)) (lines_of list.new.items) }
 {
     if list.is_empty() {
         add_all(position, dice, list);
     }
 }
 
-/// Adds the lines that use these dice in this order.
+/// AddsNewEnds the lines that use these dice in this order.
 fn add_all(position: &Position, dice: &[u8], list: &mut PlayList)
     requires dice { All (λ die. (1 ≤ die) × (die ≤ 6)) dice.now }
     requires few { length dice.now ≤ 4 }
     requires room { length list.old.items + length (full dice.now [] position.now) ≤ 81 }
-    ensures { Adds (lines_of list.old.items) (full dice.now [] position.now) (lines_of list.new.items) }
+    ensures { AddsNewEnds (lines_of list.old.items) (full dice.now [] position.now) (lines_of list.new.items) }
 {
     let mut play = Play::new();
     add_lines(position, dice, &mut play, list);
 }
 
-/// Adds the lines that go on from here with these dice in this order.
+/// AddsNewEnds the lines that go on from here with these dice in this order.
 fn add_lines(position: &Position, dice: &[u8], play: &mut Play, list: &mut PlayList)
     requires dice { All (λ die. (1 ≤ die) × (die ≤ 6)) dice.now }
     requires few { length play.old.items + length dice.now ≤ 4 }
     requires room { length list.old.items + length (full dice.now play.old.items position.now) ≤ 81 }
     ensures play { play.new.items ≡ play.old.items }
-    ensures adds { Adds (lines_of list.old.items) (full dice.now play.old.items position.now) (lines_of list.new.items) }
+    ensures adds { AddsNewEnds (lines_of list.old.items) (full dice.now play.old.items position.now) (lines_of list.new.items) }
 {
     if dice.is_empty() {
         add_end(position, play, list);
@@ -110,10 +110,10 @@ fn add_lines(position: &Position, dice: &[u8], play: &mut Play, list: &mut PlayL
     }
 }
 
-/// Adds a play with the position that it leaves, unless the list has that position.
+/// AddsNewEnds a play with the position that it leaves, unless the list has that position.
 fn add_end(position: &Position, play: &Play, list: &mut PlayList)
     requires { length list.old.items < 81 }
-    ensures { Adds (lines_of list.old.items) ((play.now.items, position.now) ∷ []) (lines_of list.new.items) }
+    ensures { AddsNewEnds (lines_of list.old.items) ((play.now.items, position.now) ∷ []) (lines_of list.new.items) }
 {
     if reaches(list, position) {
         return;
@@ -125,7 +125,7 @@ fn add_end(position: &Position, play: &Play, list: &mut PlayList)
 }
 
 fn reaches(list: &PlayList, end: &Position) -> bool
-    ensures { IsTrue result ↔ Reaches (lines_of list.now.items) end.now }
+    ensures { IsTrue result ↔ HasEnd (lines_of list.now.items) end.now }
 {
     for entry in list.iter() {
         if same(&entry.end, end) {

@@ -4,7 +4,7 @@ ghost use Rattle.position_rank.specs.Placement.{Placement};
 ghost use Rattle.position_rank.specs.Text.{place, place_text};
 ghost use Rattle.position_rank.specs.TextParts.{add_word};
 ghost use Rattle.move_rules.specs.Ends.{after_move};
-ghost use Rattle.move_rules.specs.Notation.{mark, step_word, word_of, HitsPoint, IsPlayText, is_hit, next_board, play_text, CanFollow, AreStepsOf};
+ghost use Rattle.move_rules.specs.Notation.{mark, step_word, step_text, HitsPoint, IsPlayText, is_hit, next_board, play_text, CanFollow, AreStepsOf};
 
 use crate::matched::hits;
 use crate::moves::after_move;
@@ -59,7 +59,7 @@ pub fn printed_plays_are_read()
 {}
 
 fn read_step(word: &str) -> Option<Step>
-    ensures { MatchOption result ((step : Step) → HitsPoint step → word.now ≡ word_of step → ⊥) (λ step. HitsPoint step × (word.now ≡ word_of step)) }
+    ensures { MatchOption result ((step : Step) → HitsPoint step → word.now ≡ step_text step → ⊥) (λ step. HitsPoint step × (word.now ≡ step_text step)) }
 {
     let (from, rest) = word.split_once('/')?;
     let (to, hit) = cut_mark(rest);

@@ -1,6 +1,6 @@
 ghost use Rattle.std.specs.Prelude.{◌≡◌, ◌≤◌, ◌<◌, ℕ, max, min, IsSome, IfSome, IfOk, ◌↔◌};
 ghost use Rattle.roll_table.specs.Rolls.{Dice, IsRoll, all_rolls, opening_rolls};
-ghost use Rattle.roll_table.specs.Text.{read_text, roll_text};
+ghost use Rattle.roll_table.specs.Text.{read_roll, roll_text};
 
 use arrayvec::ArrayString;
 use std::marker::Model;
@@ -55,7 +55,7 @@ impl Roll {
 
     /// The roll that a text shows, as `41`: two digits from 1 to 6, the higher first.
     pub fn read(text: &str) -> Result<Roll, BadRoll>
-        ensures text { result ≡ read_text text.now }
+        ensures text { result ≡ read_roll text.now }
         ensures valid { IfOk result IsRoll }
     {
         let &[first @ b'1'..=b'6', second @ b'1'..=b'6'] = text.as_bytes() else {

@@ -3,7 +3,7 @@ ghost use Rattle.cube_actions.specs.Ladder.{ladder};
 ghost use Rattle.cube_actions.specs.MatchKinds.{match_kinds};
 ghost use Rattle.cube_actions.specs.Matches.{next_phase, next_score};
 ghost use Rattle.cube_actions.specs.Scores.{IsScore};
-ghost use Rattle.cube_actions.specs.Starts.{AreStarts, Covers, place_of};
+ghost use Rattle.cube_actions.specs.Starts.{AreStarts, Covers, ladder_place};
 
 use crate::kind::{Double, Kind, Taken};
 use crate::match_kind::{MatchKind, match_kinds, number_in};
@@ -19,7 +19,7 @@ use directed_fixed::{Fixed, Pair};
 
 /// A game of a match: its score and kinds, and the scores of the match with what the first of them are worth.
 #[derive(Clone, Copy)]
-struct Game<'a> {
+struct MatchGame<'a> {
     score: Score,
     kinds: &'a [MatchKind],
     scores: &'a [Score],
@@ -44,7 +44,7 @@ impl Stakes {
     {
         let match_kinds = match_kinds(score);
         let scores = ladder(starts.match_length());
-        let game = Game {
+        let game = MatchGame {
             score,
             kinds: match_kinds.as_slice(),
             scores: scores.as_slice(),
@@ -62,7 +62,7 @@ impl Stakes {
     }
 }
 
-impl Game<'_> {
+impl MatchGame<'_> {
     ghost use Rattle.cube_actions.specs.Matches.{match_kind, right_to_double, next_score, next_value, value_of_win};
 
     fn kind(&self, kind: MatchKind) -> Kind
@@ -116,7 +116,7 @@ impl Game<'_> {
 
     /// What the winner of this game has of the next one, by what the two sides then need.
     fn next_value(&self, winner: Side, own: u8, others: u8) -> Pair
-        requires { place_of self.now.starts.now.match_length (next_score self.now.score.phase own others) < length self.now.starts.now.pairs }
+        requires { ladder_place self.now.starts.now.match_length (next_score self.now.score.phase own others) < length self.now.starts.now.pairs }
         ensures { result ≡ next_value self.now.starts.now self.now.score.phase winner own others }
     {
         let score = self.score;

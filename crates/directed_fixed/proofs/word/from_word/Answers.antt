@@ -1,6 +1,5 @@
-use Rattle.std.proofs.Common.{◌≡◌, ◌^◌, ◌↔◌, ℤ, pos, ◌-ℤ◌, IsSome, arith}
+use Rattle.std.proofs.Common.{arith}
 use Rattle.std.proofs.lemmas.Int.{ints}
-use Rattle.directed_fixed.specs.Bounds.{IsWithinUnits}
 use Rattle.directed_fixed.proofs.word.from_word.Goals as goal
 
 pub returns-clause-within : goal.returns-clause-within

@@ -1,7 +1,7 @@
 use Rattle.std.proofs.Common.{rules, ◌≡◌, ◌≢◌, ℕ, ◌+◌, ◌<◌, List, length, drop, ap, subst, sym, arith}
 use Rattle.std.proofs.lemmas.Bool.Decides.{nat_tests}
 use Rattle.move_rules.specs.Ends.{Line}
-use Rattle.move_rules.specs.Listing.{full, Adds, lines_of}
+use Rattle.move_rules.specs.Listing.{full, AddsNewEnds, lines_of}
 use Rattle.move_rules.specs.declared.play.Move.{Move}
 use Rattle.move_rules.proofs.LinesAdded.{full-end, adds-begin, room-here, rest-is, rest-right, rest-length, length-lines, popped-is, adds-some, adds-none}
 use Rattle.move_rules.proofs.listing.+add_lines.Goals as goal
@@ -37,7 +37,7 @@ loop-from-preserved t c =
     elim c.match-after_move.branch [
       | in-Some w ↦ (
           let same = popped-is _ _ _ _ _ w.push.ensures.items w.add_lines.ensures.play w.pop.ensures.rest in
-          let adds = subst (λ (x : List ℕ). Adds (lines_of c.loop-from.list.items) (full x w.push.new.self.items w.in-Some.next) (lines_of w.add_lines.new.list.items)) (rest-is c.args.dice.now) w.add_lines.ensures.adds in
+          let adds = subst (λ (x : List ℕ). AddsNewEnds (lines_of c.loop-from.list.items) (full x w.push.new.self.items w.in-Some.next) (lines_of w.add_lines.new.list.items)) (rest-is c.args.dice.now) w.add_lines.ensures.adds in
           rw (w.list-is, w.play-is) (adds-some _ _ _ _ _ _ _ _ _ _ _ _ c.loop-from.invariant same low.below low.held low.empty (sym w.in-Some.ensures) w.push.ensures.items adds))
       | in_default w ↦ rw (w.list-is, w.play-is) (adds-none _ _ _ _ _ _ _ _ c.loop-from.invariant low.below low.held low.empty (sym w.in_default.ensures))
     ]

@@ -1,6 +1,6 @@
 use Rattle.std.proofs.Common.{arith}
 use Rattle.cube_actions.proofs.WinsLeadDown.{after_win-before}
-use Rattle.cube_actions.proofs.stakes.matches.Game.value_of_win.Goals as goal
+use Rattle.cube_actions.proofs.stakes.matches.MatchGame.value_of_win.Goals as goal
 
 pub next_value-requires : goal.next_value-requires
 next_value-requires c =
