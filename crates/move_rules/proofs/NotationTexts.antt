@@ -11,7 +11,8 @@ use Rattle.std.specs.List.{All, join_with_byte}
 use Rattle.position_rank.specs.Text.{place_text, words}
 use Rattle.move_rules.specs.Notation.{mark, step_text, play_of_words, HitsPoint, IsPlayText}
 use Rattle.move_rules.specs.declared.written.Step.{Step}
-use Rattle.move_rules.proofs.NotationWords.{lacks, lacks-append, lacks-middle, all-lack, not-true, both-true, read-back, step_word-cut, cut-mark, place-same}
+use Rattle.position_rank.proofs.PlaceTexts.{lacks, lacks-append, lacks-middle, all-lack, not-true, both-true, read-back, place-same}
+use Rattle.move_rules.proofs.NotationWords.{step_word-cut, cut-mark}
 
 -- ---- the words of a text
 

@@ -1,4 +1,6 @@
 -- How the plays of a roll are found: the lines that use as many dice as can be, in their order, and of those to one end the first.
+-- The private functions of the listing say so of their steps. No public contract cites it: `plays` says by `IsLegalEnd` and `IsFirst` what it
+-- lists, in whatever way that is found.
 use Rattle.std.specs.Prelude.{◌≡◌, ℕ, List, [], ◌∷◌, ◌++◌, map, ◌⊎◌}
 use Rattle.std.specs.List.{flat_map}
 use Rattle.std.specs.Option.{option_to_list}
@@ -51,3 +53,7 @@ AddsNewEnds found (line ∷ lines) after = (HasEnd found line.1 × AddsNewEnds f
 -- entries as lines
 abbrev pub lines_of : List Entry → List Line
 lines_of entries = map (λ (entry : Entry). (entry.play.items, entry.end)) entries
+
+-- these entries were found before, and these are found after these lines
+abbrev pub TakesIn : List Entry → List Line → List Entry → Type 0
+TakesIn before lines after = AddsNewEnds (lines_of before) lines (lines_of after)

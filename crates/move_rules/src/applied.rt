@@ -16,21 +16,21 @@ use roll_table::Roll;
 #[derive(Clone, Copy, Debug, PartialEq, Eq)]
 pub enum BadPlay {
     /// The die doesn't remain.
-    WrongDice = 1,
+    WrongDice,
     /// The place isn't 1 to 25, or the mover has no checker on it.
-    NoChecker = 2,
+    NoChecker,
     /// The mover has a checker on the bar, and moves another.
-    BarFirst = 3,
+    BarFirst,
     /// A checker may not be borne off: one stands above point 6, or one above this place, which isn't the die's number.
-    NotHome = 4,
+    NotHome,
     /// Two or more checkers of the other side hold the point reached.
-    Closed = 5,
+    Closed,
     /// The mark of a hit differs from whether the move hits.
-    HitMark = 6,
+    HitMark,
     /// More moves can be made.
-    TooFew = 7,
+    TooFew,
     /// The one move was made by the lower die, though the higher can be played.
-    HigherDie = 8,
+    HigherDie,
 }
 
 /// The position that a play leaves, seen by the same mover, exactly where the play is legal.
@@ -79,7 +79,10 @@ pub(crate) fn make(
     step: Move,
 ) -> Result<Position, BadPlay>
     requires { All (λ die. 1 ≤ die) dice.old.items }
-    ensures ok { IfOk result (λ next. (i : ℕ) × (slice_get dice.old.items i ≡ Some step.die) × (dice.new.items ≡ remove dice.old.items i) × IsMove position.now step.die step.from next) }
+    ensures ok { IfOk result (λ next.
+        (i : ℕ) × (slice_get dice.old.items i ≡ Some step.die)
+        × (dice.new.items ≡ remove dice.old.items i)
+        × IsMove position.now step.die step.from next) }
     ensures err { IfErr result (IsFirstFault position.now dice.old.items step) }
 {
     let Some(at) = find(dice, step.die) else {
@@ -95,7 +98,9 @@ pub(crate) fn make(
 }
 
 fn find(dice: &ArrayVec<u8, 4>, die: u8) -> Option<usize>
-    ensures { MatchOption result (Contains dice.now.items die → ⊥) (λ i. (i < length dice.now.items) × (slice_index dice.now.items i ≡ die)) }
+    ensures { MatchOption result
+        (Contains dice.now.items die → ⊥)
+        (λ i. (i < length dice.now.items) × (slice_index dice.now.items i ≡ die)) }
 {
     dice.iter().position(|left| *left == die)
 }
@@ -104,7 +109,8 @@ fn find(dice: &ArrayVec<u8, 4>, die: u8) -> Option<usize>
 fn make_by(position: &Position, step: Move) -> Result<Position, BadPlay>
     requires { 1 ≤ step.die }
     ensures ok { IfOk result (IsMove position.now step.die step.from) }
-    ensures err { IfErr result (λ fault. (dice : List ℕ) → Contains dice step.die → IsFirstFault position.now dice step fault) }
+    ensures err { IfErr result (λ fault. (dice : List ℕ)
+        → Contains dice step.die → IsFirstFault position.now dice step fault) }
 {
     if step.from < 1 || step.from > 25 || position.mover_at(step.from) == 0 {
         return Err(BadPlay::NoChecker);
@@ -121,7 +127,9 @@ fn make_by(position: &Position, step: Move) -> Result<Position, BadPlay>
 /// Whether all checkers are at home, and this place is the die's number or the highest place held.
 fn may_bear_off(position: &Position, step: Move) -> bool
     requires { step.from ≤ 25 }
-    ensures { IsTrue result ↔ ((above position.now.mover 6 ≡ 0) × ((step.from ≡ step.die) ⊎ (above position.now.mover step.from ≡ 0))) }
+    ensures { IsTrue result
+        ↔ ((above position.now.mover 6 ≡ 0)
+        × ((step.from ≡ step.die) ⊎ (above position.now.mover step.from ≡ 0))) }
 {
     position.mover_above(6) == 0 && (step.from == step.die || position.mover_above(step.from) == 0)
 }
@@ -129,8 +137,11 @@ fn may_bear_off(position: &Position, step: Move) -> bool
 /// Whether a sequence uses as many dice as can be, and where it can be the higher.
 pub(crate) fn judge(position: &Position, roll: Roll, play: &Play) -> Result<(), BadPlay>
     requires valid { IsRoll roll }
-    requires sequence { (end : Placement) × IsSequence position.now (dice_of roll) play.now.items end }
-    ensures ok { OnOk result ((end : Placement) → IsSequence position.now (dice_of roll) play.now.items end → IsLegal position.now roll play.now.items end) }
+    requires sequence { (end : Placement)
+        × IsSequence position.now (dice_of roll) play.now.items end }
+    ensures ok { OnOk result ((end : Placement)
+        → IsSequence position.now (dice_of roll) play.now.items end
+        → IsLegal position.now roll play.now.items end) }
     ensures err { IfErr result (IsWholeFault position.now roll play.now.items) }
 {
     let mut list = PlayList::new();
@@ -140,7 +151,9 @@ pub(crate) fn judge(position: &Position, roll: Roll, play: &Play) -> Result<(), 
 
 /// Whether a sequence has as many moves as a legal one, and no lower die where it has but one.
 fn compare(play: &Play, legal: &Play) -> Result<(), BadPlay>
-    ensures ok { OnOk result ((length legal.now.items ≤ length play.now.items) × (length play.now.items ≡ 1 → first_die legal.now.items ≤ first_die play.now.items)) }
+    ensures ok { OnOk result (
+        (length legal.now.items ≤ length play.now.items)
+        × (length play.now.items ≡ 1 → first_die legal.now.items ≤ first_die play.now.items)) }
     ensures err { IfErr result (DiffersBy play.now.items legal.now.items) }
 {
     if play.len() < legal.len() {

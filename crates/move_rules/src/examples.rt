@@ -8,15 +8,26 @@ ghost use Rattle.move_rules.specs.Examples.{roll, by};
 
 /// Rolls whose legal sequences can be found by hand.
 pub fn worked_examples()
-    ensures both_dice_are_used { legal_ends (placed (2 ∷ []) (24 ∷ [])) (roll 2 1) ≡ placed (off ∷ []) (bar ∷ []) ∷ [] }
-    ensures only_in_this_order { legal_lines (placed (2 ∷ []) (24 ∷ [])) (roll 2 1) ≡ (by 1 2 ∷ by 2 1 ∷ [], placed (off ∷ []) (bar ∷ [])) ∷ [] }
-    ensures either_but_not_both { legal_ends (placed (20 ∷ off ∷ []) (13 ∷ 13 ∷ [])) (roll 5 3) ≡ placed (15 ∷ off ∷ []) (13 ∷ 13 ∷ []) ∷ [] }
-    ensures lower_where_the_higher_cannot { legal_ends (placed (bar ∷ bar ∷ []) (6 ∷ 6 ∷ [])) (roll 6 5) ≡ placed (bar ∷ 20 ∷ []) (6 ∷ 6 ∷ []) ∷ [] }
-    ensures shut_out { legal_ends (placed (bar ∷ 6 ∷ []) (1 ∷ 1 ∷ [])) (roll 1 1) ≡ placed (bar ∷ 6 ∷ []) (1 ∷ 1 ∷ []) ∷ [] }
-    ensures last_checker_by_the_higher { legal_lines (placed (1 ∷ []) (1 ∷ [])) (roll 3 2) ≡ (by 3 1 ∷ [], placed (off ∷ []) (1 ∷ [])) ∷ [] }
-    ensures bar_enters_first { legal_lines (placed (bar ∷ []) (4 ∷ [])) (roll 4 1) ≡ (by 4 25 ∷ by 1 21 ∷ [], placed (20 ∷ []) (bar ∷ [])) ∷ (by 1 25 ∷ by 4 24 ∷ [], placed (20 ∷ []) (4 ∷ [])) ∷ [] }
-    ensures four_moves { legal_ends (placed (24 ∷ []) (24 ∷ [])) (roll 6 6) ≡ placed (off ∷ []) (24 ∷ []) ∷ [] }
-    ensures as_many_as_can_be { legal_ends (placed (24 ∷ []) (13 ∷ 13 ∷ [])) (roll 6 6) ≡ placed (18 ∷ []) (13 ∷ 13 ∷ []) ∷ [] }
+    ensures both_dice_are_used { legal_ends (placed (2 ∷ []) (24 ∷ [])) (roll 2 1)
+        ≡ placed (off ∷ []) (bar ∷ []) ∷ [] }
+    ensures only_in_this_order { legal_lines (placed (2 ∷ []) (24 ∷ [])) (roll 2 1)
+        ≡ (by 1 2 ∷ by 2 1 ∷ [], placed (off ∷ []) (bar ∷ [])) ∷ [] }
+    ensures either_but_not_both { legal_ends (placed (20 ∷ off ∷ []) (13 ∷ 13 ∷ [])) (roll 5 3)
+        ≡ placed (15 ∷ off ∷ []) (13 ∷ 13 ∷ []) ∷ [] }
+    ensures lower_where_the_higher_cannot { legal_ends (placed (bar ∷ bar ∷ []) (6 ∷ 6 ∷ [])) (roll 6 5)
+        ≡ placed (bar ∷ 20 ∷ []) (6 ∷ 6 ∷ []) ∷ [] }
+    ensures shut_out { legal_ends (placed (bar ∷ 6 ∷ []) (1 ∷ 1 ∷ [])) (roll 1 1)
+        ≡ placed (bar ∷ 6 ∷ []) (1 ∷ 1 ∷ []) ∷ [] }
+    ensures last_checker_by_the_higher { legal_lines (placed (1 ∷ []) (1 ∷ [])) (roll 3 2)
+        ≡ (by 3 1 ∷ [], placed (off ∷ []) (1 ∷ [])) ∷ [] }
+    ensures bar_enters_first { legal_lines (placed (bar ∷ []) (4 ∷ [])) (roll 4 1)
+        ≡ (by 4 25 ∷ by 1 21 ∷ [], placed (20 ∷ []) (bar ∷ []))
+        ∷ (by 1 25 ∷ by 4 24 ∷ [], placed (20 ∷ []) (4 ∷ []))
+        ∷ [] }
+    ensures four_moves { legal_ends (placed (24 ∷ []) (24 ∷ [])) (roll 6 6)
+        ≡ placed (off ∷ []) (24 ∷ []) ∷ [] }
+    ensures as_many_as_can_be { legal_ends (placed (24 ∷ []) (13 ∷ 13 ∷ [])) (roll 6 6)
+        ≡ placed (18 ∷ []) (13 ∷ 13 ∷ []) ∷ [] }
 {}
 
 /// Moves of one checker.
@@ -29,13 +40,17 @@ pub fn worked_moves()
     ensures off_from_the_highest { IsMove (placed (2 ∷ 1 ∷ []) (1 ∷ 1 ∷ [])) 3 2 (placed (1 ∷ off ∷ []) (1 ∷ 1 ∷ [])) }
     ensures not_with_one_behind { (q : Placement) → IsMove (placed (4 ∷ 2 ∷ []) (1 ∷ 1 ∷ [])) 3 2 q → ⊥ }
     ensures not_with_one_outside { (q : Placement) → IsMove (placed (7 ∷ 2 ∷ []) (1 ∷ 1 ∷ [])) 2 2 q → ⊥ }
-    ensures sides_exchanged { swap (placed (6 ∷ off ∷ []) (bar ∷ 3 ∷ [])) ≡ placed (bar ∷ 3 ∷ []) (6 ∷ off ∷ []) }
+    ensures sides_exchanged { swap (placed (6 ∷ off ∷ []) (bar ∷ 3 ∷ []))
+        ≡ placed (bar ∷ 3 ∷ []) (6 ∷ off ∷ []) }
 {}
 
 /// Plays and their texts.
 pub fn worked_texts()
     ensures no_moves { play_text (placed (6 ∷ []) (1 ∷ [])) [] ≡ codes "-" }
-    ensures hits_on_entering { play_text (placed (bar ∷ []) (4 ∷ [])) (by 4 25 ∷ by 1 21 ∷ []) ≡ codes "bar/21* 21/20" }
-    ensures hits_with_the_second { play_text (placed (24 ∷ []) (4 ∷ [])) (by 1 24 ∷ by 2 23 ∷ []) ≡ codes "24/23 23/21*" }
-    ensures bears_off_from_below { play_text (placed (2 ∷ 1 ∷ []) (1 ∷ 1 ∷ [])) (by 6 2 ∷ by 1 1 ∷ []) ≡ codes "2/off 1/off" }
+    ensures hits_on_entering { play_text (placed (bar ∷ []) (4 ∷ [])) (by 4 25 ∷ by 1 21 ∷ [])
+        ≡ codes "bar/21* 21/20" }
+    ensures hits_with_the_second { play_text (placed (24 ∷ []) (4 ∷ [])) (by 1 24 ∷ by 2 23 ∷ [])
+        ≡ codes "24/23 23/21*" }
+    ensures bears_off_from_below { play_text (placed (2 ∷ 1 ∷ []) (1 ∷ 1 ∷ [])) (by 6 2 ∷ by 1 1 ∷ [])
+        ≡ codes "2/off 1/off" }
 {}

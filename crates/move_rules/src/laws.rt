@@ -11,22 +11,27 @@ ghost use Rattle.move_rules.specs.declared.applied.BadPlay.{BadPlay};
 
 /// The list of the legal ends has every legal end and no other.
 pub fn legal_ends_are_exact()
-    ensures { (p : Placement) (roll : Dice) (q : Placement) → Contains (legal_ends p roll) q ↔ IsLegalEnd p roll q }
+    ensures { (p : Placement) (roll : Dice) (q : Placement)
+        → Contains (legal_ends p roll) q ↔ IsLegalEnd p roll q }
 {}
 
 /// What a legal sequence leaves of a live position is a position with as many checkers. Unless the mover has borne all of his off, it is live for the other side.
 pub fn legal_ends_stay_live()
-    ensures { (p : Placement) (roll : Dice) (q : Placement) → IsRoll roll → IsPosition p → IsLive p → IsLegalEnd p roll q
+    ensures { (p : Placement) (roll : Dice) (q : Placement)
+        → IsRoll roll → IsPosition p → IsLive p → IsLegalEnd p roll q
         → IsPosition q × (sum q.mover ≡ sum p.mover) × (InPlay q.mover → IsLive (swap q)) }
 {}
 
 /// A legal play has no fault.
 pub fn legal_plays_have_no_fault()
-    ensures { (p : Placement) (roll : Dice) (moves : List Move) (q : Placement) (fault : BadPlay) → IsLegal p roll moves q → IsFault p roll moves fault → ⊥ }
+    ensures { (p : Placement) (roll : Dice) (moves : List Move) (q : Placement) (fault : BadPlay)
+        → IsLegal p roll moves q → IsFault p roll moves fault → ⊥ }
 {}
 
 /// Steps that are written for a legal play have no fault.
 pub fn written_legal_plays_have_no_fault()
-    ensures { (p : Placement) (roll : Dice) (steps : List Step) (moves : List Move) (q : Placement) (fault : BadPlay)
-        → IsWritten p (dice_of roll) steps moves q → IsLegal p roll moves q → IsWrittenFault p roll steps fault → ⊥ }
+    ensures { (p : Placement) (roll : Dice) (steps : List Step) (moves : List Move)
+        (q : Placement) (fault : BadPlay)
+        → IsWritten p (dice_of roll) steps moves q → IsLegal p roll moves q
+        → IsWrittenFault p roll steps fault → ⊥ }
 {}

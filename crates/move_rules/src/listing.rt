@@ -1,7 +1,8 @@
 ghost use Rattle.std.specs.Prelude.{◌≡◌, ◌≢◌, IsTrue, ℕ, ◌+◌, ◌≤◌, ◌<◌, ◌↔◌, List, [], ◌∷◌, length, All, AllPairs, Contains};
 ghost use Rattle.position_rank.specs.Placement.{Placement, IsPosition};
 ghost use Rattle.move_rules.specs.Ends.{Line};
-ghost use Rattle.move_rules.specs.Listing.{full, or_else, double_lines, pair_lines, AddsNewEnds, HasEnd, lines_of};
+ghost use Rattle.move_rules.specs.Listing.{full, or_else, double_lines, pair_lines, AddsNewEnds, TakesIn, HasEnd, lines_of};
+ghost use Rattle.move_rules.specs.declared.play.TheConstants.{MOST_PLAYS};
 ghost use Rattle.move_rules.specs.Order.{PlayComesBefore, IsFirst, ends_of, plays_of};
 ghost use Rattle.move_rules.specs.Sequences.{IsLegalEnd};
 
@@ -14,9 +15,11 @@ use roll_table::Roll;
 /// higher die first, and then by the first move that differs, the one from the higher place first. Where no move can be made, the list has the play of no
 /// moves, whose end is the position.
 pub fn plays(position: &Position, roll: Roll, list: &mut PlayList)
-    ensures ends { (q : Placement) → Contains (ends_of list.new.items) q ↔ IsLegalEnd position.now roll q }
+    ensures ends { (q : Placement)
+        → Contains (ends_of list.new.items) q ↔ IsLegalEnd position.now roll q }
     ensures distinct { AllPairs (λ one another. one ≢ another) (ends_of list.new.items) }
-    ensures first { All (λ entry. IsFirst position.now roll entry.play.items entry.end) list.new.items }
+    ensures first { All (λ entry.
+        IsFirst position.now roll entry.play.items entry.end) list.new.items }
     ensures in_order { AllPairs PlayComesBefore (plays_of list.new.items) }
     ensures some { 0 < length list.new.items }
 {
@@ -68,7 +71,8 @@ fn add_if_none(position: &Position, dice: &[u8], list: &mut PlayList)
     requires valid { IsPosition position.now }
     requires dice { All (λ die. (1 ≤ die) × (die ≤ 6)) dice.now }
     requires few { length dice.now ≤ 4 }
-    ensures { (found : List Line) → AddsNewEnds [] found (lines_of list.old.items) → AddsNewEnds [] (or_else found (full dice.now [] position.now)) (lines_of list.new.items) }
+    ensures { (found : List Line) → AddsNewEnds [] found (lines_of list.old.items)
+        → AddsNewEnds [] (or_else found (full dice.now [] position.now)) (lines_of list.new.items) }
 {
     if list.is_empty() {
         add_all(position, dice, list);
@@ -79,8 +83,8 @@ fn add_if_none(position: &Position, dice: &[u8], list: &mut PlayList)
 fn add_all(position: &Position, dice: &[u8], list: &mut PlayList)
     requires dice { All (λ die. (1 ≤ die) × (die ≤ 6)) dice.now }
     requires few { length dice.now ≤ 4 }
-    requires room { length list.old.items + length (full dice.now [] position.now) ≤ 81 }
-    ensures { AddsNewEnds (lines_of list.old.items) (full dice.now [] position.now) (lines_of list.new.items) }
+    requires room { length list.old.items + length (full dice.now [] position.now) ≤ MOST_PLAYS }
+    ensures { TakesIn list.old.items (full dice.now [] position.now) list.new.items }
 {
     let mut play = Play::new();
     add_lines(position, dice, &mut play, list);
@@ -90,9 +94,10 @@ fn add_all(position: &Position, dice: &[u8], list: &mut PlayList)
 fn add_lines(position: &Position, dice: &[u8], play: &mut Play, list: &mut PlayList)
     requires dice { All (λ die. (1 ≤ die) × (die ≤ 6)) dice.now }
     requires few { length play.old.items + length dice.now ≤ 4 }
-    requires room { length list.old.items + length (full dice.now play.old.items position.now) ≤ 81 }
+    requires room { length list.old.items + length (full dice.now play.old.items position.now)
+        ≤ MOST_PLAYS }
     ensures play { play.new.items ≡ play.old.items }
-    ensures adds { AddsNewEnds (lines_of list.old.items) (full dice.now play.old.items position.now) (lines_of list.new.items) }
+    ensures adds { TakesIn list.old.items (full dice.now play.old.items position.now) list.new.items }
 {
     if dice.is_empty() {
         add_end(position, play, list);
@@ -112,8 +117,8 @@ fn add_lines(position: &Position, dice: &[u8], play: &mut Play, list: &mut PlayL
 
 /// AddsNewEnds a play with the position that it leaves, unless the list has that position.
 fn add_end(position: &Position, play: &Play, list: &mut PlayList)
-    requires { length list.old.items < 81 }
-    ensures { AddsNewEnds (lines_of list.old.items) ((play.now.items, position.now) ∷ []) (lines_of list.new.items) }
+    requires { length list.old.items < MOST_PLAYS }
+    ensures { TakesIn list.old.items ((play.now.items, position.now) ∷ []) list.new.items }
 {
     if reaches(list, position) {
         return;

@@ -16,10 +16,13 @@ use roll_table::Roll;
 /// A step to a point is made by the die of its length. A step off is made by the smallest die that is left and long enough, but where the last checker goes off
 /// and two unequal dice are left, by the higher, as it has to be played.
 pub fn match_play(position: &Position, roll: Roll, written: &Written) -> Result<Entry, BadPlay>
-    ensures written { IfOk result (λ entry. IsWritten position.now (dice_of roll) written.now.items entry.play.items entry.end) }
+    ensures written { IfOk result (λ entry.
+        IsWritten position.now (dice_of roll) written.now.items entry.play.items entry.end) }
     ensures legal { IfOk result (λ entry. IsLegal position.now roll entry.play.items entry.end) }
     ensures err { IfErr result (IsWrittenFault position.now roll written.now.items) }
-    ensures complete { (moves : List Move) (end : Placement) → IsWritten position.now (dice_of roll) written.now.items moves end → IsLegal position.now roll moves end → IsOk result }
+    ensures complete { (moves : List Move) (end : Placement)
+        → IsWritten position.now (dice_of roll) written.now.items moves end
+        → IsLegal position.now roll moves end → IsOk result }
 {
     let entry = match_steps(position, roll, written)?;
     judge(position, roll, &entry.play)?;
@@ -28,7 +31,8 @@ pub fn match_play(position: &Position, roll: Roll, written: &Written) -> Result<
 
 /// The moves of all steps, each of which has to be right.
 fn match_steps(position: &Position, roll: Roll, written: &Written) -> Result<Entry, BadPlay>
-    ensures ok { IfOk result (λ entry. IsWritten position.now (dice_of roll) written.now.items entry.play.items entry.end) }
+    ensures ok { IfOk result (λ entry.
+        IsWritten position.now (dice_of roll) written.now.items entry.play.items entry.end) }
     ensures err { IfErr result (IsWrongWritten position.now (dice_of roll) written.now.items) }
     ensures valid { IsRoll roll }
 {
@@ -50,7 +54,9 @@ fn match_step(
     step: Step,
 ) -> Result<(Move, Position), BadPlay>
     requires { All (λ die. 1 ≤ die) dice.old.items }
-    ensures ok { IfOk result (λ made. (i : ℕ) × (dice.new.items ≡ remove dice.old.items i) × IsStep position.now dice.old.items step made.0 i made.1) }
+    ensures ok { IfOk result (λ made.
+        (i : ℕ) × (dice.new.items ≡ remove dice.old.items i)
+        × IsStep position.now dice.old.items step made.0 i made.1) }
     ensures err { IfErr result (IsWrongStep position.now dice.old.items step) }
 {
     let Some(die) = die_of(position, dice, step) else {
@@ -82,7 +88,9 @@ pub(crate) fn hits(position: &Position, made: Move) -> bool
 
 /// The die of a step, if there is one.
 fn die_of(position: &Position, dice: &ArrayVec<u8, 4>, step: Step) -> Option<u8>
-    ensures { MatchOption result ((die : ℕ) → IsDieOf position.now dice.now.items step die → ⊥) (IsDieOf position.now dice.now.items step) }
+    ensures { MatchOption result
+        ((die : ℕ) → IsDieOf position.now dice.now.items step die → ⊥)
+        (IsDieOf position.now dice.now.items step) }
 {
     if step.to > 0 {
         return Some(step.from - step.to);
@@ -96,7 +104,9 @@ fn die_of(position: &Position, dice: &ArrayVec<u8, 4>, step: Step) -> Option<u8>
 
 /// The higher of two unequal dice, if it takes the last checker off from here.
 fn last_off(position: &Position, dice: &ArrayVec<u8, 4>, from: u8) -> Option<u8>
-    ensures { MatchOption result ((die : ℕ) → TakesLastOff position.now dice.now.items from die → ⊥) (TakesLastOff position.now dice.now.items from) }
+    ensures { MatchOption result
+        ((die : ℕ) → TakesLastOff position.now dice.now.items from die → ⊥)
+        (TakesLastOff position.now dice.now.items from) }
 {
     if position.mover_at(0) != position.checkers() - 1 || dice.len() != 2 {
         return None;
@@ -112,7 +122,9 @@ fn last_off(position: &Position, dice: &ArrayVec<u8, 4>, from: u8) -> Option<u8>
 
 /// The smallest die that is left and takes a checker off from here.
 fn smallest(dice: &ArrayVec<u8, 4>, from: u8) -> Option<u8>
-    ensures { MatchOption result (All (λ die. die < from) dice.now.items) (IsSmallest dice.now.items from) }
+    ensures { MatchOption result
+        (All (λ die. die < from) dice.now.items)
+        (IsSmallest dice.now.items from) }
 {
     let mut best = None;
     for die in dice.iter() {

@@ -11,12 +11,13 @@ use crate::moves::after_move;
 use crate::play::{Move, Play};
 use crate::written::{Step, Written};
 use arrayvec::ArrayString;
-use itoa::Buffer;
-use position_rank::Position;
+use position_rank::{Position, place_name, push_word, read_place};
 
 /// The steps of a play's text, as `bar/20* 6/off`, or none for `-`. `None` exactly where it is no such text.
 pub fn read_play(text: &str) -> Option<Written>
-    ensures { MatchOption result ((steps : List Step) → IsPlayText text.now steps → ⊥) (λ written. IsPlayText text.now written.items) }
+    ensures { MatchOption result
+        ((steps : List Step) → IsPlayText text.now steps → ⊥)
+        (λ written. IsPlayText text.now written.items) }
 {
     let mut written = Written::new();
     if text == "-" {
@@ -50,16 +51,20 @@ pub fn print_play(position: &Position, play: &Play) -> ArrayString<48>
 
 /// No text is that of two plays.
 pub fn texts_tell_plays()
-    ensures { (text : List ℕ) (steps others : List Step) → IsPlayText text steps → IsPlayText text others → steps ≡ others }
+    ensures { (text : List ℕ) (steps others : List Step)
+        → IsPlayText text steps → IsPlayText text others → steps ≡ others }
 {}
 
 /// The text of a play of at most four moves is that of its steps, which is what reading it gives.
 pub fn printed_plays_are_read()
-    ensures { (p : Placement) (moves : List Move) → CanFollow p moves → length moves ≤ 4 → (steps : List Step) × AreStepsOf p moves steps × IsPlayText (play_text p moves) steps }
+    ensures { (p : Placement) (moves : List Move) → CanFollow p moves → length moves ≤ 4
+        → (steps : List Step) × AreStepsOf p moves steps × IsPlayText (play_text p moves) steps }
 {}
 
 fn read_step(word: &str) -> Option<Step>
-    ensures { MatchOption result ((step : Step) → HitsPoint step → word.now ≡ step_text step → ⊥) (λ step. HitsPoint step × (word.now ≡ step_text step)) }
+    ensures { MatchOption result
+        ((step : Step) → HitsPoint step → word.now ≡ step_text step → ⊥)
+        (λ step. HitsPoint step × (word.now ≡ step_text step)) }
 {
     let (from, rest) = word.split_once('/')?;
     let (to, hit) = cut_mark(rest);
@@ -80,25 +85,6 @@ fn cut_mark(text: &str) -> (&str, bool)
         Some(front) => (front, true),
         None => (text, false),
     }
-}
-
-fn read_place(word: &str) -> Option<u8>
-    ensures { result ≡ place word.now }
-{
-    (0..26).find(|place| place_name(*place).as_str() == word)
-}
-
-fn place_name(place: u8) -> ArrayString<3>
-    ensures text { result.bytes ≡ place_text place }
-    ensures short { length result.bytes ≤ 3 }
-{
-    let mut name = ArrayString::new();
-    match place {
-        0 => name.push_str("off"),
-        25 => name.push_str("bar"),
-        _ => name.push_str(Buffer::new().format(place)),
-    }
-    name
 }
 
 fn step_name(position: &Position, step: Move) -> ArrayString<8>
@@ -123,14 +109,4 @@ fn after(position: &Position, step: Move) -> Position
     ensures { result ≡ next_board position.now step }
 {
     after_move(position, step.die, step.from).unwrap_or(*position)
-}
-
-fn push_word(text: &mut ArrayString<48>, word: &str)
-    requires { length text.old.bytes + 1 + length word.now ≤ 48 }
-    ensures { text.new.bytes ≡ add_word text.old.bytes word.now }
-{
-    if !text.is_empty() {
-        text.push(' ');
-    }
-    text.push_str(word);
 }

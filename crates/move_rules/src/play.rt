@@ -18,5 +18,8 @@ pub struct Entry {
     pub end: Position,
 }
 
+/// How many plays a roll has at most: four moves, each from one of at most three places.
+pub const MOST_PLAYS: usize = 81;
+
 /// The plays of a roll.
-pub type PlayList = ArrayVec<Entry, 81>;
+pub type PlayList = ArrayVec<Entry, MOST_PLAYS>;

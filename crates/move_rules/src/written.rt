@@ -1,4 +1,4 @@
-ghost use Rattle.std.specs.Prelude.{◌≤◌, ◌<◌};
+ghost use Rattle.std.specs.Prelude.{◌≡◌, ◌≤◌, ◌<◌, false};
 
 use arrayvec::ArrayVec;
 
@@ -13,7 +13,7 @@ pub struct Step {
 }
 
 impl Default for Step {
-    ghost is_default = { λ _. Unit {0} };
+    ghost is_default = { λ step. (step.from ≡ 1) × (step.to ≡ 0) × (step.hit ≡ false) };
 
     /// From 1 off.
     fn default() -> Self {

@@ -1,5 +1,6 @@
 use Rattle.std.proofs.Common.{◌∙◌, sym, arith, inl, inr}
-use Rattle.move_rules.proofs.NotationWords.{is-cut, no-cut, place-none, place-same, place-text}
+use Rattle.position_rank.proofs.PlaceTexts.{place-none, place-same, place-text}
+use Rattle.move_rules.proofs.NotationWords.{is-cut, no-cut}
 use Rattle.move_rules.proofs.notation.read_step.Goals as goal
 use Rattle.move_rules.proofs.notation.read_step.Goals.{then-to-from-via-then-to-from, then-to-from-via-else-to-from+then-to-eq0}
 
