@@ -1,6 +1,5 @@
 ghost use Rattle.std.specs.Prelude.{◌≡◌, ◌≤◌, ◌++◌, ◌+◌, ℕ, codes, decimal, length};
 ghost use Rattle.equity_report.specs.Refusals.{words_text, bad_words_text, base_text, counted_text, position_kind, status_of, reason_text, refusal_text};
-ghost use Rattle.hyper_outside.specs.Causes.{HasCause};
 ghost use Rattle.hyper_outside.specs.Sink.{Puts};
 
 use arrayvec::ArrayString;
@@ -121,8 +120,7 @@ fn add_reason(line: &mut Line, refusal: &Refusal)
 
 /// Puts a refusal's line, as `refused 2 position 4`. `Failed` comes only where `put` failed; then a front of the line was put.
 pub fn write_refusal<O: Sink>(out: &mut O, refusal: &Refusal) -> Result<(), Failed>
-    ensures puts { Puts (O.told out.old) (O.told out.new) (refusal_text refusal.now) result }
-    ensures cause { HasCause (O.faults out.old) (O.faults out.new) result }
+    ensures { Puts (O.output out.old) (O.output out.new) (refusal_text refusal.now) result }
 {
     let mut line = Line::new();
     line.push_str("refused ");

@@ -1,6 +1,5 @@
 ghost use Rattle.std.specs.Prelude.{◌≡◌, ◌≤◌, ◌++◌, ◌+◌, ℕ, codes, decimal, length};
 ghost use Rattle.std.specs.Fmt.{signed_decimal};
-ghost use Rattle.hyper_outside.specs.Causes.{HasCause};
 ghost use Rattle.hyper_outside.specs.Sink.{Puts};
 ghost use Rattle.position_rank.specs.Text.{position_text};
 ghost use Rattle.equity_report.specs.Reports.{line, points_text, units_text, bound_text};
@@ -62,8 +61,9 @@ pub fn write_bound<O: Sink>(
     rounds: u32,
     pair: Pair,
 ) -> Result<(), Failed>
-    ensures puts { Puts (O.told out.old) (O.told out.new) (bound_text position.now rounds pair) result }
-    ensures cause { HasCause (O.faults out.old) (O.faults out.new) result }
+    ensures {
+        Puts (O.output out.old) (O.output out.new) (bound_text position.now rounds pair) result
+    }
 {
     let mut report = Report::new();
     add_position(&mut report, position);

@@ -1,5 +1,5 @@
 use super::*;
-use hyper_outside::{HonestSink, MemSink};
+use hyper_outside::{HonestSink, MemFiles, MemSink, OpenGate};
 use std::alloc::{AllocError, Global};
 use std::test::Fail;
 
@@ -12,7 +12,7 @@ fn owned(alloc: Global, words: &[&str]) -> Result<Vec<String>, AllocError> {
 }
 
 // The words, the status, and all that is put.
-const ROWS: [(&[&str], u8, &str); 27] = [
+const ROWS: [(&[&str], u8, &str); 28] = [
     (
         &["bound", "1", "1", "24 / 24"],
         0,
@@ -22,6 +22,11 @@ const ROWS: [(&[&str], u8, &str); 27] = [
         &["bound", "1", "1", "1 / 1"],
         0,
         "position 1 / 1\nrounds 1\nalone 2.000000 2.000000 8589934592 8589934592\n",
+    ),
+    (
+        &["bound", "1", "16", "1 / 1"],
+        0,
+        "position 1 / 1\nrounds 16\nalone 2.000000 2.000000 8589934592 8589934592\n",
     ),
     (
         &["bound", "1", "1", "1 / bar"],
@@ -155,5 +160,16 @@ fn a_failing_output_is_told(rt: HostRuntime) -> Result<(), Fail> {
         assert_eq!(rt; answer, status);
         assert_eq!(rt; out.put_bytes(), text.as_bytes());
     }
+    Ok(())
+}
+
+// A word that isn't text is refused by its line. Where there was no memory for the words nothing is put.
+#[test]
+fn unread_words_are_told_apart(rt: HostRuntime) -> Result<(), Fail> {
+    let mut out = HonestSink::with_room(rt.alloc(), 64)?;
+    assert_eq!(rt; refuse_unread(&mut out, false), 8);
+    assert_eq!(rt; out.put_bytes(), "".as_bytes());
+    assert_eq!(rt; refuse_unread(&mut out, true), 1);
+    assert_eq!(rt; out.put_bytes(), "refused 1 words word 0\n".as_bytes());
     Ok(())
 }

@@ -1,11 +1,13 @@
 -- What a program's words ask for, and what is reported.
-use Rattle.std.specs.Prelude.{ℕ, ◌==◌, List, sum, Result, Ok, Err, if◌then◌else◌}
-use Rattle.hyper_app.specs.declared.task.Task.{Task}
+use Rattle.std.specs.Prelude.{ℕ, ◌==◌, List, String, sum, Result, Ok, Err, if◌then◌else◌}
+use Rattle.std.specs.declared.alloc.Global.{Global}
+use Rattle.top_call.specs.declared.task.Task.{Task}
 use Rattle.position_rank.specs.Placement.{Placement}
 use Rattle.position_rank.specs.declared.text.BadPosition.{BadPosition}
 use Rattle.position_rank.specs.Text.{read_position}
 use Rattle.hyper_outside.specs.declared.outside.BadWords.{BadWords}
 use Rattle.command_line.specs.Words.{Asked, reading}
+use Rattle.command_line.specs.Reading.{bytes_of}
 use Rattle.cube_actions.specs.Stakes.{cubeless}
 use Rattle.turn_rule.specs.Turn.{rounds}
 use Rattle.turn_rule.specs.States.{pair_of}
@@ -30,6 +32,10 @@ with_words (Err bad) = Err (Words bad)
 -- the words are read first, then the position, and then the numbers of checkers are compared
 abbrev pub task_of : List (List ℕ) → Result Task Refusal
 task_of words = with_words (reading words)
+
+-- the same of the program's words
+abbrev pub asked : List (String Global) → Result Task Refusal
+asked words = task_of (bytes_of words)
 
 -- the pair of the position after so many rounds of a game without a cube
 abbrev pub report : Task → List ℕ

@@ -1,16 +1,14 @@
 ghost use Rattle.std.specs.Prelude.{◌≡◌, ◌<◌, ◌+◌, ℕ, IfOk, IfErr, IsTrue};
-ghost use Rattle.hyper_outside.specs.Causes.{HasCause, Rose};
-ghost use Rattle.hyper_outside.specs.Files.{SameFiles};
+ghost use Rattle.hyper_outside.specs.Causes.{Rose};
 ghost use Rattle.position_rank.specs.Placement.{IsPosition, IsLive};
 ghost use Rattle.cube_actions.specs.Stakes.{cubeless};
 ghost use Rattle.turn_rule.specs.Turn.{rounds};
 ghost use Rattle.turn_rule.specs.States.{pair_of};
-ghost use Rattle.command_line.specs.Reading.{bytes_of};
 ghost use Rattle.equity_report.specs.declared.refusal.Refusal.TheVariants.{Memory, Write};
 ghost use Rattle.equity_report.specs.Refusals.{status_of, refusal_text};
-ghost use Rattle.hyper_app.specs.Tasks.{task_of, report};
-ghost use Rattle.hyper_app.specs.Runs.{Ends, IsPut, WasPut, FailedThenPut};
-ghost use Rattle.hyper_app.specs.Truth.{PutsEnclosingPair};
+ghost use Rattle.top_call.specs.Tasks.{asked, report};
+ghost use Rattle.top_call.specs.Runs.{Ends, IsPut, WasPut, FailedThenPut};
+ghost use Rattle.top_call.specs.Truth.{PutsEnclosingPair};
 
 use crate::task::{Task, read_task};
 use cube_actions::Stakes;
@@ -28,7 +26,8 @@ pub const DONE: u8 = 0;
 fn pair_after(alloc: Global, task: &Task) -> Result<Pair, NoMemory>
     requires position { IsPosition task.now.position }
     requires live { IsLive task.now.position }
-    ensures { IfOk result (λ pair. pair ≡ pair_of (rounds cubeless task.now.rounds) task.now.position 0) }
+    ensures { IfOk result
+        (λ pair. pair ≡ pair_of (rounds cubeless task.now.rounds) task.now.position 0) }
 {
     let stakes = Stakes::cubeless();
     let mut table = PlainTable::new(alloc, task.position.checkers(), &stakes)?;
@@ -39,9 +38,9 @@ fn pair_after(alloc: Global, task: &Task) -> Result<Pair, NoMemory>
 }
 
 /// Puts a refusal's line, and answers its status. Where that fails too, the status stays.
-fn refuse<O: Sink>(out: &mut O, refusal: &Refusal) -> u8
+pub(crate) fn refuse<O: Sink>(out: &mut O, refusal: &Refusal) -> u8
     ensures status { result ≡ status_of refusal.now }
-    ensures told { WasPut (O.told out.old) (O.told out.new) (O.faults out.old) (O.faults out.new) (refusal_text refusal.now) }
+    ensures told { WasPut (O.output out.old) (O.output out.new) (refusal_text refusal.now) }
 {
     let _ = write_refusal(out, refusal);
     refusal.status()
@@ -52,11 +51,13 @@ fn run_task<O: Sink>(alloc: Global, task: &Task, out: &mut O) -> u8
     requires position { IsPosition task.now.position }
     requires live { IsLive task.now.position }
     ensures ends { Ends (Ok task.now) result }
-    ensures report { result ≡ 0 → IsPut (O.told out.old) (O.told out.new) (report task.now) }
-    ensures truth { result ≡ 0 → PutsEnclosingPair (O.told out.old) (O.told out.new) task.now }
-    ensures memory { result ≡ 8 → WasPut (O.told out.old) (O.told out.new) (O.faults out.old) (O.faults out.new) (refusal_text Memory) }
-    ensures write { result ≡ 7 → FailedThenPut (O.told out.old) (O.told out.new) (O.faults out.old) (O.faults out.new) (report task.now) (refusal_text Write) }
-    ensures cause { result ≡ 7 → Rose (O.faults out.old) (O.faults out.new) }
+    ensures report { result ≡ 0 → IsPut (O.output out.old) (O.output out.new) (report task.now) }
+    ensures truth { result ≡ 0 → PutsEnclosingPair (O.output out.old) (O.output out.new) task.now }
+    ensures memory { result ≡ status_of Memory
+        → WasPut (O.output out.old) (O.output out.new) (refusal_text Memory) }
+    ensures write { result ≡ status_of Write
+        → FailedThenPut (O.output out.old) (O.output out.new) (report task.now) (refusal_text Write) }
+    ensures cause { result ≡ status_of Write → Rose (O.output out.old).faults (O.output out.new).faults }
 {
     let Ok(pair) = pair_after(alloc, task) else {
         return refuse(out, &Refusal::Memory);
@@ -82,13 +83,22 @@ pub fn run<R: Threads + Sync, F: Files, O: Sink, G: Gate + Sync>(
     out: &mut O,
     gate: &G,
 ) -> u8
-    ensures ends { Ends (task_of (bytes_of words.now)) result }
-    ensures report { result ≡ 0 → IfOk (task_of (bytes_of words.now)) (λ task. IsPut (O.told out.old) (O.told out.new) (report task)) }
-    ensures truth { result ≡ 0 → IfOk (task_of (bytes_of words.now)) (λ task. PutsEnclosingPair (O.told out.old) (O.told out.new) task) }
-    ensures refusal { IfErr (task_of (bytes_of words.now)) (λ refusal. result ≡ status_of refusal → WasPut (O.told out.old) (O.told out.new) (O.faults out.old) (O.faults out.new) (refusal_text refusal)) }
-    ensures memory { result ≡ 8 → WasPut (O.told out.old) (O.told out.new) (O.faults out.old) (O.faults out.new) (refusal_text Memory) }
-    ensures write { result ≡ 7 → IfOk (task_of (bytes_of words.now)) (λ task. FailedThenPut (O.told out.old) (O.told out.new) (O.faults out.old) (O.faults out.new) (report task) (refusal_text Write)) }
-    ensures cause { result ≡ 7 → Rose (O.faults out.old) (O.faults out.new) }
+    ensures ends { Ends (asked words.now) result }
+    ensures report { result ≡ 0
+        → IfOk (asked words.now) (λ task. IsPut (O.output out.old) (O.output out.new) (report task)) }
+    ensures truth { result ≡ 0
+        → IfOk (asked words.now)
+        (λ task. PutsEnclosingPair (O.output out.old) (O.output out.new) task) }
+    ensures refusal { IfErr (asked words.now)
+        (λ refusal. result ≡ status_of refusal
+        → WasPut (O.output out.old) (O.output out.new) (refusal_text refusal)) }
+    ensures memory { result ≡ status_of Memory
+        → WasPut (O.output out.old) (O.output out.new) (refusal_text Memory) }
+    ensures write { result ≡ status_of Write
+        → IfOk (asked words.now)
+        (λ task. FailedThenPut (O.output out.old) (O.output out.new)
+        (report task) (refusal_text Write)) }
+    ensures cause { result ≡ status_of Write → Rose (O.output out.old).faults (O.output out.new).faults }
 
     // No file is changed, and none is asked for.
     ensures files { files.new ≡ files.old }

@@ -3,8 +3,8 @@ use Rattle.std.proofs.Common.{◌≡◌, ℕ, List, Ok, Err, Result, IfErr, sym,
 use Rattle.equity_report.specs.declared.refusal.Refusal.{Refusal}
 use Rattle.equity_report.specs.declared.refusal.Refusal.TheVariants.{Words, Position, Write, Memory, Base}
 use Rattle.equity_report.specs.Refusals.{status_of, refusal_text}
-use Rattle.hyper_app.specs.declared.task.Task.{Task}
-use Rattle.hyper_app.specs.Runs.{Reads}
+use Rattle.top_call.specs.declared.task.Task.{Task}
+use Rattle.top_call.specs.Runs.{IsDue}
 
 -- status 8 is that of want of memory alone
 pub memory-text : (W : List ℕ → Type 0) (refusal : Refusal) → status_of refusal ≡ 8 → W (refusal_text refusal) → W (refusal_text Memory)
@@ -24,7 +24,7 @@ of_memory W (Base wanted found) e w = absurd (omega arith)
 abbrev Due : (W : List ℕ → Type 0) (status : ℕ) → Result Task Refusal → Type 0
 Due W status expected = IfErr expected (λ refusal. status ≡ status_of refusal → W (refusal_text refusal))
 
-pub due-text : (W : List ℕ → Type 0) (expected : Result Task Refusal) (refusal : Refusal) (status : ℕ) → Reads expected (Err refusal) → status ≡ status_of refusal → W (refusal_text refusal) → IfErr expected (λ due. status ≡ status_of due → W (refusal_text due))
+pub due-text : (W : List ℕ → Type 0) (expected : Result Task Refusal) (refusal : Refusal) (status : ℕ) → IsDue expected (Err refusal) → status ≡ status_of refusal → W (refusal_text refusal) → IfErr expected (λ due. status ≡ status_of due → W (refusal_text due))
 due-text W expected (Words bad) status reads is w = subst (Due W status) (sym reads) (λ _. w)
 due-text W expected (Position bad) status reads is w = subst (Due W status) (sym reads) (λ _. w)
 due-text W expected Write status reads is w = subst (Due W status) (sym reads) (λ _. w)

@@ -1,8 +1,7 @@
 ghost use Rattle.std.specs.Prelude.{◌≡◌, ℕ, IfOk};
 ghost use Rattle.position_rank.specs.Placement.{IsPosition, IsLive};
-ghost use Rattle.command_line.specs.Reading.{bytes_of};
-ghost use Rattle.hyper_app.specs.Tasks.{fitting, task_of};
-ghost use Rattle.hyper_app.specs.Runs.{Reads};
+ghost use Rattle.top_call.specs.Tasks.{fitting, asked};
+ghost use Rattle.top_call.specs.Runs.{IsDue};
 
 use command_line::{Command, WordsStop, read_words};
 use equity_report::Refusal;
@@ -18,7 +17,7 @@ pub struct Task {
 
 /// Reads the words, then the position, and compares the numbers of checkers.
 pub fn read_task(alloc: Global, words: &[String]) -> Result<Task, Refusal>
-    ensures reads { Reads (task_of (bytes_of words.now)) result }
+    ensures due { IsDue (asked words.now) result }
     ensures position { IfOk result (λ task. IsPosition task.position) }
     ensures live { IfOk result (λ task. IsLive task.position) }
 {

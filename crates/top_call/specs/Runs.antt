@@ -1,0 +1,42 @@
+-- How a run may end.
+use Rattle.std.specs.Prelude.{◌≡◌, ℕ, List, ◌++◌, Option, Some, None, Result, Ok, Err, ◌⊎◌, IsErr}
+use Rattle.hyper_outside.specs.declared.outside.Failed.{Failed}
+use Rattle.hyper_outside.specs.declared.outside.WordsKind.TheVariants.{Word}
+use Rattle.hyper_outside.specs.Sink.{Output, Puts}
+use Rattle.equity_report.specs.declared.refusal.Refusal.{Refusal}
+use Rattle.equity_report.specs.declared.refusal.Refusal.TheVariants.{Words, Write, Memory}
+use Rattle.equity_report.specs.Refusals.{status_of}
+use Rattle.top_call.specs.declared.task.Task.{Task}
+
+-- the task is the one that was asked for, or the refusal the one that is due, unless there was no memory
+abbrev pub IsDue : Result Task Refusal → Result Task Refusal → Type 0
+IsDue expected (Ok task) = expected ≡ Ok task
+IsDue expected (Err Memory) = Unit {0}
+IsDue expected (Err refusal) = expected ≡ Err refusal
+
+-- Where words are refused, the status is that of the refusal. Where a task is taken, it is 0 if the report was put and that of a failed
+-- write if that failed. In both it is that of no memory if there was none.
+abbrev pub Ends : Result Task Refusal → ℕ → Type 0
+Ends (Ok task) status = (status ≡ 0) ⊎ (status ≡ status_of Write) ⊎ (status ≡ status_of Memory)
+Ends (Err refusal) status = (status ≡ status_of refusal) ⊎ (status ≡ status_of Memory)
+
+-- this text was put, where the sink tells what was
+abbrev pub IsTold : Option (List ℕ) → Option (List ℕ) → List ℕ → Type 0
+IsTold None new text = new ≡ None
+IsTold (Some old) new text = new ≡ Some (old ++ text)
+
+abbrev pub IsPut : Output → Output → List ℕ → Type 0
+IsPut old new = IsTold old.told new.told
+
+-- this text was put, or a front of it where putting failed
+abbrev pub WasPut : Output → Output → List ℕ → Type 0
+WasPut old new text = (answer : Result (Unit {0}) Failed) × Puts old new text answer
+
+-- putting the first text failed, and then the second was put, or a front of it where that failed too
+abbrev pub FailedThenPut : Output → Output → List ℕ → List ℕ → Type 0
+FailedThenPut old new first second =
+    (middle : Output) × (answer : Result (Unit {0}) Failed) × IsErr answer × Puts old middle first answer × WasPut middle new second
+
+-- some word isn't text: which one can't be told
+abbrev pub no_text : Refusal
+no_text = Words (record { kind = Word; place = 0 })
