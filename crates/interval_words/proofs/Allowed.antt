@@ -8,21 +8,20 @@ use Rattle.atomic_table.proofs.Lists.{at_set}
 use Rattle.position_rank.specs.Placement.{Placement}
 use Rattle.directed_fixed.specs.declared.bounds.End.{End}
 use Rattle.directed_fixed.specs.declared.bounds.End.TheVariants.{Lower, Upper}
-use Rattle.directed_fixed.specs.Bounds.{IsNoLooser, IsWithinUnits}
 use Rattle.turn_rule.specs.Games.{IsGame, kinds_of}
-use Rattle.turn_rule.specs.Turn.{Words, rounds}
+use Rattle.turn_rule.specs.Turn.{Words}
 use Rattle.turn_rule.specs.States.{IsState, AreWithin}
 use Rattle.turn_rule.specs.declared.game.Game.{Game}
 use Rattle.interval_words.specs.declared.view.Note.{Note}
 use Rattle.interval_words.specs.declared.view.View.{View}
 use Rattle.interval_words.specs.Numbers.{state_of, word_of, value_of, tightest_word}
-use Rattle.interval_words.specs.Core.{Core, IsKept, IsTrueOf, AreReached, words_in_core, noted, known, with_note, settled, joined, spent}
+use Rattle.interval_words.specs.Core.{Core, IsKept, IsTrueOf, AreReached, words_in_core, noted, with_note, settled, joined, spent}
 use Rattle.interval_words.specs.Events.{IsLoose, IsRoundDone}
-use Rattle.interval_words.specs.Seats.{AreKnown, Knows}
-use Rattle.interval_words.specs.Rule.{core_of, Holds, IsFresh, Reads, Tightens, Settles}
-use Rattle.interval_words.proofs.Ends.{tight-refl, tight-trans, tight-tightest}
+use Rattle.interval_words.specs.Seats.{AreKnown, Knows, WasHeld}
+use Rattle.interval_words.specs.Rule.{core_of, Holds, Reads, Tightens, Settles}
+use Rattle.interval_words.proofs.Ends.{tight-refl, tight-trans}
 use Rattle.interval_words.proofs.TurnLaws.{all-rounds-within}
-use Rattle.interval_words.proofs.Views.{All-at, set-at, noted-opening}
+use Rattle.interval_words.proofs.Views.{All-at, contains-at, set-at, noted-opening}
 use Rattle.interval_words.proofs.Steps.{tighter-trans, true-note, true-settled, true-joined, true-blank, kept-view, kept-new, kept-tightens}
 
 abbrev St : Type 0
@@ -59,16 +58,11 @@ same-words : (game : Game) (words : List ℕ) (views : List View) (i : ℕ) → 
 same-words game words views i kept = subst (λ (ws : List ℕ). IsKept (record { game = game; words = ws; views = views })) (sym (set-get_or words i 0)) kept
 
 module _ (game : Game) (slots id : ℕ) (me : Mine) (alive : me.0.game ≡ Some game) where
-  -- what a load finds
-  fresh : (s : St) → Holds game s → IsTrueOf game (words_in_core (core_of game s)) me.0 → (place : ℕ) → IsFresh me.0 place (value_of (get_or s.words place 0))
-  fresh s kept is place = record {
-    within = λ named end p k names state same.
-        subst (λ (g : Game). IsState g p k → place ≡ word_of end (state_of (kinds_of g) p k) → IsWithinUnits g.stakes.bound (value_of (get_or s.words place 0))) (one-game me.0 game named alive names)
-        (λ state same. subst (λ (n : ℕ). IsWithinUnits game.stakes.bound (value_of (get_or s.words n 0))) (sym same) (kept.within end p k state)) state same;
-    tight = λ named end p k names state same.
-        subst (λ (g : Game). IsState g p k → place ≡ word_of end (state_of (kinds_of g) p k) → IsNoLooser end (value_of (get_or s.words place 0)) (known g me.0 end p k)) (one-game me.0 game named alive names)
-        (λ state same. subst (λ (n : ℕ). IsNoLooser end (value_of (get_or s.words n 0)) (known game me.0 end p k)) (sym same) (tight-tightest end (noted game me.0.notes end p k) (rounds game.stakes me.0.base end p k) _ (is.notes end p k state) (is.base end p k state))) state same;
-  }
+  -- what a load finds the word held
+  held : (s : St) → Holds game s → get_elem? s.views id ≡ some me.0 → (place : ℕ) → (named : Game) → me.0.game ≡ Some named → WasHeld named me.0 place (value_of (get_or s.words place 0))
+  held s kept at place named names =
+      subst (λ (g : Game). WasHeld g me.0 place (value_of (get_or s.words place 0))) (one-game me.0 game named alive names)
+      (record { words = s.words; views = s.views; kept = kept; stands = contains-at s.views id me.0 at; held = refl })
 
   pub reads : (end : End) (p : Placement) (k : ℕ) → IsState game p k → Allows (Holds game) slots id me (word_of end (state_of (kinds_of game) p k)) (λ n. n) (Reads (step slots (word_of end (state_of (kinds_of game) p k)) 0 0 none) me)
   reads end p k state s kept _ at _ =
@@ -77,7 +71,7 @@ module _ (game : Game) (slots id : ℕ) (me : Mine) (alive : me.0.game ≡ Some 
       let is : IsTrueOf game (words_in_core core) me.0 = All-at (IsTrueOf game (words_in_core core)) s.views id me.0 kept.views at in
       let view : View = with_note me.0 place (words_in_core core end p k) in
       let true_of : IsTrueOf game (words_in_core core) view = true-note game (words_in_core core) me.0 end p k (words_in_core core end p k) is state (tight-refl end _) in
-      (view, keeps, tt, same-words game s.words (set s.views id view) place (kept-view core id view kept true_of), (refl, knows-true core kept view true_of alive, fresh s kept is place))
+      (view, keeps, tt, same-words game s.words (set s.views id view) place (kept-view core id view kept true_of), (refl, knows-true core kept view true_of alive, held s kept at place))
 
   pub tightens : (end : End) (p : Placement) (k word : ℕ) → IsLoose game me.0 end p k (value_of word) → Allows (Holds game) slots id me (word_of end (state_of (kinds_of game) p k)) (λ n. tightest_word end n word) (Tightens (step slots (word_of end (state_of (kinds_of game) p k)) word 0 none) me)
   tightens end p k word loose s kept _ at _ =

@@ -1,6 +1,8 @@
 -- The calls of a board over its table.
-use Rattle.std.proofs.Common.{◌≡◌, ◌<◌, ◌+◌, ◌*◌, ◌^◌, ℕ, ℤ, pos, ◌+ℤ◌, ◌-ℤ◌, [], ◌++◌, length, Option, Some, IsSome, IfSome, arith, refl, sym, ap, subst, ◌∙◌}
+use Rattle.std.proofs.Common.{◌≡◌, ◌<◌, ◌+◌, ◌*◌, ◌^◌, ℕ, ℤ, pos, ◌+ℤ◌, ◌-ℤ◌, [], ◌++◌, length, get_or, Option, Some, IsSome, IfSome, arith, refl, sym, ap, subst, ◌∙◌}
+use Rattle.std.specs.List.{Contains}
 use Rattle.std.proofs.lemmas.Int.{ints}
+use Rattle.std.proofs.lemmas.List.Elements.{All-contains}
 use mathlib.Core.Option.{none}
 use Rattle.atomic_table.specs.Table.{Me, step, Allows}
 use Rattle.atomic_table.specs.Seated.{TableId}
@@ -12,17 +14,17 @@ use Rattle.turn_rule.specs.States.{IsState, AreNoLooser}
 use Rattle.turn_rule.specs.declared.game.Game.{Game}
 use Rattle.interval_words.specs.declared.view.View.{View}
 use Rattle.interval_words.specs.Numbers.{state_of, states_in, word_of, value_of, tightest_word}
-use Rattle.interval_words.specs.Core.{AreReached, words_in, noted, known, first_view, with_note, settled, joined}
+use Rattle.interval_words.specs.Core.{Core, IsTrueOf, words_in_core, AreReached, words_in, noted, known, first_view, with_note, settled, joined}
 use Rattle.interval_words.specs.Events.{IsLoose, IsRoundDone}
-use Rattle.interval_words.specs.Seats.{GameSeat, IsNumber, MayTighten, AreKnown, Knows, noting, settling}
-use Rattle.interval_words.specs.Rule.{Holds, IsFresh, Reads, Tightens, Settles}
+use Rattle.interval_words.specs.Seats.{GameSeat, IsNumber, MayTighten, AreKnown, Knows, WasHeld, noting, settling}
+use Rattle.interval_words.specs.Rule.{Holds, Reads, Tightens, Settles}
 use Rattle.position_rank.specs.LiveRanks.{live_rank_of, live_positions}
 use Rattle.cube_actions.specs.Stakes.{Terms}
 use Rattle.interval_words.proofs.SomeState.{some-state}
 use Rattle.interval_words.proofs.Places.{state-in, word-in}
 use Rattle.turn_rule.specs.Turn.{Words, rounds, bound_words}
 use Rattle.interval_words.proofs.TurnLaws.{rounds-later, rounds-none}
-use Rattle.interval_words.proofs.Ends.{tight-refl}
+use Rattle.interval_words.proofs.Ends.{tight-refl, tight-tightest}
 use Rattle.interval_words.proofs.Views.{noted-append}
 use Rattle.interval_words.proofs.Steps.{tighter-trans}
 use Rattle.interval_words.proofs.Allowed.{one-game, known-notes, reads, tightens, settles}
@@ -95,21 +97,47 @@ pub read-value : (o : Option ℤ) (word : ℕ) (value : ℤ) → IfSome o (λ v.
 unfolding value_of
 read-value o word value is found = sym (subst (λ (r : Option ℤ). IfSome r (λ v. v ≡ pos word -ℤ pos (2 ^ 36))) found is)
 
-module _ (game : Game) (me : Mine) (view : View) (mine : me.0 ≡ view) (alive : view.game ≡ Some game) (end : End) (state place found : ℕ) (at : place ≡ word_of end state) (fresh : IsFresh me.0 place (value_of found)) where
-  found-within : IsNumber game state → IsWithinUnits game.stakes.bound (value_of found)
-  found-within is = fresh.within game end is.position is.kind (ap (λ (v : View). v.game) mine ∙ alive) is.is (at ∙ ap (word_of end) is.number)
+-- what a word held is within the bound, and at least as tight as what the view tells of it
+module _ (game : Game) (view : View) (end : End) (p : Placement) (k : ℕ) (is : IsState game p k) (value : ℤ) (held : WasHeld game view (word_of end (state_of (kinds_of game) p k)) value) where
+  abbrev core : Core
+  core = record { game = game; words = held.words; views = held.views }
 
-  pub read-some : IsNumber game state → (bound : ℤ) (o : Option ℤ) → bound ≡ game.stakes.bound → (IsWithinUnits bound (pos found -ℤ pos (2 ^ 36)) → IsSome o) → IsSome o
-  unfolding value_of
-  read-some is bound o same tells = tells (subst (λ (b : ℤ). IsWithinUnits b (pos found -ℤ pos (2 ^ 36))) (sym same) (found-within is))
+  held-within : IsWithinUnits game.stakes.bound value
+  held-within = subst (λ (z : ℤ). IsWithinUnits game.stakes.bound z) held.held (held.kept.within end p k is)
 
-  pub read-within : IsNumber game state → (value : ℤ) → value_of found ≡ value → IsWithinUnits game.stakes.bound value
-  read-within is value same = subst (λ (z : ℤ). IsWithinUnits game.stakes.bound z) same (found-within is)
+  held-tight : IsNoLooser end value (known game view end p k)
+  held-tight =
+      let true_of = All-contains (IsTrueOf game (words_in_core core)) held.views view held.kept.views held.stands in
+      subst (λ (z : ℤ). IsNoLooser end z (known game view end p k)) held.held
+      (tight-tightest end (noted game view.notes end p k) (rounds game.stakes view.base end p k) _ (true_of.notes end p k is) (true_of.base end p k is))
 
-  pub read-tight : (value : ℤ) → value_of found ≡ value → (p : Placement) (k : ℕ) → IsState game p k → state ≡ state_of (kinds_of game) p k → IsNoLooser end value (known game view end p k)
-  read-tight value same p k is number =
-      subst (λ (z : ℤ). IsNoLooser end z (known game view end p k)) same
-      (subst (λ (v : View). IsNoLooser end (value_of found) (known game v end p k)) mine (fresh.tight game end p k (ap (λ (v : View). v.game) mine ∙ alive) is (at ∙ ap (word_of end) number)))
+module _ (game : Game) (me : Mine) (view : View) (mine : me.0 ≡ view) (alive : view.game ≡ Some game) (end : End) (state place found : ℕ) (at : place ≡ word_of end state) (told : (named : Game) → me.0.game ≡ Some named → WasHeld named me.0 place (value_of found)) (value : ℤ) (same : value_of found ≡ value) where
+  pub read-held : WasHeld game view (word_of end state) value
+  read-held =
+      let was = told game (ap (λ (v : View). v.game) mine ∙ alive) in
+      record {
+        words = was.words;
+        views = was.views;
+        kept = was.kept;
+        stands = subst (λ (v : View). Contains was.views v) mine was.stands;
+        held = ap (λ (n : ℕ). value_of (get_or was.words n 0)) (sym at) ∙ (was.held ∙ same);
+      }
+
+  held-at : (p : Placement) (k : ℕ) → state ≡ state_of (kinds_of game) p k → WasHeld game view (word_of end (state_of (kinds_of game) p k)) value
+  held-at p k number = subst (λ (n : ℕ). WasHeld game view (word_of end n) value) number read-held
+
+  pub read-within : IsNumber game state → IsWithinUnits game.stakes.bound value
+  read-within is = held-within game view end is.position is.kind is.is value (held-at is.position is.kind is.number)
+
+  pub read-tight : (p : Placement) (k : ℕ) → IsState game p k → state ≡ state_of (kinds_of game) p k → IsNoLooser end value (known game view end p k)
+  read-tight p k is number = held-tight game view end p k is value (held-at p k number)
+
+-- so what was found is a word of the game
+pub read-some : (game : Game) (me : Mine) (view : View) → me.0 ≡ view → view.game ≡ Some game → (end : End) (state place found : ℕ) → place ≡ word_of end state → ((named : Game) → me.0.game ≡ Some named → WasHeld named me.0 place (value_of found))
+    → IsNumber game state → (bound : ℤ) (o : Option ℤ) → bound ≡ game.stakes.bound → (IsWithinUnits bound (pos found -ℤ pos (2 ^ 36)) → IsSome o) → IsSome o
+unfolding value_of
+read-some game me view mine alive end state place found at told is bound o same tells =
+    tells (subst (λ (b : ℤ). IsWithinUnits b (pos found -ℤ pos (2 ^ 36))) (sym same) (read-within game me view mine alive end state place found at told (value_of found) refl is))
 
 -- what two seats know is known to the one that took in the other
 pub knows-joined : (game : Game) → IsGame game → (view other : View) → view.game ≡ Some game → other.game ≡ Some game → Knows view → Knows other → Knows (joined view other)

@@ -1,5 +1,6 @@
 -- What views tell of words.
 use Rattle.std.proofs.Common.{◌≡◌, ◌≢◌, ◌==◌, ℕ, zero, suc, ℤ, List, [], ◌∷◌, ◌++◌, All, set, Bool, if◌then◌else◌, arith, refl, sym, subst, inl, inr, eq-eqb, ne_eqb}
+use Rattle.std.specs.List.{Contains}
 use Rattle.std.proofs.lemmas.Bool.{cases_order}
 use Rattle.std.proofs.lemmas.List.Elements.{All-tail}
 use mathlib.Core.Option.{some, some-injective, some-ne-none}
@@ -22,6 +23,12 @@ pub All-at : {X : Type 0} (P : X → Type 0) (xs : List X) (i : ℕ) (x : X) →
 All-at P [] i x all at = absurd (some-ne-none x (sym at))
 All-at P (y ∷ ys) zero x all at = subst P (some-injective y x at) (all 0 y (omega arith))
 All-at P (y ∷ ys) (suc i) x all at = All-at P ys i x (All-tail P y ys all) at
+
+-- what stands at a place of a list is in it
+pub contains-at : {X : Type 0} (xs : List X) (i : ℕ) (x : X) → get_elem? xs i ≡ some x → Contains xs x
+contains-at [] i x at = absurd (some-ne-none x (sym at))
+contains-at (y ∷ ys) zero x at = (0, omega arith, some-injective y x at)
+contains-at (y ∷ ys) (suc i) x at = let rest = contains-at ys i x at in (suc rest.0, omega (arith, rest.1), rest.2)
 
 -- what was put at a place is there
 pub set-at : {X : Type 0} (xs : List X) (i : ℕ) (x y : X) → get_elem? xs i ≡ some x → get_elem? (set xs i y) i ≡ some y

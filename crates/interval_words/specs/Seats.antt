@@ -1,5 +1,6 @@
 -- A board, and seats at it.
-use Rattle.std.specs.Prelude.{◌≡◌, ◌<◌, ◌^◌, ℕ, ℤ, List, Some}
+use Rattle.std.specs.Prelude.{◌≡◌, ◌<◌, ◌^◌, ℕ, ℤ, List, Some, slice_index}
+use Rattle.std.specs.List.{Contains}
 use Rattle.position_rank.specs.Placement.{Placement}
 use Rattle.atomic_table.specs.Seated.{TableId}
 use Rattle.directed_fixed.specs.declared.bounds.End.{End}
@@ -8,8 +9,8 @@ use Rattle.turn_rule.specs.States.{IsState, AreWithin}
 use Rattle.turn_rule.specs.declared.game.Game.{Game}
 use Rattle.interval_words.specs.declared.view.Note.{Note}
 use Rattle.interval_words.specs.declared.view.View.{View}
-use Rattle.interval_words.specs.Numbers.{state_of}
-use Rattle.interval_words.specs.Core.{AreReached, words_in, noted, with_note, settled, joined}
+use Rattle.interval_words.specs.Numbers.{state_of, value_of}
+use Rattle.interval_words.specs.Core.{IsKept, AreReached, words_in, noted, with_note, settled, joined}
 use Rattle.interval_words.specs.Events.{IsLoose}
 
 -- a board: which table it is, and its game
@@ -57,6 +58,14 @@ pub record MayTighten (end : End) (game : Game) (view : View) (state : ℕ) (val
 pub record AreKnown (game : Game) (notes : List Note) : Type 0 where
   pub within : AreWithin game (noted game notes)
   pub reached : AreReached game (noted game notes)
+
+-- in some core of this game in which all that is kept holds, this view stands, and this word has this value
+pub record WasHeld (game : Game) (view : View) (word : ℕ) (value : ℤ) : Type 0 where
+  pub words : List ℕ
+  pub views : List View
+  pub kept : IsKept (record { game = game; words = words; views = views })
+  pub stands : Contains views view
+  pub held : value_of (slice_index words word) ≡ value
 
 -- what every seat keeps of its notes
 pub record Knows (view : View) : Type 0 where

@@ -10,7 +10,7 @@ ghost use Rattle.interval_words.specs.Core.{known, first_view};
 ghost use Rattle.interval_words.specs.Events.{IsRoundDone};
 ghost use Rattle.interval_words.specs.WordLists.{AreClosed};
 ghost use Rattle.std.specs.Slots.{slots_items, slots_len, IsFull};
-ghost use Rattle.interval_words.specs.Seats.{GameSeat, SitsAt, IsNumber, MayTighten, Knows, noting, settling, joining};
+ghost use Rattle.interval_words.specs.Seats.{GameSeat, SitsAt, IsNumber, MayTighten, Knows, WasHeld, noting, settling, joining};
 
 use crate::live_index::LiveIndex;
 use crate::number::{state_count, state_number, state_number_at};
@@ -204,7 +204,10 @@ impl Board {
         ensures seat { seat.new ≡ noting seat.old (word_of end state) result }
         ensures knows { Knows seat.new.view }
         ensures within { IsWithinUnits self.now.game.stakes.bound result }
-        ensures tight { (p : Placement) (k : ℕ) → IsState self.now.game p k → state ≡ state_of (kinds_of self.now.game) p k → IsNoLooser end result (known self.now.game seat.old.view end p k) }
+        ensures tight { (p : Placement) (k : ℕ) → IsState self.now.game p k
+            → state ≡ state_of (kinds_of self.now.game) p k
+            → IsNoLooser end result (known self.now.game seat.old.view end p k) }
+        ensures held { WasHeld self.now.game seat.old.view (word_of end state) result }
     {
         let place = self.place(end, state);
         let word = self.table.shared.load::<Reading>(&mut seat.seat, place);
@@ -219,7 +222,10 @@ impl Board {
         ensures seat { seat.new ≡ noting seat.old (word_of Lower state) result }
         ensures knows { Knows seat.new.view }
         ensures within { IsWithinUnits self.now.game.stakes.bound result }
-        ensures tight { (p : Placement) (k : ℕ) → IsState self.now.game p k → state ≡ state_of (kinds_of self.now.game) p k → IsNoLooser Lower result (known self.now.game seat.old.view Lower p k) }
+        ensures tight { (p : Placement) (k : ℕ) → IsState self.now.game p k
+            → state ≡ state_of (kinds_of self.now.game) p k
+            → IsNoLooser Lower result (known self.now.game seat.old.view Lower p k) }
+        ensures held { WasHeld self.now.game seat.old.view (word_of Lower state) result }
     {
         self.read(seat, End::Lower, state)
     }
@@ -232,7 +238,10 @@ impl Board {
         ensures seat { seat.new ≡ noting seat.old (word_of Upper state) result }
         ensures knows { Knows seat.new.view }
         ensures within { IsWithinUnits self.now.game.stakes.bound result }
-        ensures tight { (p : Placement) (k : ℕ) → IsState self.now.game p k → state ≡ state_of (kinds_of self.now.game) p k → IsNoLooser Upper result (known self.now.game seat.old.view Upper p k) }
+        ensures tight { (p : Placement) (k : ℕ) → IsState self.now.game p k
+            → state ≡ state_of (kinds_of self.now.game) p k
+            → IsNoLooser Upper result (known self.now.game seat.old.view Upper p k) }
+        ensures held { WasHeld self.now.game seat.old.view (word_of Upper state) result }
     {
         self.read(seat, End::Upper, state)
     }

@@ -13,7 +13,8 @@ mod words;
 
 pub use board::{Board, BoardSeat};
 pub use laws::{
-    events_keep_the_core, every_event_keeps_the_core, kept_words_are_sound, notes_only_tighten,
+    consistent_lists_enclose, events_keep_the_core, every_event_keeps_the_core,
+    kept_words_are_sound, notes_only_tighten, states_are_numbered,
 };
 pub use live_index::LiveIndex;
 pub use words::{Closed, Words, WordsReader};

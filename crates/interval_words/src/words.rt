@@ -1,8 +1,9 @@
 ghost use Rattle.std.specs.Prelude.{◌≡◌, ◌<◌, ◌≤◌, ◌+◌, ◌*◌, ◌^◌, ◌↔◌, ℕ, pos, ◌≤ℤ◌, IsSome, IfSome, IsTrue, length};
 ghost use Rattle.directed_fixed.specs.Bounds.{IsWithin};
+ghost use Rattle.turn_rule.specs.Games.{IsGame};
 ghost use Rattle.turn_rule.specs.Looks.{AreStakesOf};
 ghost use Rattle.turn_rule.specs.States.{IsState, AreWithin, pair_of};
-ghost use Rattle.interval_words.specs.WordLists.{WordList, AreRight, AreClosed, IsWidest, words_in_list, pair_at, source_of};
+ghost use Rattle.interval_words.specs.WordLists.{WordList, AreRight, AreClosed, IsWidest, states_of, words_in_list, pair_at, source_of};
 
 use crate::live_index::LiveIndex;
 use crate::number::{state_count, state_number};
@@ -119,6 +120,35 @@ impl Words {
         self.rounds
     }
 
+    /// What every list of words keeps: one to three checkers and valid stakes, two words for each state, both within the bound, the lower
+    /// one at most the upper one.
+    pub fn right(&self)
+        ensures game { IsGame self.now.game }
+        ensures right { AreRight self.now }
+    {
+        // The index tells of the checkers, the stakes that they are valid.
+        let _game = (self.index.checkers(), self.stakes.bound());
+    }
+
+    /// How many states there are.
+    pub fn states(&self) -> usize
+        ensures states { result ≡ states_of self.now.game }
+        ensures some { 0 < result }
+        ensures small { result < 2 ^ 36 }
+    {
+        state_count(&self.index, &self.stakes)
+    }
+
+    /// The pair of the state with this number, from 0.
+    #[inline]
+    pub fn pair_at(&self, state: usize) -> Pair
+        requires { state < states_of self.now.game }
+        ensures pair { result ≡ pair_at self.now.list state }
+        ensures within { IsWithin self.now.game.stakes.bound result }
+    {
+        pair_of_list(&self.list, state, self.stakes.bound()).unwrap()
+    }
+
     /// The pair of a state.
     #[inline]
     pub fn pair(&self, position: &Position, kind: usize) -> Pair
@@ -127,7 +157,7 @@ impl Words {
         ensures within { IsWithin self.now.game.stakes.bound result }
     {
         let state = state_number(&self.index, &self.stakes, position, kind);
-        pair_of_list(&self.list, state as usize, self.stakes.bound()).unwrap()
+        self.pair_at(state as usize)
     }
 
     /// The greatest upper minus lower word of a state.
@@ -146,15 +176,9 @@ impl Words {
 
     /// Looks the words up one end at a time. The reader is sure, and its floor and its notes are these words.
     pub fn reader(&self) -> WordsReader<'_>
-        ensures source {
-            (⟦<WordsReader<'static> as Pairs>⟧.seen result).source ≡ source_of self.now
-        }
-        ensures notes {
-            (⟦<WordsReader<'static> as Pairs>⟧.seen result).notes ≡ words_in_list self.now
-        }
-        ensures stakes {
-            AreStakesOf (⟦<WordsReader<'static> as Pairs>⟧.seen result).source self.now.game.stakes
-        }
+        ensures source { (⟦<WordsReader<'static> as Pairs>⟧.seen result).source ≡ source_of self.now }
+        ensures notes { (⟦<WordsReader<'static> as Pairs>⟧.seen result).notes ≡ words_in_list self.now }
+        ensures stakes { AreStakesOf (⟦<WordsReader<'static> as Pairs>⟧.seen result).source self.now.game.stakes }
     {
         let _list = &self.list;
         WordsReader { words: self }
@@ -213,13 +237,11 @@ pub struct WordsReader<'a> {
 impl Pairs for WordsReader<'_> {
     ghost stays = { λ _. tt };
 
-    ghost seen = {
-        λ reader. record {
-            source = source_of reader.words.now;
-            notes = words_in_list reader.words.now;
-            faults = 0;
-        }
-    };
+    ghost seen = { λ reader. record {
+      source = source_of reader.words.now;
+      notes = words_in_list reader.words.now;
+      faults = 0;
+    } };
 
     #[inline]
     fn lower_of(&mut self, position: &Position, kind: usize) -> Result<Fixed, LookStop> {

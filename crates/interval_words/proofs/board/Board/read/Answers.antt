@@ -1,5 +1,5 @@
 use Rattle.std.proofs.Common.{ap, arith, sym, ◌∙◌}
-use Rattle.interval_words.proofs.Calls.{reads-at, noting-at, read-some, read-within, read-tight, read-value}
+use Rattle.interval_words.proofs.Calls.{reads-at, noting-at, read-some, read-within, read-tight, read-held, read-value}
 use Rattle.interval_words.proofs.board.Board.read.Goals as goal
 
 pub load-word-requires : goal.load-word-requires
@@ -18,8 +18,12 @@ returns-clause-seat c = noting-at _ _ _ _ _ _ _ _ _ c.seat.view_is c.load-word.e
 
 pub returns-clause-within : goal.returns-clause-within
 returns-clause-within c =
-    read-within c.args.self.now.game c.seat.inside.seat.me c.args.seat.now.view (ap (λ s. s.view) c.seat.view_is) c.requires.seat.game c.args.end c.args.state c.place-place.result c.load-word.result c.place-place.ensures.place c.load-word.ensures.2.2 c.requires.state c.unwrap.result (read-value _ _ _ c.from_word.ensures.value c.unwrap.ensures)
+    read-within c.args.self.now.game c.seat.inside.seat.me c.args.seat.now.view (ap (λ s. s.view) c.seat.view_is) c.requires.seat.game c.args.end c.args.state c.place-place.result c.load-word.result c.place-place.ensures.place c.load-word.ensures.2.2 c.unwrap.result (read-value _ _ _ c.from_word.ensures.value c.unwrap.ensures) c.requires.state
 
 pub returns-clause-tight : goal.returns-clause-tight
 returns-clause-tight c =
     read-tight c.args.self.now.game c.seat.inside.seat.me c.args.seat.now.view (ap (λ s. s.view) c.seat.view_is) c.requires.seat.game c.args.end c.args.state c.place-place.result c.load-word.result c.place-place.ensures.place c.load-word.ensures.2.2 c.unwrap.result (read-value _ _ _ c.from_word.ensures.value c.unwrap.ensures)
+
+pub returns-clause-held : goal.returns-clause-held
+returns-clause-held c =
+    read-held c.args.self.now.game c.seat.inside.seat.me c.args.seat.now.view (ap (λ s. s.view) c.seat.view_is) c.requires.seat.game c.args.end c.args.state c.place-place.result c.load-word.result c.place-place.ensures.place c.load-word.ensures.2.2 c.unwrap.result (read-value _ _ _ c.from_word.ensures.value c.unwrap.ensures)
