@@ -10,7 +10,7 @@ use Rattle.turn_rule.specs.declared.game.Game.{Game}
 use Rattle.interval_words.specs.declared.view.Note.{Note}
 use Rattle.interval_words.specs.declared.view.View.{View}
 use Rattle.interval_words.specs.Numbers.{state_of, value_of}
-use Rattle.interval_words.specs.Core.{IsKept, AreReached, words_in, noted, with_note, settled, joined}
+use Rattle.interval_words.specs.Core.{IsKept, AreReached, words_in, noted, first_view, with_note, settled, joined}
 use Rattle.interval_words.specs.Events.{IsLoose}
 
 -- a board: which table it is, and its game
@@ -27,6 +27,10 @@ pub record GameSeat : Type 0 where
 pub record SitsAt (board : GameTable) (seat : GameSeat) : Type 0 where
   pub table : seat.table ≡ board.table
   pub game : seat.view.game ≡ Some board.game
+
+-- the first seat at a board
+abbrev pub first_seat : GameTable → GameSeat
+first_seat board = record { table = board.table; view = first_view board.game }
 
 -- the seat with one note more
 abbrev pub noting : GameSeat → ℕ → ℤ → GameSeat

@@ -17,6 +17,10 @@ pub record WordList : Type 0 where
   pub rounds : ℕ
   pub list : List ℕ
 
+-- these words of a game, after so many rounds
+abbrev pub list_of : Game → ℕ → List ℕ → WordList
+list_of game rounds list = record { game = game; rounds = rounds; list = list }
+
 abbrev pub words_in_list : WordList → Words
 words_in_list words = words_of (kinds_of words.game) words.list
 

@@ -3,14 +3,14 @@ ghost use Rattle.position_rank.specs.Placement.{Placement};
 ghost use Rattle.position_rank.specs.Ranks.{square_rank_of};
 ghost use Rattle.directed_fixed.specs.declared.bounds.End.TheVariants.{Lower, Upper};
 ghost use Rattle.directed_fixed.specs.Bounds.{IsNoLooser, IsWithinUnits};
-ghost use Rattle.turn_rule.specs.Games.{kinds_of};
+ghost use Rattle.turn_rule.specs.Games.{kinds_of, game_of};
 ghost use Rattle.turn_rule.specs.States.{IsState};
 ghost use Rattle.interval_words.specs.Numbers.{state_of, states_in, word_of, AreBoundWords};
-ghost use Rattle.interval_words.specs.Core.{known, first_view};
+ghost use Rattle.interval_words.specs.Core.{known};
 ghost use Rattle.interval_words.specs.Events.{IsRoundDone};
 ghost use Rattle.interval_words.specs.WordLists.{AreClosed};
 ghost use Rattle.std.specs.Slots.{slots_items, slots_len, IsFull};
-ghost use Rattle.interval_words.specs.Seats.{GameSeat, SitsAt, IsNumber, MayTighten, Knows, WasHeld, noting, settling, joining};
+ghost use Rattle.interval_words.specs.Seats.{GameSeat, SitsAt, IsNumber, MayTighten, Knows, WasHeld, first_seat, noting, settling, joining};
 
 use crate::live_index::LiveIndex;
 use crate::number::{state_count, state_number, state_number_at};
@@ -36,13 +36,16 @@ pub struct Board {
 }
 
 impl Model for Board {
+    ghost use Rattle.turn_rule.specs.Games.{game_of};
     ghost use Rattle.interval_words.specs.Seats.{GameTable, Stands};
 
     ghost Value = { GameTable };
 
-    ghost view = { λ b. record { table = b.table.shared.table_id; game = record { checkers = b.index; stakes = b.stakes } } };
+    ghost view = { λ b. let shared = b.table.shared in
+        record { table = shared.table_id; game = game_of b.index b.stakes } };
 
-    ghost invariant = { λ b. Stands b.table.shared.table_id b.table.shared.key (record { checkers = b.index; stakes = b.stakes }) };
+    ghost invariant = { λ b. let shared = b.table.shared in
+        Stands shared.table_id shared.key (game_of b.index b.stakes) };
 }
 
 /// A place at a board. It has no bytes; contracts see what its owner knows of the words: the notes of what was read or written with it
@@ -68,6 +71,7 @@ impl BoardSeat {
     pub fn knows(&self)
         ensures { Knows self.now.view }
     {
+        // A look at the seat shows what it keeps.
         let _seat = &self.seat;
     }
 }
@@ -112,8 +116,8 @@ impl Board {
     pub fn new(alloc: Global, checkers: u8, stakes: &Stakes) -> Result<(Board, BoardSeat), NoMemory>
         requires low { 1 ≤ checkers }
         requires high { checkers ≤ 3 }
-        ensures game { IfOk result (λ made. made.0.game ≡ record { checkers = checkers; stakes = stakes.now }) }
-        ensures seat { IfOk result (λ made. made.1 ≡ record { table = made.0.table; view = first_view made.0.game }) }
+        ensures game { IfOk result (λ made. made.0.game ≡ game_of checkers stakes.now) }
+        ensures seat { IfOk result (λ made. made.1 ≡ first_seat made.0) }
     {
         let index = LiveIndex::new(alloc, checkers)?;
         let words = bound_words_list(alloc, state_count(&index, stakes), stakes.bound())?;
@@ -189,6 +193,7 @@ impl Board {
         ensures place { result ≡ word_of end state }
         ensures below { result < self.now.table.words }
     {
+        // A look at the table shows how many words it has.
         let _table = &self.table;
         match end {
             End::Lower => 2 * state as usize,

@@ -46,6 +46,7 @@ pub(crate) fn state_count(index: &LiveIndex, stakes: &Stakes) -> usize
     ensures some { 0 < result }
     ensures small { result < 2 ^ 36 }
 {
+    // The index has positions of one to three checkers a side.
     let _checkers = index.checkers();
     index.count() as usize * stakes.kinds()
 }

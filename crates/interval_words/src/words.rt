@@ -1,9 +1,9 @@
 ghost use Rattle.std.specs.Prelude.{◌≡◌, ◌<◌, ◌≤◌, ◌+◌, ◌*◌, ◌^◌, ◌↔◌, ℕ, pos, ◌≤ℤ◌, IsSome, IfSome, IsTrue, length};
 ghost use Rattle.directed_fixed.specs.Bounds.{IsWithin};
-ghost use Rattle.turn_rule.specs.Games.{IsGame};
+ghost use Rattle.turn_rule.specs.Games.{IsGame, game_of};
 ghost use Rattle.turn_rule.specs.Looks.{AreStakesOf};
 ghost use Rattle.turn_rule.specs.States.{IsState, AreWithin, pair_of};
-ghost use Rattle.interval_words.specs.WordLists.{WordList, AreRight, AreClosed, IsWidest, states_of, words_in_list, pair_at, source_of};
+ghost use Rattle.interval_words.specs.WordLists.{WordList, AreRight, AreClosed, IsWidest, list_of, states_of, words_in_list, pair_at, source_of};
 
 use crate::live_index::LiveIndex;
 use crate::number::{state_count, state_number};
@@ -24,13 +24,14 @@ pub struct Words {
 }
 
 impl Model for Words {
-    ghost use Rattle.interval_words.specs.WordLists.{WordList, AreRight};
+    ghost use Rattle.turn_rule.specs.Games.{game_of};
+    ghost use Rattle.interval_words.specs.WordLists.{WordList, AreRight, list_of};
 
     ghost Value = { WordList };
 
-    ghost view = { λ a. record { game = record { checkers = a.index; stakes = a.stakes }; rounds = a.rounds; list = a.list.items } };
+    ghost view = { λ a. list_of (game_of a.index a.stakes) a.rounds a.list.items };
 
-    ghost invariant = { λ a. AreRight (record { game = record { checkers = a.index; stakes = a.stakes }; rounds = a.rounds; list = a.list.items }) };
+    ghost invariant = { λ a. AreRight (list_of (game_of a.index a.stakes) a.rounds a.list.items) };
 }
 
 /// Both words of the state with this number. `None` exactly where one is out of range or the lower one is above the upper one.
@@ -55,7 +56,8 @@ fn are_right(list: &[u64], states: usize, bound: Fixed) -> bool
     requires long { length list.now ≡ 2 * states }
     requires from { pos 0 ≤ℤ bound }
     requires to { bound ≤ℤ pos (2 ^ 36) }
-    ensures { IsTrue result ↔ ((state : ℕ) → state < states → IsWithin bound (pair_at list.now state)) }
+    ensures { IsTrue result
+        ↔ ((state : ℕ) → state < states → IsWithin bound (pair_at list.now state)) }
 {
     for state in 0..states {
         if pair_of_list(list, state, bound).is_none() {
@@ -74,8 +76,10 @@ impl Words {
         rounds: u32,
         list: Vec<u64>,
     ) -> Option<Words>
-        ensures right { IsSome result ↔ AreRight (record { game = record { checkers = index; stakes = stakes.now }; rounds = rounds; list = list.items }) }
-        ensures words { IfSome result (λ words. words ≡ record { game = record { checkers = index; stakes = stakes.now }; rounds = rounds; list = list.items }) }
+        ensures right { IsSome result
+            ↔ AreRight (list_of (game_of index stakes.now) rounds list.items) }
+        ensures words { IfSome result (λ words.
+            words ≡ list_of (game_of index stakes.now) rounds list.items) }
     {
         let states = state_count(&index, stakes);
         if list.len() == 2 * states && are_right(&list, states, stakes.bound()) {
@@ -180,6 +184,7 @@ impl Words {
         ensures notes { (⟦<WordsReader<'static> as Pairs>⟧.seen result).notes ≡ words_in_list self.now }
         ensures stakes { AreStakesOf (⟦<WordsReader<'static> as Pairs>⟧.seen result).source self.now.game.stakes }
     {
+        // A look at the list shows that its words are right.
         let _list = &self.list;
         WordsReader { words: self }
     }
@@ -204,9 +209,9 @@ impl Model for Closed {
 impl Closed {
     /// The words of a board at its end.
     pub(crate) fn new(index: LiveIndex, stakes: Stakes, rounds: u32, list: Vec<u64>) -> Closed
-        requires right { AreRight (record { game = record { checkers = index; stakes = stakes }; rounds = rounds; list = list.items }) }
-        requires closed { AreClosed (record { game = record { checkers = index; stakes = stakes }; rounds = rounds; list = list.items }) }
-        ensures { result ≡ record { game = record { checkers = index; stakes = stakes }; rounds = rounds; list = list.items } }
+        requires right { AreRight (list_of (game_of index stakes) rounds list.items) }
+        requires closed { AreClosed (list_of (game_of index stakes) rounds list.items) }
+        ensures { result ≡ list_of (game_of index stakes) rounds list.items }
     {
         Closed {
             words: Words {
