@@ -1,21 +1,17 @@
 -- A win leads to a score that stands before this one.
-use Rattle.std.proofs.Common.{◌≡◌, ◌≤◌, ◌<◌, ◌-◌, ℕ, Bool, true, nat_le, nat_lt, ◌||◌, List, [], ◌∷◌, length, get_or, refl, sym, subst, arith}
+use Rattle.std.proofs.Common.{◌≡◌, ◌≤◌, ◌<◌, ℕ, Bool, true, nat_le, nat_lt, ◌||◌, List, [], ◌∷◌, length, get_or, refl, sym, subst, arith}
 use Rattle.std.proofs.lemmas.Bool.Decides.{nat_tests}
 use Rattle.std.specs.List.{list_all}
 use Rattle.cube_actions.specs.declared.phase.Phase.{Phase}
 use Rattle.cube_actions.specs.declared.phase.Phase.TheVariants.{Normal, Crawford, Post}
 use Rattle.cube_actions.specs.declared.side.Side.{Side}
 use Rattle.cube_actions.specs.declared.side.Side.TheVariants.{Near, Far}
-use Rattle.cube_actions.specs.Scores.{MatchScore, IsScore, last_game, needs, other_side, same_score, same_phase}
+use Rattle.cube_actions.specs.Scores.{MatchScore, IsScore, last_game, needs, same_score, same_phase}
 use Rattle.cube_actions.specs.Ladder.{in_order, is_of_match, ladder}
 use Rattle.cube_actions.specs.Starts.{ladder_place}
-use Rattle.cube_actions.specs.Matches.{next_score}
+use Rattle.cube_actions.specs.Matches.{after_win}
 use Rattle.cube_actions.proofs.LadderOfFive.{one_to_five}
 use Rattle.cube_actions.proofs.FirstPassing.{passed_at, found_at}
-
--- the score that follows when a side has won so many points
-abbrev pub after_win : MatchScore → Side → ℕ → MatchScore
-after_win score winner won = next_score score.phase (needs score winner - won) (needs score (other_side winner))
 
 comes_before : ℕ → MatchScore → Side → ℕ → Bool
 comes_before n score winner won = nat_le (needs score winner) won || nat_lt (ladder_place n (after_win score winner won)) (ladder_place n score)

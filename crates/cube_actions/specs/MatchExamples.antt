@@ -3,9 +3,14 @@ use Rattle.std.specs.Prelude.{ℕ, List, [], ◌∷◌, Option, Some, None}
 use Rattle.directed_fixed.specs.Bounds.{Bounds, negated}
 use Rattle.cube_actions.specs.declared.kind.Kind.{Kind}
 use Rattle.cube_actions.specs.declared.kind.Double.{Double}
+use Rattle.cube_actions.specs.declared.phase.Phase.{Phase}
 use Rattle.cube_actions.specs.declared.phase.Phase.TheVariants.{Normal, Post}
 use Rattle.cube_actions.specs.Stakes.{exactly}
 use Rattle.cube_actions.specs.Scores.{MatchScore}
+
+-- a score at which near and far need so many points
+abbrev pub needing : ℕ → ℕ → Phase → MatchScore
+needing near far phase = record { near = near; far = far; phase = phase }
 
 abbrev pub won : Bounds
 won = exactly 1
@@ -20,7 +25,7 @@ double pass take = Some (record { pass = pass; answers = record { items = record
 
 -- near needs one point and far two, after the Crawford game
 abbrev pub one_and_two : MatchScore
-one_and_two = record { near = 1; far = 2; phase = Post }
+one_and_two = needing 1 2 Post
 
 -- Its kinds, where the start pair of 1-1 is given: if far wins a point, both need one, and near stays near. Far may double.
 -- The cube centred, near and far to move; the cube near's at 2.
@@ -34,7 +39,7 @@ one_and_two_kinds one_each =
 
 -- near needs two points and far three, before the Crawford game
 abbrev pub two_and_three : MatchScore
-two_and_three = record { near = 2; far = 3; phase = Normal }
+two_and_three = needing 2 3 Normal
 
 -- Its kinds, where the start pairs of 1-2 Crawford, 1-3 Crawford and 2-2 are given. If near wins a point, the next game is 1-3 Crawford,
 -- with near near. If far wins one, it is 2-2, where near stays near; if far wins two, it is 1-2 Crawford, with far near.

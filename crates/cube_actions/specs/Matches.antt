@@ -26,6 +26,10 @@ next_phase Post a b = Post
 abbrev pub next_score : Phase → ℕ → ℕ → MatchScore
 next_score phase a b = record { near = min a b; far = max a b; phase = next_phase phase a b }
 
+-- the score of the next game, when a side has won so many points and needs more
+abbrev pub after_win : MatchScore → Side → ℕ → MatchScore
+after_win score winner won = next_score score.phase (needs score winner - won) (needs score (other_side winner))
+
 -- Whether a side that won is near in the next game. Where both need the same, the side that was near stays it.
 abbrev pub stays_near : Side → ℕ → ℕ → Bool
 stays_near Near own others = nat_le own others

@@ -9,7 +9,11 @@ pub fn cubeless_example()
     ensures valid { IsValid cubeless }
     ensures bound { cubeless.bound ≡ pos 12884901888 }
     ensures stays_alone { (kind_at cubeless 0).next ≡ 0 }
-    ensures wins { (kind_at cubeless 0).win ≡ record { lower = pos 4294967296; upper = pos 4294967296 } ∷ record { lower = pos 8589934592; upper = pos 8589934592 } ∷ record { lower = pos 12884901888; upper = pos 12884901888 } ∷ [] }
+    ensures wins { (kind_at cubeless 0).win
+        ≡ record { lower = pos 4294967296; upper = pos 4294967296 }
+        ∷ record { lower = pos 8589934592; upper = pos 8589934592 }
+        ∷ record { lower = pos 12884901888; upper = pos 12884901888 }
+        ∷ [] }
 {}
 
 /// For money a value is at most three points, in a match at most the match, which counts as one.

@@ -56,7 +56,8 @@ impl Score {
     pub fn new(near: u8, far: u8, phase: Phase) -> Result<Score, BadScore>
         ensures ok { IsOk result ↔ (AreNeeds near far × IsPhaseOf near far phase) }
         ensures range { IsErrOf result BadScore.Range ↔ (AreNeeds near far → ⊥) }
-        ensures value { IfOk result (λ score. score ≡ record { near = near; far = far; phase = phase }) }
+        ensures value { IfOk result (λ score.
+            score ≡ record { near = near; far = far; phase = phase }) }
     {
         if near < 1 || near > far || far > 5 {
             return Err(BadScore::Range);

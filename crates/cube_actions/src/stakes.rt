@@ -28,7 +28,11 @@ impl Model for Stakes {
 
     ghost view = { λ a. record { kinds = a.kinds.items; bound = a.bound; name = a.name } };
 
-    ghost invariant = { λ a. AreStakes (record { kinds = a.kinds.items; bound = a.bound; name = a.name }) };
+    ghost invariant = { λ a. AreStakes (record {
+      kinds = a.kinds.items;
+      bound = a.bound;
+      name = a.name;
+    }) };
 }
 
 impl Stakes {

@@ -24,7 +24,10 @@ impl Model for Starts {
 
     ghost view = { λ a. record { match_length = a.match_length; pairs = a.pairs.items } };
 
-    ghost invariant = { λ a. AreStarts (record { match_length = a.match_length; pairs = a.pairs.items }) };
+    ghost invariant = { λ a. AreStarts (record {
+      match_length = a.match_length;
+      pairs = a.pairs.items;
+    }) };
 }
 
 impl Starts {
@@ -39,6 +42,20 @@ impl Starts {
         Starts {
             match_length: length,
             pairs: ArrayVec::new(),
+        }
+    }
+
+    /// The same pairs of the same match.
+    pub fn copied(&self) -> Starts
+        ensures { result ≡ self.now }
+    {
+        let mut pairs = ArrayVec::new();
+        for pair in self.pairs.as_slice() {
+            pairs.push(*pair);
+        }
+        Starts {
+            match_length: self.match_length,
+            pairs,
         }
     }
 

@@ -9,7 +9,8 @@ use crate::stakes::Stakes;
 impl Stakes {
     /// The number of the kind of this name. `None` exactly where these stakes have no kind of that name.
     pub fn number_of(&self, name: KindName) -> Option<usize>
-        ensures found { IfSome result (λ number. slice_get (names_of self.now.name) number ≡ Some name) }
+        ensures found { IfSome result (λ number.
+            slice_get (names_of self.now.name) number ≡ Some name) }
         ensures in_range { IfSome result (λ number. number < length self.now.kinds) }
         ensures some { IsSome result ↔ Contains (names_of self.now.name) name }
     {

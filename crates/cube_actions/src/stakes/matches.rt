@@ -116,7 +116,9 @@ impl MatchGame<'_> {
 
     /// What the winner of this game has of the next one, by what the two sides then need.
     fn next_value(&self, winner: Side, own: u8, others: u8) -> Pair
-        requires { ladder_place self.now.starts.now.match_length (next_score self.now.score.phase own others) < length self.now.starts.now.pairs }
+        requires { ladder_place self.now.starts.now.match_length
+            (next_score self.now.score.phase own others)
+            < length self.now.starts.now.pairs }
         ensures { result ≡ next_value self.now.starts.now self.now.score.phase winner own others }
     {
         let score = self.score;
