@@ -61,9 +61,7 @@ pub fn write_bound<O: Sink>(
     rounds: u32,
     pair: Pair,
 ) -> Result<(), Failed>
-    ensures {
-        Puts (O.output out.old) (O.output out.new) (bound_text position.now rounds pair) result
-    }
+    ensures { Puts (O.output out.old) (O.output out.new) (bound_text position.now rounds pair) result }
 {
     let mut report = Report::new();
     add_position(&mut report, position);

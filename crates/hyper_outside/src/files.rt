@@ -26,7 +26,12 @@ impl Model for MemFiles {
 
     ghost Value = { DemandingFiles };
 
-    ghost view = { λ f. record { stock = f.store; calls = f.calls; read_faults = f.read_faults; write_faults = f.write_faults } };
+    ghost view = { λ f. record {
+      stock = f.store;
+      calls = f.calls;
+      read_faults = f.read_faults;
+      write_faults = f.write_faults;
+    } };
 }
 
 impl MemFiles {
@@ -44,7 +49,8 @@ impl MemFiles {
 
     /// Puts a file, and takes the room of it. After `NoMemory` the files are as before, and there may be more room.
     pub fn with_file(&mut self, name: &str, bytes: &[u8]) -> Result<(), NoMemory>
-        ensures ok { OnOk result (self.new ≡ restocked self.old (with_file self.old.stock name.now bytes.now)) }
+        ensures ok { OnOk result
+            (self.new ≡ restocked self.old (with_file self.old.stock name.now bytes.now)) }
         ensures err { OnErr result (self.new ≡ restocked self.old self.new.stock) }
         ensures files { OnErr result (self.new.stock.files ≡ self.old.stock.files) }
     {
@@ -89,7 +95,8 @@ impl Files for MemFiles {
 
     /// `Failed` exactly where the call is listed.
     fn size(&mut self, name: &str) -> Result<Option<u64>, Failed>
-        ensures size { IfOk result (λ size. size ≡ option_map length (held_bytes self.old.stock.files name.now)) }
+        ensures size { IfOk result
+            (λ size. size ≡ option_map length (held_bytes self.old.stock.files name.now)) }
         ensures cause { HasCause self.old.read_faults self.new.read_faults result }
         ensures answer { is_ok result ≡ not (is_listed self.old) }
         ensures after { self.new ≡ after_read self.old }
@@ -124,7 +131,8 @@ impl Files for MemFiles {
 
     /// `Failed` exactly where the call is listed or there is no place for the name.
     fn start(&mut self, name: &str) -> Result<(), Failed>
-        ensures starts { StartsEmpty (held_bytes self.old.stock.files) (held_bytes self.new.stock.files) name.now result }
+        ensures starts { StartsEmpty (held_bytes self.old.stock.files)
+            (held_bytes self.new.stock.files) name.now result }
         ensures others { KeepsOthers name.now (held_bytes self.old.stock.files) (held_bytes self.new.stock.files) }
         ensures cause { HasCause self.old.write_faults self.new.write_faults result }
         ensures answer { is_ok result ≡ not (start_fails self.old name.now) }
@@ -145,7 +153,8 @@ impl Files for MemFiles {
     /// `Failed` exactly where the call is listed, there is no place for the name or no room for the bytes. Where there is no place or
     /// no room nothing is added.
     fn append(&mut self, name: &str, bytes: &[u8]) -> Result<(), Failed>
-        ensures appends { Appends (held_bytes self.old.stock.files) (held_bytes self.new.stock.files) name.now bytes.now result }
+        ensures appends { Appends (held_bytes self.old.stock.files)
+            (held_bytes self.new.stock.files) name.now bytes.now result }
         ensures others { KeepsOthers name.now (held_bytes self.old.stock.files) (held_bytes self.new.stock.files) }
         ensures cause { HasCause self.old.write_faults self.new.write_faults result }
         ensures answer { is_ok result ≡ not (append_fails self.old name.now bytes.now) }

@@ -97,7 +97,8 @@ pub trait Files {
 
     /// How many bytes stand under the name, `None` where it isn't there.
     fn size(&mut self, name: &str) -> Result<Option<u64>, Failed>
-        ensures size { IsTrue (tells self.old) → IfOk result (λ size. size ≡ option_map length (held self.old name.now)) }
+        ensures size { IsTrue (tells self.old)
+            → IfOk result (λ size. size ≡ option_map length (held self.old name.now)) }
         ensures tells { tells self.new ≡ tells self.old }
         ensures same { IsTrue (tells self.old) → SameFiles (held self.old) (held self.new) }
         ensures cause { HasCause (read_faults self.old) (read_faults self.new) result }
@@ -107,7 +108,8 @@ pub trait Files {
     /// empty, the name isn't there or `at` is the size or more.
     fn read_at(&mut self, name: &str, at: u64, buf: &mut [u8]) -> Result<usize, Failed>
         ensures within { IfOk result (λ count. count ≤ length buf.old) }
-        ensures reads { IsTrue (tells self.old) → IfOk result (Reads (held self.old name.now) at buf.old buf.new) }
+        ensures reads { IsTrue (tells self.old)
+            → IfOk result (Reads (held self.old name.now) at buf.old buf.new) }
         ensures tells { tells self.new ≡ tells self.old }
         ensures same { IsTrue (tells self.old) → SameFiles (held self.old) (held self.new) }
         ensures cause { HasCause (read_faults self.old) (read_faults self.new) result }
@@ -124,7 +126,8 @@ pub trait Files {
     /// Adds the bytes at the end of the name's, and makes the name if it isn't there. After `Failed` nothing or a front of them was
     /// added.
     fn append(&mut self, name: &str, bytes: &[u8]) -> Result<(), Failed>
-        ensures appends { IsTrue (tells self.old) → Appends (held self.old) (held self.new) name.now bytes.now result }
+        ensures appends { IsTrue (tells self.old)
+            → Appends (held self.old) (held self.new) name.now bytes.now result }
         ensures others { IsTrue (tells self.old) → KeepsOthers name.now (held self.old) (held self.new) }
         ensures tells { tells self.new ≡ tells self.old }
         ensures cause { HasCause (write_faults self.old) (write_faults self.new) result }

@@ -1,10 +1,10 @@
 -- What a refusal that is put says of the one that is due.
-use Rattle.std.proofs.Common.{◌≡◌, ℕ, List, Ok, Err, Result, IfErr, sym, subst, arith}
+use Rattle.std.proofs.Common.{◌≡◌, inl, inr, ℕ, List, Ok, Err, Result, IfErr, sym, subst, arith}
 use Rattle.equity_report.specs.declared.refusal.Refusal.{Refusal}
 use Rattle.equity_report.specs.declared.refusal.Refusal.TheVariants.{Words, Position, Write, Memory, Base}
 use Rattle.equity_report.specs.Refusals.{status_of, refusal_text}
 use Rattle.top_call.specs.declared.task.Task.{Task}
-use Rattle.top_call.specs.Runs.{IsDue}
+use Rattle.top_call.specs.Runs.{IsDue, Ends, IsStatus}
 
 -- status 8 is that of want of memory alone
 pub memory-text : (W : List ℕ → Type 0) (refusal : Refusal) → status_of refusal ≡ 8 → W (refusal_text refusal) → W (refusal_text Memory)
@@ -31,3 +31,11 @@ due-text W expected Write status reads is w = subst (Due W status) (sym reads) (
 due-text W (Ok task) Memory status reads is w = tt
 due-text W (Err due) Memory status reads is w = λ e. of_memory W due (omega (arith, e, is)) w
 due-text W expected (Base wanted found) status reads is w = subst (Due W status) (sym reads) (λ _. w)
+
+-- however a run ends, its status is 0 or that of a refusal
+pub ends-status : (expected : Result Task Refusal) (status : ℕ) → Ends expected status → IsStatus status
+ends-status (Ok task) status (inl done) = inl done
+ends-status (Ok task) status (inr (inl write)) = inr (Write, write)
+ends-status (Ok task) status (inr (inr memory)) = inr (Memory, memory)
+ends-status (Err refusal) status (inl is) = inr (refusal, is)
+ends-status (Err refusal) status (inr memory) = inr (Memory, memory)

@@ -20,6 +20,10 @@ abbrev pub Ends : Result Task Refusal → ℕ → Type 0
 Ends (Ok task) status = (status ≡ 0) ⊎ (status ≡ status_of Write) ⊎ (status ≡ status_of Memory)
 Ends (Err refusal) status = (status ≡ status_of refusal) ⊎ (status ≡ status_of Memory)
 
+-- 0, or the number of some refusal
+abbrev pub IsStatus : ℕ → Type 0
+IsStatus status = (status ≡ 0) ⊎ ((refusal : Refusal) × (status ≡ status_of refusal))
+
 -- this text was put, where the sink tells what was
 abbrev pub IsTold : Option (List ℕ) → Option (List ℕ) → List ℕ → Type 0
 IsTold None new text = new ≡ None

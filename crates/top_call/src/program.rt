@@ -1,7 +1,7 @@
-ghost use Rattle.std.specs.Prelude.{◌≡◌, IsTrue, IsFalse};
+ghost use Rattle.std.specs.Prelude.{◌≡◌, ◌⊎◌, IsTrue, IsFalse};
 ghost use Rattle.equity_report.specs.declared.refusal.Refusal.TheVariants.{Memory};
 ghost use Rattle.equity_report.specs.Refusals.{status_of, refusal_text};
-ghost use Rattle.top_call.specs.Runs.{WasPut, no_text};
+ghost use Rattle.top_call.specs.Runs.{IsStatus, WasPut, no_text};
 
 use crate::top::{refuse, run};
 use equity_report::Refusal;
@@ -25,6 +25,7 @@ fn words_of<R: Env + AllocGlobal>(rt: &R) -> io::Result<Vec<String>> {
 pub fn refuse_unread<O: Sink>(out: &mut O, not_text: bool) -> u8
     ensures status { IsTrue not_text → result ≡ status_of no_text }
     ensures told { IsTrue not_text → WasPut (O.output out.old) (O.output out.new) (refusal_text no_text) }
+    ensures refused { (result ≡ status_of no_text) ⊎ (result ≡ status_of Memory) }
     ensures memory { IsFalse not_text → result ≡ status_of Memory }
     ensures nothing { IsFalse not_text → O.output out.new ≡ O.output out.old }
 {
@@ -42,8 +43,11 @@ pub fn refuse_unread<O: Sink>(out: &mut O, not_text: bool) -> u8
 }
 
 /// Runs the program on its own words, over standard output, files in memory without any file, and a gate that is
-/// always open. Answers the status with which it ends.
-pub fn start<R: Threads + Sync + Env + Print + AllocGlobal>(rt: &R) -> u8 {
+/// always open. Answers the status with which it ends. What its words are no contract can say; `run` and
+/// `refuse_unread` say what is done with them.
+pub fn start<R: Threads + Sync + Env + Print + AllocGlobal>(rt: &R) -> u8
+    ensures { IsStatus result }
+{
     let alloc = rt.alloc();
     let mut out = RealSink::new(io::writer(rt));
     match words_of(rt) {
