@@ -19,7 +19,7 @@ use Rattle.turn_rule.specs.Games.{game_of}
 use Rattle.turn_rule.specs.Turn.{Words, worth, sum_over, roll_value, least, doubled, or_double, turn}
 use Rattle.turn_rule.specs.States.{IsStateOf, IsState, AreWithinOf, AreWithin}
 use Rattle.turn_rule.specs.Looks.{Source, States, AreStakesOf, MayFollow, MayFollowTurn, IsPairOf, Looked, HasDamage}
-use Rattle.turn_rule.specs.Found.{MayFollowAnswer}
+use Rattle.turn_rule.specs.Found.{IsFound, MayFollowAnswer, AreFoundSums}
 use Rattle.turn_rule.proofs.Integers.{mul_mono, regroup, floor_36_below, floor_36_above, times-neg}
 use Rattle.turn_rule.proofs.Tightness.{tight-max, tight-times, tight-outwards}
 use Rattle.turn_rule.proofs.Tight.{tight-min, words-refl}
@@ -142,6 +142,26 @@ pub answer-at : (stakes : Terms) (double : Double) (i : ℕ) → IsRightDouble s
 answer-at stakes double i right high =
     let answer = right.answers i no_answer high in
     (answer.kind, elim answer.factor [ inl is ↦ omega (arith, is) | inr more ↦ elim more [ inl is ↦ omega (arith, is) | inr is ↦ omega (arith, is) ] ])
+
+-- ---- from sums that were found
+
+-- one end that was found, as a look-up that changes nothing
+pub found-looked : (end : End) (s : Source) (u : Words) (states : States) (bound : ℤ) (value : Words → ℤ) (x : ℤ) → IsFound end s u states bound value x → FindsFrom end s u u 0 0 states bound value (Ok x)
+found-looked end s u states bound value x found = record { later = omega arith; notes = λ tells. words-refl s.checkers s.kinds u; answer = found; stop = tt }
+
+item-at : (xs : List ℤ) (i : ℕ) (x d : ℤ) → i < length xs → x ≡ get_or xs i x → x ≡ get_or xs i d
+item-at [] i x d h e = absurd (omega arith)
+item-at (y ∷ xs) zero x d h e = e
+item-at (y ∷ xs) (suc i) x d h e = item-at xs i x d (omega arith) e
+
+-- what rolling is worth, from the sum of its kind
+pub rolled-sum : (end : End) (s : Source) (u : Words) (stakes : Terms) (p : Placement) (sums : List ℤ) (k factor : ℕ) (x y : ℤ) → AreFoundSums end s u stakes p sums → length sums ≡ length stakes.kinds → k < length stakes.kinds
+    → x ≡ get_or sums k x → y ≡ outwards end (pos factor *ℤ x)
+    → FindsFrom end s u u 0 0 (MayFollow stakes p k) (pos factor *ℤ s.bound) (λ n. roll_value end stakes n p k factor) (Ok y)
+rolled-sum end s u stakes p sums k factor x y found many here at is =
+    rolled end s stakes p k factor u u 0 0 x y is
+    (found-looked end s u (MayFollow stakes p k) (pos 36 *ℤ s.bound) (λ n. sum_over all_rolls (worth end (kind_at stakes k) n) p) x
+    (subst (IsFound end s u (MayFollow stakes p k) (pos 36 *ℤ s.bound) (λ n. sum_over all_rolls (worth end (kind_at stakes k) n) p)) (sym (item-at sums k x (pos 0) (rw many here) at)) (found k here)))
 
 -- ---- turns
 

@@ -1,5 +1,5 @@
 -- One end of a value that is worked out from looked up words.
-use Rattle.std.specs.Prelude.{◌≡◌, ℕ, ℤ, pos, ◌*ℤ◌, IsTrue, None, Result, List}
+use Rattle.std.specs.Prelude.{◌≡◌, ◌<◌, ℕ, ℤ, pos, ◌*ℤ◌, IsTrue, None, Result, List, length, slice_index_or}
 use Rattle.position_rank.specs.Placement.{Placement, swap}
 use Rattle.roll_table.specs.Rolls.{Dice, all_rolls}
 use Rattle.move_rules.specs.Listing.{Among}
@@ -24,11 +24,14 @@ pub record IsFound (end : End) (source : Source) (noted : Words) (states : State
   pub notes : IsTrue source.tells → (later : Words) → AreNoLooserOf source.checkers source.kinds later noted → IsNoLooser end (value later) found
   pub right : IsTrue source.tells → (p : Placement) (k : ℕ) → states p k → source.damage p k ≡ None
 
+-- one end of what is sought
+abbrev pub IsFoundOf : End → Sought → Source → Words → ℤ → Type 0
+IsFoundOf end sought source noted = IsFound end source noted sought.states (sought.limit source.bound) (sought.value end)
+
 -- a look-up of one end of what is sought
 abbrev pub Finds : End → Sought → Seen → Seen → Result ℤ LookStop → Type 0
 Finds end sought old new result =
-    LooksUp old new (HasDamage old.source sought.states)
-    (IsFound end old.source new.notes sought.states (sought.limit old.source.bound) (sought.value end)) result
+    LooksUp old new (HasDamage old.source sought.states) (IsFoundOf end sought old.source new.notes) result
 
 -- the other side's state after a play that doesn't end the game is one of the source
 abbrev pub LeavesState : Source → ℕ → Placement → Type 0
@@ -85,3 +88,8 @@ of_double stakes p double = record {
   limit = λ bound. pos 4 *ℤ bound;
   value = λ end u. doubled end stakes u p double;
 }
+
+-- for each kind, the sum over the 36 ways of two dice of what the best play is worth
+abbrev pub AreFoundSums : End → Source → Words → Terms → Placement → List ℤ → Type 0
+AreFoundSums end source noted stakes p sums =
+    (k : ℕ) → k < length stakes.kinds → IsFoundOf end (of_sum stakes p k) source noted (slice_index_or sums k (pos 0))

@@ -13,7 +13,7 @@ use position_rank::Position;
 
 /// The pair of two ends. Where they are crossed, as only ends of untold words can be, they are exchanged.
 #[inline]
-fn pair_of(lower: Fixed, upper: Fixed) -> Pair
+pub(crate) fn pair_of(lower: Fixed, upper: Fixed) -> Pair
     ensures lower { result.lower ≡ int_min lower upper }
     ensures upper { result.upper ≡ int_max lower upper }
 {

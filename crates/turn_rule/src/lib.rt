@@ -5,6 +5,7 @@ mod bounds;
 mod ends;
 mod exact_laws;
 mod following_laws;
+mod from_sums;
 mod game;
 mod laws;
 mod look_laws;
@@ -35,6 +36,7 @@ pub use following_laws::{
     tighter_words_that_follow_give_tighter_values, values_stay_within_the_bound,
     what_may_follow_is_a_state,
 };
+pub use from_sums::pair_from_sums;
 pub use game::Game;
 pub use laws::{
     doubled_examples, rounded_examples, rounds_stay_within_the_bound, rounds_tighten,
@@ -45,3 +47,4 @@ pub use look_laws::{one_list_gives_the_roll, one_list_gives_the_turn, sure_sourc
 pub use pairs::Pairs;
 pub use plain_reader::PlainReader;
 pub use plain_table::PlainTable;
+pub use worth::{end_of, other_end, win_of, word_of};

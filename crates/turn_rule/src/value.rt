@@ -45,7 +45,7 @@ fn mean_up(factor: u8, sum: Fixed) -> Fixed
 
 /// A 36th of a sum that counts so many times, rounded to one end of a pair.
 #[inline]
-fn mean_of(end: End, factor: u8, sum: Fixed) -> Fixed
+pub(crate) fn mean_of(end: End, factor: u8, sum: Fixed) -> Fixed
     requires factor { factor ≤ 4 }
     requires sum { IsWithinUnits (pos (2 ^ 42)) sum }
     ensures { result ≡ outwards end (pos factor *ℤ sum) }

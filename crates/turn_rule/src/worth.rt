@@ -19,7 +19,7 @@ use position_rank::Position;
 
 /// The other end of a pair.
 #[inline]
-fn other(end: End) -> End
+pub fn other_end(end: End) -> End
     ensures { result ≡ other end }
 {
     match end {
@@ -30,7 +30,7 @@ fn other(end: End) -> End
 
 /// One end of a pair.
 #[inline]
-pub(crate) fn end_of(end: End, pair: Pair) -> Fixed
+pub fn end_of(end: End, pair: Pair) -> Fixed
     ensures { result ≡ at end pair }
 {
     match end {
@@ -41,7 +41,7 @@ pub(crate) fn end_of(end: End, pair: Pair) -> Fixed
 
 /// What a win is worth in a kind.
 #[inline]
-fn win_of(kind: &Kind, won: Won) -> Pair
+pub fn win_of(kind: &Kind, won: Won) -> Pair
     ensures { result ≡ win kind.now won }
 {
     match won {
@@ -53,7 +53,7 @@ fn win_of(kind: &Kind, won: Won) -> Pair
 
 /// The word of a state at one end, whose position has this square rank.
 #[inline]
-fn word_of<P: Pairs>(
+pub fn word_of<P: Pairs>(
     end: End,
     position: &Position,
     square: u64,
@@ -92,7 +92,13 @@ fn worth_at<P: Pairs>(
     match left.won() {
         Some(won) => Ok(end_of(end, win_of(kind, won))),
         None => {
-            let theirs = word_of(other(end), left.theirs(), left.square(), kind.next, pairs)?;
+            let theirs = word_of(
+                other_end(end),
+                left.theirs(),
+                left.square(),
+                kind.next,
+                pairs,
+            )?;
             Ok(theirs.neg())
         }
     }
