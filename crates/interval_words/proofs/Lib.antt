@@ -8,6 +8,7 @@ pub mod EventLaws
 pub mod Allowed
 pub mod SomeState
 pub mod Calls
+pub mod SeatNotes
 pub mod Lists
 pub mod EachNumber
 pub mod Closing

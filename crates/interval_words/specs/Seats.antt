@@ -4,8 +4,9 @@ use Rattle.std.specs.List.{Contains}
 use Rattle.position_rank.specs.Placement.{Placement}
 use Rattle.atomic_table.specs.Seated.{TableId}
 use Rattle.directed_fixed.specs.declared.bounds.End.{End}
+use Rattle.directed_fixed.specs.Bounds.{IsNoLooser}
 use Rattle.turn_rule.specs.Games.{IsGame, kinds_of}
-use Rattle.turn_rule.specs.States.{IsState, AreWithin}
+use Rattle.turn_rule.specs.States.{IsState, AreWithin, AreNoLooser}
 use Rattle.turn_rule.specs.declared.game.Game.{Game}
 use Rattle.interval_words.specs.declared.view.Note.{Note}
 use Rattle.interval_words.specs.declared.view.View.{View}
@@ -43,6 +44,22 @@ settling seat = record seat { view = settled seat.view }
 -- the seat that took in another
 abbrev pub joining : GameSeat → GameSeat → GameSeat
 joining seat other = record seat { view = joined seat.view other.view }
+
+-- the seat is at the same table, of the same game and base, and no note is lost
+pub record KeepsNotes (old new : GameSeat) : Type 0 where
+  pub table : new.table ≡ old.table
+  pub game : new.view.game ≡ old.view.game
+  pub base : new.view.base ≡ old.view.base
+  pub notes :
+      (game : Game) → old.view.game ≡ Some game
+      → AreNoLooser game (noted game new.view.notes) (noted game old.view.notes)
+
+-- a value was brought to a word of a state: the seat keeps its notes, and knows the word to be at least as tight as the value
+pub record Brings (end : End) (game : Game) (state : ℕ) (value : ℤ) (old new : GameSeat) : Type 0 where
+  pub keeps : KeepsNotes old new
+  pub told :
+      (p : Placement) (k : ℕ) → state ≡ state_of (kinds_of game) p k
+      → IsNoLooser end (noted game new.view.notes end p k) value
 
 -- this is the number of a state of the game
 pub record IsNumber (game : Game) (state : ℕ) : Type 0 where

@@ -10,7 +10,7 @@ ghost use Rattle.interval_words.specs.Core.{known};
 ghost use Rattle.interval_words.specs.Events.{IsRoundDone};
 ghost use Rattle.interval_words.specs.WordLists.{AreClosed};
 ghost use Rattle.std.specs.Slots.{slots_items, slots_len, IsFull};
-ghost use Rattle.interval_words.specs.Seats.{GameSeat, SitsAt, IsNumber, MayTighten, Knows, WasHeld, first_seat, noting, settling, joining};
+ghost use Rattle.interval_words.specs.Seats.{GameSeat, SitsAt, IsNumber, MayTighten, Knows, WasHeld, Brings, first_seat, noting, settling, joining};
 
 use crate::live_index::LiveIndex;
 use crate::number::{state_count, state_number, state_number_at};
@@ -251,8 +251,36 @@ impl Board {
         self.read(seat, End::Upper, state)
     }
 
-    /// Raises the lower word of the state with this number to a value, unless it is as high already. The value is noted.
+    /// Raises the lower word of the state with this number to a value, unless it is as high already.
+    #[inline]
     pub fn raise(&self, seat: &mut BoardSeat, state: u64, value: Fixed)
+        requires seat { SitsAt self.now seat.old }
+        requires value { MayTighten Lower self.now.game seat.old.view state value }
+        ensures seat { SitsAt self.now seat.new }
+        ensures knows { Knows seat.new.view }
+        ensures brings { Brings Lower self.now.game state value seat.old seat.new }
+    {
+        if self.read_lower(seat, state).units() < value.units() {
+            self.raise_word(seat, state, value);
+        }
+    }
+
+    /// Lowers the upper word of the state with this number to a value, unless it is as low already.
+    #[inline]
+    pub fn lower(&self, seat: &mut BoardSeat, state: u64, value: Fixed)
+        requires seat { SitsAt self.now seat.old }
+        requires value { MayTighten Upper self.now.game seat.old.view state value }
+        ensures seat { SitsAt self.now seat.new }
+        ensures knows { Knows seat.new.view }
+        ensures brings { Brings Upper self.now.game state value seat.old seat.new }
+    {
+        if value.units() < self.read_upper(seat, state).units() {
+            self.lower_word(seat, state, value);
+        }
+    }
+
+    /// Makes a lower word at least this value, which is noted.
+    fn raise_word(&self, seat: &mut BoardSeat, state: u64, value: Fixed)
         requires seat { SitsAt self.now seat.old }
         requires value { MayTighten Lower self.now.game seat.old.view state value }
         ensures seat { seat.new ≡ noting seat.old (word_of Lower state) value }
@@ -264,8 +292,8 @@ impl Board {
         shared.fetch_max::<Tightening>(&mut seat.seat, place, word);
     }
 
-    /// Lowers the upper word of the state with this number to a value, unless it is as low already. The value is noted.
-    pub fn lower(&self, seat: &mut BoardSeat, state: u64, value: Fixed)
+    /// Makes an upper word at most this value, which is noted.
+    fn lower_word(&self, seat: &mut BoardSeat, state: u64, value: Fixed)
         requires seat { SitsAt self.now seat.old }
         requires value { MayTighten Upper self.now.game seat.old.view state value }
         ensures seat { seat.new ≡ noting seat.old (word_of Upper state) value }

@@ -3,10 +3,10 @@ use Rattle.std.proofs.Common.{◌≡◌, ◌+◌, ◌<◌, ◌≤◌, ℕ, zero,
 use Rattle.std.proofs.lemmas.Bool.{cases_lt}
 use Rattle.std.proofs.lemmas.List.{get_or-set_same, get_or-set_other, length-set, length-replicate}
 use Rattle.block_claims.specs.Claiming.{ClaimTable, Claimer}
-use Rattle.interval_words.specs.Seats.{GameTable, GameSeat, SitsAt}
+use Rattle.interval_words.specs.Seats.{GameTable, GameSeat, SitsAt, KeepsNotes}
 use Rattle.worker_sweep.specs.Blocks.{blocks}
-use Rattle.worker_sweep.specs.Workers.{SeatsAndMarks, IsAtWork, IsReady, KeepsNotes, unmarked}
-use Rattle.worker_sweep.proofs.SeatLemmas.{sits-kept}
+use Rattle.worker_sweep.specs.Workers.{SeatsAndMarks, IsAtWork, IsReady, unmarked}
+use Rattle.interval_words.proofs.SeatNotes.{sits-kept}
 
 module _ (board : GameTable) (claims : ClaimTable) (crew base : ℕ) where
   -- a worker that loses no note goes on

@@ -11,10 +11,9 @@ use Rattle.turn_rule.specs.Turn.{Words, turn, rounds}
 use Rattle.turn_rule.specs.Looks.{Source, IsTurnPair}
 use Rattle.turn_rule.specs.declared.game.Game.{Game}
 use Rattle.interval_words.specs.Core.{noted}
-use Rattle.interval_words.specs.Seats.{GameTable, GameSeat, SitsAt}
+use Rattle.interval_words.specs.Seats.{GameTable, GameSeat, SitsAt, KeepsNotes}
 use Rattle.interval_words.proofs.Allowed.{one-game}
 use Rattle.interval_words.proofs.TurnLaws.{rounds-turn}
-use Rattle.worker_sweep.specs.Workers.{KeepsNotes}
 
 -- while words are looked up, the seat keeps its notes
 pub keeps-looked : (board now : GameTable) (old new : GameSeat) → now ≡ board → new.view.base ≡ old.view.base → SitsAt board old → SitsAt now new

@@ -7,9 +7,9 @@ use Rattle.interval_words.proofs.Allowed.{one-game}
 use Rattle.turn_rule.specs.States.{AreNoLooser}
 use Rattle.turn_rule.specs.declared.game.Game.{Game}
 use Rattle.interval_words.specs.Core.{noted}
-use Rattle.interval_words.specs.Seats.{GameTable, GameSeat, SitsAt, joining}
+use Rattle.interval_words.specs.Seats.{GameTable, GameSeat, SitsAt, joining, KeepsNotes}
 use Rattle.worker_sweep.specs.Blocks.{AreSwept, IsSwept, block_start}
-use Rattle.worker_sweep.specs.Workers.{KeepsNotes, is_marked}
+use Rattle.worker_sweep.specs.Workers.{is_marked}
 use Rattle.worker_sweep.proofs.BlockLemmas.{append-left, append-right, swept-still}
 
 module _ (old other new : GameSeat) (joins : new ≡ joining old other) (same : other.view.base ≡ old.view.base) where

@@ -2,8 +2,6 @@
 use Rattle.std.specs.Prelude.{◌≡◌, ℕ, ◌<◌, Bool, true, false, List, length, replicate, slice_index_or, Some}
 use Rattle.block_claims.specs.Claiming.{ClaimTable, Claimer}
 use Rattle.turn_rule.specs.declared.game.Game.{Game}
-use Rattle.turn_rule.specs.States.{AreNoLooser}
-use Rattle.interval_words.specs.Core.{noted}
 use Rattle.interval_words.specs.Seats.{GameTable, GameSeat, SitsAt}
 use Rattle.worker_sweep.specs.Blocks.{blocks, IsSwept}
 
@@ -24,13 +22,6 @@ unmarked blocks = replicate blocks false
 -- the marked blocks are swept
 pub record IsHonest (worker : SeatsAndMarks) : Type 0 where
   pub marks : (game : Game) → worker.seat.view.game ≡ Some game → (block : ℕ) → is_marked worker.marks block ≡ true → IsSwept game worker.seat.view block
-
--- the seat is at the same table, of the same game and base, and no note is lost
-pub record KeepsNotes (old new : GameSeat) : Type 0 where
-  pub table : new.table ≡ old.table
-  pub game : new.view.game ≡ old.view.game
-  pub base : new.view.base ≡ old.view.base
-  pub notes : (game : Game) → old.view.game ≡ Some game → AreNoLooser game (noted game new.view.notes) (noted game old.view.notes)
 
 -- a worker of a board, with a mark for each of its blocks
 pub record WorksAt (board : GameTable) (worker : SeatsAndMarks) : Type 0 where

@@ -9,9 +9,8 @@ ghost use Rattle.turn_rule.specs.Games.{kinds_of};
 ghost use Rattle.turn_rule.specs.Turn.{turn, rounds};
 ghost use Rattle.turn_rule.specs.States.{IsState, AreWithin};
 ghost use Rattle.interval_words.specs.Core.{noted};
-ghost use Rattle.interval_words.specs.Seats.{SitsAt};
+ghost use Rattle.interval_words.specs.Seats.{SitsAt, KeepsNotes, GameTable};
 ghost use Rattle.worker_sweep.specs.Blocks.{AreSwept};
-ghost use Rattle.worker_sweep.specs.Workers.{KeepsNotes};
 
 use directed_fixed::{Fixed, Pair};
 use hyper_outside::LookStop;
@@ -32,7 +31,6 @@ struct SeatPairs<'a> {
 
 impl<'a> Pairs for SeatPairs<'a> {
     ghost use Rattle.std.specs.Prelude.{ℕ};
-    ghost use Rattle.interval_words.specs.Seats.{GameTable};
     ghost use Rattle.interval_words.specs.Core.{noted};
     ghost use Rattle.worker_sweep.specs.Sources.{source_of};
 

@@ -1,6 +1,7 @@
 ghost use Rattle.std.specs.Prelude.{◌≡◌, ◌<◌, true, slice_set};
 ghost use Rattle.worker_sweep.specs.Blocks.{blocks};
-ghost use Rattle.worker_sweep.specs.Workers.{WorksAt, KeepsNotes};
+ghost use Rattle.worker_sweep.specs.Workers.{WorksAt};
+ghost use Rattle.interval_words.specs.Seats.{KeepsNotes};
 
 use crate::worker::Worker;
 use interval_words::Board;

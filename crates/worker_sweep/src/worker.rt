@@ -1,9 +1,9 @@
 ghost use Rattle.std.specs.Prelude.{◌≡◌, ℕ, ◌+◌, ◌*◌, ◌<◌, ◌≤◌, ◌||◌, true, IfOk, length, replicate, slice_set};
 ghost use Rattle.block_claims.specs.Claiming.{ClaimTable};
 ghost use Rattle.interval_words.specs.Core.{settled};
-ghost use Rattle.interval_words.specs.Seats.{SitsAt};
+ghost use Rattle.interval_words.specs.Seats.{SitsAt, KeepsNotes};
 ghost use Rattle.worker_sweep.specs.Blocks.{blocks};
-ghost use Rattle.worker_sweep.specs.Workers.{WorksAt, IsAtWork, KeepsNotes, is_marked, unmarked};
+ghost use Rattle.worker_sweep.specs.Workers.{WorksAt, IsAtWork, is_marked, unmarked};
 
 use crate::blocks::{BLOCK, block_count};
 use crate::seat_pairs::sweep_ranks;

@@ -1,5 +1,6 @@
 use Rattle.std.proofs.Common.{length, arith, ap, ◌∙◌}
-use Rattle.worker_sweep.proofs.SeatLemmas.{keeps-trans, done-more}
+use Rattle.worker_sweep.proofs.SeatLemmas.{done-more}
+use Rattle.interval_words.proofs.SeatNotes.{keeps-trans}
 use Rattle.worker_sweep.proofs.seat_pairs.sweep_position.Goals as goal
 
 pub loop-kind-preserved : goal.loop-kind-preserved

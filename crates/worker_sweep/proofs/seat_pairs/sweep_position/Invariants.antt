@@ -3,7 +3,7 @@ use Rattle.directed_fixed.specs.declared.bounds.End.{End}
 use Rattle.directed_fixed.specs.Bounds.{IsNoLooser}
 use Rattle.turn_rule.specs.Turn.{rounds}
 use Rattle.interval_words.specs.Core.{noted}
-use Rattle.worker_sweep.specs.Workers.{KeepsNotes}
+use Rattle.interval_words.specs.Seats.{KeepsNotes}
 use Rattle.worker_sweep.proofs.seat_pairs.sweep_position.Given as goal
 
 abbrev pub invariant-loop-kind : goal.invariant-loop-kind

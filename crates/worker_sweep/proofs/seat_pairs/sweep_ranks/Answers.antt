@@ -1,5 +1,6 @@
 use Rattle.std.proofs.Common.{Some, ap, ◌∙◌}
-use Rattle.worker_sweep.proofs.SeatLemmas.{keeps-trans, position-done}
+use Rattle.worker_sweep.proofs.SeatLemmas.{position-done}
+use Rattle.interval_words.proofs.SeatNotes.{keeps-trans}
 use Rattle.worker_sweep.proofs.BlockLemmas.{ranks-more}
 use Rattle.worker_sweep.proofs.seat_pairs.sweep_ranks.Goals as goal
 

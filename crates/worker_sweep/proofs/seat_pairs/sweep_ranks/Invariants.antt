@@ -1,6 +1,6 @@
 use Rattle.std.proofs.Common.{◌≡◌}
 use Rattle.worker_sweep.specs.Blocks.{AreSwept}
-use Rattle.worker_sweep.specs.Workers.{KeepsNotes}
+use Rattle.interval_words.specs.Seats.{KeepsNotes}
 use Rattle.worker_sweep.proofs.seat_pairs.sweep_ranks.Given as goal
 
 abbrev pub invariant-loop-rank : goal.invariant-loop-rank

@@ -6,7 +6,7 @@ use Rattle.turn_rule.specs.Turn.{turn, rounds}
 use Rattle.interval_words.specs.Core.{noted}
 use Rattle.interval_words.proofs.Ends.{tight-trans}
 use Rattle.worker_sweep.specs.Sources.{source_of}
-use Rattle.worker_sweep.proofs.SeatLemmas.{keeps-trans}
+use Rattle.interval_words.proofs.SeatNotes.{keeps-trans}
 use Rattle.worker_sweep.proofs.StateLemmas.{keeps-looked, turn-done, pair-ends}
 use Rattle.worker_sweep.proofs.seat_pairs.sweep_state.Goals as goal
 

@@ -1,14 +1,21 @@
-use Rattle.std.proofs.Common.{ap, arith, sym, ◌∙◌}
+use Rattle.std.proofs.Common.{arith}
+use Rattle.std.proofs.lemmas.Int.{ints}
 use Rattle.directed_fixed.specs.declared.bounds.End.TheVariants.{Lower}
-use Rattle.interval_words.proofs.Calls.{tightens-at, noting-at, value_of-word}
+use Rattle.interval_words.proofs.SeatNotes.{keeps-noting, may-tighten, brings-read, brings-noting}
 use Rattle.interval_words.proofs.board.Board.raise.Goals as goal
 
-pub fetch_max-requires : goal.fetch_max-requires
-fetch_max-requires c = (
-  ap (λ s. s.table) c.seat.view_is ∙ c.requires.seat.table ∙ sym (ap (λ b. b.table) c.self.view_is),
-  omega (arith, c.place-place.ensures.below, ap (λ b. b.table.words) c.self.view_is),
-  tightens-at _ _ (c.self.invariant.same ∙ ap (λ b. b.game) c.self.view_is) _ _ _ _ (ap (λ s. s.view) c.seat.view_is) c.requires.seat.game Lower c.args.state c.place-place.result c.to_word-word.result c.args.value c.place-place.ensures.place c.to_word-word.ensures c.requires.value,
-)
+pub raise_word-requires-clause-value : goal.raise_word-requires-clause-value
+raise_word-requires-clause-value c =
+    let may = c.requires.value in
+    let kept = keeps-noting c.args.self.now c.args.seat.now c.read_lower.new.seat _ _ c.read_lower.ensures.seat c.requires.seat in
+    may-tighten c.args.self.now c.args.seat.now c.read_lower.new.seat c.args.state c.args.value Lower may.position may.kind c.read_lower.ensures.held.kept.game.stakes kept c.requires.seat may.number may.loose.state may.loose.within may.loose.loose
 
-pub returns-clause-seat : goal.returns-clause-seat
-returns-clause-seat c = noting-at _ _ _ _ _ _ _ _ _ c.seat.view_is c.fetch_max.ensures.0 c.fetch_max.ensures.2.0 c.place-place.ensures.place (value_of-word _ _ c.to_word-word.ensures)
+pub returns-then-units-clause-brings : goal.returns-then-units-clause-brings
+returns-then-units-clause-brings c =
+    let kept = keeps-noting c.args.self.now c.args.seat.now c.read_lower.new.seat _ _ c.read_lower.ensures.seat c.requires.seat in
+    brings-noting c.args.self.now c.args.seat.now c.read_lower.new.seat c.raise_word.new.seat Lower c.args.state c.args.value kept c.raise_word.ensures.seat c.requires.seat
+
+pub returns-else-units-clause-brings : goal.returns-else-units-clause-brings
+returns-else-units-clause-brings c =
+    brings-read c.args.self.now c.args.seat.now c.read_lower.new.seat Lower c.args.state c.read_lower.result c.args.value c.read_lower.ensures.seat c.requires.seat
+    (omega (arith, ints, c.if-units.false, c.units.ensures.value, c.units-2.ensures.value))

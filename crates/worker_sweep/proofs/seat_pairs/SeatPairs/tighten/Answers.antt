@@ -1,7 +1,8 @@
-use Rattle.std.proofs.Common.{sym, subst}
+use Rattle.std.proofs.Common.{ℤ, sym, subst}
 use Rattle.directed_fixed.specs.declared.bounds.End.TheVariants.{Lower, Upper}
-use Rattle.interval_words.specs.Seats.{MayTighten}
-use Rattle.worker_sweep.proofs.SeatLemmas.{sits-noting, floor-noting, keeps-refl, keeps-noting, keeps-trans, knows-within, may-tighten, told-both}
+use Rattle.interval_words.specs.Seats.{MayTighten, Brings}
+use Rattle.worker_sweep.proofs.SeatLemmas.{knows-within, told-both}
+use Rattle.interval_words.proofs.SeatNotes.{keeps-refl, keeps-trans, floor-kept, may-tighten}
 use Rattle.worker_sweep.proofs.seat_pairs.SeatPairs.tighten.Goals as goal
 
 pub raise-requires-clause-value : goal.raise-requires-clause-value
@@ -12,23 +13,23 @@ raise-requires-clause-value c =
 pub lower-requires-2-clause-value : goal.lower-requires-2-clause-value
 lower-requires-2-clause-value c =
     subst (MayTighten Upper c.args.self.now.board.now.game c.raise.new.seat.view c.number-state.result) (sym c.upper.ensures.upper)
-    (may-tighten c.args.self.now.board.now c.args.self.now.seat c.raise.new.seat c.number-state.result c.args.pair.upper Upper c.args.position.now c.args.kind c.requires.valid (keeps-noting c.args.self.now.board.now _ _ _ _ c.raise.ensures.seat c.args.self.now.sits) c.args.self.now.sits c.number-state.ensures.number c.requires.state (c.requires.within Upper) (c.requires.loose Upper))
+    (may-tighten c.args.self.now.board.now c.args.self.now.seat c.raise.new.seat c.number-state.result c.args.pair.upper Upper c.args.position.now c.args.kind c.requires.valid c.raise.ensures.brings.keeps c.args.self.now.sits c.number-state.ensures.number c.requires.state (c.requires.within Upper) (c.requires.loose Upper))
 
 pub invariant_of-self : goal.invariant_of-self
 invariant_of-self c =
-    let first = sits-noting c.args.self.now.board.now c.args.self.now.seat _ _ _ c.raise.ensures.seat c.args.self.now.sits in
-    let second = sits-noting c.args.self.now.board.now _ _ _ _ c.lower-2.ensures.seat first in
+    let kept = keeps-trans _ _ _ c.raise.ensures.brings.keeps c.lower-2.ensures.brings.keeps in
     record {
-      sits = second;
-      floor = floor-noting c.args.self.now.board.now _ _ _ _ c.lower-2.ensures.seat first (floor-noting c.args.self.now.board.now c.args.self.now.seat _ _ _ c.raise.ensures.seat c.args.self.now.sits c.args.self.now.floor);
-      noted_within = knows-within c.args.self.now.board.now _ second c.lower-2.ensures.knows;
+      sits = c.lower-2.ensures.seat;
+      floor = floor-kept c.args.self.now.board.now c.args.self.now.seat _ kept c.args.self.now.floor;
+      noted_within = knows-within c.args.self.now.board.now _ c.lower-2.ensures.seat c.lower-2.ensures.knows;
     }
 
 pub returns-clause-kept : goal.returns-clause-kept
-returns-clause-kept c =
-    let first = sits-noting c.args.self.now.board.now c.args.self.now.seat _ _ _ c.raise.ensures.seat c.args.self.now.sits in
-    keeps-trans _ _ _ (keeps-noting c.args.self.now.board.now _ _ _ _ c.raise.ensures.seat c.args.self.now.sits) (keeps-noting c.args.self.now.board.now _ _ _ _ c.lower-2.ensures.seat first)
+returns-clause-kept c = keeps-trans _ _ _ c.raise.ensures.brings.keeps c.lower-2.ensures.brings.keeps
 
 pub returns-clause-noted : goal.returns-clause-noted
 returns-clause-noted c =
-    told-both c.args.self.now.board.now c.args.self.now.seat _ _ c.number-state.result _ _ c.args.pair c.args.position.now c.args.kind c.lower.ensures.lower c.upper.ensures.upper c.raise.ensures.seat c.lower-2.ensures.seat c.args.self.now.sits c.number-state.ensures.number c.requires.state
+    told-both c.args.self.now.board.now c.args.self.now.seat _ _ c.number-state.result c.args.pair c.args.position.now c.args.kind
+    (subst (λ (z : ℤ). Brings Lower c.args.self.now.board.now.game c.number-state.result z c.args.self.now.seat c.raise.new.seat) c.lower.ensures.lower c.raise.ensures.brings)
+    (subst (λ (z : ℤ). Brings Upper c.args.self.now.board.now.game c.number-state.result z c.raise.new.seat c.lower-2.new.seat) c.upper.ensures.upper c.lower-2.ensures.brings)
+    c.args.self.now.sits c.number-state.ensures.number c.requires.state

@@ -1,5 +1,6 @@
 use Rattle.directed_fixed.specs.declared.bounds.End.TheVariants.{Lower}
-use Rattle.worker_sweep.proofs.SeatLemmas.{sits-noting, floor-noting, looked-noting, knows-within}
+use Rattle.worker_sweep.proofs.SeatLemmas.{looked-noting, knows-within}
+use Rattle.interval_words.proofs.SeatNotes.{sits-noting, floor-noting}
 use Rattle.worker_sweep.proofs.seat_pairs.SeatPairsPairs.lower_at.Goals as goal
 
 pub invariant_of-self : goal.invariant_of-self

@@ -1,7 +1,6 @@
 use Rattle.std.proofs.Common.{length, refl, arith, ap, sym, subst, ◌∙◌}
 use Rattle.position_rank.specs.LiveRanks.{live_positions}
-use Rattle.interval_words.specs.Seats.{SitsAt}
-use Rattle.worker_sweep.specs.Workers.{KeepsNotes}
+use Rattle.interval_words.specs.Seats.{SitsAt, KeepsNotes}
 use Rattle.worker_sweep.proofs.TakeIn.{honest-swept}
 use Rattle.worker_sweep.proofs.worker.Worker.sweep.Goals as goal
 

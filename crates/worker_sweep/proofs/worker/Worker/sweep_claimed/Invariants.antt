@@ -1,5 +1,6 @@
 use Rattle.std.proofs.Common.{◌≡◌}
-use Rattle.worker_sweep.specs.Workers.{WorksAt, KeepsNotes}
+use Rattle.worker_sweep.specs.Workers.{WorksAt}
+use Rattle.interval_words.specs.Seats.{KeepsNotes}
 use Rattle.worker_sweep.proofs.worker.Worker.sweep_claimed.Given as goal
 
 abbrev pub invariant-loop-turn : goal.invariant-loop-turn

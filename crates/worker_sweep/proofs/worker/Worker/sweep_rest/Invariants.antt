@@ -1,5 +1,6 @@
 use Rattle.std.proofs.Common.{◌≡◌, ℕ, ◌<◌, true}
-use Rattle.worker_sweep.specs.Workers.{WorksAt, KeepsNotes, is_marked}
+use Rattle.worker_sweep.specs.Workers.{WorksAt, is_marked}
+use Rattle.interval_words.specs.Seats.{KeepsNotes}
 use Rattle.worker_sweep.proofs.worker.Worker.sweep_rest.Given as goal
 
 abbrev pub invariant-loop-block : goal.invariant-loop-block

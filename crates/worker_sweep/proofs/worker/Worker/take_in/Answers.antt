@@ -1,6 +1,5 @@
 use Rattle.std.proofs.Common.{◌≡◌, ap, sym, subst, ◌∙◌}
-use Rattle.interval_words.specs.Seats.{joining}
-use Rattle.worker_sweep.specs.Workers.{KeepsNotes}
+use Rattle.interval_words.specs.Seats.{joining, KeepsNotes}
 use Rattle.worker_sweep.proofs.TakeIn.{honest-joined, keeps-joined}
 use Rattle.worker_sweep.proofs.worker.Worker.take_in.Goals as goal
 
