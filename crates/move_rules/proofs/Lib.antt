@@ -14,3 +14,5 @@ mod NotationWords
 mod NotationTexts
 mod NotationPrints
 mod NoFault
+mod CountsAbove
+mod PrintedTaken

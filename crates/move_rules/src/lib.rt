@@ -21,6 +21,8 @@ pub use laws::{
 };
 pub use listing::plays;
 pub use matched::match_play;
-pub use notation::{print_play, printed_plays_are_read, read_play, texts_tell_plays};
+pub use notation::{
+    print_play, printed_plays_are_read, printed_plays_are_taken, read_play, texts_tell_plays,
+};
 pub use play::{Entry, MOST_PLAYS, Move, Play, PlayList};
 pub use written::{Step, Written};

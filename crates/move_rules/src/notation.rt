@@ -1,5 +1,7 @@
 ghost use Rattle.std.specs.Prelude.{◌≡◌, ℕ, ◌+◌, ◌++◌, ◌-◌, ◌≤◌, true, false, List, length, All, MatchOption};
-ghost use Rattle.roll_table.specs.Rolls.{IsRoll, dice_of};
+ghost use Rattle.roll_table.specs.Rolls.{Dice, IsRoll, dice_of};
+ghost use Rattle.move_rules.specs.Sequences.{IsLegal};
+ghost use Rattle.move_rules.specs.Written.{IsWritten};
 ghost use Rattle.position_rank.specs.Placement.{Placement};
 ghost use Rattle.position_rank.specs.Text.{place, place_text};
 ghost use Rattle.position_rank.specs.TextParts.{add_word};
@@ -59,6 +61,19 @@ pub fn texts_tell_plays()
 pub fn printed_plays_are_read()
     ensures { (p : Placement) (moves : List Move) → CanFollow p moves → length moves ≤ 4
         → (steps : List Step) × AreStepsOf p moves steps × IsPlayText (play_text p moves) steps }
+{}
+
+/// What is printed for a legal play is read as steps that `match_play` takes, with the play's end: these steps are written for a legal
+/// play, and every play for which they are written has that end. The dice may be told differently, as where `1/off 1/off` is played
+/// with 3 and then 2, and read as 2 and then 3.
+pub fn printed_plays_are_taken()
+    ensures taken { (p : Placement) (roll : Dice) (moves : List Move) (q : Placement) (steps : List Step)
+        → IsRoll roll → IsLegal p roll moves q → IsPlayText (play_text p moves) steps
+        → (others : List Move) × IsWritten p (dice_of roll) steps others q × IsLegal p roll others q }
+    ensures end { (p : Placement) (roll : Dice) (steps : List Step) (moves others : List Move)
+        (q end : Placement)
+        → IsWritten p (dice_of roll) steps moves q → IsWritten p (dice_of roll) steps others end
+        → end ≡ q }
 {}
 
 fn read_step(word: &str) -> Option<Step>
