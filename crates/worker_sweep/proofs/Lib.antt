@@ -3,3 +3,4 @@ pub mod BlockLemmas
 pub mod StateLemmas
 pub mod TakeIn
 pub mod RoundLemmas
+pub mod Going

@@ -8,23 +8,21 @@ use Rattle.worker_sweep.specs.Blocks.{blocks}
 use Rattle.worker_sweep.specs.Workers.{SeatsAndMarks, IsAtWork, IsReady, unmarked}
 use Rattle.interval_words.proofs.SeatNotes.{sits-kept}
 
-module _ (board : GameTable) (claims : ClaimTable) (crew base : ℕ) where
+module _ (board : GameTable) (claims : ClaimTable) (base : ℕ) where
   -- a worker that loses no note goes on
-  pub works-on : (old new : SeatsAndMarks) → IsAtWork board claims crew base old → KeepsNotes old.seat new.seat → length new.marks ≡ length old.marks → new.claims.table ≡ old.claims.table → new.number ≡ old.number → IsAtWork board claims crew base new
+  pub works-on : (old new : SeatsAndMarks) → IsAtWork board claims base old → KeepsNotes old.seat new.seat → length new.marks ≡ length old.marks → new.claims.table ≡ old.claims.table → new.number ≡ old.number → IsAtWork board claims base new
   works-on old new at kept many claimed numbered = record {
     works = record { seat = sits-kept board old.seat new.seat kept at.works.seat; marks = many ∙ at.works.marks };
     claimer = claimed ∙ at.claimer;
-    number = omega (arith, at.number, numbered);
     after = kept.base ∙ at.after;
   }
 
   -- a worker that was taken in knows what its owner knew
-  pub follows : (owner old new : SeatsAndMarks) → IsAtWork board claims crew base owner → IsAtWork board claims crew base old → new ≡ record old { seat = owner.seat; marks = unmarked (length old.marks) } → IsReady board claims crew base new
-  follows owner old new own at is = subst (IsReady board claims crew base) (sym is) (record {
+  pub follows : (owner old new : SeatsAndMarks) → IsAtWork board claims base owner → IsAtWork board claims base old → new ≡ record old { seat = owner.seat; marks = unmarked (length old.marks) } → IsReady board claims base new
+  follows owner old new own at is = subst (IsReady board claims base) (sym is) (record {
     works = record {
       works = record { seat = own.works.seat; marks = length-replicate (length old.marks) false ∙ at.works.marks };
       claimer = at.claimer;
-      number = at.number;
       after = own.after;
     };
     unmarked = ap unmarked at.works.marks;
@@ -45,13 +43,12 @@ rest-still P xs i x rest k d from below =
     subst P (sym (get_or-set_other xs i k x d (λ e. absurd (omega (arith, from, e))))) (rest k d (omega (arith, from)) (omega (arith, below, length-set xs i x)))
 
 -- a worker that begins
-pub begins : (board : GameTable) (claims : ClaimTable) (crew number count : ℕ) (seat own : GameSeat) (claimer : Claimer) (new : SeatsAndMarks) → SitsAt board seat → own ≡ seat → claimer.table ≡ claims.table → number < crew → count ≡ blocks board.game.checkers
-    → new ≡ record { seat = own; claims = claimer; number = number; marks = unmarked count } → IsReady board claims crew seat.view.base new
-begins board claims crew number count seat own claimer new sits same claimed below many is = subst (IsReady board claims crew seat.view.base) (sym is) (record {
+pub begins : (board : GameTable) (claims : ClaimTable) (number count : ℕ) (seat own : GameSeat) (claimer : Claimer) (new : SeatsAndMarks) → SitsAt board seat → own ≡ seat → claimer.table ≡ claims.table → count ≡ blocks board.game.checkers
+    → new ≡ record { seat = own; claims = claimer; number = number; marks = unmarked count } → IsReady board claims seat.view.base new
+begins board claims number count seat own claimer new sits same claimed many is = subst (IsReady board claims seat.view.base) (sym is) (record {
   works = record {
     works = record { seat = subst (SitsAt board) (sym same) sits; marks = length-replicate count false ∙ many };
     claimer = claimed;
-    number = below;
     after = ap (λ s. s.view.base) same;
   };
   unmarked = ap unmarked many;

@@ -1,5 +1,8 @@
 -- A worker: its seats, and the blocks that it has swept in this round.
-use Rattle.std.specs.Prelude.{◌≡◌, ℕ, ◌<◌, Bool, true, false, List, length, replicate, slice_index_or, Some}
+use Rattle.std.specs.Prelude.{◌≡◌, ℕ, ◌<◌, ◌≤◌, Bool, true, false, List, ◌++◌, length, replicate, slice_index_or, Some, All, Contains}
+use Rattle.block_claims.specs.declared.views.Claim.{Claim}
+use Rattle.block_claims.specs.declared.views.ClaimNote.{ClaimNote}
+use Rattle.block_claims.specs.declared.views.ClaimView.{ClaimView}
 use Rattle.block_claims.specs.Claiming.{ClaimTable, Claimer}
 use Rattle.turn_rule.specs.declared.game.Game.{Game}
 use Rattle.interval_words.specs.Seats.{GameTable, GameSeat, SitsAt}
@@ -28,14 +31,30 @@ pub record WorksAt (board : GameTable) (worker : SeatsAndMarks) : Type 0 where
   pub seat : SitsAt board worker.seat
   pub marks : length worker.marks ≡ blocks board.game.checkers
 
--- a worker of a board and its claims, one of so many, after so many rounds
-pub record IsAtWork (board : GameTable) (claims : ClaimTable) (crew base : ℕ) (worker : SeatsAndMarks) : Type 0 where
+-- a worker of a board and its claims, after so many rounds
+pub record IsAtWork (board : GameTable) (claims : ClaimTable) (base : ℕ) (worker : SeatsAndMarks) : Type 0 where
   pub works : WorksAt board worker
   pub claimer : worker.claims.table ≡ claims.table
-  pub number : worker.number < crew
   pub after : worker.seat.view.base ≡ base
 
 -- the same, and no block is marked
-pub record IsReady (board : GameTable) (claims : ClaimTable) (crew base : ℕ) (worker : SeatsAndMarks) : Type 0 where
-  pub works : IsAtWork board claims crew base worker
+pub record IsReady (board : GameTable) (claims : ClaimTable) (base : ℕ) (worker : SeatsAndMarks) : Type 0 where
+  pub works : IsAtWork board claims base worker
   pub unmarked : worker.marks ≡ unmarked (blocks board.game.checkers)
+
+-- the view has noted that a block was claimed for this round or a later one
+abbrev pub IsNotedClaimed : ClaimView → ℕ → ℕ → Type 0
+IsNotedClaimed view block round = (note : ClaimNote) × Contains view.notes note × (note.block ≡ block) × (round ≤ note.word)
+
+-- A worker went through the first blocks and claimed each for a round: each is then claimed for that round or a later one. Each block that
+-- it got is marked, and each that is newly marked it got.
+pub record WentThrough (round count : ℕ) (old new : SeatsAndMarks) : Type 0 where
+  pub got : List Claim
+  pub claims : new.claims.view.claims ≡ got ++ old.claims.view.claims
+  pub noted : (block : ℕ) → block < count → IsNotedClaimed new.claims.view block round
+  pub marked : All (λ (claim : Claim). (claim.round ≡ round) × (is_marked new.marks claim.block ≡ true)) got
+  pub newly : (block : ℕ) → is_marked old.marks block ≡ false → is_marked new.marks block ≡ true → Contains got (record { block = block; round = round })
+
+-- each of some workers went through so many blocks
+abbrev pub HaveGoneThrough : ℕ → ℕ → List SeatsAndMarks → List SeatsAndMarks → Type 0
+HaveGoneThrough round count old new = (k : ℕ) (none : SeatsAndMarks) → k < length old → WentThrough round count (slice_index_or old k none) (slice_index_or new k none)

@@ -38,13 +38,11 @@ impl<'a> Pairs for SeatPairs<'a> {
 
     ghost stays = { λ s. (s.board.now, s.seat.view.base) };
 
-    ghost seen = {
-        λ s. record {
-            source = source_of s.board.now.game s.seat.view.base;
-            notes = noted s.board.now.game s.seat.view.notes;
-            faults = 0;
-        }
-    };
+    ghost seen = { λ s. record {
+      source = source_of s.board.now.game s.seat.view.base;
+      notes = noted s.board.now.game s.seat.view.notes;
+      faults = 0;
+    } };
 
     #[inline]
     fn lower_of(&mut self, position: &Position, kind: usize) -> Result<Fixed, LookStop> {

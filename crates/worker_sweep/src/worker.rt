@@ -1,9 +1,8 @@
-ghost use Rattle.std.specs.Prelude.{◌≡◌, ℕ, ◌+◌, ◌*◌, ◌<◌, ◌≤◌, ◌||◌, true, IfOk, length, replicate, slice_set};
-ghost use Rattle.block_claims.specs.Claiming.{ClaimTable};
+ghost use Rattle.std.specs.Prelude.{◌≡◌, ℕ, ◌+◌, ◌<◌, ◌≤◌, ◌||◌, true, IfOk, length, replicate, slice_set};
 ghost use Rattle.interval_words.specs.Core.{settled};
 ghost use Rattle.interval_words.specs.Seats.{SitsAt, KeepsNotes};
 ghost use Rattle.worker_sweep.specs.Blocks.{blocks};
-ghost use Rattle.worker_sweep.specs.Workers.{WorksAt, IsAtWork, is_marked, unmarked};
+ghost use Rattle.worker_sweep.specs.Workers.{SeatsAndMarks, WorksAt, IsHonest, WentThrough, is_marked, unmarked};
 
 use crate::blocks::{BLOCK, block_count};
 use crate::seat_pairs::sweep_ranks;
@@ -71,6 +70,15 @@ impl Worker {
         self.swept[block as usize]
     }
 
+    /// Each block that the worker has marked is swept: what its seat knows of each of its states is at least as tight
+    /// as after one round more than it has settled.
+    pub fn marked_is_swept(&self)
+        ensures { IsHonest self.now }
+    {
+        // What contracts know of the worker holds where a field is read.
+        let _number = self.number;
+    }
+
     /// Tightens the words of each state of a block by its turn over them, and marks it.
     pub(crate) fn sweep(&mut self, board: &Board, block: u64)
         requires works { WorksAt board.now self.old }
@@ -89,33 +97,54 @@ impl Worker {
         self.swept[block as usize] = true;
     }
 
-    /// Goes once through all blocks, from the worker's own first block on and round to it, claims each, and sweeps those that it gets.
+    /// Claims a block, and sweeps it if it gets it.
+    fn sweep_if_claimed<G: Gate>(
+        &mut self,
+        board: &Board,
+        claims: &Claims,
+        gate: &G,
+        block: u64,
+        round: u64,
+    )
+        requires works { WorksAt board.now self.old }
+        requires claims { self.old.claims.table ≡ claims.now.table }
+        requires many { claims.now.blocks ≡ blocks board.now.game.checkers }
+        requires block { block < claims.now.blocks }
+        requires round { 1 ≤ round }
+        ensures seat { KeepsNotes self.old.seat self.new.seat }
+        ensures many { length self.new.marks ≡ length self.old.marks }
+        ensures claims { self.new.claims.table ≡ self.old.claims.table }
+        ensures number { self.new.number ≡ self.old.number }
+        ensures through { (first : SeatsAndMarks) → WentThrough round block first self.old
+            → WentThrough round (block + 1) first self.new }
+    {
+        if !claims.claim(&mut self.claims, block, round) {
+            return;
+        }
+        gate.pass(self.number, block);
+        self.sweep(board, block);
+    }
+
+    /// Goes once through all blocks, from the first on, claims each for the round, and sweeps those that it gets.
     pub(crate) fn sweep_claimed<G: Gate>(
         &mut self,
         board: &Board,
         claims: &Claims,
         gate: &G,
-        workers: u32,
         round: u64,
     )
         requires works { WorksAt board.now self.old }
         requires claims { self.old.claims.table ≡ claims.now.table }
         requires many { claims.now.blocks ≡ blocks board.now.game.checkers }
         requires round { 1 ≤ round }
-        requires workers { self.old.number < workers }
-        ensures works { WorksAt board.now self.new }
         ensures seat { KeepsNotes self.old.seat self.new.seat }
+        ensures many { length self.new.marks ≡ length self.old.marks }
         ensures claims { self.new.claims.table ≡ self.old.claims.table }
         ensures number { self.new.number ≡ self.old.number }
+        ensures through { WentThrough round claims.now.blocks self.old self.new }
     {
-        let blocks = block_count(board);
-        let first = u64::from(self.number) * blocks / u64::from(workers);
-        for turn in 0..blocks {
-            let block = (first + turn) % blocks;
-            if claims.claim(&mut self.claims, block, round) {
-                gate.pass(self.number, block);
-                self.sweep(board, block);
-            }
+        for block in 0..block_count(board) {
+            self.sweep_if_claimed(board, claims, gate, block, round);
         }
     }
 

@@ -5,7 +5,7 @@ use Rattle.worker_sweep.proofs.rounds.follow_all.Given as goal
 abbrev pub invariant-loop-worker : goal.invariant-loop-worker
 invariant-loop-worker l = record {
   owner : l.owner ≡ l.initial.owner;
-  many : length l.workers ≡ length l.initial.workers;
-  ready : (k : ℕ) (d : SeatsAndMarks) → k < l.worker-index → IsReady l.board l.claims l.crew (l.base + 1) (slice_index_or l.workers k d);
-  rest : (k : ℕ) (d : SeatsAndMarks) → l.worker-index ≤ k → k < length l.workers → IsReady l.board l.claims l.crew l.base (slice_index_or l.workers k d);
+  many : length l.crew ≡ length l.initial.crew;
+  ready : (k : ℕ) (d : SeatsAndMarks) → k < l.worker-index → IsReady l.board l.claims (l.base + 1) (slice_index_or l.crew k d);
+  rest : (k : ℕ) (d : SeatsAndMarks) → l.worker-index ≤ k → k < length l.crew → IsReady l.board l.claims l.base (slice_index_or l.crew k d);
 }

@@ -6,6 +6,6 @@ abbrev pub invariant-loop-number : goal.invariant-loop-number
 invariant-loop-number l = record {
   seat : l.seat ≡ l.initial.seat;
   claim_seat : l.claim_seat ≡ l.initial.claim_seat;
-  many : length l.workers.items ≡ l.number;
-  ready : All (IsReady l.board l.claims l.crew l.initial.seat.view.base) l.workers.items;
+  many : length l.crew.items ≡ l.number;
+  ready : All (IsReady l.board l.claims l.initial.seat.view.base) l.crew.items;
 }

@@ -4,6 +4,6 @@ use Rattle.worker_sweep.proofs.rounds.run_each.Given as goal
 
 abbrev pub invariant-loop-base : goal.invariant-loop-base
 invariant-loop-base g l = record {
-  owner : IsReady l.board l.claims l.crew l.base l.owner;
-  workers : All (IsReady l.board l.claims l.crew l.base) l.workers;
+  owner : IsReady l.board l.claims l.base l.owner;
+  workers : All (IsReady l.board l.claims l.base) l.crew;
 }

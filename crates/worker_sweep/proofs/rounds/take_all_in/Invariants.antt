@@ -4,8 +4,8 @@ use Rattle.worker_sweep.proofs.rounds.take_all_in.Given as goal
 
 abbrev pub invariant-loop-worker : goal.invariant-loop-worker
 invariant-loop-worker l = record {
-  owner : IsAtWork l.board l.claims l.crew l.base l.owner;
-  many : length l.workers ≡ length l.initial.workers;
-  ready : (k : ℕ) (d : SeatsAndMarks) → k < l.worker-index → IsReady l.board l.claims l.crew l.base (slice_index_or l.workers k d);
-  rest : (k : ℕ) (d : SeatsAndMarks) → l.worker-index ≤ k → k < length l.workers → IsAtWork l.board l.claims l.crew l.base (slice_index_or l.workers k d);
+  owner : IsAtWork l.board l.claims l.base l.owner;
+  many : length l.crew ≡ length l.initial.crew;
+  ready : (k : ℕ) (d : SeatsAndMarks) → k < l.worker-index → IsReady l.board l.claims l.base (slice_index_or l.crew k d);
+  rest : (k : ℕ) (d : SeatsAndMarks) → l.worker-index ≤ k → k < length l.crew → IsAtWork l.board l.claims l.base (slice_index_or l.crew k d);
 }
