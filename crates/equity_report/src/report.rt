@@ -15,7 +15,8 @@ type Report = ArrayString<256>;
 
 fn add_position(report: &mut Report, position: &Position)
     requires { length report.old.bytes ≤ 0 }
-    ensures bytes { report.new.bytes ≡ report.old.bytes ++ line (codes "position") (position_text position.now) }
+    ensures bytes { report.new.bytes
+        ≡ report.old.bytes ++ line (codes "position") (position_text position.now) }
     ensures length { length report.new.bytes ≤ 42 }
 {
     report.push_str("position ");
@@ -61,7 +62,8 @@ pub fn write_bound<O: Sink>(
     rounds: u32,
     pair: Pair,
 ) -> Result<(), Failed>
-    ensures { Puts (O.output out.old) (O.output out.new) (bound_text position.now rounds pair) result }
+    ensures { Puts (O.output out.old) (O.output out.new)
+        (bound_text position.now rounds pair) result }
 {
     let mut report = Report::new();
     add_position(&mut report, position);

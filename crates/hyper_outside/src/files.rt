@@ -59,7 +59,8 @@ impl MemFiles {
 
     /// Takes room for so many names and bytes more. After `NoMemory` there may be more names' room.
     pub fn room(&mut self, names: usize, bytes: usize) -> Result<(), NoMemory>
-        ensures ok { OnOk result (self.new ≡ restocked self.old (roomier self.old.stock names bytes)) }
+        ensures ok { OnOk result
+            (self.new ≡ restocked self.old (roomier self.old.stock names bytes)) }
         ensures err { OnErr result
             (self.new ≡ restocked self.old (with_places self.old.stock self.new.stock.places)) }
         ensures places { self.old.stock.places ≤ self.new.stock.places }
@@ -114,7 +115,8 @@ impl Files for MemFiles {
     /// `Failed` exactly where the call is listed. Otherwise it reads as many bytes as there are and fit.
     fn read_at(&mut self, name: &str, at: u64, buf: &mut [u8]) -> Result<usize, Failed>
         ensures within { IfOk result (λ count. count ≤ length buf.old) }
-        ensures reads { IfOk result (Reads (held_bytes self.old.stock.files name.now) at buf.old buf.new) }
+        ensures reads { IfOk result
+            (Reads (held_bytes self.old.stock.files name.now) at buf.old buf.new) }
         ensures most { IfOk result
             (λ count. count ≡ min (length buf.old) (length_from at self.old.stock.files name.now)) }
         ensures failed { OnErr result (buf.new ≡ buf.old) }
@@ -133,7 +135,8 @@ impl Files for MemFiles {
     fn start(&mut self, name: &str) -> Result<(), Failed>
         ensures starts { StartsEmpty (held_bytes self.old.stock.files)
             (held_bytes self.new.stock.files) name.now result }
-        ensures others { KeepsOthers name.now (held_bytes self.old.stock.files) (held_bytes self.new.stock.files) }
+        ensures others { KeepsOthers name.now (held_bytes self.old.stock.files)
+            (held_bytes self.new.stock.files) }
         ensures cause { HasCause self.old.write_faults self.new.write_faults result }
         ensures answer { is_ok result ≡ not (start_fails self.old name.now) }
         ensures after { self.new ≡ after_start self.old name.now }
@@ -155,7 +158,8 @@ impl Files for MemFiles {
     fn append(&mut self, name: &str, bytes: &[u8]) -> Result<(), Failed>
         ensures appends { Appends (held_bytes self.old.stock.files)
             (held_bytes self.new.stock.files) name.now bytes.now result }
-        ensures others { KeepsOthers name.now (held_bytes self.old.stock.files) (held_bytes self.new.stock.files) }
+        ensures others { KeepsOthers name.now (held_bytes self.old.stock.files)
+            (held_bytes self.new.stock.files) }
         ensures cause { HasCause self.old.write_faults self.new.write_faults result }
         ensures answer { is_ok result ≡ not (append_fails self.old name.now bytes.now) }
         ensures after { self.new ≡ after_append self.old name.now bytes.now }

@@ -117,8 +117,10 @@ pub trait Files {
 
     /// Leaves the name with no bytes. After `Failed` all is as before.
     fn start(&mut self, name: &str) -> Result<(), Failed>
-        ensures starts { IsTrue (tells self.old) → StartsEmpty (held self.old) (held self.new) name.now result }
-        ensures others { IsTrue (tells self.old) → KeepsOthers name.now (held self.old) (held self.new) }
+        ensures starts { IsTrue (tells self.old)
+            → StartsEmpty (held self.old) (held self.new) name.now result }
+        ensures others { IsTrue (tells self.old)
+            → KeepsOthers name.now (held self.old) (held self.new) }
         ensures tells { tells self.new ≡ tells self.old }
         ensures cause { HasCause (write_faults self.old) (write_faults self.new) result }
         ensures read_faults { read_faults self.new ≡ read_faults self.old };
@@ -128,7 +130,8 @@ pub trait Files {
     fn append(&mut self, name: &str, bytes: &[u8]) -> Result<(), Failed>
         ensures appends { IsTrue (tells self.old)
             → Appends (held self.old) (held self.new) name.now bytes.now result }
-        ensures others { IsTrue (tells self.old) → KeepsOthers name.now (held self.old) (held self.new) }
+        ensures others { IsTrue (tells self.old)
+            → KeepsOthers name.now (held self.old) (held self.new) }
         ensures tells { tells self.new ≡ tells self.old }
         ensures cause { HasCause (write_faults self.old) (write_faults self.new) result }
         ensures read_faults { read_faults self.new ≡ read_faults self.old };

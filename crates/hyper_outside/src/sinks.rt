@@ -124,7 +124,8 @@ impl Sink for MemSink {
     /// `Failed` exactly where the call is listed or the bytes don't fit in the room left. Where they don't fit
     /// nothing is added.
     fn put(&mut self, bytes: &[u8]) -> Result<(), Failed>
-        ensures put { Puts (demanding_output self.old) (demanding_output self.new) bytes.now result }
+        ensures put { Puts (demanding_output self.old)
+            (demanding_output self.new) bytes.now result }
         ensures answer { is_ok result ≡ not (put_fails self.old bytes.now) }
         ensures after { self.new ≡ after_put self.old bytes.now }
     {
@@ -184,7 +185,8 @@ impl<W: Write> Sink for RealSink<W> {
     /// it has taken a front of them.
     fn put(&mut self, bytes: &[u8]) -> Result<(), Failed>
         ensures put { Puts (untold self.old.faults) (untold self.new.faults) bytes.now result }
-        ensures taken { Takes (W.contents self.old.inner) (W.contents self.new.inner) bytes.now result }
+        ensures taken { Takes (W.contents self.old.inner)
+            (W.contents self.new.inner) bytes.now result }
     {
         let mut rest = bytes;
         for _ in 0..u64::MAX {

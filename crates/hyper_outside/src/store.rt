@@ -99,7 +99,11 @@ impl Model for Store {
 
     ghost use Rattle.hyper_outside.specs.Places.{files_of, HasRoom};
 
-    ghost view = { λ s. record { files = files_of s.files.items; places = length s.spare.items; room = s.room } };
+    ghost view = { λ s. record {
+      files = files_of s.files.items;
+      places = length s.spare.items;
+      room = s.room;
+    } };
 
     ghost invariant = { HasRoom };
 }

@@ -24,7 +24,8 @@ fn words_of<R: Env + AllocGlobal>(rt: &R) -> io::Result<Vec<String>> {
 /// put.
 pub fn refuse_unread<O: Sink>(out: &mut O, not_text: bool) -> u8
     ensures status { IsTrue not_text → result ≡ status_of no_text }
-    ensures told { IsTrue not_text → WasPut (O.output out.old) (O.output out.new) (refusal_text no_text) }
+    ensures told { IsTrue not_text
+        → WasPut (O.output out.old) (O.output out.new) (refusal_text no_text) }
     ensures refused { (result ≡ status_of no_text) ⊎ (result ≡ status_of Memory) }
     ensures memory { IsFalse not_text → result ≡ status_of Memory }
     ensures nothing { IsFalse not_text → O.output out.new ≡ O.output out.old }

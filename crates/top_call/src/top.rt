@@ -57,7 +57,8 @@ fn run_task<O: Sink>(alloc: Global, task: &Task, out: &mut O) -> u8
         → WasPut (O.output out.old) (O.output out.new) (refusal_text Memory) }
     ensures write { result ≡ status_of Write
         → FailedThenPut (O.output out.old) (O.output out.new) (report task.now) (refusal_text Write) }
-    ensures cause { result ≡ status_of Write → Rose (O.output out.old).faults (O.output out.new).faults }
+    ensures cause { result ≡ status_of Write
+        → Rose (O.output out.old).faults (O.output out.new).faults }
 {
     let Ok(pair) = pair_after(alloc, task) else {
         return refuse(out, &Refusal::Memory);
@@ -98,7 +99,8 @@ pub fn run<R: Threads + Sync, F: Files, O: Sink, G: Gate + Sync>(
         → IfOk (asked words.now)
         (λ task. FailedThenPut (O.output out.old) (O.output out.new)
         (report task) (refusal_text Write)) }
-    ensures cause { result ≡ status_of Write → Rose (O.output out.old).faults (O.output out.new).faults }
+    ensures cause { result ≡ status_of Write
+        → Rose (O.output out.old).faults (O.output out.new).faults }
 
     // No file is changed, and none is asked for.
     ensures files { files.new ≡ files.old }
