@@ -15,8 +15,8 @@ pub fn worked_examples()
     ensures none_of_three_in_it { points (placed (off ∷ off ∷ off ∷ []) (18 ∷ 12 ∷ 1 ∷ []))
         ≡ Some Gammon }
     ensures one_borne_off { points (placed (off ∷ off ∷ []) (1 ∷ off ∷ [])) ≡ Some Single }
-    ensures one_off_one_on_the_bar { points (placed (off ∷ off ∷ off ∷ []) (bar ∷ bar ∷ off ∷ []))
-        ≡ Some Single }
+    ensures one_borne_off_and_one_on_the_bar { points
+        (placed (off ∷ off ∷ off ∷ []) (bar ∷ bar ∷ off ∷ [])) ≡ Some Single }
     ensures one_checker_left { points (placed (1 ∷ []) (bar ∷ [])) ≡ None }
     ensures one_of_three_left { points (placed (24 ∷ off ∷ off ∷ []) (bar ∷ bar ∷ bar ∷ []))
         ≡ None }

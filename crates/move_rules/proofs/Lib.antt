@@ -16,3 +16,4 @@ mod NotationPrints
 mod NoFault
 mod CountsAbove
 mod PrintedTaken
+mod OpeningPlays

@@ -8,9 +8,9 @@ use Rattle.position_rank.specs.Placement.{Placement, moved, above, hit}
 use Rattle.roll_table.specs.Rolls.{Dice, IsRoll, dice_of}
 use Rattle.move_rules.specs.declared.play.Move.{Move}
 use Rattle.move_rules.specs.declared.written.Step.{Step}
-use Rattle.move_rules.specs.Moves.{MayLeave, Runs, BearsOff, IsMove}
+use Rattle.move_rules.specs.Moves.{MayLeave, BearsOff, IsMove}
 use Rattle.move_rules.specs.Sequences.{IsSequence, CanPlay, IsLegal}
-use Rattle.move_rules.specs.Written.{TakesLastOff, IsSmallest, IsDieOf, IsHit, IsStep, IsWritten}
+use Rattle.move_rules.specs.Written.{TakesLastOff, IsDieOf, IsHit, IsStep, IsWritten}
 use Rattle.move_rules.specs.Notation.{AreStepsOf, next_board, IsPlayText, play_text}
 use Rattle.move_rules.proofs.EndsExact.{after_move-complete, same_dice}
 use Rattle.move_rules.proofs.FaultLaws.{Contains-got}
@@ -109,17 +109,17 @@ decide p high low step m less from to off either top = elim (cases_eq (get_or p.
       let is = top last in
       inl (inr (inl (omega arith, (last, omega arith, low, omega (arith, is), inl (ap (λ (n : ℕ). n ∷ low ∷ []) (sym is)))))))
   | inr more ↦ elim (cases_lt low m.from) [
-      | inl over ↦ (
-          let is : m.die ≡ high = by_high over either in
-          let least = each-of-two (λ (other : ℕ). step.from ≤ other → m.die ≤ other) high low (λ long. omega (arith, is)) (λ long. absurd (omega (arith, long))) in
-          inl (inr (inr (omega arith, (λ (other : ℕ) h. more h.0), (subst (λ (n : ℕ). Contains (high ∷ low ∷ []) n) (sym is) (Contains-got (high ∷ low ∷ []) 0 high refl), omega arith, least)))))
-      | inr within ↦ elim either [
-          | inl is ↦ inr (is, within, more)
-          | inr is ↦ (
-              let least = each-of-two (λ (other : ℕ). step.from ≤ other → m.die ≤ other) high low (λ long. omega (arith, is)) (λ long. omega (arith, is)) in
-              inl (inr (inr (omega arith, (λ (other : ℕ) h. more h.0), (subst (λ (n : ℕ). Contains (high ∷ low ∷ []) n) (sym is) (Contains-got (high ∷ low ∷ []) 1 low refl), omega arith, least)))))
-        ]
+    | inl over ↦ (
+        let is : m.die ≡ high = by_high over either in
+        let least = each-of-two (λ (other : ℕ). step.from ≤ other → m.die ≤ other) high low (λ long. omega (arith, is)) (λ long. absurd (omega (arith, long))) in
+        inl (inr (inr (omega arith, (λ (other : ℕ) h. more h.0), (subst (λ (n : ℕ). Contains (high ∷ low ∷ []) n) (sym is) (Contains-got (high ∷ low ∷ []) 0 high refl), omega arith, least)))))
+    | inr within ↦ elim either [
+      | inl is ↦ inr (is, within, more)
+      | inr is ↦ (
+          let least = each-of-two (λ (other : ℕ). step.from ≤ other → m.die ≤ other) high low (λ long. omega (arith, is)) (λ long. omega (arith, is)) in
+          inl (inr (inr (omega arith, (λ (other : ℕ) h. more h.0), (subst (λ (n : ℕ). Contains (high ∷ low ∷ []) n) (sym is) (Contains-got (high ∷ low ∷ []) 1 low refl), omega arith, least)))))
     ]
+  ]
 ] where
   by_high : low < m.from → (m.die ≡ high) ⊎ (m.die ≡ low) → m.die ≡ high
   by_high over (inl is) = is
@@ -201,11 +201,11 @@ swap-dice p high low step (step2 ∷ []) m (n ∷ []) next q played is within mo
     let die : IsDieOf p (high ∷ low ∷ []) step low = inr (inr (omega arith, (λ (other : ℕ) h. more h.0), (Contains-got (high ∷ low ∷ []) 1 low refl, omega arith, least))) in
     let move1 : IsMove p low m.from next = inr (off-by p m.die low m.from next off within went.none_before) in
     let first : IsStep p (high ∷ low ∷ []) step (record { from = m.from; die = low }) 1 next =
-      step-for p (high ∷ low ∷ []) step (record { from = m.from; die = low }) 1 next from (λ t. (let h = (hit.0 t).0 in absurd (omega (arith, h))), λ h. (let on_board = h.0 in absurd (omega (arith, on_board)))) die refl move1 in
+    step-for p (high ∷ low ∷ []) step (record { from = m.from; die = low }) 1 next from (λ t. (let h = (hit.0 t).0 in absurd (omega (arith, h))), λ h. (let on_board = h.0 in absurd (omega (arith, on_board)))) die refl move1 in
     let none : above next.mover n.from ≡ 0 = free off2.highest went.none by_low in
     let move2 : IsMove next high n.from after = inr (off-by next n.die high n.from after off2 (omega arith) none) in
     let second : IsStep next (high ∷ []) step2 (record { from = n.from; die = high }) 0 after =
-      step-for next (high ∷ []) step2 (record { from = n.from; die = high }) 0 after from2 (λ t. (let h = (hit2.0 t).0 in absurd (omega (arith, h))), λ h. (let on_board = h.0 in absurd (omega (arith, on_board)))) (same-die 1 high 0 next step2 (record { from = n.from; die = high }) refl from2 (omega arith)) refl move2 in
+    step-for next (high ∷ []) step2 (record { from = n.from; die = high }) 0 after from2 (λ t. (let h = (hit2.0 t).0 in absurd (omega (arith, h))), λ h. (let on_board = h.0 in absurd (omega (arith, on_board)))) (same-die 1 high 0 next step2 (record { from = n.from; die = high }) refl from2 (omega arith)) refl move2 in
     record {
       others = record { from = m.from; die = low } ∷ record { from = n.from; die = high } ∷ [];
       written = (1, next, first, (0, after, second, rest));
@@ -263,18 +263,25 @@ told p high low (step ∷ steps) (m ∷ moves) q played (suc (suc i), e, next, m
 
 -- ---- any roll
 
+same-dies : (moves others : List Move) → moves ≡ others → map (λ (move : Move). move.die) moves ≡ map (λ (move : Move). move.die) others
+same-dies moves others e = ap (λ (xs : List Move). map (λ (move : Move). move.die) xs) e
+
 -- the steps of a legal sequence are written for a legal sequence to the same end
 pub written-legal : (p : Placement) (roll : Dice) (moves : List Move) (q : Placement) (steps : List Step) → IsRoll roll → IsLegal p roll moves q → AreStepsOf p moves steps → (others : List Move) × IsWritten p (dice_of roll) steps others q × IsLegal p roll others q
 written-legal p roll moves q steps right legal a =
     let r = by (eqb roll.high roll.low) refl legal.sequence legal.longest in
-    let as_many = r.2 in
-    (r.0, r.1, record {
-      sequence = written-sequence p (dice_of roll) steps r.0 q r.1;
-      longest = λ others end s. omega (arith, legal.longest others end s, as_many);
-      higher = λ one apart can. ap (λ (xs : List Move). map (λ (move : Move). move.die) xs) (r.3 (sym as_many ∙ one)) ∙ legal.higher (sym as_many ∙ one) apart can;
-    }) where
+    let as_many = r.2 in (
+      r.0,
+      r.1,
+      record {
+        sequence = written-sequence p (dice_of roll) steps r.0 q r.1;
+        longest = λ others end s. omega (arith, legal.longest others end s, as_many);
+        higher = λ one apart can. same-dies r.0 moves (r.3 (sym as_many ∙ one)) ∙ legal.higher (sym as_many ∙ one) apart can;
+      },
+    ) where
       dice : Bool → List ℕ
       dice b = cond b (roll.high ∷ roll.high ∷ roll.high ∷ roll.high ∷ []) (roll.high ∷ roll.low ∷ [])
+
       by : (b : Bool) → eqb roll.high roll.low ≡ b → IsSequence p (dice b) moves q → ((others : List Move) (end : Placement) → IsSequence p (dice b) others end → length others ≤ length moves)
           → (others : List Move) × IsWritten p (dice b) steps others q × (length others ≡ length moves) × (length moves ≡ 1 → others ≡ moves)
       by true e s longest = (moves, written-same 4 roll.high p steps moves q s a, refl, λ _. refl)

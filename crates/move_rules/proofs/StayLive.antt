@@ -21,7 +21,7 @@ sum-moved counts from to a b h =
     let b' : to < length left = simp length-set b in
     omega (arith, sum_by-set (λ (x : ℕ). x) counts from (get_or counts from 0 - 1) 0 a, sum_by-set (λ (x : ℕ). x) left to (get_or left to 0 + 1) 0 b')
 
-get_or-moved_other : (counts : List ℕ) (from to place : ℕ) → place ≢ from → place ≢ to → get_or (moved counts from to) place 0 ≡ get_or counts place 0
+pub get_or-moved_other : (counts : List ℕ) (from to place : ℕ) → place ≢ from → place ≢ to → get_or (moved counts from to) place 0 ≡ get_or counts place 0
 get_or-moved_other counts from to place a b =
     get_or-set_other (set counts from (get_or counts from 0 - 1)) to place _ 0 b ∙ get_or-set_other counts from place _ 0 a
 

@@ -14,7 +14,8 @@ pub fn worked_examples()
         ≡ (by 1 2 ∷ by 2 1 ∷ [], placed (off ∷ []) (bar ∷ [])) ∷ [] }
     ensures either_but_not_both { legal_ends (placed (20 ∷ off ∷ []) (13 ∷ 13 ∷ [])) (roll 5 3)
         ≡ placed (15 ∷ off ∷ []) (13 ∷ 13 ∷ []) ∷ [] }
-    ensures lower_where_the_higher_cannot { legal_ends (placed (bar ∷ bar ∷ []) (6 ∷ 6 ∷ [])) (roll 6 5)
+    ensures lower_where_the_higher_cannot { legal_ends
+        (placed (bar ∷ bar ∷ []) (6 ∷ 6 ∷ [])) (roll 6 5)
         ≡ placed (bar ∷ 20 ∷ []) (6 ∷ 6 ∷ []) ∷ [] }
     ensures shut_out { legal_ends (placed (bar ∷ 6 ∷ []) (1 ∷ 1 ∷ [])) (roll 1 1)
         ≡ placed (bar ∷ 6 ∷ []) (1 ∷ 1 ∷ []) ∷ [] }
@@ -36,10 +37,14 @@ pub fn worked_moves()
     ensures from_the_bar { IsMove (placed (bar ∷ []) (6 ∷ [])) 5 25 (placed (20 ∷ []) (6 ∷ [])) }
     ensures closed { (q : Placement) → IsMove (placed (6 ∷ []) (22 ∷ 22 ∷ [])) 3 6 q → ⊥ }
     ensures bar_first { (q : Placement) → IsMove (placed (bar ∷ 6 ∷ []) (1 ∷ 1 ∷ [])) 3 6 q → ⊥ }
-    ensures off_by_the_exact_number { IsMove (placed (4 ∷ 2 ∷ []) (1 ∷ 1 ∷ [])) 2 2 (placed (4 ∷ off ∷ []) (1 ∷ 1 ∷ [])) }
-    ensures off_from_the_highest { IsMove (placed (2 ∷ 1 ∷ []) (1 ∷ 1 ∷ [])) 3 2 (placed (1 ∷ off ∷ []) (1 ∷ 1 ∷ [])) }
-    ensures not_with_one_behind { (q : Placement) → IsMove (placed (4 ∷ 2 ∷ []) (1 ∷ 1 ∷ [])) 3 2 q → ⊥ }
-    ensures not_with_one_outside { (q : Placement) → IsMove (placed (7 ∷ 2 ∷ []) (1 ∷ 1 ∷ [])) 2 2 q → ⊥ }
+    ensures off_by_the_exact_number { IsMove (placed (4 ∷ 2 ∷ []) (1 ∷ 1 ∷ [])) 2 2
+        (placed (4 ∷ off ∷ []) (1 ∷ 1 ∷ [])) }
+    ensures off_from_the_highest { IsMove (placed (2 ∷ 1 ∷ []) (1 ∷ 1 ∷ [])) 3 2
+        (placed (1 ∷ off ∷ []) (1 ∷ 1 ∷ [])) }
+    ensures not_with_one_behind { (q : Placement)
+        → IsMove (placed (4 ∷ 2 ∷ []) (1 ∷ 1 ∷ [])) 3 2 q → ⊥ }
+    ensures not_with_one_outside { (q : Placement)
+        → IsMove (placed (7 ∷ 2 ∷ []) (1 ∷ 1 ∷ [])) 2 2 q → ⊥ }
     ensures sides_exchanged { swap (placed (6 ∷ off ∷ []) (bar ∷ 3 ∷ []))
         ≡ placed (bar ∷ 3 ∷ []) (6 ∷ off ∷ []) }
 {}
@@ -51,6 +56,7 @@ pub fn worked_texts()
         ≡ codes "bar/21* 21/20" }
     ensures hits_with_the_second { play_text (placed (24 ∷ []) (4 ∷ [])) (by 1 24 ∷ by 2 23 ∷ [])
         ≡ codes "24/23 23/21*" }
-    ensures bears_off_from_below { play_text (placed (2 ∷ 1 ∷ []) (1 ∷ 1 ∷ [])) (by 6 2 ∷ by 1 1 ∷ [])
+    ensures bears_off_from_below { play_text
+        (placed (2 ∷ 1 ∷ []) (1 ∷ 1 ∷ [])) (by 6 2 ∷ by 1 1 ∷ [])
         ≡ codes "2/off 1/off" }
 {}

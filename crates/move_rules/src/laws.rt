@@ -1,6 +1,7 @@
-ghost use Rattle.std.specs.Prelude.{◌≡◌, ◌↔◌, Contains, List, sum};
+ghost use Rattle.std.specs.Prelude.{◌≡◌, ◌↔◌, ◌≤◌, ℕ, Contains, List, sum};
+ghost use Rattle.position_rank.specs.Packed.{start_placement};
 ghost use Rattle.position_rank.specs.Placement.{Placement, IsPosition, IsLive, InPlay, swap};
-ghost use Rattle.roll_table.specs.Rolls.{Dice, IsRoll, dice_of};
+ghost use Rattle.roll_table.specs.Rolls.{Dice, IsRoll, dice_of, opening_rolls};
 ghost use Rattle.move_rules.specs.Ends.{legal_ends};
 ghost use Rattle.move_rules.specs.Faults.{IsFault};
 ghost use Rattle.move_rules.specs.Sequences.{IsLegal, IsLegalEnd};
@@ -20,6 +21,13 @@ pub fn legal_ends_stay_live()
     ensures { (p : Placement) (roll : Dice) (q : Placement)
         → IsRoll roll → IsPosition p → IsLive p → IsLegalEnd p roll q
         → IsPosition q × (sum q.mover ≡ sum p.mover) × (InPlay q.mover → IsLive (swap q)) }
+{}
+
+/// No opening play ends a game: what it leaves of the start is live for the other side.
+pub fn opening_plays_go_on()
+    ensures { (checkers : ℕ) (roll : Dice) (q : Placement) → 1 ≤ checkers → checkers ≤ 3
+        → Contains opening_rolls roll → IsLegalEnd (start_placement checkers) roll q
+        → IsPosition q × IsLive (swap q) }
 {}
 
 /// A legal play has no fault.

@@ -16,7 +16,7 @@ mod written;
 pub use applied::{BadPlay, apply};
 pub use examples::{worked_examples, worked_moves, worked_texts};
 pub use laws::{
-    legal_ends_are_exact, legal_ends_stay_live, legal_plays_have_no_fault,
+    legal_ends_are_exact, legal_ends_stay_live, legal_plays_have_no_fault, opening_plays_go_on,
     written_legal_plays_have_no_fault,
 };
 pub use listing::plays;

@@ -97,7 +97,8 @@ fn add_lines(position: &Position, dice: &[u8], play: &mut Play, list: &mut PlayL
     requires room { length list.old.items + length (full dice.now play.old.items position.now)
         ≤ MOST_PLAYS }
     ensures play { play.new.items ≡ play.old.items }
-    ensures adds { TakesIn list.old.items (full dice.now play.old.items position.now) list.new.items }
+    ensures adds { TakesIn list.old.items
+        (full dice.now play.old.items position.now) list.new.items }
 {
     if dice.is_empty() {
         add_end(position, play, list);

@@ -67,9 +67,11 @@ pub fn printed_plays_are_read()
 /// play, and every play for which they are written has that end. The dice may be told differently, as where `1/off 1/off` is played
 /// with 3 and then 2, and read as 2 and then 3.
 pub fn printed_plays_are_taken()
-    ensures taken { (p : Placement) (roll : Dice) (moves : List Move) (q : Placement) (steps : List Step)
+    ensures taken { (p : Placement) (roll : Dice) (moves : List Move) (q : Placement)
+        (steps : List Step)
         → IsRoll roll → IsLegal p roll moves q → IsPlayText (play_text p moves) steps
-        → (others : List Move) × IsWritten p (dice_of roll) steps others q × IsLegal p roll others q }
+        → (others : List Move)
+        × IsWritten p (dice_of roll) steps others q × IsLegal p roll others q }
     ensures end { (p : Placement) (roll : Dice) (steps : List Step) (moves others : List Move)
         (q end : Placement)
         → IsWritten p (dice_of roll) steps moves q → IsWritten p (dice_of roll) steps others end

@@ -16,7 +16,7 @@ use Rattle.position_rank.proofs.Choose.{choose-more, choose-one, rises, two-belo
 use Rattle.position_rank.proofs.RisingPlaces.{often-cons, RiseFrom, counts_of-rising_places, rising_places-rise, rising_places-within, length-rising_places, counts_of-same}
 use Rattle.position_rank.proofs.RankLaws.{layouts-one, layouts-two, layouts-three, ways-one, ways-two, ways-three, rank-below, square-below, positions-same}
 
-All-range : (a n : ℕ) → All (λ x. (a ≤ x) × (x < a + n)) (range_with_len a n)
+pub All-range : (a n : ℕ) → All (λ x. (a ≤ x) × (x < a + n)) (range_with_len a n)
 All-range a n = λ k d below.
     let inside : k < n = omega (arith, length-range_with_len a n) in
     rw (get_or-range_with_len a n k d inside) (omega arith, omega arith)

@@ -35,9 +35,9 @@ pub returns-clause-one_borne_off : goal.returns-clause-one_borne_off
 unfolding counts_of
 returns-clause-one_borne_off c = refl
 
-pub returns-clause-one_off_one_on_the_bar : goal.returns-clause-one_off_one_on_the_bar
+pub returns-clause-one_borne_off_and_one_on_the_bar : goal.returns-clause-one_borne_off_and_one_on_the_bar
 unfolding counts_of
-returns-clause-one_off_one_on_the_bar c = refl
+returns-clause-one_borne_off_and_one_on_the_bar c = refl
 
 pub returns-clause-one_checker_left : goal.returns-clause-one_checker_left
 unfolding counts_of
