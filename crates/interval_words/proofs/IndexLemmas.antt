@@ -5,11 +5,8 @@ use Rattle.std.proofs.lemmas.List.{get_or-set_same, get_or-set_other}
 use Rattle.position_rank.specs.Placement.{Placement, IsPosition, IsLive}
 use Rattle.position_rank.specs.Ranks.{square_rank_of}
 use Rattle.position_rank.specs.LiveRanks.{is_live, live_below, live_rank_of}
+use Rattle.interval_words.specs.LiveIndex.{AreCounted}
 use Rattle.position_rank.proofs.LiveLaws.{live_below-none, live-counts, dead-counts, live-from, from-live}
-
--- the squares before this one have their numbers
-abbrev pub AreCounted : ℕ → List ℕ → ℕ → Type 0
-AreCounted checkers below square = (s : ℕ) → s < square → get_or below s 0 ≡ live_below checkers s
 
 pub counted-more : (checkers : ℕ) (below : List ℕ) (square live : ℕ) → square < length below → live ≡ live_below checkers square → AreCounted checkers below square → AreCounted checkers (set below square live) (square + 1)
 counted-more checkers below square live inside so_far each = λ s under. elim (cases_lt s square) [

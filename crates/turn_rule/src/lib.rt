@@ -8,6 +8,7 @@ mod following_laws;
 mod from_sums;
 mod game;
 mod laws;
+mod layouts;
 mod look_laws;
 mod pairs;
 mod plain_reader;
@@ -38,6 +39,7 @@ pub use following_laws::{
 };
 pub use from_sums::pair_from_sums;
 pub use game::Game;
+pub use layouts::all_layouts;
 pub use laws::{
     doubled_examples, rounded_examples, rounds_stay_within_the_bound, rounds_tighten,
     table_examples, tighter_words_tighten_turns, turns_look_at_states_alone,

@@ -4,8 +4,9 @@ ghost use Rattle.turn_rule.specs.Games.{game_of};
 ghost use Rattle.turn_rule.specs.Tables.{IsFull, squares_of, words_of, read_from};
 ghost use Rattle.turn_rule.specs.States.{IsState, AreWithin, pair_of};
 ghost use Rattle.turn_rule.specs.Looks.{AreStakesOf};
-ghost use Rattle.turn_rule.specs.Rounds.{AreAlike, AreLayouts, HasRounds, IsTurned, IsTurnedBefore};
+ghost use Rattle.turn_rule.specs.Rounds.{AreAlike, HasRounds, IsTurned, IsTurnedBefore};
 
+use crate::layouts::all_layouts;
 use crate::pairs::Pairs;
 use crate::plain_reader::PlainReader;
 use crate::sweep::sweep_rows;
@@ -13,7 +14,7 @@ use crate::table::Table;
 use cube_actions::Stakes;
 use directed_fixed::Pair;
 use hyper_outside::NoMemory;
-use position_rank::{Layout, Position, layout_count};
+use position_rank::{Layout, Position};
 use std::alloc::Global;
 use std::marker::Model;
 use std::mem;
@@ -35,19 +36,6 @@ impl Model for PlainTable {
     ghost view = { λ a. record { stakes = a.stakes; table = a.current } };
 
     ghost invariant = { λ a. IsReady a.stakes a.layouts.items a.current a.next };
-}
-
-/// All layouts of so many checkers, by rising rank.
-fn all_layouts(alloc: Global, checkers: u8) -> Result<Vec<Layout>, NoMemory>
-    requires low { 1 ≤ checkers }
-    requires high { checkers ≤ 3 }
-    ensures { IfOk result (λ all. AreLayouts checkers all.items) }
-{
-    let mut all = Vec::new(alloc);
-    for rank in 0..layout_count(checkers) {
-        all.push(Layout::unrank(checkers, rank))?;
-    }
-    Ok(all)
 }
 
 impl PlainTable {

@@ -1,6 +1,6 @@
 use Rattle.std.proofs.Common.{◌≡◌, ◌<◌, ℕ, List, length, slice_index_or}
 use Rattle.turn_rule.specs.Rounds.{HasRank}
-use Rattle.turn_rule.proofs.plain_table.all_layouts.Given as goal
+use Rattle.turn_rule.proofs.layouts.all_layouts.Given as goal
 
 abbrev pub invariant-loop-rank : goal.invariant-loop-rank
 invariant-loop-rank l = record {
