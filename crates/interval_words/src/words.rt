@@ -180,9 +180,12 @@ impl Words {
 
     /// Looks the words up one end at a time. The reader is sure, and its floor and its notes are these words.
     pub fn reader(&self) -> WordsReader<'_>
-        ensures source { (⟦<WordsReader<'static> as Pairs>⟧.seen result).source ≡ source_of self.now }
-        ensures notes { (⟦<WordsReader<'static> as Pairs>⟧.seen result).notes ≡ words_in_list self.now }
-        ensures stakes { AreStakesOf (⟦<WordsReader<'static> as Pairs>⟧.seen result).source self.now.game.stakes }
+        ensures source { (⟦<WordsReader<'static> as Pairs>⟧.seen result).source
+            ≡ source_of self.now }
+        ensures notes { (⟦<WordsReader<'static> as Pairs>⟧.seen result).notes
+            ≡ words_in_list self.now }
+        ensures stakes { AreStakesOf (⟦<WordsReader<'static> as Pairs>⟧.seen result).source
+            self.now.game.stakes }
     {
         // A look at the list shows that its words are right.
         let _list = &self.list;

@@ -25,7 +25,8 @@ fn doubled_from(end: End, sums: &[Fixed], stakes: &Stakes, double: &Double) -> F
     requires many { length sums.now ≡ length stakes.now.kinds }
     requires small { All (IsWithinUnits (pos (2 ^ 42))) sums.now }
     requires right { IsRightDouble stakes.now double.now }
-    ensures found { (source : Source) (noted : Words) (p : Placement) → AreStakesOf source stakes.now
+    ensures found { (source : Source) (noted : Words) (p : Placement)
+        → AreStakesOf source stakes.now
         → AreFoundSums end source noted stakes.now p sums.now
         → IsFoundOf end (of_double stakes.now p double.now) source noted result }
     ensures most { result ≤ℤ stakes.now.bound }
@@ -42,7 +43,8 @@ fn turn_from_sums(end: End, sums: &[Fixed], stakes: &Stakes, kind: usize) -> Fix
     requires many { length sums.now ≡ length stakes.now.kinds }
     requires small { All (IsWithinUnits (pos (2 ^ 42))) sums.now }
     requires kind { kind < length stakes.now.kinds }
-    ensures found { (source : Source) (noted : Words) (p : Placement) → AreStakesOf source stakes.now
+    ensures found { (source : Source) (noted : Words) (p : Placement)
+        → AreStakesOf source stakes.now
         → AreFoundSums end source noted stakes.now p sums.now
         → IsFoundOf end (of_turn stakes.now p kind) source noted result }
 {

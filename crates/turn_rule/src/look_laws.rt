@@ -31,7 +31,8 @@ pub fn one_list_gives_the_turn()
 /// Where a source's floor and its notes are the same words on the states that may follow, the pair of rolling is what rolling is worth
 /// over these words.
 pub fn one_list_gives_the_roll()
-    ensures { (source : Source) (u : Words) (stakes : Terms) (p : Placement) (k factor : ℕ) (pair : Bounds)
+    ensures { (source : Source) (u : Words) (stakes : Terms) (p : Placement) (k factor : ℕ)
+        (pair : Bounds)
         → IsTrue source.tells
         → ((end : End) → AgreeOn (MayFollow stakes p k) end source.floor u)
         → IsRollPair stakes p k factor source u pair → pair ≡ roll_pair stakes u p k factor }
@@ -39,7 +40,8 @@ pub fn one_list_gives_the_roll()
 
 /// Over a sure source a turn and a roll are answered.
 pub fn sure_sources_answer()
-    ensures turn { (old new : Seen) (stakes : Terms) (p : Placement) (k : ℕ) (result : Result Bounds LookStop)
+    ensures turn { (old new : Seen) (stakes : Terms) (p : Placement) (k : ℕ)
+        (result : Result Bounds LookStop)
         → IsTrue old.source.sure → FindsPair (of_turn stakes p k) old new result → IsOk result }
     ensures roll { (old new : Seen) (stakes : Terms) (p : Placement) (k factor : ℕ)
         (result : Result Bounds LookStop)

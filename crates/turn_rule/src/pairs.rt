@@ -62,5 +62,6 @@ pub trait Pairs {
         → AreSourceWords (seen s).source (seen s).source.floor };
 
     /// So are the notes.
-    ghost notes_within: { (s : Self) → IsTrue (seen s).source.tells → AreSourceWords (seen s).source (seen s).notes };
+    ghost notes_within: { (s : Self) → IsTrue (seen s).source.tells
+        → AreSourceWords (seen s).source (seen s).notes };
 }

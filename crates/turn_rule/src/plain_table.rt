@@ -75,7 +75,8 @@ impl PlainTable {
     pub fn reader(&self) -> PlainReader<'_>
         ensures source { (⟦<PlainReader<'static> as Pairs>⟧.seen result).source
             ≡ read_from self.now.table self.now.stakes.bound }
-        ensures notes { (⟦<PlainReader<'static> as Pairs>⟧.seen result).notes ≡ words_of self.now.table }
+        ensures notes { (⟦<PlainReader<'static> as Pairs>⟧.seen result).notes
+            ≡ words_of self.now.table }
         ensures stakes { AreStakesOf (⟦<PlainReader<'static> as Pairs>⟧.seen result).source
             self.now.stakes }
     {

@@ -21,13 +21,13 @@ loop-rank-preserved c =
     let here : square < length list = omega (arith, room, c.loop-rank.invariant.room, c.loop-rank-test.true) in
     let next : square + 1 ≡ c.args.row * many + (c.loop-rank.rank + 1) = omega arith in
     let mover : HasRank c.args.checkers c.args.row c.index-layouts-row.result =
-        subst (HasRank c.args.checkers c.args.row) (sym c.index-layouts-row.is) (c.requires.all.each c.args.row c.index-layouts-row.result c.requires.row) in
+    subst (HasRank c.args.checkers c.args.row) (sym c.index-layouts-row.is) (c.requires.all.each c.args.row c.index-layouts-row.result c.requires.row) in
     let other : HasRank c.args.checkers c.loop-rank.rank c.index-layouts-rank.result =
-        subst (HasRank c.args.checkers c.loop-rank.rank) (sym c.index-layouts-rank.is) (c.requires.all.each c.loop-rank.rank c.index-layouts-rank.result c.loop-rank-test.true) in
+    subst (HasRank c.args.checkers c.loop-rank.rank) (sym c.index-layouts-rank.is) (c.requires.all.each c.loop-rank.rank c.index-layouts-rank.result c.loop-rank-test.true) in
     let p : Placement = record { mover = c.index-layouts-row.result; other = c.index-layouts-rank.result } in
     let is : IsPosition p = record { mover = mover.valid; other = other.valid; same = mover.many ∙ sym other.many } in
     let at : square_rank_of p ≡ square =
-        rw (mover.ranked, other.ranked, mover.many) (ap (λ (n : ℕ). c.args.row * n + c.loop-rank.rank) (sym c.requires.all.many)) in
+    rw (mover.ranked, other.ranked, mover.many) (ap (λ (n : ℕ). c.args.row * n + c.loop-rank.rank) (sym c.requires.all.many)) in
     let counted = subst (λ (n : ℕ). AreCounted c.args.checkers (set list square c.loop-rank.live) n) next (counted-more c.args.checkers list square c.loop-rank.live here c.loop-rank.invariant.live c.loop-rank.invariant.counted) in
     let long = length-set list square c.loop-rank.live ∙ c.loop-rank.invariant.room in
     elim c.if-are_live.branch [
