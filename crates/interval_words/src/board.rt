@@ -26,8 +26,9 @@ use std::alloc::{AllocError, Global};
 use std::marker::Model;
 use turn_rule::Game;
 
-/// A lower and an upper word for each state of a game, which many threads read and tighten at once, each with a seat of its own.
-/// No call waits for another. Between any two of their steps every word is sound.
+/// A lower and an upper word for each state of a game, which many threads read and tighten at once,
+/// each with a seat of its own. No call waits for another. Between any two of their steps every
+/// word is sound.
 #[derive(Drop)]
 pub struct Board {
     table: Table<(), View, Game, CoreRule, Global>,
@@ -48,8 +49,9 @@ impl Model for Board {
         Stands shared.table_id shared.key (game_of b.index b.stakes) };
 }
 
-/// A place at a board. It has no bytes; contracts see what its owner knows of the words: the notes of what was read or written with it
-/// since the last round that was settled, and the number of rounds settled.
+/// A place at a board. It has no bytes; contracts see what its owner knows of the words: the notes
+/// of what was read or written with it since the last round that was settled, and the number of
+/// rounds settled.
 #[derive(Drop)]
 pub struct BoardSeat {
     seat: Seat<(), View>,
@@ -111,8 +113,9 @@ fn last_words(
 }
 
 impl Board {
-    /// A board for one to three checkers a side on which only the bound is known of any state, and its first seat, which knows nothing
-    /// and has settled no round. It asks for memory for the words and the index of positions, and may answer `NoMemory`.
+    /// A board for one to three checkers a side on which only the bound is known of any state, and
+    /// its first seat, which knows nothing and has settled no round. It asks for memory for the
+    /// words and the index of positions, and may answer `NoMemory`.
     pub fn new(alloc: Global, checkers: u8, stakes: &Stakes) -> Result<(Board, BoardSeat), NoMemory>
         requires low { 1 ≤ checkers }
         requires high { checkers ≤ 3 }
@@ -163,7 +166,8 @@ impl Board {
         &self.index
     }
 
-    /// The number of a state, from 0: the position's live rank times the number of kinds, and the kind.
+    /// The number of a state, from 0: the position's live rank times the number of kinds, and the
+    /// kind.
     #[inline]
     pub fn number(&self, position: &Position, kind: usize) -> u64
         requires { IsState self.now.game position.now kind }
@@ -251,7 +255,8 @@ impl Board {
         self.read(seat, End::Upper, state)
     }
 
-    /// Raises the lower word of the state with this number to a value, unless it is as high already.
+    /// Raises the lower word of the state with this number to a value, unless it is as high
+    /// already.
     #[inline]
     pub fn raise(&self, seat: &mut BoardSeat, state: u64, value: Fixed)
         requires seat { SitsAt self.now seat.old }
@@ -305,8 +310,8 @@ impl Board {
         shared.fetch_min::<Tightening>(&mut seat.seat, place, word);
     }
 
-    /// Ends a round of the seat, for which it knows each word to be at least as tight as after one round more than it has settled.
-    /// The notes are dropped.
+    /// Ends a round of the seat, for which it knows each word to be at least as tight as after one
+    /// round more than it has settled. The notes are dropped.
     pub fn settle(&self, seat: &mut BoardSeat)
         requires seat { SitsAt self.now seat.old }
         requires round { IsRoundDone self.now.game seat.old.view }
@@ -336,8 +341,8 @@ impl Board {
         shared.join_seat::<Joining>(&mut seat.seat, other.seat);
     }
 
-    /// The board's words at the end, after the rounds that the seat has settled. For a while they stand in memory twice. After `NoMemory`
-    /// the board and the seat are gone.
+    /// The board's words at the end, after the rounds that the seat has settled. For a while they
+    /// stand in memory twice. After `NoMemory` the board and the seat are gone.
     pub fn close(self, alloc: Global, seat: BoardSeat, rounds: u32) -> Result<Closed, NoMemory>
         requires seat { SitsAt self seat }
         requires rounds { rounds ≡ seat.view.base }

@@ -33,7 +33,8 @@ pub fn kept_words_are_sound()
         → AreSound game (noted game notes) }
 {}
 
-/// Each state has a number below the number of states, each such number is a state's, and different states have different numbers.
+/// Each state has a number below the number of states, each such number is a state's, and different
+/// states have different numbers.
 pub fn states_are_numbered()
     ensures below { (game : Game) (p : Placement) (k : ℕ) → IsState game p k
         → state_of (kinds_of game) p k < states_of game }
@@ -43,8 +44,8 @@ pub fn states_are_numbered()
         → state_of (kinds_of game) p k ≡ state_of (kinds_of game) q j → (p ≡ q) × (k ≡ j) }
 {}
 
-/// Consistent words of a list enclose every state, in games of any number of turns from 0 on, where a win and a pass lie in the stakes'
-/// pairs and an unfinished end in the pair of its own state.
+/// Consistent words of a list enclose every state, in games of any number of turns from 0 on, where
+/// a win and a pass lie in the stakes' pairs and an unfinished end in the pair of its own state.
 pub fn consistent_lists_enclose()
     ensures { (words : WordList) → IsGame words.game → AreRight words
         → AreConsistent words.game (words_in_list words)
@@ -52,8 +53,8 @@ pub fn consistent_lists_enclose()
         → (turns : ℕ) → AreEnclosing words.game scoring turns (words_in_list words) }
 {}
 
-/// Each note is told, and more notes tell no less. So a word that is read is at least as tight as each value that was raised to or read
-/// before with the same seat, since its last round.
+/// Each note is told, and more notes tell no less. So a word that is read is at least as tight as
+/// each value that was raised to or read before with the same seat, since its last round.
 pub fn notes_only_tighten()
     ensures told { (game : Game) (notes : List Note) (value : ℤ) (end : End) (p : Placement) (k : ℕ)
         → let word = word_of end (state_of (kinds_of game) p k) in

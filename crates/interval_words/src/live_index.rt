@@ -11,7 +11,8 @@ use std::alloc::Global;
 use std::marker::Model;
 use turn_rule::all_layouts;
 
-/// The live ranks of all live positions of one to three checkers a side, with 4 bytes for each pair of layouts.
+/// The live ranks of all live positions of one to three checkers a side, with 4 bytes for each pair
+/// of layouts.
 #[derive(Drop)]
 pub struct LiveIndex {
     checkers: u8,
@@ -38,8 +39,8 @@ fn are_live(mover: &Layout, other: &Layout) -> bool
     mover.is_in_play() && other.is_in_play() && mover.is_apart(other)
 }
 
-/// Numbers the positions of one layout of the mover, from how many live positions have a smaller square rank, and tells how many have
-/// after them.
+/// Numbers the positions of one layout of the mover, from how many live positions have a smaller
+/// square rank, and tells how many have after them.
 fn number_row(checkers: u8, layouts: &[Layout], row: usize, below: &mut [u32], live: u32) -> u32
     requires all { AreLayouts checkers layouts.now }
     requires few { length layouts.now ≤ 3276 }
@@ -65,7 +66,8 @@ fn number_row(checkers: u8, layouts: &[Layout], row: usize, below: &mut [u32], l
 }
 
 impl LiveIndex {
-    /// The index of one to three checkers a side. It walks over all positions once, asks for memory, and may answer `NoMemory`.
+    /// The index of one to three checkers a side. It walks over all positions once, asks for
+    /// memory, and may answer `NoMemory`.
     pub fn new(alloc: Global, checkers: u8) -> Result<LiveIndex, NoMemory>
         requires low { 1 ≤ checkers }
         requires high { checkers ≤ 3 }

@@ -2,7 +2,8 @@ use crate::view::View;
 use atomic_table::{Join, Play, Split, TableRule};
 use turn_rule::Game;
 
-/// The rule of a board's table: its words and views are a core in which everything holds that no event breaks.
+/// The rule of a board's table: its words and views are a core in which everything holds that no
+/// event breaks.
 pub(crate) struct CoreRule;
 
 impl TableRule<(), View, Game> for CoreRule {

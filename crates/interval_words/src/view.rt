@@ -9,8 +9,9 @@ pub struct Note {
     pub value: Fixed,
 }
 
-/// What a seat knows of the words of a game: that they are at least as tight as after `base` rounds, and the notes. A view that another
-/// took in names no game. No value of this type is made: contracts speak of it.
+/// What a seat knows of the words of a game: that they are at least as tight as after `base`
+/// rounds, and the notes. A view that another took in names no game. No value of this type is made:
+/// contracts speak of it.
 #[derive(Drop)]
 pub struct View {
     pub game: Option<Game>,

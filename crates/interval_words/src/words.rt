@@ -34,7 +34,8 @@ impl Model for Words {
     ghost invariant = { λ a. AreRight (list_of (game_of a.index a.stakes) a.rounds a.list.items) };
 }
 
-/// Both words of the state with this number. `None` exactly where one is out of range or the lower one is above the upper one.
+/// Both words of the state with this number. `None` exactly where one is out of range or the lower
+/// one is above the upper one.
 #[inline]
 fn pair_of_list(list: &[u64], state: usize, bound: Fixed) -> Option<Pair>
     requires state { 2 * state + 1 < length list.now }
@@ -68,8 +69,9 @@ fn are_right(list: &[u64], states: usize, bound: Fixed) -> bool
 }
 
 impl Words {
-    /// The words of a list, with the checkers of the index: two for each state, by rising live rank and then kind, the lower one first.
-    /// `None` exactly where the list hasn't two words for each state, a word is out of range, or a lower word is above its upper word.
+    /// The words of a list, with the checkers of the index: two for each state, by rising live rank
+    /// and then kind, the lower one first. `None` exactly where the list hasn't two words for each
+    /// state, a word is out of range, or a lower word is above its upper word.
     pub fn from_list(
         index: LiveIndex,
         stakes: &Stakes,
@@ -124,8 +126,8 @@ impl Words {
         self.rounds
     }
 
-    /// What every list of words keeps: one to three checkers and valid stakes, two words for each state, both within the bound, the lower
-    /// one at most the upper one.
+    /// What every list of words keeps: one to three checkers and valid stakes, two words for each
+    /// state, both within the bound, the lower one at most the upper one.
     pub fn right(&self)
         ensures game { IsGame self.now.game }
         ensures right { AreRight self.now }
@@ -178,7 +180,8 @@ impl Words {
         widest
     }
 
-    /// Looks the words up one end at a time. The reader is sure, and its floor and its notes are these words.
+    /// Looks the words up one end at a time. The reader is sure, and its floor and its notes are
+    /// these words.
     pub fn reader(&self) -> WordsReader<'_>
         ensures source { (⟦<WordsReader<'static> as Pairs>⟧.seen result).source
             ≡ source_of self.now }
@@ -193,7 +196,8 @@ impl Words {
     }
 }
 
-/// The words of a board that was closed: they are sound, consistent, and at least as tight as after their rounds. Nothing else makes them.
+/// The words of a board that was closed: they are sound, consistent, and at least as tight as after
+/// their rounds. Nothing else makes them.
 #[derive(Drop)]
 pub struct Closed {
     words: Words,

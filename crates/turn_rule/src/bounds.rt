@@ -11,7 +11,8 @@ use hyper_outside::LookStop;
 use move_rules::PlayList;
 use position_rank::Position;
 
-/// The pair of two ends. Where they are crossed, as only ends of untold words can be, they are exchanged.
+/// The pair of two ends. Where they are crossed, as only ends of untold words can be, they are
+/// exchanged.
 #[inline]
 pub(crate) fn pair_of(lower: Fixed, upper: Fixed) -> Pair
     ensures lower { result.lower ≡ int_min lower upper }
@@ -21,11 +22,12 @@ pub(crate) fn pair_of(lower: Fixed, upper: Fixed) -> Pair
 }
 
 impl RollEnds {
-    /// What rolling in a kind is worth that counts once, twice or four times: the mean over the 36 ways of two dice of the best play's value,
-    /// times the factor, rounded outwards at each end.
+    /// What rolling in a kind is worth that counts once, twice or four times: the mean over the 36
+    /// ways of two dice of the best play's value, times the factor, rounded outwards at each end.
     ///
-    /// It stops where a look-up does: `ReadFault` where a call of the outside failed, `BadPage` where the words of a state that may follow
-    /// can't be had, `NoMemory` where there was no memory. Over pairs that are sure it answers.
+    /// It stops where a look-up does: `ReadFault` where a call of the outside failed, `BadPage`
+    /// where the words of a state that may follow can't be had, `NoMemory` where there was no
+    /// memory. Over pairs that are sure it answers.
     pub fn roll_bounds<P: Pairs>(
         &self,
         stakes: &Stakes,
@@ -46,8 +48,10 @@ impl RollEnds {
         Ok(pair_of(lower, upper))
     }
 
-    /// What a state of this position is worth before its turn: without a right to double, what rolling is worth. With one, the greater at each
-    /// end of that and of the double, whose answerer picks the smallest of the pass and of what rolling is worth after each other answer.
+    /// What a state of this position is worth before its turn: without a right to double, what
+    /// rolling is worth. With one, the greater at each end of that and of the double, whose
+    /// answerer picks the smallest of the pass and of what rolling is worth after each other
+    /// answer.
     ///
     /// It stops where a look-up does, as `roll_bounds`.
     pub fn turn_bounds<P: Pairs>(

@@ -65,8 +65,8 @@ fn fill_all(position: &Position, kept: &mut [OneRoll], list: &mut PlayList)
     }
 }
 
-/// The ends of the legal plays of every roll of a position. They are worked out once, and serve every kind.
-/// It can be filled again for another position, and takes no memory.
+/// The ends of the legal plays of every roll of a position. They are worked out once, and serve
+/// every kind. It can be filled again for another position, and takes no memory.
 #[derive(Drop)]
 pub struct RollEnds {
     position: Position,

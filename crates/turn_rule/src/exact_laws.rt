@@ -19,14 +19,16 @@ pub fn exact_values_stay_within_the_bound()
         → (turns : ℕ) → AreEnclosing game scoring turns (bound_words game.stakes) }
 {}
 
-/// Where words enclose every state, a turn over them encloses every state in the game of one turn more.
+/// Where words enclose every state, a turn over them encloses every state in the game of one turn
+/// more.
 pub fn turns_enclose_one_turn_more()
     ensures { (game : Game) → IsGame game → (scoring : Scoring) → IsScoring game scoring
         → (turns : ℕ) (u : Words) → AreEnclosing game scoring turns u
         → AreEnclosing game scoring (turns + 1) (turn game.stakes u) }
 {}
 
-/// The words after some rounds enclose every state in every game of at least as many turns, however it is scored within its stakes.
+/// The words after some rounds enclose every state in every game of at least as many turns, however
+/// it is scored within its stakes.
 pub fn rounds_enclose_longer_games()
     ensures { (game : Game) → IsGame game → (r : ℕ) → AreSoundFrom game r (rounds game.stakes r) }
 {}
@@ -60,29 +62,31 @@ pub fn rounds_are_consistent()
     ensures { (game : Game) → IsGame game → (r : ℕ) → AreConsistent game (rounds game.stakes r) }
 {}
 
-/// Consistent words enclose every state, in games of any number of turns, where a win and a pass lie in the stakes' pairs, and an
-/// unfinished end in the pair of its own state.
+/// Consistent words enclose every state, in games of any number of turns, where a win and a pass
+/// lie in the stakes' pairs, and an unfinished end in the pair of its own state.
 pub fn consistent_words_enclose()
     ensures { (game : Game) → IsGame game → (u : Words) → AreConsistent game u
         → (scoring : Scoring) → IsScoringWithin game u scoring
         → (turns : ℕ) → AreEnclosing game scoring turns u }
 {}
 
-/// Where the stakes' wins and passes are known at least as well, tighter words give a turn that is at least as tight.
+/// Where the stakes' wins and passes are known at least as well, tighter words give a turn that is
+/// at least as tight.
 pub fn tighter_stakes_tighten_turns()
     ensures { (game : Game) → IsGame game → (other : Terms) → AreNoLooserStakes game.stakes other
         → (u v : Words) → AreNoLooser game u v
         → AreNoLooser game (turn game.stakes u) (turn other v) }
 {}
 
-/// Where the stakes' wins and passes are known at least as well, the words after some rounds are at least as tight.
+/// Where the stakes' wins and passes are known at least as well, the words after some rounds are at
+/// least as tight.
 pub fn tighter_stakes_tighten_rounds()
     ensures { (game : Game) → IsGame game → (other : Terms) → AreNoLooserStakes game.stakes other
         → (r : ℕ) → AreNoLooser game (rounds game.stakes r) (rounds other r) }
 {}
 
-/// Scorings of the game without a cube and of the doubling game: an unfinished end may be worth three points and no more, and a gammon
-/// counts two points in the one and one in the other.
+/// Scorings of the game without a cube and of the doubling game: an unfinished end may be worth
+/// three points and no more, and a gammon counts two points in the one and one in the other.
 pub fn scoring_examples()
     ensures cubeless { IsScoring (game_of 1 cubeless) (cut_off_at (pos 3)) }
     ensures doubling { IsScoring (game_of 1 doubling_game)
@@ -91,11 +95,13 @@ pub fn scoring_examples()
     ensures gammon_for_one { ¬ IsScoring (game_of 1 cubeless) (scored (win_points 1 1 3) (pos 0)) }
 {}
 
-/// Games without a cube that are cut off, after one turn over 36, and after two over 36 * 36 = 1296. From 6 there are 27 rolls of 36 that win
-/// a gammon: 54 points, where an unfinished end is worth nothing. A second turn lets the other side win one after the other 9 rolls:
-/// 18 * 36 = 648 gammons are left, which are 1296 points. From 5 there are 31 rolls, and each win is a single one: 26 * 36 = 936. From 24 only
-/// double sixes win, 3 points. Where an unfinished end is then worth a point to the other side, whose turn it is, the other 35 rolls lose 35
-/// points; where it costs that side two, they win 70.
+/// Games without a cube that are cut off, after one turn over 36, and after two over 36 * 36 =
+/// 1296. From 6 there are 27 rolls of 36 that win a gammon: 54 points, where an unfinished end is
+/// worth nothing. A second turn lets the other side win one after the other 9 rolls: 18 * 36 = 648
+/// gammons are left, which are 1296 points. From 5 there are 31 rolls, and each win is a single
+/// one: 26 * 36 = 936. From 24 only double sixes win, 3 points. Where an unfinished end is then
+/// worth a point to the other side, whose turn it is, the other 35 rolls lose 35 points; where it
+/// costs that side two, they win 70.
 pub fn exact_examples()
     ensures cut_off_at_once { (p : Placement) (k : ℕ)
         → exact cubeless (cut_off_at (pos 2)) 0 p k ≡ pos 2 }
@@ -109,9 +115,10 @@ pub fn exact_examples()
         (placed (24 ∷ []) (24 ∷ [])) 0 ≡ pos 73 }
 {}
 
-/// Two turns of the doubling game, where the other side bears off its last checker at its roll: values over 36 * 36 = 1296. With 31 winning
-/// rolls of 36 a double is passed, which is worth the whole point. With 19 it is taken, and doubles 2 * 36 = 72. With 6 there is none, and
-/// 24 * 36 = 864 are lost.
+/// Two turns of the doubling game, where the other side bears off its last checker at its roll:
+/// values over 36 * 36 = 1296. With 31 winning rolls of 36 a double is passed, which is worth the
+/// whole point. With 19 it is taken, and doubles 2 * 36 = 72. With 6 there is none, and 24 * 36 =
+/// 864 are lost.
 pub fn exact_doubled_examples()
     ensures passed { exact doubling_game games_won 2 (placed (5 ∷ off ∷ []) (1 ∷ off ∷ [])) 0
         ≡ pos 1296 }
@@ -121,9 +128,11 @@ pub fn exact_doubled_examples()
         ≡ neg_ℤ (pos 864) }
 {}
 
-/// Two turns with a real cube, values over 1296. The Jacoby rule, from `6 / 1` with the cube centred: 27 rolls win a point and 9 lose one,
-/// 18 * 36 = 648. Doubled and taken, each win is a gammon that counts four, and 18 * 4 * 36 = 2592: so the double is passed, for 1296.
-/// With beavers, from `8 / 1`, 17 rolls win and 19 lose: -2 * 36 = -72. A take would lose 288 and a beaver 576, so there is no double.
+/// Two turns with a real cube, values over 1296. The Jacoby rule, from `6 / 1` with the cube
+/// centred: 27 rolls win a point and 9 lose one, 18 * 36 = 648. Doubled and taken, each win is a
+/// gammon that counts four, and 18 * 4 * 36 = 2592: so the double is passed, for 1296. With
+/// beavers, from `8 / 1`, 17 rolls win and 19 lose: -2 * 36 = -72. A take would lose 288 and a
+/// beaver 576, so there is no double.
 pub fn exact_cube_examples()
     ensures rolling { rolled_first jacoby jacoby_won (placed (6 ∷ []) (1 ∷ [])) 0 ≡ pos 648 }
     ensures pass { pos (36 ^ 2) *ℤ jacoby_won.pass 0 ≡ pos 1296 }
@@ -144,8 +153,8 @@ pub fn exact_cube_examples()
         ≡ neg_ℤ (pos 72) }
 {}
 
-/// 936 points of 1296 are 3101920824.88.. units, which lie between these two numbers, but not above the greater one nor below the less. A
-/// 36th of a point is 119304647.11.. units.
+/// 936 points of 1296 are 3101920824.88.. units, which lie between these two numbers, but not above
+/// the greater one nor below the less. A 36th of a point is 119304647.11.. units.
 pub fn bound_of_examples()
     ensures between { Encloses (gains 3101920824 3101920825) (pos 936) 1296 }
     ensures not_above { ¬ IsBoundOf Lower (pos 3101920825) (pos 936) 1296 }
@@ -155,8 +164,8 @@ pub fn bound_of_examples()
     ensures lost_less { ¬ IsBoundOf Lower (neg_ℤ (pos 119304647)) (neg_ℤ (pos 1)) 36 }
 {}
 
-/// From 1 each roll wins a gammon, in every game of a turn or more: so two points are sound at both ends. A unit more isn't at the lower end,
-/// nor a unit less at the upper one.
+/// From 1 each roll wins a gammon, in every game of a turn or more: so two points are sound at both
+/// ends. A unit more isn't at the lower end, nor a unit less at the upper one.
 pub fn sound_examples()
     ensures two_points { (end : End)
         → IsSound (game_of 1 cubeless) end (pos 8589934592) (placed (1 ∷ []) (1 ∷ [])) 0 }
@@ -166,8 +175,9 @@ pub fn sound_examples()
         (placed (1 ∷ []) (1 ∷ [])) 0 }
 {}
 
-/// All stakes are as tight as they are themselves. A game in which a gammon wins two points is tighter than one in which it wins one to
-/// three, and not the other way round. Games with other rights to double can't be compared.
+/// All stakes are as tight as they are themselves. A game in which a gammon wins two points is
+/// tighter than one in which it wins one to three, and not the other way round. Games with other
+/// rights to double can't be compared.
 pub fn tighter_examples()
     ensures same { (stakes : Terms) → AreNoLooserStakes stakes stakes }
     ensures known_gammon { AreNoLooserStakes cubeless vague_game }

@@ -20,8 +20,8 @@ pub fn what_may_follow_is_a_state()
         → (q : Placement) (j : ℕ) → MayFollowTurn game.stakes p k q j → IsState game q j }
 {}
 
-/// Rolling, however often it counts, and a turn ask for no words but those of the states that may follow, at the other end: where these
-/// are equal, the values are.
+/// Rolling, however often it counts, and a turn ask for no words but those of the states that may
+/// follow, at the other end: where these are equal, the values are.
 pub fn equal_words_that_follow_give_equal_values()
     ensures rolling { (stakes : Terms) (p : Placement) (k factor : ℕ) (end : End) (u v : Words)
         → AgreeOn (MayFollow stakes p k) (other end) u v
@@ -41,8 +41,9 @@ pub fn tighter_words_that_follow_give_tighter_values()
         → IsNoLooser end (turn stakes u end p k) (turn stakes v end p k) }
 {}
 
-/// Where the words that may follow bound any later values, rolling and the turn bound what these are worth before them, over 36 times as
-/// much: a step of the exact value from any values in place of exact ones.
+/// Where the words that may follow bound any later values, rolling and the turn bound what these
+/// are worth before them, over 36 times as much: a step of the exact value from any values in place
+/// of exact ones.
 pub fn bounds_that_follow_give_bounds()
     ensures rolling { (game : Game) (scoring : Scoring) → AreWinsWithin game scoring
         → (turns : ℕ) (later : Values) (p : Placement) (k factor : ℕ) → k < kinds_of game
@@ -62,8 +63,8 @@ pub fn bounds_that_follow_give_bounds()
         (scoring.scale * 36 ^ (turns + 1)) }
 {}
 
-/// Where the words that may follow are within the bound, lower at most upper, so is a turn, and so is rolling within so many times the
-/// bound as it counts.
+/// Where the words that may follow are within the bound, lower at most upper, so is a turn, and so
+/// is rolling within so many times the bound as it counts.
 pub fn values_stay_within_the_bound()
     ensures rolling { (game : Game) → IsGame game → (p : Placement) (k factor : ℕ) (u : Words)
         → k < kinds_of game → AreWithinOn (MayFollow game.stakes p k) game.stakes.bound u

@@ -38,7 +38,8 @@ fn doubled_from(end: End, sums: &[Fixed], stakes: &Stakes, double: &Double) -> F
     least
 }
 
-/// What a state is worth before its turn, at one end, from the sums of all kinds over the 36 ways of two dice.
+/// What a state is worth before its turn, at one end, from the sums of all kinds over the 36 ways
+/// of two dice.
 fn turn_from_sums(end: End, sums: &[Fixed], stakes: &Stakes, kind: usize) -> Fixed
     requires many { length sums.now ≡ length stakes.now.kinds }
     requires small { All (IsWithinUnits (pos (2 ^ 42))) sums.now }

@@ -51,10 +51,12 @@ pub fn rounded_examples()
     ensures one_win_of_36_up { ceil_36 (neg_ℤ (pos 438086664192)) ≡ neg_ℤ (pos 12169074005) }
 {}
 
-/// Games without a cube. Before the first round a game may be lost or won for three points. From 1 each roll bears off the last checker,
-/// and wins a gammon, or a backgammon if the other side's checker is on the bar. From 24 only double sixes do, and win a backgammon.
-/// From 6 there are 27 rolls of 36 that win a gammon; after the other 9 the other side wins one, as the second round finds.
-/// From 5 there are 31, and with a checker of each side off, each win is a single one: 26 points of 36.
+/// Games without a cube. Before the first round a game may be lost or won for three points. From 1
+/// each roll bears off the last checker, and wins a gammon, or a backgammon if the other side's
+/// checker is on the bar. From 24 only double sixes do, and win a backgammon. From 6 there are 27
+/// rolls of 36 that win a gammon; after the other 9 the other side wins one, as the second round
+/// finds. From 5 there are 31, and with a checker of each side off, each win is a single one: 26
+/// points of 36.
 pub fn worked_examples()
     ensures before_the_first_round { (p : Placement) (k : ℕ)
         → pair_of (bound_words cubeless) p k ≡ between 12884901888 12884901888 }
@@ -71,8 +73,9 @@ pub fn worked_examples()
         ≡ gains 3101920824 3101920825 }
 {}
 
-/// A game in which the mover may always double, where the other side bears off its last checker at its next roll.
-/// With 31 winning rolls of 36 a double is passed. With 19 it is taken, and doubles 2 points of 36. With 6 there is none, and 24 points of 36 are lost.
+/// A game in which the mover may always double, where the other side bears off its last checker at
+/// its next roll. With 31 winning rolls of 36 a double is passed. With 19 it is taken, and doubles
+/// 2 points of 36. With 6 there is none, and 24 points of 36 are lost.
 pub fn doubled_examples()
     ensures valid { IsValid doubling_game }
     ensures passed { pair_of (rounds doubling_game 2) (placed (5 ∷ off ∷ []) (1 ∷ off ∷ [])) 0
@@ -83,8 +86,9 @@ pub fn doubled_examples()
         ≡ losses 2863311531 2863311530 }
 {}
 
-/// How many squares there are of one, two and three checkers a side, and where the pairs of a position stand: its mover's layout is the
-/// 22nd of 351, its other side's the second, and each square has a pair for each kind.
+/// How many squares there are of one, two and three checkers a side, and where the pairs of a
+/// position stand: its mover's layout is the 22nd of 351, its other side's the second, and each
+/// square has a pair for each kind.
 pub fn table_examples()
     ensures one { squares_of 1 ≡ 676 }
     ensures two { squares_of 2 ≡ 123201 }

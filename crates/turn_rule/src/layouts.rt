@@ -5,7 +5,8 @@ use hyper_outside::NoMemory;
 use position_rank::{Layout, layout_count};
 use std::alloc::Global;
 
-/// All layouts of one to three checkers, by rising rank. It asks for memory, and may answer `NoMemory`.
+/// All layouts of one to three checkers, by rising rank. It asks for memory, and may answer
+/// `NoMemory`.
 pub fn all_layouts(alloc: Global, checkers: u8) -> Result<Vec<Layout>, NoMemory>
     requires low { 1 ≤ checkers }
     requires high { checkers ≤ 3 }

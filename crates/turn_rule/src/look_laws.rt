@@ -20,7 +20,8 @@ ghost use Rattle.turn_rule.specs.Looks.{
   roll_pair,
 };
 
-/// Where a source's floor and its notes are the same words on the states that may follow, the pair of a turn is the turn over these words.
+/// Where a source's floor and its notes are the same words on the states that may follow, the pair
+/// of a turn is the turn over these words.
 pub fn one_list_gives_the_turn()
     ensures { (source : Source) (u : Words) (stakes : Terms) (p : Placement) (k : ℕ) (pair : Bounds)
         → IsTrue source.tells
@@ -28,8 +29,8 @@ pub fn one_list_gives_the_turn()
         → IsTurnPair stakes p k source u pair → pair ≡ pair_of (turn stakes u) p k }
 {}
 
-/// Where a source's floor and its notes are the same words on the states that may follow, the pair of rolling is what rolling is worth
-/// over these words.
+/// Where a source's floor and its notes are the same words on the states that may follow, the pair
+/// of rolling is what rolling is worth over these words.
 pub fn one_list_gives_the_roll()
     ensures { (source : Source) (u : Words) (stakes : Terms) (p : Placement) (k factor : ℕ)
         (pair : Bounds)

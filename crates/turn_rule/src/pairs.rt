@@ -15,8 +15,8 @@ pub trait Pairs {
     /// What no call changes, beside the source.
     ghost stays: { Self → Stays };
 
-    /// Where words are looked up, the words that no answer is tighter than, and how often a call of the outside has failed.
-    /// No call loosens these words, where the source tells its words.
+    /// Where words are looked up, the words that no answer is tighter than, and how often a call of
+    /// the outside has failed. No call loosens these words, where the source tells its words.
     ghost seen: { Self → Seen };
 
     /// The lower word of a state.

@@ -19,7 +19,8 @@ use std::alloc::Global;
 use std::marker::Model;
 use std::mem;
 
-/// A pair for each state of a game, after some rounds in which every state takes its turn over the pairs of the round before.
+/// A pair for each state of a game, after some rounds in which every state takes its turn over the
+/// pairs of the round before.
 #[derive(Drop)]
 pub struct PlainTable {
     stakes: Stakes,
@@ -71,7 +72,8 @@ impl PlainTable {
         mem::swap(&mut self.current, &mut self.next);
     }
 
-    /// Looks the pairs up one end at a time. The reader is sure, and its floor and its notes are the table's words.
+    /// Looks the pairs up one end at a time. The reader is sure, and its floor and its notes are
+    /// the table's words.
     pub fn reader(&self) -> PlainReader<'_>
         ensures source { (⟦<PlainReader<'static> as Pairs>⟧.seen result).source
             ≡ read_from self.now.table self.now.stakes.bound }

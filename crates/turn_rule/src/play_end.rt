@@ -7,7 +7,8 @@ use game_payoff::{Won, points};
 use position_rank::Position;
 use std::marker::Model;
 
-/// The end of a play, with what is asked of it in each kind: how the game was won, and the position as the other side sees it.
+/// The end of a play, with what is asked of it in each kind: how the game was won, and the position
+/// as the other side sees it.
 #[derive(Drop)]
 pub(crate) struct PlayEnd {
     won: Option<Won>,

@@ -211,7 +211,8 @@ impl Pairs for Crossed {
     ghost notes_within = { λ s tells. Prim.absurd (Prim.cc) };
 }
 
-// From 24 only double sixes win. After the other 35 rolls the mover's lower end is 3 and his upper end is -3.
+// From 24 only double sixes win. After the other 35 rolls the mover's lower end is 3 and his upper
+// end is -3.
 #[test]
 fn exchanges_crossed_ends(rt: HostRuntime) {
     let stakes = Stakes::cubeless();
