@@ -1,5 +1,6 @@
 ghost use Rattle.std.specs.Prelude.{◌≡◌, ◌<◌, ◌≤◌, ◌^◌, ◌↔◌, ℕ, ℤ, pos, ◌*ℤ◌, ◌≤ℤ◌, [], length, map, All, Contains};
 ghost use Rattle.position_rank.specs.Placement.{Placement};
+ghost use Rattle.directed_fixed.specs.declared.word.TheConstants.{WORD_OFFSET};
 ghost use Rattle.roll_table.specs.Rolls.{all_rolls};
 ghost use Rattle.move_rules.specs.Sequences.{IsLegalEnd};
 ghost use Rattle.cube_actions.specs.Stakes.{IsValid};
@@ -14,7 +15,7 @@ use arrayvec::ArrayVec;
 use cube_actions::Stakes;
 use directed_fixed::{End, Fixed};
 use hyper_outside::LookStop;
-use move_rules::{PlayList, plays};
+use move_rules::{MOST_PLAYS, PlayList, plays};
 use position_rank::Position;
 use roll_table::{Roll, rolls};
 use std::marker::Model;
@@ -24,7 +25,7 @@ use std::marker::Model;
 pub(crate) struct OneRoll {
     roll: Roll,
     pub(crate) times: u64,
-    pub(crate) ends: ArrayVec<PlayEnd, 81>,
+    pub(crate) ends: ArrayVec<PlayEnd, MOST_PLAYS>,
 }
 
 impl Default for OneRoll {
@@ -127,7 +128,7 @@ impl RollEnds {
             (P.seen pairs.old) (P.seen pairs.new) result }
         ensures source { (P.seen pairs.new).source ≡ (P.seen pairs.old).source }
         ensures stays { P.stays pairs.new ≡ P.stays pairs.old }
-        ensures small { (P.seen pairs.old).source.bound ≤ℤ pos (2 ^ 36) }
+        ensures small { (P.seen pairs.old).source.bound ≤ℤ WORD_OFFSET }
         ensures valid { IsValid stakes.now }
     {
         sum_at(

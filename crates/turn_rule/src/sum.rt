@@ -1,5 +1,6 @@
 ghost use Rattle.std.specs.Prelude.{◌≡◌, ◌<◌, ◌≤◌, ◌^◌, ◌*◌, ℕ, ℤ, pos, ◌+ℤ◌, ◌*ℤ◌, ◌≤ℤ◌, length};
 ghost use Rattle.directed_fixed.specs.Bounds.{IsWithinUnits};
+ghost use Rattle.directed_fixed.specs.declared.word.TheConstants.{WORD_OFFSET};
 ghost use Rattle.roll_table.specs.Rolls.{all_rolls};
 ghost use Rattle.cube_actions.specs.Stakes.{IsValid};
 ghost use Rattle.turn_rule.specs.Looks.{AreStakesOf, IsSourceState};
@@ -14,26 +15,15 @@ use directed_fixed::{End, Fixed};
 use hyper_outside::LookStop;
 use position_rank::Position;
 
-#[inline]
-fn added(sum: i64, times: u64, value: Fixed) -> i64
-    requires sum { IsWithinUnits (pos (2 ^ 60)) sum }
-    requires times { times ≤ 2 }
-    requires value { IsWithinUnits (pos (2 ^ 36)) value }
-    ensures { result ≡ (sum +ℤ pos times *ℤ value) }
-{
-    let times = times as u32;
-    sum + i64::from(times) * value.units()
-}
-
 /// One more value, so many times.
 #[inline]
 fn add_times(sum: Fixed, times: u64, value: Fixed) -> Fixed
     requires sum { IsWithinUnits (pos (2 ^ 42)) sum }
     requires times { times ≤ 2 }
-    requires value { IsWithinUnits (pos (2 ^ 36)) value }
+    requires value { IsWithinUnits (WORD_OFFSET) value }
     ensures { result ≡ (sum +ℤ pos times *ℤ value) }
 {
-    Fixed::new(added(sum.units(), times, value)).unwrap()
+    sum.add(value.times(times as u32))
 }
 
 /// The sum over the 36 ways of two dice of what the best play is worth in a kind, at one end.
@@ -52,7 +42,7 @@ pub(crate) fn sum_at<P: Pairs>(
         (P.seen pairs.old) (P.seen pairs.new) result }
     ensures source { (P.seen pairs.new).source ≡ (P.seen pairs.old).source }
     ensures stays { P.stays pairs.new ≡ P.stays pairs.old }
-    ensures small { (P.seen pairs.old).source.bound ≤ℤ pos (2 ^ 36) }
+    ensures small { (P.seen pairs.old).source.bound ≤ℤ WORD_OFFSET }
     ensures valid { IsValid stakes.now }
 {
     // What `bound` ensures says that the stakes are valid.
