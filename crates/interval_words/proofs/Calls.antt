@@ -1,5 +1,5 @@
 -- The calls of a board over its table.
-use Rattle.std.proofs.Common.{◌≡◌, ◌<◌, ◌+◌, ◌*◌, ◌^◌, ℕ, ℤ, pos, ◌+ℤ◌, ◌-ℤ◌, [], ◌++◌, length, get_or, Option, Some, IsSome, IfSome, arith, refl, sym, ap, subst, ◌∙◌}
+use Rattle.std.proofs.Common.{◌≡◌, ◌<◌, ◌+◌, ◌*◌, ◌^◌, ℕ, ℤ, pos, ◌+ℤ◌, ◌-ℤ◌, [], ◌++◌, length, get_or, Some, arith, refl, sym, ap, subst, ◌∙◌}
 use Rattle.std.specs.List.{Contains}
 use Rattle.std.proofs.lemmas.Int.{ints}
 use Rattle.std.proofs.lemmas.List.Elements.{All-contains}
@@ -12,6 +12,7 @@ use Rattle.directed_fixed.specs.Bounds.{IsNoLooser, IsWithinUnits}
 use Rattle.turn_rule.specs.Games.{IsGame, kinds_of}
 use Rattle.turn_rule.specs.States.{IsState, AreNoLooser}
 use Rattle.turn_rule.specs.declared.game.Game.{Game}
+use Rattle.turn_rule.proofs.Within.{bound-small}
 use Rattle.interval_words.specs.declared.view.View.{View}
 use Rattle.interval_words.specs.Numbers.{state_of, states_in, word_of, value_of, tightest_word}
 use Rattle.interval_words.specs.Core.{Core, IsTrueOf, words_in_core, AreReached, words_in, noted, known, first_view, with_note, settled, joined}
@@ -93,9 +94,9 @@ unfolding states_in
 count-is checkers kinds live many counted same = rw (counted, same) refl
 
 -- what was found at a word is the value of a seat's read
-pub read-value : (o : Option ℤ) (word : ℕ) (value : ℤ) → IfSome o (λ v. v ≡ pos word -ℤ pos (2 ^ 36)) → o ≡ Some value → value_of word ≡ value
+pub read-value : (word : ℕ) (value : ℤ) → value ≡ pos word -ℤ pos (2 ^ 36) → value_of word ≡ value
 unfolding value_of
-read-value o word value is found = sym (subst (λ (r : Option ℤ). IfSome r (λ v. v ≡ pos word -ℤ pos (2 ^ 36))) found is)
+read-value word value is = sym is
 
 -- what a word held is within the bound, and at least as tight as what the view tells of it
 module _ (game : Game) (view : View) (end : End) (p : Placement) (k : ℕ) (is : IsState game p k) (value : ℤ) (held : WasHeld game view (word_of end (state_of (kinds_of game) p k)) value) where
@@ -132,12 +133,15 @@ module _ (game : Game) (me : Mine) (view : View) (mine : me.0 ≡ view) (alive :
   pub read-tight : (p : Placement) (k : ℕ) → IsState game p k → state ≡ state_of (kinds_of game) p k → IsNoLooser end value (known game view end p k)
   read-tight p k is number = held-tight game view end p k is value (held-at p k number)
 
--- so what was found is a word of the game
-pub read-some : (game : Game) (me : Mine) (view : View) → me.0 ≡ view → view.game ≡ Some game → (end : End) (state place found : ℕ) → place ≡ word_of end state → ((named : Game) → me.0.game ≡ Some named → WasHeld named me.0 place (value_of found))
-    → IsNumber game state → (bound : ℤ) (o : Option ℤ) → bound ≡ game.stakes.bound → (IsWithinUnits bound (pos found -ℤ pos (2 ^ 36)) → IsSome o) → IsSome o
+-- so what was found stands for a value
+pub read-small : (game : Game) (me : Mine) (view : View) → me.0 ≡ view → view.game ≡ Some game → (end : End) (state place found : ℕ) → place ≡ word_of end state → ((named : Game) → me.0.game ≡ Some named → WasHeld named me.0 place (value_of found))
+    → IsNumber game state → IsWithinUnits (pos (2 ^ 56)) (pos found -ℤ pos (2 ^ 36))
 unfolding value_of
-read-some game me view mine alive end state place found at told is bound o same tells =
-    tells (subst (λ (b : ℤ). IsWithinUnits b (pos found -ℤ pos (2 ^ 36))) (sym same) (read-within game me view mine alive end state place found at told (value_of found) refl is))
+read-small game me view mine alive end state place found at told is =
+    let within = read-within game me view mine alive end state place found at told (value_of found) refl is in
+    let held = read-held game me view mine alive end state place found at told (value_of found) refl in
+    let small = bound-small game.stakes held.kept.game.stakes in
+    record { from = omega (arith, ints, within.from, small); to = omega (arith, ints, within.to, small) }
 
 -- what two seats know is known to the one that took in the other
 pub knows-joined : (game : Game) → IsGame game → (view other : View) → view.game ≡ Some game → other.game ≡ Some game → Knows view → Knows other → Knows (joined view other)

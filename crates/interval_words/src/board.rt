@@ -2,6 +2,7 @@ ghost use Rattle.std.specs.Prelude.{◌≡◌, ◌<◌, ◌≤◌, ◌^◌, ℕ,
 ghost use Rattle.position_rank.specs.Placement.{Placement};
 ghost use Rattle.position_rank.specs.Ranks.{square_rank_of};
 ghost use Rattle.directed_fixed.specs.declared.bounds.End.TheVariants.{Lower, Upper};
+ghost use Rattle.directed_fixed.specs.declared.word.TheConstants.{WORD_OFFSET};
 ghost use Rattle.directed_fixed.specs.Bounds.{IsNoLooser, IsWithinUnits};
 ghost use Rattle.turn_rule.specs.Games.{kinds_of, game_of};
 ghost use Rattle.turn_rule.specs.States.{IsState};
@@ -19,7 +20,7 @@ use crate::view::View;
 use crate::words::Closed;
 use atomic_table::{Seat, Table};
 use cube_actions::Stakes;
-use directed_fixed::{End, Fixed, from_word, to_word};
+use directed_fixed::{End, Fixed, to_word};
 use hyper_outside::NoMemory;
 use position_rank::Position;
 use std::alloc::{AllocError, Global};
@@ -82,7 +83,7 @@ impl BoardSeat {
 fn bound_words_list(alloc: Global, states: usize, bound: Fixed) -> Result<Vec<u64>, AllocError>
     requires small { states < 2 ^ 40 }
     requires from { pos 0 ≤ℤ bound }
-    requires to { bound ≤ℤ pos (2 ^ 36) }
+    requires to { bound ≤ℤ WORD_OFFSET }
     ensures { IfOk result (λ words. AreBoundWords bound states words.items) }
 {
     let lower = to_word(bound.neg());
@@ -220,7 +221,7 @@ impl Board {
     {
         let place = self.place(end, state);
         let word = self.table.shared.load::<Reading>(&mut seat.seat, place);
-        from_word(word, self.stakes.bound()).unwrap()
+        Fixed::of_word(word)
     }
 
     /// The lower word of the state with this number, as it is at one moment. It is noted.

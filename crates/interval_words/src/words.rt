@@ -1,5 +1,6 @@
 ghost use Rattle.std.specs.Prelude.{◌≡◌, ◌<◌, ◌≤◌, ◌+◌, ◌*◌, ◌^◌, ◌↔◌, ℕ, pos, ◌≤ℤ◌, IsSome, IfSome, IsTrue, length};
 ghost use Rattle.directed_fixed.specs.Bounds.{IsWithin};
+ghost use Rattle.directed_fixed.specs.declared.word.TheConstants.{WORD_OFFSET};
 ghost use Rattle.turn_rule.specs.Games.{IsGame, game_of};
 ghost use Rattle.turn_rule.specs.Looks.{AreStakesOf};
 ghost use Rattle.turn_rule.specs.States.{IsState, AreWithin, pair_of};
@@ -40,7 +41,7 @@ impl Model for Words {
 fn pair_of_list(list: &[u64], state: usize, bound: Fixed) -> Option<Pair>
     requires state { 2 * state + 1 < length list.now }
     requires from { pos 0 ≤ℤ bound }
-    requires to { bound ≤ℤ pos (2 ^ 36) }
+    requires to { bound ≤ℤ WORD_OFFSET }
     ensures within { IsSome result ↔ IsWithin bound (pair_at list.now state) }
     ensures pair { IfSome result (λ pair. pair ≡ pair_at list.now state) }
 {
@@ -56,7 +57,7 @@ fn pair_of_list(list: &[u64], state: usize, bound: Fixed) -> Option<Pair>
 fn are_right(list: &[u64], states: usize, bound: Fixed) -> bool
     requires long { length list.now ≡ 2 * states }
     requires from { pos 0 ≤ℤ bound }
-    requires to { bound ≤ℤ pos (2 ^ 36) }
+    requires to { bound ≤ℤ WORD_OFFSET }
     ensures { IsTrue result
         ↔ ((state : ℕ) → state < states → IsWithin bound (pair_at list.now state)) }
 {
