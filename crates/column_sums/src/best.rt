@@ -1,0 +1,70 @@
+ghost use Rattle.std.specs.Prelude.{◌≡◌, ◌^◌, ℤ, pos, neg_ℤ, None, Some};
+ghost use Rattle.directed_fixed.specs.Bounds.{IsWithinUnits};
+ghost use Rattle.column_sums.specs.Cascade.{or_max, or_value};
+
+use directed_fixed::Fixed;
+use std::marker::Model;
+
+/// A value of at most 2 ^ 36 units on either side of 0, or none.
+#[derive(Clone, Copy)]
+pub struct Best {
+    value: Fixed,
+}
+
+impl Model for Best {
+    ghost use Rattle.std.specs.Prelude.{ℤ, Option};
+    ghost use Rattle.column_sums.specs.Bests.{best_of, units_of, IsSmall};
+
+    ghost Value = { Option ℤ };
+
+    ghost view = { λ a. best_of a.value };
+
+    ghost invariant = { λ a. IsSmall (best_of a.value) };
+
+    ghost inverse = { λ z. record { value = units_of z } };
+}
+
+impl Best {
+    /// No value.
+    #[inline]
+    pub fn missing() -> Best
+        ensures { result ≡ None }
+    {
+        Best {
+            value: Fixed::new(-(1 << 56)).unwrap(),
+        }
+    }
+
+    /// A value.
+    #[inline]
+    pub fn of(value: Fixed) -> Best
+        requires { IsWithinUnits (pos (2 ^ 36)) value }
+        ensures { result ≡ Some value }
+    {
+        Best { value }
+    }
+
+    /// The greater of the two, or the one that there is.
+    #[inline]
+    pub fn max(self, other: Best) -> Best
+        ensures { result ≡ or_max self other }
+    {
+        Best {
+            value: self.value.max(other.value),
+        }
+    }
+
+    /// This value, or the other where this one is missing.
+    #[inline]
+    pub fn or(self, other: Fixed) -> Fixed
+        requires { IsWithinUnits (pos (2 ^ 36)) other }
+        ensures value { result ≡ or_value self other }
+        ensures within { IsWithinUnits (pos (2 ^ 36)) result }
+    {
+        if self.value.units() == -(1 << 56) {
+            other
+        } else {
+            self.value
+        }
+    }
+}
