@@ -11,7 +11,7 @@ use Rattle.turn_rule.specs.Rounds.{AreLayouts}
 use Rattle.column_sums.specs.Columns.{Step, step_from, steps_from, with_step, may_leave_alone}
 use Rattle.column_sums.specs.declared.leaps.Leap.{Leap}
 use Rattle.column_sums.specs.declared.steps.Fan.{Fan}
-use Rattle.column_sums.specs.Tables.{lands_of, layout_at, AreLeaps, IsLeapIf, IsStepIf}
+use Rattle.column_sums.specs.Leaps.{lands_of, layout_at, AreLeaps, IsLeapIf, IsStepIf}
 use Rattle.column_sums.specs.Grids.{AreFans, AreFansTo}
 use Rattle.column_sums.proofs.StepLemmas.{step-stays, places-few}
 
@@ -89,8 +89,9 @@ module _ (all : List (List ℕ)) (mover : List ℕ) (die : ℕ) (leaps : List Le
 pub no-fans : (all : List (List ℕ)) → AreFansTo all [] 0
 no-fans all = record { many = refl; each = λ r d none a b c below. absurd (omega (arith, below)) }
 
-pub all-fans : (all : List (List ℕ)) (fans : List Fan) (count : ℕ) → length all ≤ count → AreFansTo all fans (count * 6) → count ≤ length all → AreFans all fans
-all-fans all fans count h are k = record {
+pub all-fans : (all : List (List ℕ)) (fans : List Fan) (count : ℕ) → length all ≤ 3276 → length all ≤ count → AreFansTo all fans (count * 6) → count ≤ length all → AreFans all fans
+all-fans all fans count few h are k = record {
+  few = few;
   many = omega (arith, are.many, h, k);
   each = λ r d none a b c. are.each r d none a b c (omega (arith, a, b, c, h));
 }

@@ -8,8 +8,8 @@ use Rattle.move_rules.specs.Sequences.{IsSequence, IsLegalEnd}
 use Rattle.move_rules.specs.declared.play.Move.{Move}
 use Rattle.move_rules.proofs.StayLive.{AreDice}
 use Rattle.column_sums.specs.Columns.{AreStruck, is_open, struck}
-use Rattle.column_sums.specs.Tables.{lands_of, layout_at, IsNext}
-use Rattle.column_sums.specs.Grids.{AreLayers, IsLayer}
+use Rattle.column_sums.specs.Leaps.{lands_of, layout_at, IsNext}
+use Rattle.column_sums.specs.AfterHits.{AreLayers, IsLayer}
 use Rattle.column_sums.proofs.StepLemmas.{made-struck}
 
 lands-suc : (n : ℕ) → 1 ≤ n → lands_of n ≡ Some n

@@ -1,122 +1,106 @@
--- Values of rolls, and their sums.
-use Rattle.std.proofs.Common.{◌≡◌, ◌≢◌, ◌≤◌, ◌<◌, ◌+◌, ◌*◌, ◌-◌, ◌^◌, ◌∙◌, inl, inr, ℕ, zero, suc, ℤ, pos, ◌+ℤ◌, ◌*ℤ◌, true, false, eqb, get_or, set, length-set, get_or-set_same, get_or-set_other, List, [], ◌∷◌, length, take, Option, refl, ap, subst, sym, arith, add-one}
-use Rattle.std.proofs.lemmas.Bool.{cases_eq}
-use Rattle.std.proofs.lemmas.Bool.Decides.{nat_tests}
-use Rattle.std.proofs.lemmas.Int.{ints}
+-- Tables that are right where the moves of a column lead.
+use Rattle.std.proofs.Common.{◌≡◌, ◌≢◌, ◌≤◌, ◌<◌, ◌+◌, ◌-◌, ◌*◌, ◌/◌, ◌%◌, ◌∙◌, All, inl, inr, ℕ, zero, suc, ℤ, pos, get_or, List, [], ◌∷◌, length, take, Option, Some, None, refl, ap, subst, sym, arith}
+use Rattle.std.proofs.lemmas.List.{get_or-take}
 use Rattle.position_rank.specs.Placement.{Placement}
-use Rattle.roll_table.specs.Rolls.{Dice, all_rolls}
-use Rattle.move_rules.specs.Listing.{Among}
-use Rattle.directed_fixed.specs.Bounds.{IsWithinUnits}
-use Rattle.turn_rule.proofs.Greatest.{total, all_rolls-small, length-all_rolls}
-use Rattle.turn_rule.proofs.RollSums.{few-rolls}
-use Rattle.column_sums.specs.declared.sums.Row.{Row}
-use Rattle.column_sums.specs.Cascade.{best_pair, best_double, best_of_roll, best_sum}
-use Rattle.column_sums.specs.Tables.{IsTable, HasCells}
-use Rattle.column_sums.specs.Sums.{row_at, HasRows, AreOnes, sum_at}
+use Rattle.column_sums.specs.Cells.{no_cell, cell_of, IsCell, IsCellOrNone, cell_placement, best_from, IsReach}
+use Rattle.column_sums.specs.Tables.{IsTable, IsTableOfCells, IsRow, IsRightAt, IsRightAfter, IsWithin, AreRight}
+use Rattle.column_sums.specs.Rolls.{IsPairReady, IsDoubleReady}
+use Rattle.column_sums.specs.MoveLists.{IsAmongOrNone, LeadsAmong, IsDieList, AreReady}
+use Rattle.column_sums.specs.Sums.{AreRightTo, AreOnes, AreTwoAndThree, DoubleTables, PairTables, list_of}
+use Rattle.column_sums.specs.declared.cells.Reach.{Reach}
+use Rattle.column_sums.specs.declared.moves.DieList.{DieList}
+use Rattle.column_sums.specs.declared.moves.Moves.{Moves}
+use Rattle.column_sums.proofs.CellLemmas.{best-none, best-cell}
+use Rattle.column_sums.proofs.TableLemmas.{reach-within}
 
--- the table of a die
-pub row-table : (value : Placement → ℤ) (layouts others : List (List ℕ)) (rows : List Row) (die : ℕ) (none : Row) (table : List (Option ℤ)) → AreOnes value layouts others rows → 1 ≤ die → die ≤ 6
-    → table ≡ row_at rows (die - 1) none → IsTable value (die ∷ []) layouts others table
-row-table value layouts others rows die none table ones a b e = subst (λ (t : List (Option ℤ)). IsTable value (die ∷ []) layouts others t) (sym e) (ones die none a b)
+abbrev no_reach : Reach
+no_reach = record { cell = 0; first = 0; second = 0; third = 0 }
 
-pub double-roll : (value : Placement → ℤ) (p : Placement) (roll : Dice) (x : ℤ) → roll.high ≡ roll.low → x ≡ best_double value roll.high p → x ≡ best_of_roll value p roll
-unfolding best_of_roll
-double-roll value p roll x same e = let test : eqb roll.high roll.low ≡ true = grind (arith, nat_tests) in rw test e
+whole-cell : (cell : ℕ) → cell_of (cell / 4096) (cell % 4096) ≡ cell
+whole-cell cell = omega arith
 
-pub pair-roll : (value : Placement → ℤ) (p : Placement) (roll : Dice) (x : ℤ) → roll.high ≢ roll.low → x ≡ best_pair value roll.high roll.low p → x ≡ best_of_roll value p roll
-unfolding best_of_roll
-pair-roll value p roll x apart e = let test : eqb roll.high roll.low ≡ false = grind (arith, nat_tests) in rw test e
+module _ (value : Placement → ℤ) (moves : Moves) (ready : AreReady moves) where
+  abbrev layouts : List (List ℕ)
+  layouts = moves.steps
+  abbrev others : List (List ℕ)
+  others = moves.layers
 
--- one more table is filled
-pub ones-more : (value : Placement → ℤ) (layouts others : List (List ℕ)) (rows : List Row) (i : ℕ) (row : Row) → i < length rows
-    → ((die : ℕ) (none : Row) → 1 ≤ die → die ≤ i → IsTable value (die ∷ []) layouts others (row_at rows (die - 1) none)) → IsTable value (suc i ∷ []) layouts others row.cells.items
-    → (die : ℕ) (none : Row) → 1 ≤ die → die ≤ i + 1 → IsTable value (die ∷ []) layouts others (row_at (set rows i row) (die - 1) none)
-ones-more value layouts others rows i row here before is die none a b = elim (cases_eq die (suc i)) [
-  | inl same ↦ (
-      let at : i ≡ die - 1 = omega (arith, same) in
-      subst (λ (d : ℕ). IsTable value (d ∷ []) layouts others (row_at (set rows i row) (die - 1) none)) (sym same)
-      (subst (λ (t : Row). IsTable value (suc i ∷ []) layouts others t.cells.items) (sym (ap (λ (j : ℕ). get_or (set rows i row) j none) (sym at) ∙ get_or-set_same rows i row none here)) is))
-  | inr apart ↦ (
-      let other : die - 1 ≢ i = omega (arith, apart, a) in
-      subst (λ (t : Row). IsTable value (die ∷ []) layouts others t.cells.items) (sym (get_or-set_other rows i (die - 1) row none other)) (before die none a (omega (arith, apart, b))))
-]
+  right-none : (dice : List ℕ) (table : List (Option ℤ)) → get_or table no_cell None ≡ None → IsRightAt value dice layouts others table no_cell
+  right-none dice table missing = missing ∙ sym (best-none layouts others ready.few value dice)
 
-pub rows-more : (layouts others : List (List ℕ)) (rows : List Row) (i : ℕ) (row : Row) → HasRows layouts others rows → i < 6 → HasCells layouts others row.cells.items → HasRows layouts others (set rows i row)
-rows-more layouts others rows i row has h is = record {
-  many = length-set rows i row ∙ has.many;
-  cells = λ j none k. elim (cases_eq j i) [
-    | inl same ↦ (
-        let here : i < length rows = omega (arith, h, has.many) in
-        subst (λ (t : Row). HasCells layouts others t.cells.items) (sym (ap (λ (n : ℕ). get_or (set rows i row) n none) same ∙ get_or-set_same rows i row none here)) is)
-    | inr apart ↦ subst (λ (t : Row). HasCells layouts others t.cells.items) (sym (get_or-set_other rows i j row none apart)) (has.cells j none k)
-  ];
-}
+  pub row-right : (row : List (Option ℤ)) (cell : ℕ) → IsTable value [] layouts others row → IsCell (length layouts) (length others) cell → IsRightAt value [] layouts others row cell
+  row-right row cell tabled is =
+      ap (λ (c : ℕ). get_or row c None) (sym (whole-cell cell)) ∙ (tabled (cell / 4096) (cell % 4096) is.layer is.rank ∙ sym (best-cell layouts others ready.few value [] cell is))
 
--- ---- rank by rank
+  row-or-none : (row : List (Option ℤ)) (cell : ℕ) → IsRow row → IsTable value [] layouts others row → IsCellOrNone (length layouts) (length others) cell → IsRightAt value [] layouts others row cell
+  row-or-none row cell is tabled (inl none) = subst (IsRightAt value [] layouts others row) (sym none) (right-none [] row is.missing)
+  row-or-none row cell is tabled (inr here) = row-right row cell tabled here
 
-pub any-default : (xs : List ℤ) (i : ℕ) (d e : ℤ) → i < length xs → get_or xs i d ≡ get_or xs i e
-any-default [] i d e h = absurd (omega arith)
-any-default (x ∷ xs) zero d e h = refl
-any-default (x ∷ xs) (suc i) d e h = any-default xs i d e (omega arith)
+  -- a row is right wherever a die leads
+  pub row-after : (row : List (Option ℤ)) (die : ℕ) (reach : Reach) → IsRow row → IsTable value [] layouts others row → IsReach layouts others die reach → IsRightAfter value [] layouts others row reach
+  row-after row die reach is tabled leads = record {
+    first = row-or-none row reach.first is tabled leads.first;
+    second = row-or-none row reach.second is tabled leads.second;
+    third = row-or-none row reach.third is tabled leads.third;
+  }
 
-module _ (P : ℕ → ℤ → ℤ → Type 0) (start sums : List ℤ) (at : ℕ) (x : ℤ) where
-  pub sums-done : at < length sums → ((r : ℕ) → r < at → P r (sum_at start r) (sum_at sums r)) → P at (sum_at start at) x → (r : ℕ) → r < at + 1 → P r (sum_at start r) (sum_at (set sums at x) r)
-  sums-done here before is r below = elim (cases_eq r at) [
-    | inl same ↦ subst (λ (i : ℕ). P i (sum_at start i) (sum_at (set sums at x) i)) (sym same) (subst (λ (y : ℤ). P at (sum_at start at) y) (sym (get_or-set_same sums at x (pos 0) here)) is)
-    | inr apart ↦ subst (λ (y : ℤ). P r (sum_at start r) y) (sym (get_or-set_other sums at r x (pos 0) apart)) (before r (omega (arith, below, apart)))
-  ]
+  module _ (dice : List ℕ) (table : List (Option ℤ)) (missing : get_or table no_cell None ≡ None) (reaches : List Reach) (end : ℕ)
+      (right : (i : ℕ) (none : Reach) → i < end → IsRightAt value dice layouts others table (get_or reaches i none).cell) where
+    among-right : (cell : ℕ) → IsAmongOrNone reaches end cell → IsRightAt value dice layouts others table cell
+    among-right cell (inl none) = subst (IsRightAt value dice layouts others table) (sym none) (right-none dice table missing)
+    among-right cell (inr (i, h, is)) = subst (IsRightAt value dice layouts others table) (is no_reach) (right i no_reach h)
 
-  pub sums-rest : ((r : ℕ) → at ≤ r → sum_at sums r ≡ sum_at start r) → (r : ℕ) → at + 1 ≤ r → sum_at (set sums at x) r ≡ sum_at start r
-  sums-rest rest r h = let apart : r ≢ at = omega (arith, h) in get_or-set_other sums at r x (pos 0) apart ∙ rest r (omega (arith, h))
+    -- a table is right wherever these lead, if it is right in their cells
+    pub after-among : (reach : Reach) → LeadsAmong reaches end reach → IsRightAfter value dice layouts others table reach
+    after-among reach leads = record { first = among-right reach.first leads.first; second = among-right reach.second leads.second; third = among-right reach.third leads.third }
 
-first_of : (a : ℤ) → a +ℤ pos 0 ≡ pos 0 +ℤ a
-first_of a = omega (arith, ints)
+  pub double-ready : (die : ℕ) (row one two three : List (Option ℤ)) (list : DieList) (i : ℕ) (none : Reach) → 1 ≤ die → die ≤ 6 → i < moves.movers → get_or three no_cell None ≡ None
+      → DoubleTables value moves die row one two three → IsDoubleReady value layouts others die (get_or (list_of moves die list).reaches.items i none) row one two three
+  double-ready die row one two three list i none a b h missing tables =
+      let is = ready.each die list a b in
+      let all = (list_of moves die list).reaches.items in
+      let near : i < length moves.listing = omega (arith, h, is.first) in
+      let second : i < (list_of moves die list).second = omega (arith, near, is.longer) in
+      let here : i < length all = omega (arith, second, is.second) in
+      let reach = is.each i none here in
+      record {
+        few = ready.few;
+        reaches = reach;
+        none = row-right row (get_or all i none).cell tables.none reach.cell;
+        once = tables.once list i none here;
+        twice = tables.more.twice list i none second;
+        thrice = tables.more.thrice list i none near;
+        four = after-among (die ∷ die ∷ die ∷ []) three missing all (length moves.listing) (tables.more.thrice list) (get_or all i none) (is.one_die i none h);
+      }
 
-regroup : (a b c d : ℤ) → d ≡ b +ℤ c → a +ℤ d ≡ (a +ℤ b) +ℤ c
-regroup a b c d h = omega (arith, ints)
+  pub pair-ready : (high low : ℕ) (row after_high after_low : List (Option ℤ)) (first second : DieList) (i : ℕ) (none : Reach) → 1 ≤ high → high ≤ 6 → 1 ≤ low → low ≤ 6 → i < moves.movers
+      → get_or after_high no_cell None ≡ None → get_or after_low no_cell None ≡ None → PairTables value moves high low row after_high after_low
+      → IsPairReady value layouts others high low (get_or (list_of moves high first).reaches.items i none) (get_or (list_of moves low second).reaches.items i none) row after_high after_low
+  pair-ready high low row after_high after_low first second i none a b c d h miss_high miss_low tables =
+      let by_high = ready.each high first a b in
+      let by_low = ready.each low second c d in
+      let highs = (list_of moves high first).reaches.items in
+      let lows = (list_of moves low second).reaches.items in
+      let near : i < length moves.listing = omega (arith, h, by_high.first) in
+      let in_high : i < length highs = omega (arith, near, by_high.longer, by_high.second) in
+      let in_low : i < length lows = omega (arith, near, by_low.longer, by_low.second) in
+      let same : (k : ℕ) (x : Reach) → k < length moves.listing → (get_or lows k x).cell ≡ (get_or highs k x).cell = λ k x below. by_low.at k x below ∙ sym (by_high.at k x below) in
+      let lower : (k : ℕ) (x : Reach) → k < length moves.listing → IsRightAt value (low ∷ []) layouts others after_low (get_or highs k x).cell =
+      λ k x below. subst (IsRightAt value (low ∷ []) layouts others after_low) (same k x below) (tables.lower second k x (omega (arith, below, by_low.longer, by_low.second))) in
+      let higher : (k : ℕ) (x : Reach) → k < length moves.listing → IsRightAt value (high ∷ []) layouts others after_high (get_or lows k x).cell =
+      λ k x below. subst (IsRightAt value (high ∷ []) layouts others after_high) (sym (same k x below)) (tables.higher first k x (omega (arith, below, by_high.longer, by_high.second))) in
+      record {
+        few = ready.few;
+        by_high = by_high.each i none in_high;
+        by_low = by_low.each i none in_low;
+        same = same i none near;
+        none = row-right row (get_or highs i none).cell tables.none (by_high.each i none in_high).cell;
+        higher = tables.higher first i none in_high;
+        lower = lower i none near;
+        high_first = after-among (low ∷ []) after_low miss_low highs (length moves.listing) lower (get_or highs i none) (by_high.one_die i none h);
+        low_first = after-among (high ∷ []) after_high miss_high lows (length moves.listing) higher (get_or lows i none) (by_low.one_die i none h);
+      }
 
--- ---- roll by roll
-
-pub best_sum-next : (f : Placement → ℤ) (p : Placement) (rolls : List (Dice × ℕ)) (i : ℕ) (none : Dice × ℕ) → i < length rolls
-    → best_sum (take (suc i) rolls) f p ≡ best_sum (take i rolls) f p +ℤ pos (get_or rolls i none).1 *ℤ best_of_roll f p (get_or rolls i none).0
-best_sum-next f p [] i none h = absurd (omega arith)
-best_sum-next f p (first ∷ rest) zero none h = first_of (pos first.1 *ℤ best_of_roll f p first.0)
-best_sum-next f p (first ∷ rest) (suc i) none h = regroup _ _ _ _ (best_sum-next f p rest i none (omega arith))
-
-pub total-next : (rolls : List (Dice × ℕ)) (i : ℕ) (none : Dice × ℕ) → i < length rolls → total (take (suc i) rolls) ≡ total (take i rolls) + (get_or rolls i none).1
-total-next [] i none h = absurd (omega arith)
-total-next (first ∷ rest) zero none h = omega arith
-total-next (first ∷ rest) (suc i) none h = omega (arith, total-next rest i none (omega arith))
-
--- each roll comes at most twice
-pub few-times : (i : ℕ) (none : Dice × ℕ) → i < 21 → (get_or all_rolls i none).1 ≤ 2
-few-times i none h = all_rolls-small (get_or all_rolls i none) (at all_rolls i (omega (arith, h, length-all_rolls))) where
-  at : (rolls : List (Dice × ℕ)) (i : ℕ) → i < length rolls → Among (get_or rolls i none) rolls
-  at [] i h = absurd (omega arith)
-  at (roll ∷ rolls) zero h = inl refl
-  at (roll ∷ rolls) (suc i) h = inr (at rolls i (omega arith))
-
--- a sum of so many small values, and times times one more
-pub more-small : (t times : ℕ) (old best new : ℤ) → times ≤ 2 → IsWithinUnits (pos (t * 2 ^ 36)) old → IsWithinUnits (pos (2 ^ 36)) best → new ≡ old +ℤ pos times *ℤ best → IsWithinUnits (pos ((t + times) * 2 ^ 36)) new
-more-small t zero old best new h a b e = record { from = omega (arith, ints, a.from); to = omega (arith, ints, a.to) }
-more-small t (suc zero) old best new h a b e = record { from = omega (arith, ints, a.from, b.from); to = omega (arith, ints, a.to, b.to) }
-more-small t (suc (suc zero)) old best new h a b e = record { from = omega (arith, ints, a.from, b.from); to = omega (arith, ints, a.to, b.to) }
-more-small t (suc (suc (suc n))) old best new h a b e = absurd (omega arith)
-
-pub all-small : (i : ℕ) (x : ℤ) → IsWithinUnits (pos (total (take i all_rolls) * 2 ^ 36)) x → IsWithinUnits (pos (2 ^ 42)) x
-all-small i x h = let few = few-rolls i in record { from = omega (arith, ints, h.from, few); to = omega (arith, ints, h.to, few) }
-
-pub sum-more : (f : Placement → ℤ) (p : Placement) (i times : ℕ) (none : Dice × ℕ) (roll : Dice) (old best new : ℤ) → i < length all_rolls → times ≡ (get_or all_rolls i none).1 → roll ≡ (get_or all_rolls i none).0
-    → old ≡ best_sum (take i all_rolls) f p → best ≡ best_of_roll f p roll → new ≡ old +ℤ pos times *ℤ best → new ≡ best_sum (take (i + 1) all_rolls) f p
-sum-more f p i times none roll old best new here times-is roll-is old-is best-is new-is =
-    new-is
-    ∙ (ap (λ (x : ℤ). x +ℤ pos times *ℤ best) old-is
-    ∙ (ap (λ (x : ℤ). best_sum (take i all_rolls) f p +ℤ pos times *ℤ x) (best-is ∙ ap (λ (r : Dice). best_of_roll f p r) roll-is)
-    ∙ (ap (λ (n : ℕ). best_sum (take i all_rolls) f p +ℤ pos n *ℤ best_of_roll f p (get_or all_rolls i none).0) times-is
-    ∙ (sym (best_sum-next f p all_rolls i none here) ∙ ap (λ (n : ℕ). best_sum (take n all_rolls) f p) (sym (add-one i))))))
-
-pub small-more : (i times : ℕ) (none : Dice × ℕ) (old best new : ℤ) → i < length all_rolls → times ≡ (get_or all_rolls i none).1 → times ≤ 2 → IsWithinUnits (pos (total (take i all_rolls) * 2 ^ 36)) old → IsWithinUnits (pos (2 ^ 36)) best
-    → new ≡ old +ℤ pos times *ℤ best → IsWithinUnits (pos (total (take (i + 1) all_rolls) * 2 ^ 36)) new
-small-more i times none old best new here times-is few a b e =
-    let count : total (take i all_rolls) + times ≡ total (take (i + 1) all_rolls) = ap (λ (n : ℕ). total (take i all_rolls) + n) times-is ∙ (sym (total-next all_rolls i none here) ∙ ap (λ (n : ℕ). total (take n all_rolls)) (sym (add-one i))) in
-    subst (λ (n : ℕ). IsWithinUnits (pos (n * 2 ^ 36)) new) count (more-small (total (take i all_rolls)) times old best new few a b e)
+-- all that a die leads to is within the tables
+pub list-within : (moves : Moves) (die : ℕ) (list : DieList) → AreReady moves → 1 ≤ die → die ≤ 6 → All IsWithin (list_of moves die list).reaches.items
+list-within moves die list ready a b i none h = reach-within moves.steps moves.layers die _ ready.few ready.eight ((ready.each die list a b).each i none h)

@@ -1,38 +1,74 @@
 -- The sums over all rolls of a column.
-use Rattle.std.specs.Prelude.{◌≡◌, ◌≤◌, ◌<◌, ◌-◌, ◌^◌, ℕ, ℤ, pos, ◌+ℤ◌, ◌*ℤ◌, List, [], ◌∷◌, length, Option, slice_index_or}
+use Rattle.std.specs.Prelude.{◌≡◌, ◌≤◌, ◌<◌, ◌-◌, ◌^◌, ℕ, ℤ, pos, ◌+ℤ◌, ◌*ℤ◌, List, [], ◌∷◌, length, Option, None, slice_index, slice_index_or}
 use Rattle.position_rank.specs.Placement.{Placement}
 use Rattle.roll_table.specs.Rolls.{Dice}
 use Rattle.directed_fixed.specs.Bounds.{IsWithinUnits}
-use Rattle.column_sums.specs.declared.sums.Row.{Row}
 use Rattle.column_sums.specs.Cascade.{best_of_roll, best_sum}
-use Rattle.column_sums.specs.Tables.{IsTable, HasCells, first_board}
+use Rattle.column_sums.specs.Cells.{cell_placement}
+use Rattle.column_sums.specs.Tables.{IsTable, IsRightAt}
+use Rattle.column_sums.specs.declared.cells.Reach.{Reach}
+use Rattle.column_sums.specs.declared.moves.DieList.{DieList}
+use Rattle.column_sums.specs.declared.moves.Moves.{Moves}
 
-abbrev pub row_at : List Row → ℕ → Row → List (Option ℤ)
-row_at rows i none = (slice_index_or rows i none).cells.items
+-- the list of a die
+abbrev pub list_of : Moves → ℕ → DieList → DieList
+list_of moves die none = slice_index_or moves.lists (die - 1) none
 
--- a table for each die
-pub record HasRows (layouts others : List (List ℕ)) (rows : List Row) : Type 0 where
-  pub many : length rows ≡ 6
-  pub cells : (i : ℕ) (none : Row) → i < 6 → HasCells layouts others (row_at rows i none)
+-- in the cells of the first few of these, the greatest value that these dice lead to
+abbrev pub AreRightTo : (Placement → ℤ) → List ℕ → Moves → List (Option ℤ) → List Reach → ℕ → Type 0
+AreRightTo value dice moves table reaches end =
+    (i : ℕ) (none : Reach) → i < end → IsRightAt value dice moves.steps moves.layers table (slice_index_or reaches i none).cell
 
--- each for what its die leads to
-abbrev pub AreOnes : (Placement → ℤ) → List (List ℕ) → List (List ℕ) → List Row → Type 0
-AreOnes value layouts others rows = (die : ℕ) (none : Row) → 1 ≤ die → die ≤ 6 → IsTable value (die ∷ []) layouts others (row_at rows (die - 1) none)
+-- a table of each die: the best with this die to play
+abbrev pub AreOnes : (Placement → ℤ) → Moves → List (List (Option ℤ)) → Type 0
+AreOnes value moves ones = (die : ℕ) (none : DieList) → 1 ≤ die → die ≤ 6
+    → AreRightTo value (die ∷ []) moves (slice_index_or ones (die - 1) []) (list_of moves die none).reaches.items (length (list_of moves die none).reaches.items)
 
--- the tables of two and three moves of a double
-abbrev pub AreMore : (Placement → ℤ) → List (List ℕ) → List (List ℕ) → ℕ → List (Option ℤ) → List (Option ℤ) → Type 0
-AreMore value layouts others die two three = IsTable value (die ∷ die ∷ []) layouts others two × IsTable value (die ∷ die ∷ die ∷ []) layouts others three
+-- the best with two and with three dice of one number to play
+pub record AreTwoAndThree (value : Placement → ℤ) (moves : Moves) (die : ℕ) (two three : List (Option ℤ)) : Type 0 where
+  pub twice : (none : DieList) → AreRightTo value (die ∷ die ∷ []) moves two (list_of moves die none).reaches.items (list_of moves die none).second
+  pub thrice : (none : DieList) → AreRightTo value (die ∷ die ∷ die ∷ []) moves three (list_of moves die none).reaches.items (length moves.listing)
 
--- to the sum of a layout, the best play of a roll was added so many times: its value is right where the tables are
-pub record IsAdded (layouts others : List (List ℕ)) (values : List (Option ℤ)) (ones : List Row) (roll : Dice) (times rank : ℕ) (if_right : (Placement → ℤ) → Type 0) (old new : ℤ) : Type 0 where
+-- where the checkers stand as a turn of the column begins
+abbrev pub mover_placement : Moves → ℕ → Placement
+mover_placement moves i = cell_placement moves.steps moves.layers (slice_index moves.listing i)
+
+-- a value was added so many times
+pub record IsAdded (times : ℕ) (right : ℤ → Type 0) (old new : ℤ) : Type 0 where
   pub best : ℤ
-  pub within : IsWithinUnits (pos (2 ^ 36)) best
-  pub added : new ≡ old +ℤ pos times *ℤ best
-  pub right : (value : Placement → ℤ) → IsTable value [] layouts others values → AreOnes value layouts others ones → if_right value → best ≡ best_of_roll value (first_board layouts others rank) roll
+  pub small : IsWithinUnits (pos (2 ^ 36)) best
+  pub sum : new ≡ old +ℤ pos times *ℤ best
+  pub is : right best
 
 abbrev pub sum_at : List ℤ → ℕ → ℤ
-sum_at sums rank = slice_index_or sums rank (pos 0)
+sum_at sums i = slice_index_or sums i (pos 0)
 
--- the sums over some rolls
-abbrev pub AreSums : (Placement → ℤ) → List (List ℕ) → List (List ℕ) → List (Dice × ℕ) → List ℤ → Type 0
-AreSums value layouts others rolls sums = (rank : ℕ) → rank < length layouts → sum_at sums rank ≡ best_sum rolls value (first_board layouts others rank)
+-- to the sum of each mover, the best play of a roll was added so many times: its value is right where the tables are
+abbrev pub IsRollAdded : Moves → ℕ → ((Placement → ℤ) → Type 0) → ((Placement → ℤ) → Placement → ℤ) → List ℤ → List ℤ → Type 0
+IsRollAdded moves times tables roll old new = (i : ℕ) → i < moves.movers
+    → IsAdded times (λ best. (value : Placement → ℤ) → tables value → best ≡ roll value (mover_placement moves i)) (sum_at old i) (sum_at new i)
+
+-- each of these is small enough for all rolls to be added
+abbrev pub AreSmall : List ℤ → ℕ → Type 0
+AreSmall sums many = (i : ℕ) → i < many → IsWithinUnits (pos (2 ^ 42)) (sum_at sums i)
+
+-- the sum over some rolls for each mover
+abbrev pub AreSums : (Placement → ℤ) → Moves → List (Dice × ℕ) → List ℤ → Type 0
+AreSums value moves rolls sums = (i : ℕ) → i < moves.movers → sum_at sums i ≡ best_sum rolls value (mover_placement moves i)
+
+-- the tables that a double needs are right
+pub record DoubleTables (value : Placement → ℤ) (moves : Moves) (die : ℕ) (row one two three : List (Option ℤ)) : Type 0 where
+  pub none : IsTable value [] moves.steps moves.layers row
+  pub once : (list : DieList) → AreRightTo value (die ∷ []) moves one (list_of moves die list).reaches.items (length (list_of moves die list).reaches.items)
+  pub more : AreTwoAndThree value moves die two three
+
+-- the tables that two unequal dice need are right
+pub record PairTables (value : Placement → ℤ) (moves : Moves) (high low : ℕ) (row after_high after_low : List (Option ℤ)) : Type 0 where
+  pub none : IsTable value [] moves.steps moves.layers row
+  pub higher : (list : DieList) → AreRightTo value (high ∷ []) moves after_high (list_of moves high list).reaches.items (length (list_of moves high list).reaches.items)
+  pub lower : (list : DieList) → AreRightTo value (low ∷ []) moves after_low (list_of moves low list).reaches.items (length (list_of moves low list).reaches.items)
+
+-- the row is right, and the tables of the dice
+pub record RollTables (value : Placement → ℤ) (moves : Moves) (row : List (Option ℤ)) (ones : List (List (Option ℤ))) : Type 0 where
+  pub none : IsTable value [] moves.steps moves.layers row
+  pub each : AreOnes value moves ones

@@ -1,4 +1,4 @@
-ghost use Rattle.std.specs.Prelude.{◌≡◌, ◌^◌, ℤ, pos, neg_ℤ, None, Some};
+ghost use Rattle.std.specs.Prelude.{◌≡◌, ◌^◌, ◌↔◌, ℤ, pos, IsTrue, None, Some};
 ghost use Rattle.directed_fixed.specs.Bounds.{IsWithinUnits};
 ghost use Rattle.column_sums.specs.Cascade.{or_max, or_value};
 
@@ -7,7 +7,7 @@ use std::marker::Model;
 
 /// A value of at most 2 ^ 36 units on either side of 0, or none.
 #[derive(Clone, Copy)]
-pub struct Best {
+pub(crate) struct Best {
     value: Fixed,
 }
 
@@ -27,7 +27,7 @@ impl Model for Best {
 impl Best {
     /// No value.
     #[inline]
-    pub fn missing() -> Best
+    pub(crate) fn missing() -> Best
         ensures { result ≡ None }
     {
         Best {
@@ -37,7 +37,7 @@ impl Best {
 
     /// A value.
     #[inline]
-    pub fn of(value: Fixed) -> Best
+    pub(crate) fn of(value: Fixed) -> Best
         requires { IsWithinUnits (pos (2 ^ 36)) value }
         ensures { result ≡ Some value }
     {
@@ -46,7 +46,7 @@ impl Best {
 
     /// The greater of the two, or the one that there is.
     #[inline]
-    pub fn max(self, other: Best) -> Best
+    pub(crate) fn max(self, other: Best) -> Best
         ensures { result ≡ or_max self other }
     {
         Best {
@@ -54,9 +54,17 @@ impl Best {
         }
     }
 
+    /// Whether there is no value.
+    #[inline]
+    pub(crate) fn is_missing(self) -> bool
+        ensures { IsTrue result ↔ (self ≡ None) }
+    {
+        self.value.units() == -(1 << 56)
+    }
+
     /// This value, or the other where this one is missing.
     #[inline]
-    pub fn or(self, other: Fixed) -> Fixed
+    pub(crate) fn or(self, other: Fixed) -> Fixed
         requires { IsWithinUnits (pos (2 ^ 36)) other }
         ensures value { result ≡ or_value self other }
         ensures within { IsWithinUnits (pos (2 ^ 36)) result }

@@ -1,19 +1,20 @@
-ghost use Rattle.std.specs.Prelude.{◌≡◌, ◌≢◌, ◌<◌, ◌≤◌, ◌↔◌, ◌+◌, ℕ, IsTrue, IfSome, length, sum};
-ghost use Rattle.position_rank.specs.Placement.{IsLayout};
-ghost use Rattle.column_sums.specs.Tables.{layout_at, IsNext, AreNext, AreNextTo};
-ghost use Rattle.column_sums.specs.Grids.{AreLayers, AreFewLayers, AreDistinct, AreClosed};
+ghost use Rattle.std.specs.Prelude.{◌≡◌, ◌≢◌, ◌<◌, ◌≤◌, ◌↔◌, ◌+◌, ℕ, IsTrue, IfOk, [], length, slice_index, vec_capacity};
+ghost use Rattle.position_rank.specs.Placement.{IsLayout, moved};
+ghost use Rattle.column_sums.specs.Leaps.{layout_at, IsNext, AreNext, AreNextTo};
+ghost use Rattle.column_sums.specs.AfterHits.{AreLayers, AreDistinct, AreClosed, AreHits, AreHitOn, AreHitBelow, AreMore, IsLayer};
 
+use hyper_outside::NoMemory;
 use position_rank::Layout;
 use std::alloc::Global;
 use std::marker::Model;
 
-/// How many layouts the other side may be left with at most: each of three single checkers on the bar or not.
+/// How many layers there are at most: each of three single checkers on the bar or not.
 const MOST: usize = 8;
 
-/// Stands for a point that is closed.
+/// Stands for the layer after a move to a closed point.
 const CLOSED: u8 = 255;
 
-/// The layouts that the other side may be left with, from one of them on, and which of them is left where a checker comes to a point.
+/// The layouts that the other side may be left with, and which of them is left where a checker comes to a point.
 #[derive(Drop)]
 pub struct Layers {
     others: Vec<Layout>,
@@ -21,33 +22,39 @@ pub struct Layers {
 }
 
 impl Model for Layers {
-    ghost use Rattle.std.specs.Prelude.{ℕ, List};
-    ghost use Rattle.column_sums.specs.Grids.{AreFewLayers};
+    ghost use Rattle.std.specs.Prelude.{ℕ, List, vec_capacity};
+    ghost use Rattle.column_sums.specs.AfterHits.{AreFewLayers};
 
     ghost Value = { List (List ℕ) };
 
     ghost view = { λ a. a.others.items };
 
-    ghost invariant = { λ a. AreFewLayers a.others.items a.next };
+    ghost invariant = { λ a. AreFewLayers a.others.items (vec_capacity a.others) a.next };
 }
 
 impl Layers {
-    /// From a layout of the other side on. `None` where there would be more than eight, or no memory.
-    pub fn of(alloc: Global, other: Layout) -> Option<Layers>
-        ensures { IfSome result (λ layers. (0 < length layers) × (layout_at layers 0 ≡ other)) }
+    /// No layer, with room for all.
+    pub(crate) fn new(alloc: Global) -> Result<Layers, NoMemory>
+        ensures { IfOk result (λ layers. layers ≡ []) }
     {
-        let mut others = Vec::new(alloc);
-        if others.push(other).is_err() {
-            return None;
-        }
-        if !add_struck(&mut others) {
-            return None;
-        }
-        let mut next = [[0; 25]; 8];
-        for layer in 0..others.len() {
-            next[layer] = row_of(others.as_slice(), layer)?;
-        }
-        Some(Layers { others, next })
+        Ok(Layers {
+            others: Vec::with_capacity(alloc, MOST)?,
+            next: [[0; 25]; 8],
+        })
+    }
+
+    /// The layouts that hits may leave the other side with, from this one on.
+    pub(crate) fn set(&mut self, other: &Layout)
+        ensures some { 0 < length self.new }
+        ensures first { layout_at self.new 0 ≡ other.now }
+        ensures few { length self.new ≤ 8 }
+    {
+        // A layout has 26 places.
+        let _checkers = other.checkers();
+        self.others.clear();
+        self.others.push_reserved(*other);
+        add_hits(&mut self.others, other);
+        fill_next(&self.others, &mut self.next);
     }
 
     /// How many layouts there are.
@@ -72,11 +79,12 @@ impl Layers {
 
     /// What is left where a checker of the mover comes to a point.
     #[inline]
-    pub fn next(&self, layer: usize) -> &[u8]
+    pub(crate) fn next(&self, layer: usize) -> &[u8]
         requires { layer < length self.now }
         ensures next { AreNext self.now layer result.now }
         ensures points { length result.now ≡ 25 }
     {
+        // The invariant has the number of layers.
         let _few = self.others.len();
         let next = &self.next[layer];
         next
@@ -105,83 +113,96 @@ fn find(others: &[Layout], wanted: &Layout) -> usize
     others.len()
 }
 
-/// Adds a layout, unless it is there. `false` where there is no room or no memory.
-fn push_new(others: &mut Vec<Layout>, layout: Layout) -> bool
-    requires some { 0 < length others.old.items }
-    requires few { length others.old.items ≤ 8 }
+/// Adds a layout, unless it is there.
+fn push_new(others: &mut Vec<Layout>, layout: Layout)
+    requires room { length others.old.items < vec_capacity others.old }
     requires distinct { AreDistinct others.old.items }
+    ensures more { AreMore others.old.items others.new.items }
+    ensures few { length others.new.items ≤ length others.old.items + 1 }
     ensures distinct { AreDistinct others.new.items }
-    ensures few { length others.new.items ≤ 8 }
-    ensures some { 0 < length others.new.items }
-    ensures first { layout_at others.new.items 0 ≡ layout_at others.old.items 0 }
+    ensures there { IsLayer others.new.items layout }
+    ensures only { (layer : ℕ) → length others.old.items ≤ layer → layer < length others.new.items
+        → layout_at others.new.items layer ≡ layout }
+    ensures capacity { vec_capacity others.new ≡ vec_capacity others.old }
 {
-    let place = find(others.as_slice(), &layout);
-    if place < others.len() {
-        return true;
+    if find(others.as_slice(), &layout) == others.len() {
+        others.push_reserved(layout);
     }
-    if others.len() == MOST {
-        return false;
-    }
-    others.push(layout).is_ok()
 }
 
-/// Adds the layouts in which more single checkers are on the bar. `false` where there is no room or no memory.
-fn add_struck(others: &mut Vec<Layout>) -> bool
-    requires some { 0 < length others.old.items }
-    requires few { length others.old.items ≤ 8 }
+/// Adds the layouts in which a single checker on this point is on the bar as well.
+fn add_hit(others: &mut Vec<Layout>, point: u8)
+    requires low { 1 ≤ point }
+    requires high { point ≤ 24 }
+    requires room { length others.old.items + length others.old.items ≤ vec_capacity others.old }
+    requires single { (layer : ℕ) → layer < length others.old.items
+        → slice_index (layout_at others.old.items layer) point ≡ 1 }
     requires distinct { AreDistinct others.old.items }
-    ensures distinct { AreDistinct others.new.items }
-    ensures few { length others.new.items ≤ 8 }
-    ensures some { 0 < length others.new.items }
-    ensures first { layout_at others.new.items 0 ≡ layout_at others.old.items 0 }
+    ensures hit { AreHitOn point (length others.old.items) others.old.items others.new.items }
+    ensures capacity { vec_capacity others.new ≡ vec_capacity others.old }
 {
-    for layer in 0..MOST {
-        if layer < others.len() {
-            let other = others[layer];
-            for point in 1..25 {
-                if other.count(point) == 1 {
-                    let struck = other.moved(point, 25);
-                    if !push_new(others, struck) {
-                        return false;
-                    }
-                }
-            }
+    for layer in 0..others.len() {
+        let other = others[layer];
+        push_new(others, other.moved(point, 25));
+    }
+}
+
+/// Adds the layouts in which any single checkers are on the bar as well.
+fn add_hits(others: &mut Vec<Layout>, other: &Layout)
+    requires room { 8 ≤ vec_capacity others.old }
+    requires first { AreHits other.now others.old.items 1 }
+    ensures hits { AreHits other.now others.new.items 25 }
+    ensures few { length others.new.items ≤ 8 }
+    ensures capacity { vec_capacity others.new ≡ vec_capacity others.old }
+{
+    // At most three checkers.
+    let _checkers = other.checkers();
+    for point in 1..25 {
+        if other.count(point) == 1 {
+            add_hit(others, point);
         }
     }
-    true
 }
 
-/// What is left where a checker comes to this point, or `None` where that layout isn't there.
-fn next_of(others: &[Layout], layer: usize, point: u8) -> Option<u8>
+/// What is left where a checker comes to this point.
+fn next_of(others: &[Layout], layer: usize, point: u8) -> u8
     requires layer { layer < length others.now }
     requires few { length others.now ≤ 8 }
     requires point { point ≤ 24 }
-    ensures { IfSome result (λ next. IsNext others.now layer point next) }
+    requires hits { AreHitBelow others.now 25 }
+    ensures { IsNext others.now layer point result }
 {
     let other = &others[layer];
     if point == 0 || other.count(point) == 0 {
-        return Some(layer as u8);
+        return layer as u8;
     }
     if other.count(point) > 1 {
-        return Some(CLOSED);
+        return CLOSED;
     }
-    let struck = other.moved(point, 25);
-    let place = find(others, &struck);
-    if place == others.len() {
-        return None;
-    }
-    Some(place as u8)
+    find(others, &other.moved(point, 25)) as u8
 }
 
-/// What is left where a checker comes to each point, or `None` where a layout isn't there.
-fn row_of(others: &[Layout], layer: usize) -> Option<[u8; 25]>
+/// What is left where a checker comes to each point.
+fn row_of(others: &[Layout], layer: usize) -> [u8; 25]
     requires layer { layer < length others.now }
     requires few { length others.now ≤ 8 }
-    ensures { IfSome result (λ next. AreNext others.now layer next) }
+    requires hits { AreHitBelow others.now 25 }
+    ensures { AreNext others.now layer result }
 {
     let mut next = [0; 25];
     for point in 0..25 {
-        next[point] = next_of(others, layer, point as u8)?;
+        next[point] = next_of(others, layer, point as u8);
     }
-    Some(next)
+    next
+}
+
+/// What is left for each layer and each point.
+fn fill_next(others: &[Layout], next: &mut [[u8; 25]; 8])
+    requires few { length others.now ≤ 8 }
+    requires hits { AreHitBelow others.now 25 }
+    ensures { AreLayers others.now next.new }
+{
+    for layer in 0..others.len() {
+        next[layer] = row_of(others, layer);
+    }
 }

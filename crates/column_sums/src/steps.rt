@@ -4,20 +4,20 @@ ghost use Rattle.position_rank.specs.Placement.{IsLayout};
 ghost use Rattle.position_rank.specs.Ranks.{layouts, rank_of};
 ghost use Rattle.turn_rule.specs.Rounds.{AreLayouts};
 ghost use Rattle.column_sums.specs.Columns.{step_from, steps_from};
-ghost use Rattle.column_sums.specs.Tables.{layout_at, AreLeaps, IsLeapIf, IsStepIf};
+ghost use Rattle.column_sums.specs.Leaps.{layout_at, AreLeaps, IsLeapIf, IsStepIf};
 ghost use Rattle.column_sums.specs.Grids.{AreFansTo};
 
 use crate::leaps::Leap;
 use arrayvec::ArrayVec;
 use hyper_outside::NoMemory;
-use position_rank::Layout;
+use position_rank::{Layout, layout_count};
 use std::alloc::Global;
 use std::marker::Model;
 
 /// The steps of one layout by one die.
 #[derive(Default, Drop)]
-pub struct Fan {
-    pub leaps: ArrayVec<Leap, 3>,
+pub(crate) struct Fan {
+    pub(crate) leaps: ArrayVec<Leap, 3>,
 }
 
 /// The steps of all layouts of so many checkers by each die.
@@ -39,12 +39,13 @@ impl Model for Steps {
 }
 
 impl Steps {
-    /// The steps of all layouts of so many checkers.
-    pub fn of(alloc: Global, checkers: u8, layouts: Vec<Layout>) -> Result<Steps, NoMemory>
-        requires all { AreLayouts checkers layouts.items }
-        requires few { length layouts.items < 2 ^ 16 }
-        ensures { IfOk result (λ steps. steps ≡ layouts.items) }
+    /// The steps of all layouts of one to three checkers. It asks for memory, and may answer `NoMemory`.
+    pub fn new(alloc: Global, checkers: u8) -> Result<Steps, NoMemory>
+        requires low { 1 ≤ checkers }
+        requires high { checkers ≤ 3 }
+        ensures { IfOk result (λ steps. AreLayouts checkers steps) }
     {
+        let layouts = all_layouts(alloc, checkers)?;
         let mut fans = Vec::new(alloc);
         for rank in 0..layouts.len() {
             add_fans(checkers, layouts.as_slice(), rank, &mut fans)?;
@@ -56,22 +57,47 @@ impl Steps {
     #[inline]
     pub fn many(&self) -> usize
         ensures many { result ≡ length self.now }
-        ensures small { result < 2 ^ 61 }
+        ensures few { result ≤ 3276 }
     {
-        let many = self.fans.len() / 6;
-        many
+        self.layouts.len()
+    }
+
+    /// One of the layouts.
+    #[inline]
+    pub fn layout(&self, rank: usize) -> &Layout
+        requires { rank < length self.now }
+        ensures { result.now ≡ layout_at self.now rank }
+    {
+        &self.layouts[rank]
     }
 
     /// The steps of a layout by a die.
     #[inline]
-    pub fn leaps(&self, rank: usize, die: u8) -> &[Leap]
+    pub(crate) fn leaps(&self, rank: usize, die: u8) -> &[Leap]
         requires rank { rank < length self.now }
         requires low { 1 ≤ die }
         requires high { die ≤ 6 }
-        ensures { AreLeaps self.now result.now (steps_from (layout_at self.now rank) die places) }
+        ensures leaps { AreLeaps self.now result.now (steps_from (layout_at self.now rank) die places) }
+        ensures few { length result.now ≤ 3 }
+        ensures layouts { length self.now ≤ 3276 }
     {
         self.fans[rank * 6 + (die as usize - 1)].leaps.as_slice()
     }
+}
+
+/// All layouts of so many checkers, by rising rank.
+fn all_layouts(alloc: Global, checkers: u8) -> Result<Vec<Layout>, NoMemory>
+    requires low { 1 ≤ checkers }
+    requires high { checkers ≤ 3 }
+    ensures all { IfOk result (λ all. AreLayouts checkers all.items) }
+    ensures few { IfOk result (λ all. length all.items ≤ 3276) }
+{
+    let count = layout_count(checkers);
+    let mut all = Vec::new(alloc);
+    for rank in 0..count {
+        all.push(Layout::unrank(checkers, rank))?;
+    }
+    Ok(all)
 }
 
 /// Adds the steps of a layout by each die.

@@ -1,91 +1,44 @@
-ghost use Rattle.std.specs.Prelude.{◌≡◌, ◌<◌, ◌≤◌, ◌^◌, ◌*◌, ℕ, ℤ, pos, ◌+ℤ◌, ◌*ℤ◌, List, [], ◌∷◌, length, slice_index_or};
+ghost use Rattle.std.specs.Prelude.{◌≡◌, ◌<◌, ◌≤◌, ◌^◌, ◌-◌, ℕ, ℤ, pos, ◌+ℤ◌, ◌*ℤ◌, List, [], ◌∷◌, length, slice_index_or};
 ghost use Rattle.roll_table.specs.Rolls.{Dice, all_rolls};
 ghost use Rattle.position_rank.specs.Placement.{Placement};
 ghost use Rattle.directed_fixed.specs.Bounds.{IsWithinUnits};
-ghost use Rattle.column_sums.specs.Cascade.{best_of_roll};
-ghost use Rattle.column_sums.specs.Tables.{IsTable, HasCells, first_board};
-ghost use Rattle.column_sums.specs.Sums.{HasRows, AreOnes, AreMore, IsAdded, sum_at, AreSums};
+ghost use Rattle.column_sums.specs.Cascade.{best_pair, best_double, best_of_roll};
+ghost use Rattle.column_sums.specs.MoveLists.{AreReady};
+ghost use Rattle.column_sums.specs.Sums.{AreOnes, AreTwoAndThree, AreRightTo, AreSmall, AreSums, DoubleTables, PairTables, RollTables, IsRollAdded, list_of, sum_at};
+ghost use Rattle.column_sums.specs.Tables.{IsRow, IsTable, IsTableOfCells};
+ghost use Rattle.column_sums.specs.declared.moves.DieList.{DieList as DieListData};
 
 use crate::best::Best;
-use crate::fill::fill_after;
-use crate::layers::Layers;
+use crate::moves::Moves;
 use crate::rolls::{best_double, best_pair};
-use crate::steps::Steps;
+use crate::tables::{Row, Table};
 use directed_fixed::Fixed;
 use roll_table::{Roll, rolls};
 
-/// A table.
-#[derive(Drop)]
-pub struct Row {
-    pub cells: Vec<Best>,
-}
-
-/// What the best play of a roll is worth in the first layer.
-fn best_of_roll(
-    steps: &Steps,
-    layers: &Layers,
-    rank: usize,
-    roll: Roll,
-    ones: &[Row],
-    two: &[Best],
-    three: &[Best],
-    values: &[Best],
-) -> Fixed
-    requires rank { rank < length steps.now }
-    requires some { 0 < length layers.now }
-    requires ones { HasRows steps.now layers.now ones.now }
-    requires two { HasCells steps.now layers.now two.now }
-    requires three { HasCells steps.now layers.now three.now }
-    requires values { HasCells steps.now layers.now values.now }
-    ensures best { (value : Placement → ℤ) → IsTable value [] steps.now layers.now values.now → AreOnes value steps.now layers.now ones.now
-        → (roll.high ≡ roll.low → AreMore value steps.now layers.now roll.high two.now three.now) → result ≡ best_of_roll value (first_board steps.now layers.now rank) roll }
-    ensures within { IsWithinUnits (pos (2 ^ 36)) result }
+/// Makes the first few sums 0.
+fn clear(sums: &mut [Fixed], many: usize)
+    requires { many ≤ length sums.old }
+    ensures { (i : ℕ) → i < many → sum_at sums.new i ≡ pos 0 }
 {
-    let high = roll.high();
-    let low = roll.low();
-    let after_high = ones[high as usize - 1].cells.as_slice();
-    if high == low {
-        best_double(steps, layers, rank, high, after_high, two, three, values)
-    } else {
-        let after_low = ones[low as usize - 1].cells.as_slice();
-        best_pair(
-            steps, layers, rank, high, low, after_high, after_low, values,
-        )
+    for i in 0..many {
+        sums[i] = Fixed::whole(0);
     }
 }
 
-/// For each die, what it leads to from each layout.
-fn fill_ones(steps: &Steps, layers: &Layers, values: &[Best], ones: &mut [Row])
-    requires ones { HasRows steps.now layers.now ones.old }
-    requires values { HasCells steps.now layers.now values.now }
-    ensures rows { HasRows steps.now layers.now ones.new }
-    ensures filled { (value : Placement → ℤ) → IsTable value [] steps.now layers.now values.now → AreOnes value steps.now layers.now ones.new }
-{
-    for i in 0..6 {
-        fill_after(
-            steps,
-            layers,
-            i as u8 + 1,
-            values,
-            ones[i].cells.as_mut_slice(),
-        );
-    }
-}
-
+/// One more value, so many times, in units.
 #[inline]
-fn added(sum: i64, times: u64, best: Fixed) -> i64
+fn added(sum: i64, times: u32, best: Fixed) -> i64
     requires sum { IsWithinUnits (pos (2 ^ 42)) sum }
     requires times { times ≤ 2 }
     requires best { IsWithinUnits (pos (2 ^ 36)) best }
     ensures { result ≡ (sum +ℤ pos times *ℤ best) }
 {
-    let times = times as u32;
     sum + i64::from(times) * best.units()
 }
 
 /// One more value, so many times.
 #[inline]
-fn add_times(sum: Fixed, times: u64, best: Fixed) -> Fixed
+fn add_times(sum: Fixed, times: u32, best: Fixed) -> Fixed
     requires sum { IsWithinUnits (pos (2 ^ 42)) sum }
     requires times { times ≤ 2 }
     requires best { IsWithinUnits (pos (2 ^ 36)) best }
@@ -94,119 +47,94 @@ fn add_times(sum: Fixed, times: u64, best: Fixed) -> Fixed
     Fixed::new(added(sum.units(), times, best)).unwrap()
 }
 
-/// Adds what the best play of a roll is worth to the sum of each layout.
-fn add_roll(
-    steps: &Steps,
-    layers: &Layers,
-    roll: Roll,
-    times: u64,
-    ones: &[Row],
+/// The best with one die to play, for each die.
+fn fill_ones(moves: &Moves, row: &[Best], ones: &mut [Table; 6])
+    requires ready { AreReady moves.now }
+    requires row { IsRow row.now }
+    ensures { (value : Placement → ℤ) → IsTable value [] moves.now.steps moves.now.layers row.now
+        → AreOnes value moves.now ones.new }
+{
+    for d in 0..6 {
+        ones[d].fill(&moves.lists[d].reaches, row);
+    }
+}
+
+/// The best with two and with three dice of one number to play.
+fn fill_two_and_three(moves: &Moves, die: u8, one: &[Best], two: &mut Table, three: &mut Table)
+    requires ready { AreReady moves.now }
+    requires low { 1 ≤ die }
+    requires high { die ≤ 6 }
+    requires one { IsTableOfCells one.now }
+    ensures { (value : Placement → ℤ) (none : DieListData)
+        → AreRightTo value (die ∷ []) moves.now one.now (list_of moves.now die none).reaches.items (length (list_of moves.now die none).reaches.items)
+        → AreTwoAndThree value moves.now die two.new three.new }
+{
+    let list = &moves.lists[usize::from(die) - 1];
+    let near = moves.listing.cells().len();
+    two.fill(&list.reaches[..list.second], one);
+    three.fill(&list.reaches[..near], two.cells());
+}
+
+/// Adds what the best play of a double is worth to the sum of each mover, once.
+fn add_double(
+    moves: &Moves,
+    die: u8,
+    row: &[Best],
+    one: &[Best],
     two: &[Best],
     three: &[Best],
-    values: &[Best],
     sums: &mut [Fixed],
 )
-    requires some { 0 < length layers.now }
-    requires times { times ≤ 2 }
-    requires ones { HasRows steps.now layers.now ones.now }
-    requires two { HasCells steps.now layers.now two.now }
-    requires three { HasCells steps.now layers.now three.now }
-    requires values { HasCells steps.now layers.now values.now }
-    requires sums { length sums.old ≡ length steps.now }
-    requires small { (rank : ℕ) → rank < length steps.now → IsWithinUnits (pos (2 ^ 42)) (sum_at sums.old rank) }
-    ensures sums { length sums.new ≡ length steps.now }
-    ensures added { (rank : ℕ) → rank < length steps.now → IsAdded steps.now layers.now values.now ones.now roll times rank (λ value. roll.high ≡ roll.low → AreMore value steps.now layers.now roll.high two.now three.now) (sum_at sums.old rank) (sum_at sums.new rank) }
+    requires ready { AreReady moves.now }
+    requires low { 1 ≤ die }
+    requires high { die ≤ 6 }
+    requires row { IsRow row.now }
+    requires one { IsTableOfCells one.now }
+    requires two { IsTableOfCells two.now }
+    requires three { IsTableOfCells three.now }
+    requires sums { moves.now.movers ≤ length sums.old }
+    requires small { AreSmall sums.old moves.now.movers }
+    ensures { IsRollAdded moves.now 1 (λ value. DoubleTables value moves.now die row.now one.now two.now three.now)
+        (λ value. best_double value die) sums.old sums.new }
 {
-    for rank in 0..steps.many() {
-        let best = best_of_roll(steps, layers, rank, roll, ones, two, three, values);
-        sums[rank] = add_times(sums[rank], times, best);
+    let list = &moves.lists[usize::from(die) - 1];
+    for i in 0..moves.movers {
+        let best = best_double(&list.reaches[i], row, one, two, three);
+        sums[i] = add_times(sums[i], 1, best);
     }
 }
 
-/// The tables of two and three moves, where the roll is a double.
-fn fill_more(
-    steps: &Steps,
-    layers: &Layers,
-    roll: Roll,
-    ones: &[Row],
-    two: &mut [Best],
-    three: &mut [Best],
-)
-    requires ones { HasRows steps.now layers.now ones.now }
-    requires two { HasCells steps.now layers.now two.old }
-    requires three { HasCells steps.now layers.now three.old }
-    ensures two { HasCells steps.now layers.now two.new }
-    ensures three { HasCells steps.now layers.now three.new }
-    ensures more { (value : Placement → ℤ) → AreOnes value steps.now layers.now ones.now → roll.high ≡ roll.low → AreMore value steps.now layers.now roll.high two.new three.new }
-{
-    let die = roll.high();
-    if die != roll.low() {
-        return;
-    }
-    let one = ones[die as usize - 1].cells.as_slice();
-    fill_after(steps, layers, die, one, two);
-    fill_after(steps, layers, die, two, three);
-}
-
-/// For each layout of the mover, the sum over the 36 ways of two dice of the best play's value.
-pub fn sum_column(
-    steps: &Steps,
-    layers: &Layers,
-    values: &[Best],
-    ones: &mut [Row],
-    two: &mut [Best],
-    three: &mut [Best],
+/// Adds what the best play of two unequal dice is worth to the sum of each mover, twice.
+fn add_pair(
+    moves: &Moves,
+    high: u8,
+    low: u8,
+    row: &[Best],
+    after_high: &[Best],
+    after_low: &[Best],
     sums: &mut [Fixed],
 )
-    requires some { 0 < length layers.now }
-    requires values { HasCells steps.now layers.now values.now }
-    requires ones { HasRows steps.now layers.now ones.old }
-    requires two { HasCells steps.now layers.now two.old }
-    requires three { HasCells steps.now layers.now three.old }
-    requires sums { length sums.old ≡ length steps.now }
-    ensures ones { HasRows steps.now layers.now ones.new }
-    ensures two { HasCells steps.now layers.now two.new }
-    ensures three { HasCells steps.now layers.now three.new }
-    ensures many { length sums.new ≡ length steps.now }
-    ensures sums { (value : Placement → ℤ) → IsTable value [] steps.now layers.now values.now → AreSums value steps.now layers.now all_rolls sums.new }
+    requires ready { AreReady moves.now }
+    requires high { (1 ≤ high) × (high ≤ 6) }
+    requires low { (1 ≤ low) × (low ≤ 6) }
+    requires row { IsRow row.now }
+    requires after_high { IsTableOfCells after_high.now }
+    requires after_low { IsTableOfCells after_low.now }
+    requires sums { moves.now.movers ≤ length sums.old }
+    requires small { AreSmall sums.old moves.now.movers }
+    ensures { IsRollAdded moves.now 2 (λ value. PairTables value moves.now high low row.now after_high.now after_low.now)
+        (λ value. best_pair value high low) sums.old sums.new }
 {
-    clear(sums);
-    fill_ones(steps, layers, values, ones);
-    for i in 0..21 {
-        let roll = nth_roll(i);
-        let times = nth_times(i);
-        fill_more(steps, layers, roll, ones, two, three);
-        add_roll(steps, layers, roll, times, ones, two, three, values, sums);
-    }
-}
-
-/// One of the 21 rolls.
-fn nth_roll(i: usize) -> Roll
-    requires { i < 21 }
-    ensures { (none : Dice × ℕ) → result ≡ (slice_index_or all_rolls i none).0 }
-{
-    let all = rolls();
-    let weighted = all[i];
-    weighted.0
-}
-
-/// In how many ways it comes.
-fn nth_times(i: usize) -> u64
-    requires { i < 21 }
-    ensures times { (none : Dice × ℕ) → result ≡ (slice_index_or all_rolls i none).1 }
-    ensures few { result ≤ 2 }
-{
-    let all = rolls();
-    let weighted = all[i];
-    weighted.1
-}
-
-/// Makes all sums 0.
-fn clear(sums: &mut [Fixed])
-    ensures many { length sums.new ≡ length sums.old }
-    ensures cleared { (rank : ℕ) → rank < length sums.old → sum_at sums.new rank ≡ pos 0 }
-{
-    for rank in 0..sums.len() {
-        sums[rank] = Fixed::whole(0);
+    let by_high = &moves.lists[usize::from(high) - 1];
+    let by_low = &moves.lists[usize::from(low) - 1];
+    for i in 0..moves.movers {
+        let best = best_pair(
+            &by_high.reaches[i],
+            &by_low.reaches[i],
+            row,
+            after_high,
+            after_low,
+        );
+        sums[i] = add_times(sums[i], 2, best);
     }
 }

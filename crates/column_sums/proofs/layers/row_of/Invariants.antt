@@ -1,5 +1,5 @@
 use Rattle.std.proofs.Common.{◌≡◌, length}
-use Rattle.column_sums.specs.Tables.{AreNextTo}
+use Rattle.column_sums.specs.Leaps.{AreNextTo}
 use Rattle.column_sums.proofs.layers.row_of.Given as goal
 
 abbrev pub invariant-loop-point : goal.invariant-loop-point

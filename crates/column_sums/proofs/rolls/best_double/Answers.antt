@@ -1,16 +1,15 @@
-use Rattle.std.proofs.Common.{[], ◌∷◌}
-use Rattle.column_sums.specs.Tables.{first_board}
-use Rattle.column_sums.proofs.Tabled.{double-is}
+use Rattle.std.proofs.Common.{◌∙◌, ap, sym}
+use Rattle.column_sums.specs.Cascade.{or_value}
+use Rattle.column_sums.proofs.RollLemmas.{double-fewer, double-four}
 use Rattle.column_sums.proofs.rolls.best_double.Goals as goal
 
-pub returns-clause-best : goal.returns-clause-best
-returns-clause-best c = λ value v one two three.
-    let die = c.args.die in
-    double-is value (first_board c.args.steps.now c.args.layers.now c.args.rank) die c.first_after-four.result c.first_value.result c.first_value-2.result c.first_value-3.result c.first_value-4.result
-    c.whole.result c.or-none.result c.or-once.result c.or-twice.result c.or-thrice.result c.or.result
-    (c.first_after-four.ensures value (die ∷ die ∷ die ∷ []) three) (c.first_value.ensures value [] v) (c.first_value-2.ensures value (die ∷ []) one) (c.first_value-3.ensures value (die ∷ die ∷ []) two) (c.first_value-4.ensures value (die ∷ die ∷ die ∷ []) three)
-    c.or-none.ensures.value
-    c.or-once.ensures.value
-    c.or-twice.ensures.value
-    c.or-thrice.ensures.value
+pub returns-then-is_missing-clause-best : goal.returns-then-is_missing-clause-best
+returns-then-is_missing-clause-best c = λ value layouts others die ready.
+    c.fewer_of_double.ensures.best
+    ∙ double-fewer value layouts others die c.args.reach.now c.args.row.now c.args.one.now c.args.two.now c.args.three.now ready (sym c.best_after-four.ensures ∙ c.if-is_missing.ensures.0 tt)
+
+pub returns-else-is_missing-clause-best : goal.returns-else-is_missing-clause-best
+returns-else-is_missing-clause-best c = λ value layouts others die ready.
     c.or.ensures.value
+    ∙ (ap (or_value c.best_after-four.result) c.whole.ensures
+    ∙ double-four value layouts others die c.args.reach.now c.args.row.now c.args.one.now c.args.two.now c.args.three.now ready c.best_after-four.result c.best_after-four.ensures (λ e. c.if-is_missing.ensures.1 e))

@@ -1,17 +1,20 @@
-use Rattle.std.proofs.Common.{[], ◌∷◌}
-use Rattle.column_sums.specs.Tables.{first_board}
-use Rattle.column_sums.proofs.Tabled.{pair-is}
+use Rattle.std.proofs.Common.{◌≡◌, ◌∙◌, Option, ℤ, ap, sym}
+use Rattle.column_sums.specs.Cascade.{or_value, or_max}
+use Rattle.column_sums.specs.Tables.{best_after}
+use Rattle.column_sums.proofs.RollLemmas.{pair-fewer, pair-both}
 use Rattle.column_sums.proofs.rolls.best_pair.Goals as goal
 
-pub returns-clause-best : goal.returns-clause-best
-returns-clause-best c = λ value v h l.
-    let high = c.args.high in
-    let low = c.args.low in
-    pair-is value (first_board c.args.steps.now c.args.layers.now c.args.rank) high low c.first_after-high_first.result c.first_after-low_first.result c.max.result c.first_value.result c.first_value-2.result c.first_value-3.result
-    c.whole.result c.or-none.result c.or-lower.result c.or-higher.result c.or.result
-    (c.first_after-high_first.ensures value (low ∷ []) l) (c.first_after-low_first.ensures value (high ∷ []) h) (c.first_value.ensures value [] v) (c.first_value-2.ensures value (low ∷ []) l) (c.first_value-3.ensures value (high ∷ []) h)
-    c.or-none.ensures.value
-    c.or-lower.ensures.value
-    c.or-higher.ensures.value
-    c.max.ensures
+pub returns-then-is_missing-clause-best : goal.returns-then-is_missing-clause-best
+returns-then-is_missing-clause-best c = λ value layouts others a b ready.
+    let both : c.max-both.result ≡ or_max (best_after c.args.after_low.now c.args.high.now) (best_after c.args.after_high.now c.args.low.now) =
+    c.max-both.ensures ∙ (ap (λ (o : Option ℤ). or_max o c.best_after-low_first.result) c.best_after-high_first.ensures ∙ ap (or_max (best_after c.args.after_low.now c.args.high.now)) c.best_after-low_first.ensures) in
+    c.fewer_of_pair.ensures.best
+    ∙ pair-fewer value layouts others a b c.args.high.now c.args.low.now c.args.row.now c.args.after_high.now c.args.after_low.now ready (sym both ∙ c.if-is_missing.ensures.0 tt)
+
+pub returns-else-is_missing-clause-best : goal.returns-else-is_missing-clause-best
+returns-else-is_missing-clause-best c = λ value layouts others a b ready.
+    let both : c.max-both.result ≡ or_max (best_after c.args.after_low.now c.args.high.now) (best_after c.args.after_high.now c.args.low.now) =
+    c.max-both.ensures ∙ (ap (λ (o : Option ℤ). or_max o c.best_after-low_first.result) c.best_after-high_first.ensures ∙ ap (or_max (best_after c.args.after_low.now c.args.high.now)) c.best_after-low_first.ensures) in
     c.or.ensures.value
+    ∙ (ap (or_value c.max-both.result) c.whole.ensures
+    ∙ pair-both value layouts others a b c.args.high.now c.args.low.now c.args.row.now c.args.after_high.now c.args.after_low.now ready c.max-both.result both (λ e. c.if-is_missing.ensures.1 e))

@@ -1,7 +1,7 @@
 use Rattle.std.proofs.Common.{◌≡◌, ◌-◌, ◌+◌, suc, Some, None, List, arith, subst, ◌∙◌, sym, ap}
 use Rattle.column_sums.specs.Columns.{step_from}
 use Rattle.column_sums.specs.declared.leaps.Leap.{Leap}
-use Rattle.column_sums.specs.Tables.{IsLeapIf}
+use Rattle.column_sums.specs.Leaps.{IsLeapIf}
 use Rattle.column_sums.proofs.Fans.{Fanned, fan-start, fan-end, fan-skip, fan-next}
 use Rattle.column_sums.proofs.steps.fan_of.Goals as goal
 use Rattle.column_sums.proofs.steps.fan_of.Goals.{in-Some, in_default}

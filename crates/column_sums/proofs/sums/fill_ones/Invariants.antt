@@ -1,13 +1,14 @@
-use Rattle.std.proofs.Common.{◌≤◌, ◌-◌, ℕ, ℤ, [], ◌∷◌}
+use Rattle.std.proofs.Common.{◌≡◌, ◌<◌, ◌+◌, ℕ, ℤ, Option, List, [], ◌∷◌, length, slice_index_or}
 use Rattle.position_rank.specs.Placement.{Placement}
-use Rattle.column_sums.specs.declared.sums.Row.{Row}
 use Rattle.column_sums.specs.Tables.{IsTable}
-use Rattle.column_sums.specs.Sums.{HasRows, row_at}
+use Rattle.column_sums.specs.Sums.{AreRightTo}
+use Rattle.column_sums.specs.declared.moves.DieList.{DieList}
 use Rattle.column_sums.proofs.sums.fill_ones.Given as goal
 
-abbrev pub invariant-loop-i : goal.invariant-loop-i
-invariant-loop-i l = record {
-  rows : HasRows l.steps l.layers l.ones;
-  filled : (value : Placement → ℤ) → IsTable value [] l.steps l.layers l.values
-      → (die : ℕ) (none : Row) → 1 ≤ die → die ≤ l.i → IsTable value (die ∷ []) l.steps l.layers (row_at l.ones (die - 1) none);
+abbrev pub invariant-loop-d : goal.invariant-loop-d
+invariant-loop-d l = record {
+  six : length l.ones ≡ 6;
+  filled : (value : Placement → ℤ) → IsTable value [] l.moves.steps l.moves.layers l.row
+      → (i : ℕ) (none : List (Option ℤ)) → i < l.d → (list : DieList)
+      → AreRightTo value ((i + 1) ∷ []) l.moves (slice_index_or l.ones i none) (slice_index_or l.moves.lists i list).reaches.items (length (slice_index_or l.moves.lists i list).reaches.items);
 }

@@ -1,5 +1,5 @@
 use Rattle.std.proofs.Common.{List, ℕ, subst}
-use Rattle.column_sums.specs.Grids.{AreLayers}
+use Rattle.column_sums.specs.AfterHits.{AreLayers}
 use Rattle.column_sums.proofs.LayerMoves.{end-layer}
 use Rattle.column_sums.proofs.layers.Layers.count.Goals as goal
 

@@ -1,0 +1,79 @@
+-- The best play of a roll is found in the tables.
+use Rattle.std.proofs.Common.{◌≡◌, ◌≢◌, ◌≤◌, ◌∙◌, ℕ, ℤ, pos, get_or, List, [], ◌∷◌, length, Option, Some, None, refl, ap, subst, sym, arith}
+use Rattle.position_rank.specs.Placement.{Placement}
+use Rattle.column_sums.specs.Cascade.{or_max, or_value, best_over, best_pair, best_double}
+use Rattle.column_sums.specs.Cells.{cell_placement, best_from, IsCell, IsReach}
+use Rattle.column_sums.specs.Tables.{IsRightAt, best_after}
+use Rattle.column_sums.specs.Rolls.{IsPairReady, IsDoubleReady, fewer_of_pair, fewer_of_double}
+use Rattle.column_sums.specs.declared.cells.Reach.{Reach}
+use Rattle.column_sums.proofs.CellLemmas.{best-cell}
+use Rattle.column_sums.proofs.TableLemmas.{after-right}
+
+or-first : (o : Option ℤ) (a b : ℤ) → o ≢ None → or_value o a ≡ or_value o b
+or-first None a b some = absurd (some refl)
+or-first (Some x) a b some = refl
+
+or-rest : (o : Option ℤ) (a b : ℤ) → o ≡ None → a ≡ b → a ≡ or_value o b
+or-rest None a b none is = is
+or-rest (Some x) a b none is = absurd (grind arith)
+
+chosen : (o p : Option ℤ) (a b : ℤ) → o ≡ p → a ≡ b → or_value o a ≡ or_value p b
+chosen o p a b e f = ap (λ (x : Option ℤ). or_value x a) e ∙ ap (or_value p) f
+
+module _ (value : Placement → ℤ) (layouts others : List (List ℕ)) (few : length layouts ≤ 3276) (cell : ℕ) (is : IsCell (length layouts) (length others) cell) where
+  at-cell : (dice : List ℕ) (table : List (Option ℤ)) → IsRightAt value dice layouts others table cell → get_or table cell None ≡ best_over value dice (cell_placement layouts others cell)
+  at-cell dice table right = right ∙ best-cell layouts others few value dice cell is
+
+  at-row : (row : List (Option ℤ)) → IsRightAt value [] layouts others row cell → or_value (get_or row cell None) (pos 0) ≡ value (cell_placement layouts others cell)
+  unfolding best_over
+  at-row row right = ap (λ (o : Option ℤ). or_value o (pos 0)) (at-cell [] row right)
+
+module _ (value : Placement → ℤ) (layouts others : List (List ℕ)) (a b : ℕ) (high low : Reach) (row after_high after_low : List (Option ℤ)) (ready : IsPairReady value layouts others a b high low row after_high after_low) where
+  abbrev p : Placement
+  p = cell_placement layouts others high.cell
+
+  fewer-pair : fewer_of_pair high.cell row after_high after_low ≡ or_value (best_over value (a ∷ []) p) (or_value (best_over value (b ∷ []) p) (value p))
+  fewer-pair =
+      let cell = ready.by_high.cell in
+      chosen _ _ _ _ (at-cell value layouts others ready.few high.cell cell (a ∷ []) after_high ready.higher)
+      (chosen _ _ _ _ (at-cell value layouts others ready.few high.cell cell (b ∷ []) after_low ready.lower) (at-row value layouts others ready.few high.cell cell row ready.none))
+
+  both-pair : or_max (best_after after_low high) (best_after after_high low) ≡ or_max (best_over value (a ∷ b ∷ []) p) (best_over value (b ∷ a ∷ []) p)
+  both-pair =
+      let first = after-right value layouts others ready.few (b ∷ []) a after_low high ready.by_high ready.high_first in
+      let second = after-right value layouts others ready.few (a ∷ []) b after_high low ready.by_low ready.low_first in
+      let second' = second ∙ ap (λ (c : ℕ). best_over value (b ∷ a ∷ []) (cell_placement layouts others c)) ready.same in
+      ap (λ (o : Option ℤ). or_max o (best_after after_high low)) first ∙ ap (or_max (best_over value (a ∷ b ∷ []) p)) second'
+
+  pub pair-fewer : or_max (best_after after_low high) (best_after after_high low) ≡ None → fewer_of_pair high.cell row after_high after_low ≡ best_pair value a b p
+  unfolding best_pair
+  pair-fewer none = or-rest _ _ _ (sym both-pair ∙ none) fewer-pair
+
+  pub pair-both : (x : Option ℤ) → x ≡ or_max (best_after after_low high) (best_after after_high low) → x ≢ None → or_value x (pos 0) ≡ best_pair value a b p
+  unfolding best_pair
+  pair-both x is some = or-first x (pos 0) (or_value (best_over value (a ∷ []) p) (or_value (best_over value (b ∷ []) p) (value p))) some ∙ chosen _ _ _ _ (is ∙ both-pair) refl
+
+module _ (value : Placement → ℤ) (layouts others : List (List ℕ)) (die : ℕ) (reach : Reach) (row one two three : List (Option ℤ)) (ready : IsDoubleReady value layouts others die reach row one two three) where
+  abbrev q : Placement
+  q = cell_placement layouts others reach.cell
+
+  abbrev fewer : ℤ
+  fewer = or_value (best_over value (die ∷ die ∷ die ∷ []) q) (or_value (best_over value (die ∷ die ∷ []) q) (or_value (best_over value (die ∷ []) q) (value q)))
+
+  fewer-double : fewer_of_double reach.cell row one two three ≡ fewer
+  fewer-double =
+      let cell = ready.reaches.cell in
+      chosen _ _ _ _ (at-cell value layouts others ready.few reach.cell cell (die ∷ die ∷ die ∷ []) three ready.thrice)
+      (chosen _ _ _ _ (at-cell value layouts others ready.few reach.cell cell (die ∷ die ∷ []) two ready.twice)
+      (chosen _ _ _ _ (at-cell value layouts others ready.few reach.cell cell (die ∷ []) one ready.once) (at-row value layouts others ready.few reach.cell cell row ready.none)))
+
+  four-double : best_after three reach ≡ best_over value (die ∷ die ∷ die ∷ die ∷ []) q
+  four-double = after-right value layouts others ready.few (die ∷ die ∷ die ∷ []) die three reach ready.reaches ready.four
+
+  pub double-fewer : best_after three reach ≡ None → fewer_of_double reach.cell row one two three ≡ best_double value die q
+  unfolding best_double
+  double-fewer none = or-rest _ _ _ (sym four-double ∙ none) fewer-double
+
+  pub double-four : (x : Option ℤ) → x ≡ best_after three reach → x ≢ None → or_value x (pos 0) ≡ best_double value die q
+  unfolding best_double
+  double-four x is some = or-first x (pos 0) fewer some ∙ chosen _ _ _ _ (is ∙ four-double) refl
