@@ -1,6 +1,6 @@
 -- Tables that are right where the moves of a column lead.
 use Rattle.std.proofs.Common.{◌≡◌, ◌≢◌, ◌≤◌, ◌<◌, ◌+◌, ◌-◌, ◌*◌, ◌/◌, ◌%◌, ◌∙◌, All, inl, inr, ℕ, zero, suc, ℤ, pos, get_or, List, [], ◌∷◌, length, take, Option, Some, None, refl, ap, subst, sym, arith}
-use Rattle.std.proofs.lemmas.List.{get_or-take}
+use Rattle.std.proofs.lemmas.List.{get_or-take, length-take}
 use Rattle.position_rank.specs.Placement.{Placement}
 use Rattle.column_sums.specs.Cells.{no_cell, cell_of, IsCell, IsCellOrNone, cell_placement, best_from, IsReach}
 use Rattle.column_sums.specs.Tables.{IsTable, IsTableOfCells, IsRow, IsRightAt, IsRightAfter, IsWithin, AreRight}
@@ -12,6 +12,7 @@ use Rattle.column_sums.specs.declared.moves.DieList.{DieList}
 use Rattle.column_sums.specs.declared.moves.Moves.{Moves}
 use Rattle.column_sums.proofs.CellLemmas.{best-none, best-cell}
 use Rattle.column_sums.proofs.TableLemmas.{reach-within}
+use Rattle.column_sums.proofs.Places.{any-default}
 
 abbrev no_reach : Reach
 no_reach = record { cell = 0; first = 0; second = 0; third = 0 }
@@ -104,3 +105,30 @@ module _ (value : Placement → ℤ) (moves : Moves) (ready : AreReady moves) wh
 -- all that a die leads to is within the tables
 pub list-within : (moves : Moves) (die : ℕ) (list : DieList) → AreReady moves → 1 ≤ die → die ≤ 6 → All IsWithin (list_of moves die list).reaches.items
 list-within moves die list ready a b i none h = reach-within moves.steps moves.layers die _ ready.few ready.eight ((ready.each die list a b).each i none h)
+
+module _ (value : Placement → ℤ) (moves : Moves) (ready : AreReady moves) (die : ℕ) (list : DieList) where
+  abbrev all : List Reach
+  all = (list_of moves die list).reaches.items
+
+  part : (P : Reach → Type 0) (n : ℕ) → ((i : ℕ) (none : Reach) → i < n → P (get_or all i none)) → All P (take n all)
+  part P n each i none h =
+      let short : i < n = omega (arith, h, length-take n all) in
+      subst P (sym (get_or-take n all i none short)) (each i none short)
+
+  -- one die more in the cells of the first few, where the table is right in all that they lead to
+  pub filled-to : (dice : List ℕ) (end next n : ℕ) (reaches : List Reach) (from to : List (Option ℤ)) → 1 ≤ die → die ≤ 6 → reaches ≡ all → n ≡ end → end ≤ length all → get_or from no_cell None ≡ None
+      → AreRightTo value dice moves from all next → ((i : ℕ) (none : Reach) → i < end → LeadsAmong all next (get_or all i none))
+      → (All (IsReach moves.steps moves.layers die) (take n reaches) → All (IsRightAfter value dice moves.steps moves.layers from) (take n reaches) → AreRight value (die ∷ dice) moves.steps moves.layers to (take n reaches))
+      → AreRightTo value (die ∷ dice) moves to all end
+  filled-to dice end next n reaches from to a b same end-is within missing right leads filled =
+      let is = ready.each die list a b in
+      let reach : All (IsReach moves.steps moves.layers die) (take end all) = part (IsReach moves.steps moves.layers die) end (λ i none h. is.each i none (omega (arith, h, within))) in
+      let after : All (IsRightAfter value dice moves.steps moves.layers from) (take end all) =
+      part (IsRightAfter value dice moves.steps moves.layers from) end (λ i none h. after-among value moves ready dice from missing all next right (get_or all i none) (leads i none h)) in
+      let moved : take end all ≡ take n reaches = ap (λ (m : ℕ). take m all) (sym end-is) ∙ ap (λ (rs : List Reach). take n rs) (sym same) in
+      let done = filled (subst (All (IsReach moves.steps moves.layers die)) moved reach) (subst (All (IsRightAfter value dice moves.steps moves.layers from)) moved after) in
+      let there : AreRight value (die ∷ dice) moves.steps moves.layers to (take end all) = subst (λ (rs : List Reach). AreRight value (die ∷ dice) moves.steps moves.layers to rs) (sym moved) done in
+      λ i none h. subst (λ (r : Reach). IsRightAt value (die ∷ dice) moves.steps moves.layers to r.cell) (get_or-take end all i none h) (there i none (omega (arith, h, within, length-take end all)))
+
+pub same-list : (moves : Moves) → AreReady moves → (die : ℕ) (one other : DieList) → 1 ≤ die → die ≤ 6 → list_of moves die one ≡ list_of moves die other
+same-list moves ready die one other a b = any-default moves.lists (die - 1) one other (omega (arith, a, b, ready.rooms.six))

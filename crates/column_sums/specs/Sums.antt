@@ -1,5 +1,5 @@
 -- The sums over all rolls of a column.
-use Rattle.std.specs.Prelude.{◌≡◌, ◌≤◌, ◌<◌, ◌-◌, ◌^◌, ℕ, ℤ, pos, ◌+ℤ◌, ◌*ℤ◌, List, [], ◌∷◌, length, Option, None, slice_index, slice_index_or}
+use Rattle.std.specs.Prelude.{◌≡◌, ◌≤◌, ◌<◌, ◌-◌, ◌^◌, ℕ, ℤ, pos, ◌+ℤ◌, ◌*ℤ◌, List, [], ◌∷◌, length, Option, None, slice_index, slice_index_or, ◌==◌, if◌then◌else◌}
 use Rattle.position_rank.specs.Placement.{Placement}
 use Rattle.roll_table.specs.Rolls.{Dice}
 use Rattle.directed_fixed.specs.Bounds.{IsWithinUnits}
@@ -19,10 +19,18 @@ abbrev pub AreRightTo : (Placement → ℤ) → List ℕ → Moves → List (Opt
 AreRightTo value dice moves table reaches end =
     (i : ℕ) (none : Reach) → i < end → IsRightAt value dice moves.steps moves.layers table (slice_index_or reaches i none).cell
 
+-- in all cells that this die is listed for, the greatest value that it leads to
+abbrev pub AreRightEach : (Placement → ℤ) → Moves → ℕ → List (Option ℤ) → Type 0
+AreRightEach value moves die table =
+    (none : DieList) → AreRightTo value (die ∷ []) moves table (list_of moves die none).reaches.items (length (list_of moves die none).reaches.items)
+
 -- a table of each die: the best with this die to play
 abbrev pub AreOnes : (Placement → ℤ) → Moves → List (List (Option ℤ)) → Type 0
-AreOnes value moves ones = (die : ℕ) (none : DieList) → 1 ≤ die → die ≤ 6
-    → AreRightTo value (die ∷ []) moves (slice_index_or ones (die - 1) []) (list_of moves die none).reaches.items (length (list_of moves die none).reaches.items)
+AreOnes value moves ones = (die : ℕ) (none : List (Option ℤ)) → 1 ≤ die → die ≤ 6 → AreRightEach value moves die (slice_index_or ones (die - 1) none)
+
+-- in how many ways a roll comes
+abbrev pub ways : Dice → ℕ
+ways roll = if roll.high == roll.low then 1 else 2
 
 -- the best with two and with three dice of one number to play
 pub record AreTwoAndThree (value : Placement → ℤ) (moves : Moves) (die : ℕ) (two three : List (Option ℤ)) : Type 0 where
@@ -59,14 +67,14 @@ AreSums value moves rolls sums = (i : ℕ) → i < moves.movers → sum_at sums 
 -- the tables that a double needs are right
 pub record DoubleTables (value : Placement → ℤ) (moves : Moves) (die : ℕ) (row one two three : List (Option ℤ)) : Type 0 where
   pub none : IsTable value [] moves.steps moves.layers row
-  pub once : (list : DieList) → AreRightTo value (die ∷ []) moves one (list_of moves die list).reaches.items (length (list_of moves die list).reaches.items)
+  pub once : AreRightEach value moves die one
   pub more : AreTwoAndThree value moves die two three
 
 -- the tables that two unequal dice need are right
 pub record PairTables (value : Placement → ℤ) (moves : Moves) (high low : ℕ) (row after_high after_low : List (Option ℤ)) : Type 0 where
   pub none : IsTable value [] moves.steps moves.layers row
-  pub higher : (list : DieList) → AreRightTo value (high ∷ []) moves after_high (list_of moves high list).reaches.items (length (list_of moves high list).reaches.items)
-  pub lower : (list : DieList) → AreRightTo value (low ∷ []) moves after_low (list_of moves low list).reaches.items (length (list_of moves low list).reaches.items)
+  pub higher : AreRightEach value moves high after_high
+  pub lower : AreRightEach value moves low after_low
 
 -- the row is right, and the tables of the dice
 pub record RollTables (value : Placement → ℤ) (moves : Moves) (row : List (Option ℤ)) (ones : List (List (Option ℤ))) : Type 0 where

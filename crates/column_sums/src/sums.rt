@@ -4,9 +4,8 @@ ghost use Rattle.position_rank.specs.Placement.{Placement};
 ghost use Rattle.directed_fixed.specs.Bounds.{IsWithinUnits};
 ghost use Rattle.column_sums.specs.Cascade.{best_pair, best_double, best_of_roll};
 ghost use Rattle.column_sums.specs.MoveLists.{AreReady};
-ghost use Rattle.column_sums.specs.Sums.{AreOnes, AreTwoAndThree, AreRightTo, AreSmall, AreSums, DoubleTables, PairTables, RollTables, IsRollAdded, list_of, sum_at};
+ghost use Rattle.column_sums.specs.Sums.{AreOnes, AreTwoAndThree, AreRightEach, AreSmall, AreSums, DoubleTables, PairTables, RollTables, IsRollAdded, sum_at, ways};
 ghost use Rattle.column_sums.specs.Tables.{IsRow, IsTable, IsTableOfCells};
-ghost use Rattle.column_sums.specs.declared.moves.DieList.{DieList as DieListData};
 
 use crate::best::Best;
 use crate::moves::Moves;
@@ -55,7 +54,9 @@ fn fill_ones(moves: &Moves, row: &[Best], ones: &mut [Table; 6])
         → AreOnes value moves.now ones.new }
 {
     for d in 0..6 {
-        ones[d].fill(&moves.lists[d].reaches, row);
+        let list = &moves.lists[d];
+        let table = &mut ones[d];
+        table.fill(&list.reaches, row);
     }
 }
 
@@ -65,8 +66,7 @@ fn fill_two_and_three(moves: &Moves, die: u8, one: &[Best], two: &mut Table, thr
     requires low { 1 ≤ die }
     requires high { die ≤ 6 }
     requires one { IsTableOfCells one.now }
-    ensures { (value : Placement → ℤ) (none : DieListData)
-        → AreRightTo value (die ∷ []) moves.now one.now (list_of moves.now die none).reaches.items (length (list_of moves.now die none).reaches.items)
+    ensures { (value : Placement → ℤ) → AreRightEach value moves.now die one.now
         → AreTwoAndThree value moves.now die two.new three.new }
 {
     let list = &moves.lists[usize::from(die) - 1];
@@ -137,4 +137,65 @@ fn add_pair(
         );
         sums[i] = add_times(sums[i], 2, best);
     }
+}
+
+/// Adds what the best play of a roll is worth to the sum of each mover, as often as it comes.
+fn add_roll(
+    moves: &Moves,
+    roll: Roll,
+    row: &[Best],
+    ones: &[Table; 6],
+    two: &mut Table,
+    three: &mut Table,
+    sums: &mut [Fixed],
+)
+    requires ready { AreReady moves.now }
+    requires row { IsRow row.now }
+    requires sums { moves.now.movers ≤ length sums.old }
+    requires small { AreSmall sums.old moves.now.movers }
+    ensures { IsRollAdded moves.now (ways roll) (λ value. RollTables value moves.now row.now ones.now)
+        (λ value p. best_of_roll value p roll) sums.old sums.new }
+{
+    let high = roll.high();
+    let low = roll.low();
+    let after_high = ones[usize::from(high) - 1].cells();
+    if high == low {
+        fill_two_and_three(moves, high, after_high, two, three);
+        add_double(moves, high, row, after_high, two.cells(), three.cells(), sums);
+    } else {
+        let after_low = ones[usize::from(low) - 1].cells();
+        add_pair(moves, high, low, row, after_high, after_low, sums);
+    }
+}
+
+/// For each mover, the sum over the 36 ways of two dice of the best play's value.
+pub(crate) fn sum_rolls(
+    moves: &Moves,
+    row: &[Best],
+    ones: &mut [Table; 6],
+    two: &mut Table,
+    three: &mut Table,
+    sums: &mut [Fixed],
+)
+    requires ready { AreReady moves.now }
+    requires row { IsRow row.now }
+    requires sums { moves.now.movers ≤ length sums.old }
+    ensures { (value : Placement → ℤ) → IsTable value [] moves.now.steps moves.now.layers row.now
+        → AreSums value moves.now all_rolls sums.new }
+{
+    clear(sums, moves.movers);
+    fill_ones(moves, row, ones);
+    for i in 0..21 {
+        add_roll(moves, nth_roll(i), row, ones, two, three, sums);
+    }
+}
+
+/// One of the 21 rolls.
+fn nth_roll(i: usize) -> Roll
+    requires { i < 21 }
+    ensures { (none : Dice × ℕ) → result ≡ (slice_index_or all_rolls i none).0 }
+{
+    let all = rolls();
+    let weighted = all[i];
+    weighted.0
 }

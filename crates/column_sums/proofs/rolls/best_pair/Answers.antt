@@ -1,4 +1,5 @@
-use Rattle.std.proofs.Common.{◌≡◌, ◌∙◌, Option, ℤ, ap, sym}
+use Rattle.std.proofs.Common.{◌≡◌, ◌∙◌, Option, ℤ, ap, sym, refl}
+use Rattle.std.proofs.lemmas.Bool.{false≢true}
 use Rattle.column_sums.specs.Cascade.{or_value, or_max}
 use Rattle.column_sums.specs.Tables.{best_after}
 use Rattle.column_sums.proofs.RollLemmas.{pair-fewer, pair-both}
@@ -9,7 +10,7 @@ returns-then-is_missing-clause-best c = λ value layouts others a b ready.
     let both : c.max-both.result ≡ or_max (best_after c.args.after_low.now c.args.high.now) (best_after c.args.after_high.now c.args.low.now) =
     c.max-both.ensures ∙ (ap (λ (o : Option ℤ). or_max o c.best_after-low_first.result) c.best_after-high_first.ensures ∙ ap (or_max (best_after c.args.after_low.now c.args.high.now)) c.best_after-low_first.ensures) in
     c.fewer_of_pair.ensures.best
-    ∙ pair-fewer value layouts others a b c.args.high.now c.args.low.now c.args.row.now c.args.after_high.now c.args.after_low.now ready (sym both ∙ c.if-is_missing.ensures.0 tt)
+    ∙ pair-fewer value layouts others a b c.args.high.now c.args.low.now c.args.row.now c.args.after_high.now c.args.after_low.now ready (sym both ∙ c.if-is_missing.ensures.0 refl)
 
 pub returns-else-is_missing-clause-best : goal.returns-else-is_missing-clause-best
 returns-else-is_missing-clause-best c = λ value layouts others a b ready.
@@ -17,4 +18,4 @@ returns-else-is_missing-clause-best c = λ value layouts others a b ready.
     c.max-both.ensures ∙ (ap (λ (o : Option ℤ). or_max o c.best_after-low_first.result) c.best_after-high_first.ensures ∙ ap (or_max (best_after c.args.after_low.now c.args.high.now)) c.best_after-low_first.ensures) in
     c.or.ensures.value
     ∙ (ap (or_value c.max-both.result) c.whole.ensures
-    ∙ pair-both value layouts others a b c.args.high.now c.args.low.now c.args.row.now c.args.after_high.now c.args.after_low.now ready c.max-both.result both (λ e. c.if-is_missing.ensures.1 e))
+    ∙ pair-both value layouts others a b c.args.high.now c.args.low.now c.args.row.now c.args.after_high.now c.args.after_low.now ready c.max-both.result both (λ e. false≢true (c.if-is_missing.ensures.1 e)))

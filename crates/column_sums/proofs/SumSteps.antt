@@ -1,0 +1,63 @@
+-- Sums that grow mover by mover and roll by roll.
+use Rattle.std.proofs.Common.{◌≡◌, ◌≢◌, ◌≤◌, ◌<◌, ◌+◌, ◌*◌, ◌-◌, ◌^◌, ◌∙◌, inl, inr, ℕ, zero, suc, ℤ, pos, ◌+ℤ◌, ◌*ℤ◌, get_or, set, get_or-set_same, get_or-set_other, List, [], ◌∷◌, length, take, Option, None, refl, ap, subst, sym, arith, add-one}
+use Rattle.std.proofs.lemmas.Bool.{cases_eq}
+use Rattle.std.proofs.lemmas.Int.{ints}
+use Rattle.position_rank.specs.Placement.{Placement}
+use Rattle.roll_table.specs.Rolls.{Dice, all_rolls}
+use Rattle.move_rules.specs.Listing.{Among}
+use Rattle.directed_fixed.specs.Bounds.{IsWithinUnits}
+use Rattle.turn_rule.proofs.Greatest.{total, all_rolls-small, length-all_rolls}
+use Rattle.turn_rule.proofs.RollSums.{few-rolls}
+use Rattle.column_sums.specs.Cascade.{best_pair, best_double, best_of_roll, best_sum}
+use Rattle.column_sums.specs.Cells.{no_cell, cell_placement}
+use Rattle.column_sums.specs.Rolls.{IsPairReady, IsDoubleReady}
+use Rattle.column_sums.specs.MoveLists.{AreReady}
+use Rattle.column_sums.specs.Sums.{DoubleTables, PairTables, list_of, mover_placement, sum_at}
+use Rattle.column_sums.specs.declared.cells.Reach.{Reach}
+use Rattle.column_sums.specs.declared.moves.DieList.{DieList}
+use Rattle.column_sums.specs.declared.moves.Moves.{Moves}
+use Rattle.column_sums.proofs.Places.{any-default}
+use Rattle.column_sums.proofs.SumLemmas.{double-ready, pair-ready}
+
+module _ (P : ℕ → ℤ → ℤ → Type 0) (start sums : List ℤ) (at : ℕ) (x : ℤ) where
+  pub sums-done : at < length sums → ((r : ℕ) → r < at → P r (sum_at start r) (sum_at sums r)) → P at (sum_at start at) x → (r : ℕ) → r < at + 1 → P r (sum_at start r) (sum_at (set sums at x) r)
+  sums-done here before is r below = elim (cases_eq r at) [
+    | inl same ↦ subst (λ (i : ℕ). P i (sum_at start i) (sum_at (set sums at x) i)) (sym same) (subst (λ (y : ℤ). P at (sum_at start at) y) (sym (get_or-set_same sums at x (pos 0) here)) is)
+    | inr apart ↦ subst (λ (y : ℤ). P r (sum_at start r) y) (sym (get_or-set_other sums at r x (pos 0) apart)) (before r (omega (arith, below, apart)))
+  ]
+
+  pub sums-rest : ((r : ℕ) → at ≤ r → sum_at sums r ≡ sum_at start r) → (r : ℕ) → at + 1 ≤ r → sum_at (set sums at x) r ≡ sum_at start r
+  sums-rest rest r h = let apart : r ≢ at = omega (arith, h) in get_or-set_other sums at r x (pos 0) apart ∙ rest r (omega (arith, h))
+
+-- ---- what was found of a mover is right
+
+module _ (moves : Moves) (ready : AreReady moves) (i : ℕ) (h : i < moves.movers) where
+  mover-cell : (die : ℕ) (list : DieList) (none : Reach) → 1 ≤ die → die ≤ 6 → (get_or (list_of moves die list).reaches.items i none).cell ≡ get_or moves.listing i 0
+  mover-cell die list none a b = let is = ready.each die list a b in is.at i none (omega (arith, h, is.first))
+
+  pub double-right : (die n : ℕ) (row one two three : List (Option ℤ)) (list : DieList) (reach : Reach) (best : ℤ) → 1 ≤ die → die ≤ 6 → n ≡ die → reach ≡ get_or (get_or moves.lists (n - 1) list).reaches.items i reach
+      → get_or three no_cell None ≡ None
+      → ((value : Placement → ℤ) (layouts others : List (List ℕ)) (d : ℕ) → IsDoubleReady value layouts others d reach row one two three → best ≡ best_double value d (cell_placement layouts others reach.cell))
+      → (value : Placement → ℤ) → DoubleTables value moves die row one two three → best ≡ best_double value die (mover_placement moves i)
+  double-right die n row one two three list reach best a b same is missing found value tables =
+      let at : reach ≡ get_or (list_of moves die list).reaches.items i reach = is ∙ ap (λ (m : ℕ). get_or (get_or moves.lists (m - 1) list).reaches.items i reach) same in
+      let tables-are = double-ready value moves ready die row one two three list i reach a b h missing tables in
+      let here = subst (λ (r : Reach). IsDoubleReady value moves.steps moves.layers die r row one two three) (sym at) tables-are in
+      found value moves.steps moves.layers die here
+      ∙ ap (λ (cell : ℕ). best_double value die (cell_placement moves.steps moves.layers cell)) (ap (λ (r : Reach). r.cell) at ∙ mover-cell die list reach a b)
+
+  pub pair-right : (high low n m : ℕ) (row after_high after_low : List (Option ℤ)) (first second : DieList) (by_high by_low : Reach) (best : ℤ) → 1 ≤ high → high ≤ 6 → 1 ≤ low → low ≤ 6 → n ≡ high → m ≡ low
+      → by_high ≡ get_or (get_or moves.lists (n - 1) first).reaches.items i by_high → by_low ≡ get_or (get_or moves.lists (m - 1) second).reaches.items i by_low
+      → get_or after_high no_cell None ≡ None → get_or after_low no_cell None ≡ None
+      → ((value : Placement → ℤ) (layouts others : List (List ℕ)) (a b : ℕ) → IsPairReady value layouts others a b by_high by_low row after_high after_low → best ≡ best_pair value a b (cell_placement layouts others by_high.cell))
+      → (value : Placement → ℤ) → PairTables value moves high low row after_high after_low → best ≡ best_pair value high low (mover_placement moves i)
+  pair-right high low n m row after_high after_low first second by_high by_low best a b c d e f high-is low-is miss_high miss_low found value tables =
+      let at_high : by_high ≡ get_or (list_of moves high first).reaches.items i by_high = high-is ∙ ap (λ (k : ℕ). get_or (get_or moves.lists (k - 1) first).reaches.items i by_high) e in
+      let at_low : by_low ≡ get_or (list_of moves low second).reaches.items i by_low = low-is ∙ ap (λ (k : ℕ). get_or (get_or moves.lists (k - 1) second).reaches.items i by_low) f in
+      let one = pair-ready value moves ready high low row after_high after_low first second i by_high a b c d h miss_high miss_low tables in
+      let other : (get_or (list_of moves low second).reaches.items i by_high) ≡ get_or (list_of moves low second).reaches.items i by_low =
+      (let is = ready.each low second c d in any-default (list_of moves low second).reaches.items i by_high by_low (omega (arith, h, is.first, is.longer, is.second))) in
+      let here = subst (λ (r : Reach). IsPairReady value moves.steps moves.layers high low r by_low row after_high after_low) (sym at_high)
+      (subst (λ (r : Reach). IsPairReady value moves.steps moves.layers high low (get_or (list_of moves high first).reaches.items i by_high) r row after_high after_low) (other ∙ sym at_low) one) in
+      found value moves.steps moves.layers high low here
+      ∙ ap (λ (cell : ℕ). best_pair value high low (cell_placement moves.steps moves.layers cell)) (ap (λ (r : Reach). r.cell) at_high ∙ mover-cell high first by_high a b)
