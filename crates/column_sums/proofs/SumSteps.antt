@@ -1,7 +1,11 @@
 -- Sums that grow mover by mover and roll by roll.
-use Rattle.std.proofs.Common.{◌≡◌, ◌≢◌, ◌≤◌, ◌<◌, ◌+◌, ◌*◌, ◌-◌, ◌^◌, ◌∙◌, inl, inr, ℕ, zero, suc, ℤ, pos, ◌+ℤ◌, ◌*ℤ◌, get_or, set, get_or-set_same, get_or-set_other, List, [], ◌∷◌, length, take, Option, None, refl, ap, subst, sym, arith, add-one}
+use Rattle.std.proofs.Common.{◌≡◌, ◌≢◌, ◌≤◌, ◌<◌, ◌+◌, ◌*◌, ◌-◌, ◌^◌, ◌∙◌, inl, inr, ℕ, zero, suc, ℤ, pos, ◌+ℤ◌, ◌*ℤ◌, Bool, true, false, cond, eqb, get_or, set, get_or-set_same, get_or-set_other, List, [], ◌∷◌, length, take, Option, None, refl, ap, subst, sym, arith, add-one}
 use Rattle.std.proofs.lemmas.Bool.{cases_eq}
 use Rattle.std.proofs.lemmas.Int.{ints}
+use Rattle.std.proofs.lemmas.Bool.{false≢true}
+use Rattle.std.proofs.lemmas.Bool.Decides.{nat_tests}
+use Rattle.std.proofs.lemmas.List.Folds.{list_all_at}
+use Rattle.std.specs.List.{list_all}
 use Rattle.position_rank.specs.Placement.{Placement}
 use Rattle.roll_table.specs.Rolls.{Dice, all_rolls}
 use Rattle.move_rules.specs.Listing.{Among}
@@ -12,7 +16,7 @@ use Rattle.column_sums.specs.Cascade.{best_pair, best_double, best_of_roll, best
 use Rattle.column_sums.specs.Cells.{no_cell, cell_placement}
 use Rattle.column_sums.specs.Rolls.{IsPairReady, IsDoubleReady}
 use Rattle.column_sums.specs.MoveLists.{AreReady}
-use Rattle.column_sums.specs.Sums.{DoubleTables, PairTables, list_of, mover_placement, sum_at}
+use Rattle.column_sums.specs.Sums.{DoubleTables, PairTables, IsAdded, list_of, mover_placement, sum_at, ways}
 use Rattle.column_sums.specs.declared.cells.Reach.{Reach}
 use Rattle.column_sums.specs.declared.moves.DieList.{DieList}
 use Rattle.column_sums.specs.declared.moves.Moves.{Moves}
@@ -61,3 +65,86 @@ module _ (moves : Moves) (ready : AreReady moves) (i : ℕ) (h : i < moves.mover
       (subst (λ (r : Reach). IsPairReady value moves.steps moves.layers high low (get_or (list_of moves high first).reaches.items i by_high) r row after_high after_low) (other ∙ sym at_low) one) in
       found value moves.steps moves.layers high low here
       ∙ ap (λ (cell : ℕ). best_pair value high low (cell_placement moves.steps moves.layers cell)) (ap (λ (r : Reach). r.cell) at_high ∙ mover-cell high first by_high a b)
+
+-- ---- roll by roll
+
+pub double-roll : (value : Placement → ℤ) (p : Placement) (roll : Dice) → roll.high ≡ roll.low → best_double value roll.high p ≡ best_of_roll value p roll
+unfolding best_of_roll
+double-roll value p roll same = let test : eqb roll.high roll.low ≡ true = grind (arith, nat_tests) in rw test refl
+
+pub pair-roll : (value : Placement → ℤ) (p : Placement) (roll : Dice) → roll.high ≢ roll.low → best_pair value roll.high roll.low p ≡ best_of_roll value p roll
+unfolding best_of_roll
+pair-roll value p roll apart = let test : eqb roll.high roll.low ≡ false = grind (arith, nat_tests) in rw test refl
+
+pub one-way : (roll : Dice) → roll.high ≡ roll.low → ways roll ≡ 1
+one-way roll same = let test : eqb roll.high roll.low ≡ true = grind (arith, nat_tests) in rw test refl
+
+pub two-ways : (roll : Dice) → roll.high ≢ roll.low → ways roll ≡ 2
+two-ways roll apart = let test : eqb roll.high roll.low ≡ false = grind (arith, nat_tests) in rw test refl
+
+pub few-ways : (roll : Dice) → ways roll ≤ 2
+few-ways roll = by_test (eqb roll.high roll.low) where
+  by_test : (b : Bool) → cond b 1 2 ≤ 2
+  by_test true = omega arith
+  by_test false = omega arith
+
+pub added-as : (n times : ℕ) (right found : ℤ → Type 0) (old new : ℤ) → n ≡ times → ((b : ℤ) → found b → right b) → IsAdded times found old new → IsAdded n right old new
+added-as n times right found old new same means a = record {
+  best = a.best;
+  small = a.small;
+  sum = a.sum ∙ ap (λ (t : ℕ). old +ℤ pos t *ℤ a.best) (sym same);
+  is = means a.best a.is;
+}
+
+-- the rolls come in their ways
+ways-all : list_all (λ (w : Dice × ℕ). eqb (ways w.0) w.1) all_rolls ≡ true
+unfolding all_rolls
+ways-all = refl
+
+pub ways-at : (i : ℕ) (none : Dice × ℕ) → i < length all_rolls → ways (get_or all_rolls i none).0 ≡ (get_or all_rolls i none).1
+ways-at i none h = by_test (eqb (ways (get_or all_rolls i none).0) (get_or all_rolls i none).1) refl where
+  by_test : (b : Bool) → eqb (ways (get_or all_rolls i none).0) (get_or all_rolls i none).1 ≡ b → ways (get_or all_rolls i none).0 ≡ (get_or all_rolls i none).1
+  by_test true e = grind (arith, nat_tests)
+  by_test false e = absurd (false≢true (sym (list_all_at (λ (w : Dice × ℕ). eqb (ways w.0) w.1) all_rolls i none h e) ∙ ways-all))
+
+first_of : (a : ℤ) → a +ℤ pos 0 ≡ pos 0 +ℤ a
+first_of a = omega (arith, ints)
+
+regroup : (a b c d : ℤ) → d ≡ b +ℤ c → a +ℤ d ≡ (a +ℤ b) +ℤ c
+regroup a b c d h = omega (arith, ints)
+
+best_sum-next : (f : Placement → ℤ) (p : Placement) (rolls : List (Dice × ℕ)) (i : ℕ) (none : Dice × ℕ) → i < length rolls
+    → best_sum (take (suc i) rolls) f p ≡ best_sum (take i rolls) f p +ℤ pos (get_or rolls i none).1 *ℤ best_of_roll f p (get_or rolls i none).0
+best_sum-next f p [] i none h = absurd (omega arith)
+best_sum-next f p (first ∷ rest) zero none h = first_of (pos first.1 *ℤ best_of_roll f p first.0)
+best_sum-next f p (first ∷ rest) (suc i) none h = regroup _ _ _ _ (best_sum-next f p rest i none (omega arith))
+
+total-next : (rolls : List (Dice × ℕ)) (i : ℕ) (none : Dice × ℕ) → i < length rolls → total (take (suc i) rolls) ≡ total (take i rolls) + (get_or rolls i none).1
+total-next [] i none h = absurd (omega arith)
+total-next (first ∷ rest) zero none h = omega arith
+total-next (first ∷ rest) (suc i) none h = omega (arith, total-next rest i none (omega arith))
+
+-- a sum of so many small values, and times times one more
+more-small : (t times : ℕ) (old best new : ℤ) → times ≤ 2 → IsWithinUnits (pos (t * 2 ^ 36)) old → IsWithinUnits (pos (2 ^ 36)) best → new ≡ old +ℤ pos times *ℤ best → IsWithinUnits (pos ((t + times) * 2 ^ 36)) new
+more-small t zero old best new h a b e = record { from = omega (arith, ints, a.from); to = omega (arith, ints, a.to) }
+more-small t (suc zero) old best new h a b e = record { from = omega (arith, ints, a.from, b.from); to = omega (arith, ints, a.to, b.to) }
+more-small t (suc (suc zero)) old best new h a b e = record { from = omega (arith, ints, a.from, b.from); to = omega (arith, ints, a.to, b.to) }
+more-small t (suc (suc (suc n))) old best new h a b e = absurd (omega arith)
+
+pub all-small : (i : ℕ) (x : ℤ) → IsWithinUnits (pos (total (take i all_rolls) * 2 ^ 36)) x → IsWithinUnits (pos (2 ^ 42)) x
+all-small i x h = let few = few-rolls i in record { from = omega (arith, ints, h.from, few); to = omega (arith, ints, h.to, few) }
+
+pub sum-more : (f : Placement → ℤ) (p : Placement) (i times : ℕ) (none : Dice × ℕ) (roll : Dice) (old best new : ℤ) → i < length all_rolls → times ≡ (get_or all_rolls i none).1 → roll ≡ (get_or all_rolls i none).0
+    → old ≡ best_sum (take i all_rolls) f p → best ≡ best_of_roll f p roll → new ≡ old +ℤ pos times *ℤ best → new ≡ best_sum (take (i + 1) all_rolls) f p
+sum-more f p i times none roll old best new here times-is roll-is old-is best-is new-is =
+    new-is
+    ∙ (ap (λ (x : ℤ). x +ℤ pos times *ℤ best) old-is
+    ∙ (ap (λ (x : ℤ). best_sum (take i all_rolls) f p +ℤ pos times *ℤ x) (best-is ∙ ap (λ (r : Dice). best_of_roll f p r) roll-is)
+    ∙ (ap (λ (n : ℕ). best_sum (take i all_rolls) f p +ℤ pos n *ℤ best_of_roll f p (get_or all_rolls i none).0) times-is
+    ∙ (sym (best_sum-next f p all_rolls i none here) ∙ ap (λ (n : ℕ). best_sum (take n all_rolls) f p) (sym (add-one i))))))
+
+pub small-more : (i times : ℕ) (none : Dice × ℕ) (old best new : ℤ) → i < length all_rolls → times ≡ (get_or all_rolls i none).1 → times ≤ 2 → IsWithinUnits (pos (total (take i all_rolls) * 2 ^ 36)) old → IsWithinUnits (pos (2 ^ 36)) best
+    → new ≡ old +ℤ pos times *ℤ best → IsWithinUnits (pos (total (take (i + 1) all_rolls) * 2 ^ 36)) new
+small-more i times none old best new here times-is few a b e =
+    let count : total (take i all_rolls) + times ≡ total (take (i + 1) all_rolls) = ap (λ (n : ℕ). total (take i all_rolls) + n) times-is ∙ (sym (total-next all_rolls i none here) ∙ ap (λ (n : ℕ). total (take n all_rolls)) (sym (add-one i))) in
+    subst (λ (n : ℕ). IsWithinUnits (pos (n * 2 ^ 36)) new) count (more-small (total (take i all_rolls)) times old best new few a b e)

@@ -1,7 +1,61 @@
+use Rattle.std.proofs.Common.{◌≡◌, ◌≢◌, ◌≤◌, ◌∙◌, ◌-◌, [], ◌∷◌, ℕ, ℤ, Option, List, get_or, ap, sym, subst, arith}
+use Rattle.position_rank.specs.Placement.{Placement}
+use Rattle.column_sums.specs.Cascade.{best_double, best_pair, best_of_roll}
+use Rattle.column_sums.specs.Sums.{AreRightEach, AreTwoAndThree, DoubleTables, PairTables, RollTables, IsAdded, mover_placement, sum_at, ways}
+use Rattle.column_sums.proofs.SumSteps.{added-as, one-way, two-ways, double-roll, pair-roll}
 use Rattle.column_sums.proofs.sums.add_roll.Goals as goal
 
 pub returns-then-high-low : goal.returns-then-high-low
-returns-then-high-low c = ?
+returns-then-high-low c = λ i h.
+    let moves = c.args.moves.now in
+    let row = c.args.row.now in
+    let ones = c.args.ones.now in
+    let roll = c.args.roll in
+    let die = c.high-high.result in
+    let high = c.high-high.ensures.high in
+    let valid = c.high-high.ensures.valid in
+    let same : roll.high ≡ roll.low = sym high ∙ (c.if-high-low.true ∙ c.low-low.ensures.low) in
+    let one = c.cells-after_high.result.now in
+    let two = c.cells.result.now in
+    let three = c.cells-then-high-low.result.now in
+    let tables = λ (value : Placement → ℤ) (are : RollTables value moves row ones).
+    (let item = c.index-ones-from.result in
+    let here : get_or ones (c.from.result - 1) item ≡ one = sym c.cells-after_high.ensures.cells in
+    let each : AreRightEach value moves die (get_or ones (die - 1) item) = are.each die item (omega (arith, high, valid.from, valid.in_order)) (omega (arith, high, valid.to)) in
+    let once : AreRightEach value moves die one = subst (AreRightEach value moves die) (ap (λ (n : ℕ). get_or ones (n - 1) item) (sym c.from.ensures) ∙ here) each in
+    let more = c.fill_two_and_three.ensures value once in
+    let more' : AreTwoAndThree value moves die two three = subst (λ (t : List (Option ℤ)). AreTwoAndThree value moves die t three) (sym c.cells.ensures.cells)
+    (subst (λ (t : List (Option ℤ)). AreTwoAndThree value moves die c.fill_two_and_three.new.two t) (sym c.cells-then-high-low.ensures.cells) more) in
+    let all : DoubleTables value moves die row one two three = record { none = are.none; once = once; more = more' } in
+    all) in
+    added-as (ways roll) 1 _ _ _ _ (one-way roll same)
+    (λ b found value are. found value (tables value are) ∙ (ap (λ (d : ℕ). best_double value d (mover_placement moves i)) high ∙ double-roll value (mover_placement moves i) roll same))
+    (c.add_double.ensures i h)
 
 pub returns-else-high-low : goal.returns-else-high-low
-returns-else-high-low c = ?
+returns-else-high-low c = λ i h.
+    let moves = c.args.moves.now in
+    let row = c.args.row.now in
+    let ones = c.args.ones.now in
+    let roll = c.args.roll in
+    let high = c.high-high.ensures.high in
+    let low = c.low-low.ensures.low in
+    let valid = c.high-high.ensures.valid in
+    let apart : roll.high ≢ roll.low = λ same. c.if-high-low.false (high ∙ (same ∙ sym low)) in
+    let after_high = c.cells-after_high.result.now in
+    let after_low = c.cells-after_low.result.now in
+    let tables = λ (value : Placement → ℤ) (are : RollTables value moves row ones).
+    (let one = c.index-ones-from.result in
+    let other = c.index-ones-from-else-high-low.result in
+    let higher : AreRightEach value moves c.high-high.result after_high = subst (AreRightEach value moves c.high-high.result)
+    (ap (λ (n : ℕ). get_or ones (n - 1) one) (sym c.from.ensures) ∙ sym c.cells-after_high.ensures.cells)
+    (are.each c.high-high.result one (omega (arith, high, valid.from, valid.in_order)) (omega (arith, high, valid.to))) in
+    let lower : AreRightEach value moves c.low-low.result after_low = subst (AreRightEach value moves c.low-low.result)
+    (ap (λ (n : ℕ). get_or ones (n - 1) other) (sym c.from-else-high-low.ensures) ∙ sym c.cells-after_low.ensures.cells)
+    (are.each c.low-low.result other (omega (arith, low, valid.from)) (omega (arith, low, valid.in_order, valid.to))) in
+    let all : PairTables value moves c.high-high.result c.low-low.result row after_high after_low = record { none = are.none; higher = higher; lower = lower } in
+    all) in
+    added-as (ways roll) 2 _ _ _ _ (two-ways roll apart)
+    (λ b found value are. found value (tables value are)
+    ∙ (ap (λ (d : ℕ). best_pair value d c.low-low.result (mover_placement moves i)) high ∙ (ap (λ (d : ℕ). best_pair value roll.high d (mover_placement moves i)) low ∙ pair-roll value (mover_placement moves i) roll apart)))
+    (c.add_pair.ensures i h)
