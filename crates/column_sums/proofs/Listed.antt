@@ -203,3 +203,15 @@ cell-rank many layers rank is = omega (arith, is.rank, is.layer)
 
 pub cells-more : (many layers : ℕ) (cells : List ℕ) → 1 ≤ layers → AreCells many 1 cells → AreCells many layers cells
 cells-more many layers cells some are i h = let is = are i h in record { rank = is.rank; layer = omega (arith, is.layer, some) }
+
+-- the first few of some numbers, each once and below a bound, are no more than the bound
+pub few-first : (cells : List ℕ) (count many : ℕ) → count ≤ length cells → ((i : ℕ) → i < count → get_or cells i 0 < many) → ((i j : ℕ) → i < j → j < length cells → get_or cells i 0 ≢ get_or cells j 0)
+    → length (take count cells) ≤ many
+few-first cells count many within low apart =
+    let short = length-take count cells in
+    few-apart (take count cells) many
+    (λ i h. let here : i < count = omega (arith, h, short) in subst (λ (c : ℕ). c < many) (sym (get_or-take count cells i 0 here)) (low i here))
+    (λ i j h k same.
+    let below : j < count = omega (arith, k, short) in
+    let before : i < count = omega (arith, h, below) in
+    apart i j h (omega (arith, below, within)) (sym (get_or-take count cells i 0 before) ∙ (same ∙ get_or-take count cells j 0 below)))

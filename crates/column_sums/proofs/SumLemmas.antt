@@ -6,7 +6,9 @@ use Rattle.column_sums.specs.Cells.{no_cell, cell_of, IsCell, IsCellOrNone, cell
 use Rattle.column_sums.specs.Tables.{IsTable, IsTableOfCells, IsRow, IsRightAt, IsRightAfter, IsWithin, AreRight}
 use Rattle.column_sums.specs.Rolls.{IsPairReady, IsDoubleReady}
 use Rattle.column_sums.specs.MoveLists.{IsAmongOrNone, LeadsAmong, IsDieList, AreReady}
-use Rattle.column_sums.specs.Sums.{AreRightTo, AreOnes, AreTwoAndThree, DoubleTables, PairTables, list_of}
+use Rattle.column_sums.specs.Leaps.{layout_at}
+use Rattle.column_sums.specs.ColumnOf.{begun_at}
+use Rattle.column_sums.specs.Sums.{AreRightTo, DoubleTables, PairTables, list_of, mover_placement}
 use Rattle.column_sums.specs.declared.cells.Reach.{Reach}
 use Rattle.column_sums.specs.declared.moves.DieList.{DieList}
 use Rattle.column_sums.specs.declared.moves.Moves.{Moves}
@@ -132,3 +134,17 @@ module _ (value : Placement → ℤ) (moves : Moves) (ready : AreReady moves) (d
 
 pub same-list : (moves : Moves) → AreReady moves → (die : ℕ) (one other : DieList) → 1 ≤ die → die ≤ 6 → list_of moves die one ≡ list_of moves die other
 same-list moves ready die one other a b = any-default moves.lists (die - 1) one other (omega (arith, a, b, ready.rooms.six))
+
+-- a mover's cell is in the first layer
+pub begun-is : (moves : Moves) → AreReady moves → (i : ℕ) → i < moves.movers
+    → mover_placement moves i ≡ begun_at (record { layouts = moves.steps; others = moves.layers; movers = take moves.movers moves.listing }) i
+begun-is moves ready i h =
+    let low = ready.begun i h in
+    let cell = get_or moves.listing i 0 in
+    let rank : cell % 4096 ≡ cell = omega (arith, low, ready.few) in
+    let layer : cell / 4096 ≡ 0 = omega (arith, low, ready.few) in
+    ap (λ (r : ℕ). record { mover = layout_at moves.steps r; other = layout_at moves.layers (cell / 4096) }) (rank ∙ sym (get_or-take moves.movers moves.listing i 0 h))
+    ∙ ap (λ (l : ℕ). record { mover = layout_at moves.steps (get_or (take moves.movers moves.listing) i 0); other = layout_at moves.layers l }) layer
+
+pub begun-low : (moves : Moves) (i : ℕ) → i < length (take moves.movers moves.listing) → i < moves.movers
+begun-low moves i h = omega (arith, h, length-take moves.movers moves.listing)

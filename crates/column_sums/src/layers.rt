@@ -16,7 +16,7 @@ const CLOSED: u8 = 255;
 
 /// The layouts that the other side may be left with, and which of them is left where a checker comes to a point.
 #[derive(Drop)]
-pub struct Layers {
+pub(crate) struct Layers {
     others: Vec<Layout>,
     next: [[u8; 25]; 8],
 }
@@ -59,7 +59,7 @@ impl Layers {
 
     /// How many layouts there are.
     #[inline]
-    pub fn count(&self) -> usize
+    pub(crate) fn count(&self) -> usize
         ensures count { result ≡ length self.now }
         ensures few { result ≤ 8 }
         ensures distinct { AreDistinct self.now }
@@ -70,7 +70,7 @@ impl Layers {
 
     /// One of the layouts.
     #[inline]
-    pub fn layout(&self, layer: usize) -> &Layout
+    pub(crate) fn layout(&self, layer: usize) -> &Layout
         requires { layer < length self.now }
         ensures { result.now ≡ layout_at self.now layer }
     {

@@ -22,7 +22,7 @@ pub(crate) struct Fan {
 
 /// The steps of all layouts of so many checkers by each die.
 #[derive(Drop)]
-pub struct Steps {
+pub(crate) struct Steps {
     layouts: Vec<Layout>,
     fans: Vec<Fan>,
 }
@@ -40,7 +40,7 @@ impl Model for Steps {
 
 impl Steps {
     /// The steps of all layouts of one to three checkers. It asks for memory, and may answer `NoMemory`.
-    pub fn new(alloc: Global, checkers: u8) -> Result<Steps, NoMemory>
+    pub(crate) fn new(alloc: Global, checkers: u8) -> Result<Steps, NoMemory>
         requires low { 1 ≤ checkers }
         requires high { checkers ≤ 3 }
         ensures { IfOk result (λ steps. AreLayouts checkers steps) }
@@ -55,7 +55,7 @@ impl Steps {
 
     /// How many layouts there are.
     #[inline]
-    pub fn many(&self) -> usize
+    pub(crate) fn many(&self) -> usize
         ensures many { result ≡ length self.now }
         ensures few { result ≤ 3276 }
     {
@@ -64,7 +64,7 @@ impl Steps {
 
     /// One of the layouts.
     #[inline]
-    pub fn layout(&self, rank: usize) -> &Layout
+    pub(crate) fn layout(&self, rank: usize) -> &Layout
         requires { rank < length self.now }
         ensures { result.now ≡ layout_at self.now rank }
     {

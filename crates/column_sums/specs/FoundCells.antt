@@ -1,0 +1,22 @@
+-- Cells whose values were found by looking words up.
+use Rattle.std.specs.Prelude.{◌≡◌, ◌<◌, ℕ, ℤ, List, length, Option, Some, None, slice_index_or}
+use Rattle.position_rank.specs.Placement.{Placement}
+use Rattle.directed_fixed.specs.declared.bounds.End.{End}
+use Rattle.cube_actions.specs.declared.kind.Kind.{Kind}
+use Rattle.turn_rule.specs.Turn.{Words, worth}
+use Rattle.turn_rule.specs.Looks.{Source, IsLeft}
+use Rattle.turn_rule.specs.Found.{IsFound, LeavesState}
+use Rattle.column_sums.specs.Leaps.{layout_at}
+use Rattle.column_sums.specs.Cells.{cell_of}
+
+-- where the checkers stand in the cell of a layer and a rank
+abbrev pub placement_of : List (List ℕ) → List (List ℕ) → ℕ → ℕ → Placement
+placement_of layouts others layer rank = record { mover = layout_at layouts rank; other = layout_at others layer }
+
+-- where a play may leave the placement of a cell, its value is what was found of it, at one end in a kind
+abbrev pub AreFoundCells : End → Source → Words → Kind → List (List ℕ) → List (List ℕ) → List (Option ℤ) → Type 0
+AreFoundCells end source noted kind layouts others row =
+    (layer rank : ℕ) → layer < length others → rank < length layouts
+    → LeavesState source kind.next (placement_of layouts others layer rank)
+    → (x : ℤ) × (slice_index_or row (cell_of layer rank) None ≡ Some x)
+    × IsFound end source noted (IsLeft kind.next (placement_of layouts others layer rank)) source.bound (λ u. worth end kind u (placement_of layouts others layer rank)) x
