@@ -12,6 +12,7 @@ use Rattle.directed_fixed.specs.declared.bounds.End.{End}
 use Rattle.cube_actions.specs.Stakes.{Terms, kind_at, IsValid}
 use Rattle.turn_rule.specs.Turn.{Words, worth, sum_over}
 use Rattle.turn_rule.specs.States.{IsStateOf, IsState}
+use Rattle.turn_rule.specs.Games.{game_of}
 use Rattle.turn_rule.specs.Looks.{Source, AreStakesOf, IsLeft, MayFollow}
 use Rattle.turn_rule.specs.Found.{IsFound, LeavesState}
 use Rattle.turn_rule.specs.Rounds.{AreLayouts}
@@ -62,6 +63,6 @@ module _ (end : End) (s : Source) (stakes : Terms) (noted : Words) (k : ℕ) (al
       let rank : rank_of q.mover < length all = omega (arith, rank-below q.mover stays.0.mover, layouts-are.many, ap (λ (n : ℕ). layouts n) many) in
       let has = layouts-are.each (rank_of q.mover) [] rank in
       let mover : layout_at all (rank_of q.mover) ≡ q.mover = layouts-same (layout_at all (rank_of q.mover)) q.mover has.valid stays.0.mover (has.many ∙ sym many) has.ranked in
-      let state' : IsState s.checkers stakes p k = subst (λ (n : ℕ). IsStateOf s.checkers n p k) fits.kinds state in
-      let leaves : LeavesState s (kind_at stakes k).next q = λ on. subst (λ (n : ℕ). IsStateOf s.checkers n (swap q) (kind_at stakes k).next) (sym fits.kinds) (next_state s.checkers stakes valid p k state' roll q right m on) in
+      let state' : IsState (game_of s.checkers stakes) p k = subst (λ (n : ℕ). IsStateOf s.checkers n p k) fits.kinds state in
+      let leaves : LeavesState s (kind_at stakes k).next q = λ on. subst (λ (n : ℕ). IsStateOf s.checkers n (swap q) (kind_at stakes k).next) (sym fits.kinds) (next_state (game_of s.checkers stakes) valid p k state' roll q right m on) in
       end-found layer.0 (rank_of q.mover) layer.1 rank q (same-board (layout_at all (rank_of q.mover)) (layout_at others layer.0) q mover layer.2) leaves))

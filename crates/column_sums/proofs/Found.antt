@@ -14,7 +14,7 @@ use Rattle.turn_rule.specs.Looks.{Source, IsLeft, MayFollow}
 use Rattle.turn_rule.specs.Found.{IsFound}
 use Rattle.turn_rule.proofs.Greatest.{AreRolls, all_rolls-right, sum-upto, sum-from, total-all_rolls}
 use Rattle.turn_rule.proofs.Tightness.{tight-sum}
-use Rattle.turn_rule.proofs.RollSums.{times-neg}
+use Rattle.turn_rule.proofs.Integers.{times-neg}
 use Rattle.column_sums.specs.Cascade.{or_max, then_value, over_places, best_over, best_of_roll, best_sum}
 use Rattle.column_sums.proofs.Cascades.{roll-greatest}
 

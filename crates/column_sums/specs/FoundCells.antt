@@ -3,9 +3,9 @@ use Rattle.std.specs.Prelude.{◌≡◌, ◌<◌, ℕ, ℤ, List, length, Option
 use Rattle.position_rank.specs.Placement.{Placement}
 use Rattle.directed_fixed.specs.declared.bounds.End.{End}
 use Rattle.cube_actions.specs.declared.kind.Kind.{Kind}
-use Rattle.turn_rule.specs.Turn.{Words, worth}
-use Rattle.turn_rule.specs.Looks.{Source, IsLeft}
-use Rattle.turn_rule.specs.Found.{IsFound, LeavesState}
+use Rattle.turn_rule.specs.Turn.{Words}
+use Rattle.turn_rule.specs.Looks.{Source}
+use Rattle.turn_rule.specs.Found.{IsFoundOf, LeavesState, of_play}
 use Rattle.column_sums.specs.Leaps.{layout_at}
 use Rattle.column_sums.specs.Cells.{cell_of}
 
@@ -19,4 +19,4 @@ AreFoundCells end source noted kind layouts others row =
     (layer rank : ℕ) → layer < length others → rank < length layouts
     → LeavesState source kind.next (placement_of layouts others layer rank)
     → (x : ℤ) × (slice_index_or row (cell_of layer rank) None ≡ Some x)
-    × IsFound end source noted (IsLeft kind.next (placement_of layouts others layer rank)) source.bound (λ u. worth end kind u (placement_of layouts others layer rank)) x
+    × IsFoundOf end (of_play kind (placement_of layouts others layer rank)) source noted x

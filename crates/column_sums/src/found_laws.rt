@@ -1,14 +1,14 @@
-ghost use Rattle.std.specs.Prelude.{◌≡◌, ◌≤◌, ℕ, ℤ, pos, ◌*ℤ◌, ◌≤ℤ◌, Option, List, length};
+ghost use Rattle.std.specs.Prelude.{◌≤◌, ℕ, ℤ, pos, ◌≤ℤ◌, Option, List, length};
 ghost use Rattle.position_rank.specs.Placement.{Placement};
 ghost use Rattle.roll_table.specs.Rolls.{Dice, IsRoll, all_rolls};
 ghost use Rattle.move_rules.specs.Ends.{legal_ends};
 ghost use Rattle.move_rules.specs.Listing.{Among};
 ghost use Rattle.directed_fixed.specs.declared.bounds.End.{End};
 ghost use Rattle.cube_actions.specs.Stakes.{Terms, kind_at, IsValid};
-ghost use Rattle.turn_rule.specs.Turn.{Words, worth, sum_over};
-ghost use Rattle.turn_rule.specs.Looks.{Source, AreStakesOf, IsLeft, MayFollow};
+ghost use Rattle.turn_rule.specs.Turn.{Words};
+ghost use Rattle.turn_rule.specs.Looks.{Source, AreStakesOf};
 ghost use Rattle.turn_rule.specs.States.{IsStateOf};
-ghost use Rattle.turn_rule.specs.Found.{IsFound};
+ghost use Rattle.turn_rule.specs.Found.{IsFoundOf, of_play, of_sum};
 ghost use Rattle.turn_rule.specs.Rounds.{AreLayouts};
 ghost use Rattle.column_sums.specs.AfterHits.{AreDistinct, AreClosed, IsLayer};
 ghost use Rattle.column_sums.specs.Cascade.{best_sum};
@@ -21,10 +21,8 @@ pub fn found_ends_give_the_sum()
     ensures { (end : End) (source : Source) (stakes : Terms) (noted : Words) (p : Placement) (k : ℕ) (value : Placement → ℤ)
         → pos 0 ≤ℤ source.bound
         → ((roll : Dice) (q : Placement) → IsRoll roll → Among q (legal_ends p roll)
-        → IsFound end source noted (IsLeft (kind_at stakes k).next q) source.bound
-        (λ u. worth end (kind_at stakes k) u q) (value q))
-        → IsFound end source noted (MayFollow stakes p k) (pos 36 *ℤ source.bound)
-        (λ u. sum_over all_rolls (worth end (kind_at stakes k) u) p) (best_sum all_rolls value p) }
+        → IsFoundOf end (of_play (kind_at stakes k) q) source noted (value q))
+        → IsFoundOf end (of_sum stakes p k) source noted (best_sum all_rolls value p) }
 {}
 
 /// What was looked up cell by cell makes the sums of a column found, at one end in a kind.
@@ -35,6 +33,5 @@ pub fn found_cells_give_the_sum()
         → AreDistinct others → AreClosed others → IsRow row
         → AreFoundCells end source noted (kind_at stakes k) layouts others row
         → (p : Placement) → IsStateOf source.checkers source.kinds p k → IsLayer others p.other
-        → IsFound end source noted (MayFollow stakes p k) (pos 36 *ℤ source.bound)
-        (λ u. sum_over all_rolls (worth end (kind_at stakes k) u) p) (best_sum all_rolls (value_of others row) p) }
+        → IsFoundOf end (of_sum stakes p k) source noted (best_sum all_rolls (value_of others row) p) }
 {}
