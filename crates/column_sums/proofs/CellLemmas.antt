@@ -1,15 +1,14 @@
 -- What a die leads to from a cell.
-use Rattle.std.proofs.Common.{◌≡◌, ◌≤◌, ◌<◌, ◌+◌, ◌*◌, ◌/◌, ◌%◌, ◌∙◌, ◌&&◌, All, inl, inr, ℕ, zero, suc, ℤ, Bool, true, false, cond, ltb, get_or, List, [], ◌∷◌, length, Option, Some, None, refl, ap, subst, sym, arith}
+use Rattle.std.proofs.Common.{◌≡◌, ◌≤◌, ◌<◌, ◌/◌, ◌%◌, ◌∙◌, All, inl, inr, ℕ, zero, suc, ℤ, Bool, true, false, cond, ltb, get_or, List, [], ◌∷◌, length, Option, None, refl, ap, subst, sym, arith}
 use Rattle.std.proofs.lemmas.Bool.Decides.{nat_tests}
-use Rattle.std.proofs.lemmas.Bool.{cases_lt, lt-ltb, le-ltb}
+use Rattle.std.proofs.lemmas.Bool.{lt-ltb, le-ltb}
 use Rattle.position_rank.specs.Placement.{Placement}
 use Rattle.move_rules.specs.Ends.{places}
 use Rattle.column_sums.specs.Cascade.{or_max, then_value, best_over}
 use Rattle.column_sums.specs.Columns.{Step, is_open, struck, landed, steps_from, over_steps}
-use Rattle.column_sums.specs.Leaps.{lands_of, layout_at, IsLeap, AreLeaps, AreNext}
+use Rattle.column_sums.specs.Leaps.{layout_at, IsLeap, AreLeaps, AreNext}
 use Rattle.column_sums.specs.Cells.{no_cell, cell_of, IsCell, IsCellOrNone, cell_placement, best_from, leap_cell, nth_cell, IsShort, IsReach}
 use Rattle.column_sums.specs.declared.leaps.Leap.{Leap}
-use Rattle.column_sums.specs.declared.cells.Reach.{Reach}
 use Rattle.column_sums.proofs.Mosts.{or_max-assoc, or_max-none}
 use Rattle.column_sums.proofs.StepLemmas.{places-steps}
 

@@ -1,6 +1,6 @@
 -- Layers in which single checkers are on the bar, point by point.
-use Rattle.std.proofs.Common.{◌≡◌, ◌≢◌, ◌≤◌, ◌<◌, ◌+◌, ◌-◌, ◌*◌, ◌^◌, ◌∙◌, inl, inr, ℕ, zero, suc, get_or, set, length-set, get_or-set_same, get_or-set_other, List, [], ◌∷◌, length, sum, take, refl, ap, sym, subst, arith, add-one}
-use Rattle.std.proofs.lemmas.Bool.{cases_lt, cases_eq}
+use Rattle.std.proofs.Common.{◌≡◌, ◌≢◌, ◌≤◌, ◌<◌, ◌+◌, ◌-◌, ◌∙◌, inl, inr, ℕ, zero, suc, get_or, set, length-set, get_or-set_same, get_or-set_other, List, [], ◌∷◌, length, sum, take, refl, ap, sym, subst, arith}
+use Rattle.std.proofs.lemmas.Bool.{cases_lt}
 use Rattle.std.proofs.lemmas.List.{set_comm, set-set}
 use Rattle.std.proofs.lemmas.List.Sums.{sum_by_more, sum_by-take-le}
 use Rattle.std.proofs.Math.Nat.{pow-suc, pow-le-pow_right}
@@ -8,7 +8,7 @@ use Rattle.std.proofs.lemmas.Nat.{pow_pos}
 use Rattle.position_rank.specs.Placement.{moved}
 use Rattle.column_sums.specs.Leaps.{layout_at}
 use Rattle.column_sums.proofs.Distinct.{distinct-one}
-use Rattle.column_sums.specs.AfterHits.{AreDistinct, AreHits, AreHitOn, AreHitBelow, AreAlikeFrom, AreMore, IsLayer}
+use Rattle.column_sums.specs.AfterHits.{AreDistinct, AreHits, AreHitOn, AreMore, IsLayer}
 
 pub moved-length : (a : List ℕ) (from to : ℕ) → length (moved a from to) ≡ length a
 moved-length a from to = length-set (set a from (get_or a from 0 - 1)) to _ ∙ length-set a from _

@@ -1,6 +1,6 @@
 -- Elements of lists, place by place.
-use Rattle.std.proofs.Common.{◌≡◌, ◌≢◌, ◌≤◌, ◌<◌, ◌+◌, ◌∙◌, inl, inr, ℕ, zero, suc, get_or, set, get_or-set_same, get_or-set_other, List, [], ◌∷◌, length, refl, ap, sym, subst, arith}
-use Rattle.std.proofs.lemmas.Bool.{cases_lt, cases_eq}
+use Rattle.std.proofs.Common.{◌≡◌, ◌≢◌, ◌≤◌, ◌<◌, ◌+◌, ◌∙◌, inl, inr, ℕ, zero, suc, get_or, set, get_or-set_same, get_or-set_other, List, [], ◌∷◌, length, refl, sym, subst, arith}
+use Rattle.std.proofs.lemmas.Bool.{cases_eq}
 
 pub any-default : {A : Type 0} (xs : List A) (i : ℕ) (d e : A) → i < length xs → get_or xs i d ≡ get_or xs i e
 any-default [] i d e h = absurd (omega (arith, h))

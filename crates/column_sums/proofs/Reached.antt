@@ -1,6 +1,6 @@
 -- Lists of what a die leads to.
-use Rattle.std.proofs.Common.{◌≡◌, ◌≢◌, ◌≤◌, ◌<◌, ◌+◌, ◌-◌, ◌∙◌, ◌++◌, All, take, inl, inr, ℕ, zero, suc, get_or, List, [], ◌∷◌, length, length-append, refl, ap, sym, subst, arith}
-use Rattle.std.proofs.lemmas.Bool.{cases_lt, cases_eq}
+use Rattle.std.proofs.Common.{◌≡◌, ◌≤◌, ◌<◌, ◌+◌, ◌-◌, ◌∙◌, ◌++◌, All, take, inl, inr, ℕ, suc, get_or, List, [], ◌∷◌, length, length-append, refl, ap, sym, subst, arith}
+use Rattle.std.proofs.lemmas.Bool.{cases_lt}
 use Rattle.std.proofs.lemmas.List.{get_or_append_left, get_or-append-add}
 use Rattle.column_sums.specs.declared.cells.Reach.{Reach}
 use Rattle.column_sums.specs.Cells.{IsReach, IsCellOrNone}
@@ -87,6 +87,7 @@ die-list layouts others near one two die r0 r1 r2 list k1 k2 few into0 n1 s1 int
 } where
   from1 : (i : ℕ) (none : Reach) → i < length r1 → get_or list.reaches.items i none ≡ get_or r1 i none
   from1 i none h = s3 i none (omega (arith, h, n1, n2, k1.longer)) ∙ s2 i none h
+
   from0 : (i : ℕ) (none : Reach) → i < length r0 → get_or list.reaches.items i none ≡ get_or r0 i none
   from0 i none h = from1 i none (omega (arith, h, n1, few)) ∙ s1 i none h
 

@@ -1,8 +1,8 @@
 -- The best play of a roll is found in the tables.
-use Rattle.std.proofs.Common.{◌≡◌, ◌≢◌, ◌≤◌, ◌∙◌, ℕ, ℤ, pos, get_or, List, [], ◌∷◌, length, Option, Some, None, refl, ap, subst, sym, arith}
+use Rattle.std.proofs.Common.{◌≡◌, ◌≢◌, ◌≤◌, ◌∙◌, ℕ, ℤ, pos, get_or, List, [], ◌∷◌, length, Option, Some, None, refl, ap, sym, arith}
 use Rattle.position_rank.specs.Placement.{Placement}
 use Rattle.column_sums.specs.Cascade.{or_max, or_value, best_over, best_pair, best_double}
-use Rattle.column_sums.specs.Cells.{cell_placement, best_from, IsCell, IsReach}
+use Rattle.column_sums.specs.Cells.{cell_placement, IsCell}
 use Rattle.column_sums.specs.Tables.{IsRightAt, best_after}
 use Rattle.column_sums.specs.Rolls.{IsPairReady, IsDoubleReady, fewer_of_pair, fewer_of_double}
 use Rattle.column_sums.specs.declared.cells.Reach.{Reach}

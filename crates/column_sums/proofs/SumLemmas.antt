@@ -1,11 +1,11 @@
 -- Tables that are right where the moves of a column lead.
-use Rattle.std.proofs.Common.{◌≡◌, ◌≢◌, ◌≤◌, ◌<◌, ◌+◌, ◌-◌, ◌*◌, ◌/◌, ◌%◌, ◌∙◌, All, inl, inr, ℕ, zero, suc, ℤ, pos, get_or, List, [], ◌∷◌, length, take, Option, Some, None, refl, ap, subst, sym, arith}
+use Rattle.std.proofs.Common.{◌≡◌, ◌≤◌, ◌<◌, ◌-◌, ◌/◌, ◌%◌, ◌∙◌, All, inl, inr, ℕ, ℤ, get_or, List, [], ◌∷◌, length, take, Option, None, ap, subst, sym, arith}
 use Rattle.std.proofs.lemmas.List.{get_or-take, length-take}
 use Rattle.position_rank.specs.Placement.{Placement}
-use Rattle.column_sums.specs.Cells.{no_cell, cell_of, IsCell, IsCellOrNone, cell_placement, best_from, IsReach}
-use Rattle.column_sums.specs.Tables.{IsTable, IsTableOfCells, IsRow, IsRightAt, IsRightAfter, IsWithin, AreRight}
+use Rattle.column_sums.specs.Cells.{no_cell, cell_of, IsCell, IsCellOrNone, IsReach}
+use Rattle.column_sums.specs.Tables.{IsTable, IsRow, IsRightAt, IsRightAfter, IsWithin, AreRight}
 use Rattle.column_sums.specs.Rolls.{IsPairReady, IsDoubleReady}
-use Rattle.column_sums.specs.MoveLists.{IsAmongOrNone, LeadsAmong, IsDieList, AreReady}
+use Rattle.column_sums.specs.MoveLists.{IsAmongOrNone, LeadsAmong, AreReady}
 use Rattle.column_sums.specs.Leaps.{layout_at}
 use Rattle.column_sums.specs.ColumnOf.{begun_at}
 use Rattle.column_sums.specs.Sums.{AreRightTo, DoubleTables, PairTables, list_of, mover_placement}
@@ -25,6 +25,7 @@ whole-cell cell = omega arith
 module _ (value : Placement → ℤ) (moves : Moves) (ready : AreReady moves) where
   abbrev layouts : List (List ℕ)
   layouts = moves.steps
+
   abbrev others : List (List ℕ)
   others = moves.layers
 

@@ -8,9 +8,8 @@ use Rattle.std.proofs.lemmas.List.Folds.{list_all_at}
 use Rattle.std.specs.List.{list_all}
 use Rattle.position_rank.specs.Placement.{Placement}
 use Rattle.roll_table.specs.Rolls.{Dice, all_rolls}
-use Rattle.move_rules.specs.Listing.{Among}
 use Rattle.directed_fixed.specs.Bounds.{IsWithinUnits}
-use Rattle.turn_rule.proofs.Greatest.{total, all_rolls-small, length-all_rolls}
+use Rattle.turn_rule.proofs.Greatest.{total}
 use Rattle.turn_rule.proofs.RollSums.{few-rolls}
 use Rattle.column_sums.specs.Cascade.{best_pair, best_double, best_of_roll, best_sum}
 use Rattle.column_sums.specs.Cells.{no_cell, cell_placement}

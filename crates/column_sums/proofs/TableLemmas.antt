@@ -1,8 +1,8 @@
 -- Tables that are filled cell by cell.
-use Rattle.std.proofs.Common.{◌≡◌, ◌≢◌, ◌≤◌, ◌<◌, ◌+◌, ◌*◌, ◌∙◌, All, inl, inr, ℕ, zero, suc, ℤ, pos, get_or, set, length-set, get_or-set_same, get_or-set_other, List, [], ◌∷◌, length, replicate, Option, Some, None, refl, ap, subst, sym, arith}
-use Rattle.std.proofs.lemmas.Bool.{cases_lt, cases_eq}
+use Rattle.std.proofs.Common.{◌≡◌, ◌≢◌, ◌≤◌, ◌<◌, ◌∙◌, inl, inr, ℕ, ℤ, get_or, set, length-set, get_or-set_same, get_or-set_other, List, ◌∷◌, length, replicate, Option, Some, None, ap, subst, sym, arith}
+use Rattle.std.proofs.lemmas.Bool.{cases_eq}
 use Rattle.position_rank.specs.Placement.{Placement}
-use Rattle.column_sums.specs.Cascade.{or_max, best_over}
+use Rattle.column_sums.specs.Cascade.{best_over}
 use Rattle.std.proofs.lemmas.List.{get_or-replicate, length-replicate}
 use Rattle.column_sums.specs.Cells.{no_cell, cell_of, IsCell, IsCellOrNone, cell_placement, best_from, IsReach}
 use Rattle.column_sums.specs.Tables.{IsRightAt, IsRightAfter, IsWithin, IsRow, IsTableOfCells, best_after}

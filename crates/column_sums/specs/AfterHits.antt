@@ -1,5 +1,5 @@
 -- The layouts that hits may leave the other side with.
-use Rattle.std.specs.Prelude.{◌≡◌, ◌≢◌, ◌≤◌, ◌<◌, ◌+◌, ◌*◌, ◌^◌, ◌⊎◌, ℕ, List, [], length, slice_index, slice_index_or, sum, take}
+use Rattle.std.specs.Prelude.{◌≡◌, ◌≢◌, ◌≤◌, ◌<◌, ◌+◌, ◌^◌, ℕ, List, [], length, slice_index, slice_index_or, sum, take}
 use Rattle.position_rank.specs.Placement.{Placement, moved}
 use Rattle.roll_table.specs.Rolls.{Dice, IsRoll}
 use Rattle.move_rules.specs.Sequences.{IsLegalEnd}

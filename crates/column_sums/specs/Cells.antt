@@ -1,6 +1,6 @@
 -- Cells of a column: where a turn may stand in it. A cell's number tells which layer the other side is left with, and the rank of the
 -- mover's layout.
-use Rattle.std.specs.Prelude.{◌≡◌, ◌⊎◌, ◌≤◌, ◌<◌, ◌+◌, ◌*◌, ◌/◌, ◌%◌, ℕ, zero, suc, ℤ, List, [], ◌∷◌, length, Option, Some, None, slice_index, slice_index_or, nat_lt, ◌&&◌, if◌then◌else◌}
+use Rattle.std.specs.Prelude.{◌≡◌, ◌⊎◌, ◌<◌, ◌+◌, ◌*◌, ◌/◌, ◌%◌, ℕ, zero, suc, ℤ, List, [], ◌∷◌, length, Option, None, slice_index, nat_lt, ◌&&◌, if◌then◌else◌}
 use Rattle.position_rank.specs.Placement.{Placement}
 use Rattle.column_sums.specs.Cascade.{or_max, best_over}
 use Rattle.column_sums.specs.Leaps.{layout_at}

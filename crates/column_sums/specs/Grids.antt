@@ -1,5 +1,5 @@
 -- The steps of all layouts.
-use Rattle.std.specs.Prelude.{◌≡◌, ◌≤◌, ◌<◌, ◌+◌, ◌*◌, ◌-◌, ℕ, List, [], length, slice_index_or}
+use Rattle.std.specs.Prelude.{◌≡◌, ◌≤◌, ◌<◌, ◌+◌, ◌*◌, ◌-◌, ℕ, List, length, slice_index_or}
 use Rattle.move_rules.specs.Ends.{places}
 use Rattle.column_sums.specs.Columns.{steps_from}
 use Rattle.column_sums.specs.Leaps.{layout_at, AreLeaps}

@@ -1,5 +1,5 @@
 -- Cells that are listed, each once.
-use Rattle.std.specs.Prelude.{◌≡◌, ◌≢◌, ◌⊎◌, ◌≤◌, ◌<◌, ℕ, Bool, true, false, All, List, length, slice_index, slice_index_or}
+use Rattle.std.specs.Prelude.{◌≡◌, ◌≢◌, ◌⊎◌, ◌≤◌, ◌<◌, ℕ, Bool, true, false, List, length, slice_index, slice_index_or}
 use Rattle.column_sums.specs.Cells.{no_cell, IsCell, IsCellOrNone}
 use Rattle.column_sums.specs.declared.cells.Reach.{Reach}
 

@@ -1,7 +1,6 @@
 -- The moves that a column needs: of each die, the cells that can be reached by it, dice after dice.
-use Rattle.std.specs.Prelude.{◌≡◌, ◌⊎◌, ◌≤◌, ◌<◌, ◌-◌, ℕ, All, List, [], length, slice_index, slice_index_or, take, vec_capacity}
-use Rattle.column_sums.specs.Cells.{no_cell, IsCell, IsReach}
-use Rattle.column_sums.specs.Listings.{AreCells, LeadsInto}
+use Rattle.std.specs.Prelude.{◌≡◌, ◌⊎◌, ◌≤◌, ◌<◌, ◌-◌, ℕ, List, [], length, slice_index, slice_index_or, vec_capacity}
+use Rattle.column_sums.specs.Cells.{no_cell, IsReach}
 use Rattle.column_sums.specs.declared.cells.Reach.{Reach}
 use Rattle.column_sums.specs.declared.moves.DieList.{DieList}
 use Rattle.column_sums.specs.declared.moves.Moves.{Moves}

@@ -1,9 +1,9 @@
 -- The sums over all rolls of a column.
-use Rattle.std.specs.Prelude.{◌≡◌, ◌≤◌, ◌<◌, ◌-◌, ◌^◌, ℕ, ℤ, pos, ◌+ℤ◌, ◌*ℤ◌, List, [], ◌∷◌, length, Option, None, slice_index, slice_index_or, ◌==◌, if◌then◌else◌}
+use Rattle.std.specs.Prelude.{◌≡◌, ◌≤◌, ◌<◌, ◌-◌, ◌^◌, ℕ, ℤ, pos, ◌+ℤ◌, ◌*ℤ◌, List, [], ◌∷◌, length, Option, slice_index, slice_index_or, ◌==◌, if◌then◌else◌}
 use Rattle.position_rank.specs.Placement.{Placement}
 use Rattle.roll_table.specs.Rolls.{Dice}
 use Rattle.directed_fixed.specs.Bounds.{IsWithinUnits}
-use Rattle.column_sums.specs.Cascade.{best_of_roll, best_sum}
+use Rattle.column_sums.specs.Cascade.{best_sum}
 use Rattle.column_sums.specs.Cells.{cell_placement}
 use Rattle.column_sums.specs.Tables.{IsTable, IsRightAt}
 use Rattle.column_sums.specs.declared.cells.Reach.{Reach}

@@ -1,5 +1,5 @@
 -- Tables of a column: a value for each cell.
-use Rattle.std.specs.Prelude.{◌≡◌, ◌≢◌, ◌≤◌, ◌<◌, ℕ, ℤ, All, List, [], ◌∷◌, length, Option, Some, None, slice_index_or}
+use Rattle.std.specs.Prelude.{◌≡◌, ◌≢◌, ◌<◌, ℕ, ℤ, All, List, length, Option, Some, None, slice_index_or}
 use Rattle.position_rank.specs.Placement.{Placement}
 use Rattle.column_sums.specs.Cascade.{or_max, best_over}
 use Rattle.column_sums.specs.Leaps.{layout_at}

@@ -34,7 +34,11 @@ impl Model for Column {
 
     ghost use Rattle.column_sums.specs.MoveLists.{AreReady};
 
-    ghost view = { λ a. record { layouts = a.moves.steps; others = a.moves.layers; movers = take a.moves.movers a.moves.listing } };
+    ghost view = { λ a. record {
+      layouts = a.moves.steps;
+      others = a.moves.layers;
+      movers = take a.moves.movers a.moves.listing;
+    } };
 
     ghost invariant = { λ a. AreReady a.moves };
 }
@@ -60,7 +64,8 @@ impl Column {
         ensures layouts { self.new.layouts ≡ self.old.layouts }
         ensures some { 0 < length self.new.others }
         ensures first { layout_at self.new.others 0 ≡ other.now }
-        ensures movers { (i : ℕ) → i < length movers.now → IsListed self.new.movers (slice_index movers.now i) }
+        ensures movers { (i : ℕ) → i < length movers.now
+            → IsListed self.new.movers (slice_index movers.now i) }
     {
         self.moves.begin(other, movers);
     }
@@ -118,10 +123,18 @@ impl Column {
         requires { length self.old.movers ≤ length sums.old }
         ensures column { self.new ≡ self.old }
         ensures many { length sums.new ≡ length sums.old }
-        ensures sums { (value : Placement → ℤ) → IsTable value [] self.old.layouts self.old.others row.now
+        ensures sums { (value : Placement → ℤ)
+            → IsTable value [] self.old.layouts self.old.others row.now
             → AreColumnSums value self.old all_rolls sums.new }
     {
-        sum_rolls(&self.moves, row.cells(), &mut self.ones, &mut self.two, &mut self.three, sums);
+        sum_rolls(
+            &self.moves,
+            row.cells(),
+            &mut self.ones,
+            &mut self.two,
+            &mut self.three,
+            sums,
+        );
     }
 }
 

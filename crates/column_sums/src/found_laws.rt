@@ -18,7 +18,8 @@ ghost use Rattle.column_sums.specs.Values.{value_of};
 
 /// What was found of the ends of all rolls, each as it was looked up, makes the sum over the rolls found.
 pub fn found_ends_give_the_sum()
-    ensures { (end : End) (source : Source) (stakes : Terms) (noted : Words) (p : Placement) (k : ℕ) (value : Placement → ℤ)
+    ensures { (end : End) (source : Source) (stakes : Terms) (noted : Words) (p : Placement) (k : ℕ)
+        (value : Placement → ℤ)
         → pos 0 ≤ℤ source.bound
         → ((roll : Dice) (q : Placement) → IsRoll roll → Among q (legal_ends p roll)
         → IsFoundOf end (of_play (kind_at stakes k) q) source noted (value q))
@@ -27,11 +28,13 @@ pub fn found_ends_give_the_sum()
 
 /// What was looked up cell by cell makes the sums of a column found, at one end in a kind.
 pub fn found_cells_give_the_sum()
-    ensures { (end : End) (source : Source) (stakes : Terms) (noted : Words) (k : ℕ) (layouts others : List (List ℕ))
-        (row : List (Option ℤ)) → IsValid stakes → AreStakesOf source stakes
+    ensures { (end : End) (source : Source) (stakes : Terms) (noted : Words) (k : ℕ)
+        (layouts others : List (List ℕ)) (row : List (Option ℤ)) → IsValid stakes
+        → AreStakesOf source stakes
         → AreLayouts source.checkers layouts → length layouts ≤ 3276 → length others ≤ 8
         → AreDistinct others → AreClosed others → IsRow row
         → AreFoundCells end source noted (kind_at stakes k) layouts others row
         → (p : Placement) → IsStateOf source.checkers source.kinds p k → IsLayer others p.other
-        → IsFoundOf end (of_sum stakes p k) source noted (best_sum all_rolls (value_of others row) p) }
+        → IsFoundOf end (of_sum stakes p k) source noted
+        (best_sum all_rolls (value_of others row) p) }
 {}

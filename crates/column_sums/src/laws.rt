@@ -31,14 +31,17 @@ pub fn best_rolls_are_greatest()
 
 /// So is the sum over all rolls.
 pub fn best_sums_are_sums()
-    ensures { (value : Placement → ℤ) (p : Placement) → sum_over all_rolls value p ≡ best_sum all_rolls value p }
+    ensures { (value : Placement → ℤ) (p : Placement)
+        → sum_over all_rolls value p ≡ best_sum all_rolls value p }
 {}
 
 /// A move is a step of the mover's checkers alone, where the other side has at most one checker on the point that it comes to.
 pub fn moves_are_steps()
-    ensures one { (p : Placement) (die from : ℕ) → after_move p die from ≡ landed_if p.other (step_from p.mover die from) }
+    ensures one { (p : Placement) (die from : ℕ)
+        → after_move p die from ≡ landed_if p.other (step_from p.mover die from) }
     ensures all { (later : Placement → Option ℤ) (p : Placement) (die : ℕ)
-        → over_places later p die places ≡ over_steps later p.other (steps_from p.mover die places) }
+        → over_places later p die places
+        ≡ over_steps later p.other (steps_from p.mover die places) }
 {}
 
 /// A move leaves the other side's checkers as they are, or one of them that stood alone goes to the bar.
@@ -49,14 +52,18 @@ pub fn moves_strike_one()
 
 /// A step leaves the mover as many checkers, and by one die there are no more steps than checkers.
 pub fn steps_stay()
-    ensures step { (mover : List ℕ) (die from : ℕ) (step : Step) → length mover ≡ 26 → 1 ≤ from → from ≤ 25
-        → step_from mover die from ≡ Some step → (length step.mover ≡ 26) × (sum step.mover ≡ sum mover) }
-    ensures few { (mover : List ℕ) (die : ℕ) → length mover ≡ 26 → length (steps_from mover die places) ≤ sum mover }
+    ensures step { (mover : List ℕ) (die from : ℕ) (step : Step)
+        → length mover ≡ 26 → 1 ≤ from → from ≤ 25
+        → step_from mover die from ≡ Some step → (length step.mover ≡ 26) × (sum step.mover
+        ≡ sum mover) }
+    ensures few { (mover : List ℕ) (die : ℕ) → length mover ≡ 26
+        → length (steps_from mover die places) ≤ sum mover }
 {}
 
 /// A row is that of a function of placements, where the layers are distinct.
 pub fn rows_have_values()
-    ensures { (checkers : ℕ) (layouts others : List (List ℕ)) (row : List (Option ℤ)) → AreLayouts checkers layouts
-        → length layouts ≤ 3276 → length others ≤ 8 → AreDistinct others → IsRow row
+    ensures { (checkers : ℕ) (layouts others : List (List ℕ)) (row : List (Option ℤ))
+        → AreLayouts checkers layouts → length layouts ≤ 3276 → length others ≤ 8
+        → AreDistinct others → IsRow row
         → IsTable (value_of others row) [] layouts others row }
 {}

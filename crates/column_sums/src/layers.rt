@@ -102,7 +102,8 @@ fn same(one: &Layout, another: &Layout) -> bool
 fn find(others: &[Layout], wanted: &Layout) -> usize
     ensures within { result ≤ length others.now }
     ensures found { result < length others.now → layout_at others.now result ≡ wanted.now }
-    ensures none { result ≡ length others.now → (i : ℕ) → i < length others.now → layout_at others.now i ≢ wanted.now }
+    ensures none { result ≡ length others.now → (i : ℕ) → i < length others.now
+        → layout_at others.now i ≢ wanted.now }
 {
     for i in 0..others.len() {
         let other = &others[i];

@@ -41,7 +41,8 @@ impl Listing {
     pub(crate) fn cells(&self) -> &[u16]
         ensures cells { result.now ≡ self.now }
         ensures few { length self.now ≤ 32768 }
-        ensures apart { (i j : ℕ) → i < j → j < length self.now → slice_index self.now i ≢ slice_index self.now j }
+        ensures apart { (i j : ℕ) → i < j → j < length self.now
+            → slice_index self.now i ≢ slice_index self.now j }
     {
         self.cells.as_slice()
     }

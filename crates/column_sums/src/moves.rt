@@ -36,13 +36,7 @@ pub(crate) struct Moves {
 }
 
 /// Adds what a die leads to from the cells past those that are done.
-fn add_reaches(
-    steps: &Steps,
-    layers: &Layers,
-    die: u8,
-    cells: &[u16],
-    reaches: &mut Vec<Reach>,
-)
+fn add_reaches(steps: &Steps, layers: &Layers, die: u8, cells: &[u16], reaches: &mut Vec<Reach>)
     requires low { 1 ≤ die }
     requires high { die ≤ 6 }
     requires cells { AreCells (length steps.now) (length layers.now) cells.now }
@@ -62,8 +56,10 @@ fn add_reaches(
 /// Lists the cells where a turn begins.
 fn list_movers(listing: &mut Listing, movers: &[u16])
     requires { All (λ rank. rank < 4095) movers.now }
-    ensures listed { (i : ℕ) → i < length movers.now → IsListed listing.new (slice_index movers.now i) }
-    ensures cells { (many : ℕ) → many ≤ 4095 → All (λ rank. rank < many) movers.now → AreCells many 1 listing.new }
+    ensures listed { (i : ℕ) → i < length movers.now
+        → IsListed listing.new (slice_index movers.now i) }
+    ensures cells { (many : ℕ) → many ≤ 4095 → All (λ rank. rank < many) movers.now
+        → AreCells many 1 listing.new }
 {
     listing.rewind(0);
     for mover in movers {
@@ -81,7 +77,13 @@ fn begin_lists(steps: &Steps, layers: &Layers, listing: &Listing, lists: &mut [D
     for d in 0..6 {
         let list = &mut lists[d];
         list.reaches.clear();
-        add_reaches(steps, layers, d as u8 + 1, listing.cells(), &mut list.reaches);
+        add_reaches(
+            steps,
+            layers,
+            d as u8 + 1,
+            listing.cells(),
+            &mut list.reaches,
+        );
     }
 }
 
@@ -115,7 +117,8 @@ fn finish(steps: &Steps, layers: &Layers, die: u8, listing: &mut Listing, list: 
     requires listed { All (LeadsInto listing.old) list.old.reaches.items }
     ensures same { listing.new ≡ listing.old }
     ensures room { HasRoom list.new }
-    ensures list { IsDieList steps.now layers.now listing.old (length list.old.reaches.items) die list.new }
+    ensures list { IsDieList steps.now layers.now listing.old
+        (length list.old.reaches.items) die list.new }
 {
     let near = listing.cells().len();
     add_reaches(steps, layers, die, listing.cells(), &mut list.reaches);
@@ -129,7 +132,13 @@ fn finish(steps: &Steps, layers: &Layers, die: u8, listing: &mut Listing, list: 
 }
 
 /// The whole list of each die.
-fn finish_lists(steps: &Steps, layers: &Layers, listing: &mut Listing, movers: usize, lists: &mut [DieList; 6])
+fn finish_lists(
+    steps: &Steps,
+    layers: &Layers,
+    listing: &mut Listing,
+    movers: usize,
+    lists: &mut [DieList; 6],
+)
     requires few { length steps.now ≤ 3276 }
     requires layers { length layers.now ≤ 8 }
     requires cells { AreCells (length steps.now) (length layers.now) listing.old }
@@ -179,7 +188,13 @@ impl Moves {
         self.movers = self.listing.cells().len();
         begin_lists(&self.steps, &self.layers, &self.listing, &mut self.lists);
         list_one_die(&mut self.listing, &self.lists);
-        finish_lists(&self.steps, &self.layers, &mut self.listing, self.movers, &mut self.lists);
+        finish_lists(
+            &self.steps,
+            &self.layers,
+            &mut self.listing,
+            self.movers,
+            &mut self.lists,
+        );
     }
 }
 

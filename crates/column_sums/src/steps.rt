@@ -77,7 +77,8 @@ impl Steps {
         requires rank { rank < length self.now }
         requires low { 1 ≤ die }
         requires high { die ≤ 6 }
-        ensures leaps { AreLeaps self.now result.now (steps_from (layout_at self.now rank) die places) }
+        ensures leaps { AreLeaps self.now result.now
+            (steps_from (layout_at self.now rank) die places) }
         ensures few { length result.now ≤ 3 }
         ensures layouts { length self.now ≤ 3276 }
     {
@@ -128,6 +129,7 @@ fn fan_of(checkers: u8, layouts: &[Layout], layout: &Layout, die: u8) -> Fan
     requires high { die ≤ 6 }
     ensures { AreLeaps layouts.now result.leaps.items (steps_from layout.now die places) }
 {
+    // A layout is of one to three checkers.
     let _valid = layout.rank();
     let mut leaps = ArrayVec::new();
     for below in 0..25 {
@@ -149,6 +151,7 @@ fn leap_of(checkers: u8, layouts: &[Layout], layout: &Layout, die: u8, from: u8)
     requires within { from ≤ 25 }
     ensures { IsLeapIf layouts.now result (step_from layout.now die from) }
 {
+    // A layout has 26 places.
     let _valid = layout.checkers();
     match step_of(layout, die, from) {
         None => None,

@@ -94,7 +94,8 @@ fn add_double(
     requires three { IsTableOfCells three.now }
     requires sums { moves.now.movers ≤ length sums.old }
     requires small { AreSmall sums.old moves.now.movers }
-    ensures { IsRollAdded moves.now 1 (λ value. DoubleTables value moves.now die row.now one.now two.now three.now)
+    ensures { IsRollAdded moves.now 1
+        (λ value. DoubleTables value moves.now die row.now one.now two.now three.now)
         (λ value. best_double value die) sums.old sums.new }
 {
     let list = &moves.lists[usize::from(die) - 1];
@@ -122,7 +123,8 @@ fn add_pair(
     requires after_low { IsTableOfCells after_low.now }
     requires sums { moves.now.movers ≤ length sums.old }
     requires small { AreSmall sums.old moves.now.movers }
-    ensures { IsRollAdded moves.now 2 (λ value. PairTables value moves.now high low row.now after_high.now after_low.now)
+    ensures { IsRollAdded moves.now 2
+        (λ value. PairTables value moves.now high low row.now after_high.now after_low.now)
         (λ value. best_pair value high low) sums.old sums.new }
 {
     let by_high = &moves.lists[usize::from(high) - 1];
@@ -153,7 +155,8 @@ fn add_roll(
     requires row { IsRow row.now }
     requires sums { moves.now.movers ≤ length sums.old }
     requires small { AreSmall sums.old moves.now.movers }
-    ensures { IsRollAdded moves.now (ways roll) (λ value. RollTables value moves.now row.now ones.now)
+    ensures { IsRollAdded moves.now (ways roll)
+        (λ value. RollTables value moves.now row.now ones.now)
         (λ value p. best_of_roll value p roll) sums.old sums.new }
 {
     let high = roll.high();
@@ -161,7 +164,15 @@ fn add_roll(
     let after_high = ones[usize::from(high) - 1].cells();
     if high == low {
         fill_two_and_three(moves, high, after_high, two, three);
-        add_double(moves, high, row, after_high, two.cells(), three.cells(), sums);
+        add_double(
+            moves,
+            high,
+            row,
+            after_high,
+            two.cells(),
+            three.cells(),
+            sums,
+        );
     } else {
         let after_low = ones[usize::from(low) - 1].cells();
         add_pair(moves, high, low, row, after_high, after_low, sums);

@@ -97,7 +97,8 @@ impl Table {
     pub(crate) fn fill(&mut self, reaches: &[Reach], from: &[Best])
         requires from { length from.now ≡ 32768 }
         requires reaches { All IsWithin reaches.now }
-        ensures filled { (value : Placement → ℤ) (dice : List ℕ) (layouts others : List (List ℕ)) (die : ℕ)
+        ensures filled { (value : Placement
+            → ℤ) (dice : List ℕ) (layouts others : List (List ℕ)) (die : ℕ)
             → length layouts ≤ 3276 → All (IsReach layouts others die) reaches.now
             → All (IsRightAfter value dice layouts others from.now) reaches.now
             → AreRight value (die ∷ dice) layouts others self.new reaches.now }
@@ -133,7 +134,8 @@ fn fill_cells(reaches: &[Reach], from: &[Best], to: &mut [Best])
     requires to { length to.old ≡ 32768 }
     requires reaches { All IsWithin reaches.now }
     ensures missing { slice_index_or to.new no_cell None ≡ slice_index_or to.old no_cell None }
-    ensures filled { (value : Placement → ℤ) (dice : List ℕ) (layouts others : List (List ℕ)) (die : ℕ)
+    ensures filled { (value : Placement
+        → ℤ) (dice : List ℕ) (layouts others : List (List ℕ)) (die : ℕ)
         → length layouts ≤ 3276 → All (IsReach layouts others die) reaches.now
         → All (IsRightAfter value dice layouts others from.now) reaches.now
         → AreRight value (die ∷ dice) layouts others to.new reaches.now }

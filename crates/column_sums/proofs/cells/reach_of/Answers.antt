@@ -1,4 +1,4 @@
-use Rattle.std.proofs.Common.{◌≡◌, ◌∙◌, ◌/◌, ◌%◌, All, ℕ, List, length, ap, sym, subst, arith}
+use Rattle.std.proofs.Common.{◌∙◌, All, ℕ, ap, sym, subst}
 use Rattle.move_rules.specs.Ends.{places}
 use Rattle.column_sums.specs.Columns.{steps_from}
 use Rattle.column_sums.specs.Leaps.{layout_at, AreLeaps, AreNext}

@@ -1,4 +1,4 @@
-use Rattle.std.proofs.Common.{◌≡◌, ◌<◌, ◌∙◌, ℕ, List, [], length, get_or, ap, arith}
+use Rattle.std.proofs.Common.{◌≡◌, ◌<◌, ◌∙◌, ℕ, List, length, ap, arith}
 use Rattle.position_rank.specs.Placement.{moved}
 use Rattle.column_sums.specs.Leaps.{layout_at}
 use Rattle.column_sums.proofs.LayerHits.{hit-more, any-layer}

@@ -1,5 +1,4 @@
-use Rattle.std.proofs.Common.{◌≡◌, ◌≤◌, ◌<◌, ◌+◌, ◌∙◌, ℕ, List, length, sum, sym, subst, arith}
-use Rattle.column_sums.specs.AfterHits.{AreHits}
+use Rattle.std.proofs.Common.{◌≤◌, ◌∙◌, sym, arith}
 use Rattle.column_sums.proofs.LayerHits.{hits-more, hits-same, room-more, room-all}
 use Rattle.column_sums.proofs.layers.add_hits.Goals as goal
 use Rattle.column_sums.proofs.layers.add_hits.Goals.{then-count-eq1, else-count-eq1}

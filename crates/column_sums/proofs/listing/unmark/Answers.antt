@@ -1,4 +1,4 @@
-use Rattle.std.proofs.Common.{◌≡◌, ℕ, get_or, set, length, subst, arith}
+use Rattle.std.proofs.Common.{◌≡◌, ℕ, length, subst, arith}
 use Rattle.column_sums.specs.Listings.{AreUnmarked}
 use Rattle.column_sums.proofs.Listed.{unmark-more}
 use Rattle.column_sums.proofs.listing.unmark.Goals as goal

@@ -1,6 +1,5 @@
-use Rattle.std.proofs.Common.{◌≡◌, ◌≤◌, ◌<◌, ◌+◌, ◌∙◌, ◌++◌, [], ◌∷◌, ℕ, List, get_or, length, length-append, ap, sym, subst, arith}
+use Rattle.std.proofs.Common.{◌≡◌, ◌<◌, ◌∙◌, [], ◌∷◌, ℕ, get_or, length, length-append, ap, sym, arith}
 use Rattle.std.proofs.lemmas.List.{get_or_append_left}
-use Rattle.column_sums.specs.declared.cells.Reach.{Reach}
 use Rattle.column_sums.proofs.Reached.{reaches-push}
 use Rattle.column_sums.proofs.moves.add_reaches.Goals as goal
 

@@ -1,6 +1,5 @@
-use Rattle.std.proofs.Common.{◌≡◌, ◌≤◌, ◌<◌, ◌∙◌, ℕ, All, List, get_or, length, take, subst, sym, ap, arith}
-use Rattle.column_sums.specs.declared.cells.Reach.{Reach}
-use Rattle.column_sums.specs.Listings.{AreCells, LeadsInto, LeadsToCells, AreKept}
+use Rattle.std.proofs.Common.{◌≡◌, ◌∙◌, ℕ, All, List, length, take, subst, sym, ap}
+use Rattle.column_sums.specs.Listings.{AreCells, LeadsInto, LeadsToCells}
 use Rattle.column_sums.specs.MoveLists.{AreReaches}
 use Rattle.column_sums.proofs.Listed.{kept-again}
 use Rattle.column_sums.proofs.Reached.{leads-cells, take-kept, die-list}

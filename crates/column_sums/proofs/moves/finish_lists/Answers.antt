@@ -1,9 +1,7 @@
-use Rattle.std.proofs.Common.{◌≡◌, ◌≤◌, ◌<◌, ◌+◌, ◌-◌, ◌∙◌, ℕ, All, List, get_or, set, length, length-set, subst, sym, ap, arith}
-use Rattle.column_sums.specs.declared.cells.Reach.{Reach}
+use Rattle.std.proofs.Common.{◌≡◌, ◌<◌, ◌+◌, ◌-◌, ◌∙◌, ℕ, List, get_or, length, length-set, subst, sym, ap, arith}
 use Rattle.column_sums.specs.declared.moves.DieList.{DieList}
-use Rattle.column_sums.specs.Listings.{LeadsInto}
 use Rattle.column_sums.specs.MoveLists.{AreReaches, HasRoom, IsDieList}
-use Rattle.column_sums.proofs.Places.{any-default, put-more, put-all, put-rest}
+use Rattle.column_sums.proofs.Places.{put-more, put-all, put-rest}
 use Rattle.column_sums.proofs.moves.finish_lists.Goals as goal
 
 pub finish-requires-clause-begun : goal.finish-requires-clause-begun

@@ -1,6 +1,5 @@
-use Rattle.std.proofs.Common.{◌≡◌, ◌≤◌, ◌<◌, ◌%◌, ◌/◌, inl, inr, ℕ, get_or, length, subst, sym, arith}
+use Rattle.std.proofs.Common.{◌≡◌, inl, inr, ℕ, get_or, subst, arith}
 use Rattle.std.proofs.lemmas.Bool.{cases_lt}
-use Rattle.column_sums.specs.Cells.{IsCell}
 use Rattle.column_sums.specs.Listings.{IsListed}
 use Rattle.column_sums.proofs.Listed.{listed-again, listed-some, rank-cell}
 use Rattle.column_sums.proofs.moves.list_movers.Goals as goal

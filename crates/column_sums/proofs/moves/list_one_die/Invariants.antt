@@ -1,4 +1,4 @@
-use Rattle.std.proofs.Common.{◌<◌, ℕ, All, length, slice_index_or}
+use Rattle.std.proofs.Common.{◌<◌, ℕ, All, slice_index_or}
 use Rattle.column_sums.specs.declared.moves.DieList.{DieList}
 use Rattle.column_sums.specs.Listings.{AreKept, AreCells, LeadsInto, LeadsToCells}
 use Rattle.column_sums.proofs.moves.list_one_die.Given as goal

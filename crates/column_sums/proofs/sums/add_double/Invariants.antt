@@ -1,4 +1,4 @@
-use Rattle.std.proofs.Common.{◌≡◌, ◌≤◌, ◌<◌, ℕ, ℤ, length}
+use Rattle.std.proofs.Common.{◌≡◌, ◌≤◌, ◌<◌, ℕ, ℤ}
 use Rattle.position_rank.specs.Placement.{Placement}
 use Rattle.column_sums.specs.Cascade.{best_double}
 use Rattle.column_sums.specs.Sums.{DoubleTables, IsAdded, mover_placement, sum_at}

@@ -1,7 +1,7 @@
-use Rattle.std.proofs.Common.{◌≡◌, ◌≢◌, ◌≤◌, ◌∙◌, ◌-◌, [], ◌∷◌, ℕ, ℤ, Option, List, get_or, ap, sym, subst, arith}
+use Rattle.std.proofs.Common.{◌≡◌, ◌≢◌, ◌∙◌, ◌-◌, ℕ, ℤ, Option, List, get_or, ap, sym, subst, arith}
 use Rattle.position_rank.specs.Placement.{Placement}
-use Rattle.column_sums.specs.Cascade.{best_double, best_pair, best_of_roll}
-use Rattle.column_sums.specs.Sums.{AreRightEach, AreTwoAndThree, DoubleTables, PairTables, RollTables, IsAdded, mover_placement, sum_at, ways}
+use Rattle.column_sums.specs.Cascade.{best_double, best_pair}
+use Rattle.column_sums.specs.Sums.{AreRightEach, AreTwoAndThree, DoubleTables, PairTables, RollTables, mover_placement, ways}
 use Rattle.column_sums.proofs.SumSteps.{added-as, one-way, two-ways, double-roll, pair-roll}
 use Rattle.column_sums.proofs.sums.add_roll.Goals as goal
 

@@ -1,5 +1,4 @@
-use Rattle.std.proofs.Common.{◌≡◌, ◌≤◌, ◌<◌, ◌+◌, ◌∙◌, All, [], ◌∷◌, ℕ, ℤ, Option, List, get_or, set, length, length-set, ap, sym, subst, arith}
-use Rattle.position_rank.specs.Placement.{Placement}
+use Rattle.std.proofs.Common.{◌<◌, ◌+◌, ◌∙◌, All, [], ◌∷◌, List, get_or, length, length-set, sym, subst, arith}
 use Rattle.column_sums.specs.declared.cells.Reach.{Reach}
 use Rattle.column_sums.specs.declared.moves.DieList.{DieList}
 use Rattle.column_sums.specs.Cells.{IsReach}

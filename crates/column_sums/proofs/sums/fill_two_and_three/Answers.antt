@@ -1,5 +1,4 @@
-use Rattle.std.proofs.Common.{◌≡◌, ◌≤◌, ◌∙◌, ◌-◌, [], ◌∷◌, ℕ, ℤ, Option, None, List, get_or, length, ap, sym, subst, arith}
-use Rattle.column_sums.specs.declared.cells.Reach.{Reach}
+use Rattle.std.proofs.Common.{◌≡◌, ◌∙◌, ◌-◌, [], ◌∷◌, ℕ, ℤ, Option, None, List, get_or, length, ap, sym, subst, arith}
 use Rattle.column_sums.specs.declared.moves.DieList.{DieList}
 use Rattle.column_sums.specs.Sums.{list_of, AreRightTo}
 use Rattle.column_sums.proofs.SumLemmas.{filled-to, same-list}
@@ -17,10 +16,10 @@ returns c = λ value right.
     λ none. ap (λ (n : ℕ). get_or moves.lists (n - 1) item) c.from.ensures ∙ same-list moves ready die item none low high in
     let near : length c.cells-near.result.now ≡ length moves.listing = ap (λ (xs : List ℕ). length xs) c.cells-near.ensures.cells in
     let twice = λ (none : DieList). (
-        let is = ready.each die none low high in
-        filled-to value moves ready die none (die ∷ []) (list_of moves die none).second (length (list_of moves die none).reaches.items) _ c.deref.result.now c.args.one.now c.fill.new.self low high
-        (c.deref.ensures.value ∙ ap (λ (l : DieList). l.reaches.items) (here none)) (ap (λ (l : DieList). l.second) (here none)) is.second c.requires.one.missing (right none) is.three_dice
-        (c.fill.ensures.filled value (die ∷ []) moves.steps moves.layers die ready.few)) in
+    let is = ready.each die none low high in
+    filled-to value moves ready die none (die ∷ []) (list_of moves die none).second (length (list_of moves die none).reaches.items) _ c.deref.result.now c.args.one.now c.fill.new.self low high
+    (c.deref.ensures.value ∙ ap (λ (l : DieList). l.reaches.items) (here none)) (ap (λ (l : DieList). l.second) (here none)) is.second c.requires.one.missing (right none) is.three_dice
+    (c.fill.ensures.filled value (die ∷ []) moves.steps moves.layers die ready.few)) in
     record {
       twice = twice;
       thrice = λ none. (

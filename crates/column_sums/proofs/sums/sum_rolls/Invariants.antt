@@ -1,4 +1,4 @@
-use Rattle.std.proofs.Common.{◌≡◌, ◌≤◌, ◌<◌, ◌*◌, ◌^◌, ℕ, ℤ, pos, [], length, take}
+use Rattle.std.proofs.Common.{◌<◌, ◌*◌, ◌^◌, ℕ, ℤ, pos, [], take}
 use Rattle.position_rank.specs.Placement.{Placement}
 use Rattle.roll_table.specs.Rolls.{all_rolls}
 use Rattle.directed_fixed.specs.Bounds.{IsWithinUnits}

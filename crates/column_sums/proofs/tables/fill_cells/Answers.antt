@@ -1,8 +1,8 @@
-use Rattle.std.proofs.Common.{◌≡◌, ◌≢◌, ◌<◌, ◌+◌, ◌∙◌, inl, inr, ℕ, None, Option, List, ◌∷◌, get_or, set, length, ap, subst, sym, arith, get_or-set_other}
+use Rattle.std.proofs.Common.{◌≡◌, ◌<◌, ◌∙◌, inl, inr, ℕ, None, ◌∷◌, get_or, set, length, subst, sym, arith, get_or-set_other}
 use Rattle.std.proofs.lemmas.Bool.{cases_lt}
 use Rattle.column_sums.specs.declared.cells.Reach.{Reach}
-use Rattle.column_sums.specs.Cells.{no_cell, best_from, IsReach}
-use Rattle.column_sums.specs.Tables.{IsRightAt, best_after}
+use Rattle.column_sums.specs.Cells.{no_cell, best_from}
+use Rattle.column_sums.specs.Tables.{IsRightAt}
 use Rattle.column_sums.proofs.Listed.{any-reach}
 use Rattle.column_sums.proofs.TableLemmas.{after-best, right-set, right-put}
 use Rattle.column_sums.proofs.tables.fill_cells.Goals as goal

@@ -1,4 +1,4 @@
-use Rattle.std.proofs.Common.{◌≡◌, ◌≤◌, ◌∙◌, ℕ, List, length, take, ap, sym, subst, arith}
+use Rattle.std.proofs.Common.{◌≡◌, ℕ, List, length, take, ap, arith}
 use Rattle.column_sums.specs.ColumnOf.{ColumnOf}
 use Rattle.column_sums.proofs.Listed.{few-first}
 use Rattle.column_sums.proofs.column.Column.movers.Goals as goal

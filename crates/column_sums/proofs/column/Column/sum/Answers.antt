@@ -1,4 +1,4 @@
-use Rattle.std.proofs.Common.{◌≡◌, ◌∙◌, [], ℕ, ℤ, Option, List, length, take, ap, sym, subst, arith}
+use Rattle.std.proofs.Common.{◌∙◌, [], ℤ, Option, List, ap, sym, subst}
 use Rattle.position_rank.specs.Placement.{Placement}
 use Rattle.roll_table.specs.Rolls.{all_rolls}
 use Rattle.column_sums.specs.Cascade.{best_sum}

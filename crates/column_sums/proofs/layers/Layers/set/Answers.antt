@@ -1,4 +1,4 @@
-use Rattle.std.proofs.Common.{◌≡◌, ◌≤◌, ◌<◌, ◌+◌, ◌∙◌, ◌++◌, [], ◌∷◌, ℕ, List, length, sum, ap, sym, subst, arith, vec_capacity}
+use Rattle.std.proofs.Common.{◌≡◌, ◌∙◌, ◌++◌, [], ◌∷◌, ℕ, List, ap, sym, subst, arith}
 use Rattle.column_sums.specs.AfterHits.{AreHits, AreLayers}
 use Rattle.column_sums.proofs.LayerHits.{hits-start}
 use Rattle.column_sums.proofs.layers.Layers.set.Goals as goal

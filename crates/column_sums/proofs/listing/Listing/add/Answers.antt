@@ -1,5 +1,4 @@
-use Rattle.std.proofs.Common.{◌≡◌, ◌≤◌, ◌<◌, ◌+◌, ◌∙◌, ◌++◌, inl, inr, [], ◌∷◌, ℕ, Bool, true, false, List, get_or, set, length, ap, sym, subst, arith, vec_capacity}
-use Rattle.column_sums.specs.Listings.{IsListing, IsListedOrNone}
+use Rattle.std.proofs.Common.{◌≡◌, ◌∙◌, inr, false, get_or, length, sym, arith, vec_capacity}
 use Rattle.column_sums.proofs.Listed.{room-push, listing-push, at-last, longer-by, any_mark}
 use Rattle.column_sums.proofs.listing.Listing.add.Goals as goal
 

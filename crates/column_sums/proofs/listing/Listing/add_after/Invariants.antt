@@ -1,4 +1,4 @@
-use Rattle.std.proofs.Common.{◌<◌, ℕ, All, List, slice_index_or}
+use Rattle.std.proofs.Common.{◌<◌, ℕ, All, slice_index_or}
 use Rattle.column_sums.specs.declared.cells.Reach.{Reach}
 use Rattle.column_sums.specs.Listings.{AreKept, AreCells, LeadsInto, LeadsToCells}
 use Rattle.column_sums.proofs.listing.Listing.add_after.Given as goal

@@ -1,4 +1,4 @@
-use Rattle.std.proofs.Common.{◌≤◌, vec_capacity}
+use Rattle.std.proofs.Common.{vec_capacity}
 use Rattle.column_sums.proofs.Listed.{listing-none}
 use Rattle.column_sums.proofs.listing.Listing.new.Goals as goal
 

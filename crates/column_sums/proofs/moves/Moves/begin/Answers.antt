@@ -1,7 +1,6 @@
-use Rattle.std.proofs.Common.{◌≡◌, ◌≤◌, ◌<◌, ◌+◌, ◌∙◌, ℕ, All, List, get_or, length, subst, sym, ap, arith}
-use Rattle.column_sums.specs.declared.cells.Reach.{Reach}
+use Rattle.std.proofs.Common.{◌≡◌, ◌<◌, ◌+◌, ◌∙◌, ℕ, All, List, get_or, length, subst, sym, ap, arith}
 use Rattle.column_sums.specs.declared.moves.DieList.{DieList}
-use Rattle.column_sums.specs.Listings.{AreCells, LeadsToCells}
+use Rattle.column_sums.specs.Listings.{LeadsToCells}
 use Rattle.column_sums.specs.MoveLists.{AreReaches, AreBegun, AreDieLists, AreMovers}
 use Rattle.column_sums.proofs.Listed.{cells-more, cell-rank}
 use Rattle.column_sums.proofs.Reached.{by-die, leads-cells, leads-room, reaches-kept}
@@ -47,8 +46,8 @@ returns-clause-ready c =
     let count : length c.cells.result.now ≡ length start = ap (λ (xs : List ℕ). length xs) c.cells.ensures.cells in
     let cells = c.list_movers.ensures.cells many (omega (arith, c.requires.ready.few)) c.requires.movers in
     let begun : AreMovers many near (length c.cells.result.now) = λ i h. (
-        let here : i < length start = omega (arith, h, count) in
-        subst (λ (r : ℕ). r < many) (sym (kept.same i here)) (cell-rank many 1 (get_or start i 0) (cells i here))) in
+    let here : i < length start = omega (arith, h, count) in
+    subst (λ (r : ℕ). r < many) (sym (kept.same i here)) (cell-rank many 1 (get_or start i 0) (cells i here))) in
     record {
       few = c.requires.ready.few;
       eight = c.set.ensures.few;

@@ -1,4 +1,3 @@
-use Rattle.std.proofs.Common.{◌≡◌, ◌≢◌, ◌<◌, arith}
 use Rattle.column_sums.proofs.TableLemmas.{row-set}
 use Rattle.column_sums.proofs.tables.Row.set.Goals as goal
 
