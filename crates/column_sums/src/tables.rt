@@ -79,7 +79,9 @@ impl Model for Table {
 
 impl Table {
     /// No value in any cell.
-    pub(crate) fn new(alloc: Global) -> Result<Table, NoMemory> {
+    pub(crate) fn new(alloc: Global) -> Result<Table, NoMemory>
+        ensures { IfOk result IsTableOfCells }
+    {
         let cells = cells_of(alloc, Best::missing(), CELLS)?;
         Ok(Table { cells })
     }
