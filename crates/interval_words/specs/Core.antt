@@ -31,7 +31,8 @@ AreReached game u = (r : ℕ) × AreNoLooser game (rounds game.stakes r) u
 
 -- each word is within the bound
 abbrev pub AreInBound : Game → Words → Type 0
-AreInBound game u = (end : End) (p : Placement) (k : ℕ) → IsState game p k → IsWithinUnits game.stakes.bound (u end p k)
+AreInBound game u =
+    (end : End) (p : Placement) (k : ℕ) → IsState game p k → IsWithinUnits game.stakes.bound (u end p k)
 
 -- a view over words: the game that it names is theirs, no note is tighter than its word, and the words are at least as tight as those after
 -- the rounds of its base

@@ -44,8 +44,10 @@ IsRoundDone game view = AreNoLooser game (known game view) (rounds game.stakes (
 abbrev pub IsAllowed : Core → Event → Type 0
 IsAllowed core opens = Unit {0}
 IsAllowed core (reads id end p k) = IsAlive core id × IsState core.game p k
-IsAllowed core (raises id p k word) = IsAlive core id × IsLoose core.game (view_at core id) Lower p k (value_of word)
-IsAllowed core (lowers id p k word) = IsAlive core id × IsLoose core.game (view_at core id) Upper p k (value_of word)
+IsAllowed core (raises id p k word) =
+    IsAlive core id × IsLoose core.game (view_at core id) Lower p k (value_of word)
+IsAllowed core (lowers id p k word) =
+    IsAlive core id × IsLoose core.game (view_at core id) Upper p k (value_of word)
 IsAllowed core (settles id) = IsAlive core id × IsRoundDone core.game (view_at core id)
 IsAllowed core (splits id) = IsAlive core id
 IsAllowed core (joins id other) = IsAlive core id × IsAlive core other × (other ≢ id)
@@ -60,17 +62,23 @@ with_new_view core view = record core { views = core.views ++ view ∷ [] }
 abbrev pub tightened : Core → ℕ → End → Placement → ℕ → ℕ → Core
 tightened core id end p k word =
     let number = word_of end (state_of (kinds_of core.game) p k) in
-    record core { words = slice_set core.words number (tightest_word end (slice_index core.words number) word); views = slice_set core.views id (with_note (view_at core id) number (value_of word)) }
+    record core {
+      words = slice_set core.words number (tightest_word end (slice_index core.words number) word);
+      views = slice_set core.views id (with_note (view_at core id) number (value_of word));
+    }
 
 -- what an event changes
 abbrev pub after : Core → Event → Core
 after core opens = with_new_view core (first_view core.game)
-after core (reads id end p k) = with_view core id (with_note (view_at core id) (word_of end (state_of (kinds_of core.game) p k)) (words_in_core core end p k))
+after core (reads id end p k) =
+    with_view core id
+    (with_note (view_at core id) (word_of end (state_of (kinds_of core.game) p k)) (words_in_core core end p k))
 after core (raises id p k word) = tightened core id Lower p k word
 after core (lowers id p k word) = tightened core id Upper p k word
 after core (settles id) = with_view core id (settled (view_at core id))
 after core (splits id) = with_new_view core (view_at core id)
-after core (joins id other) = with_view (with_view core id (joined (view_at core id) (view_at core other))) other spent
+after core (joins id other) =
+    with_view (with_view core id (joined (view_at core id) (view_at core other))) other spent
 
 -- each event of a list is allowed when it comes
 abbrev pub AreAllowed : Core → List Event → Type 0

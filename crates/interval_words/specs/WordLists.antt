@@ -26,7 +26,10 @@ words_in_list words = words_of (kinds_of words.game) words.list
 
 -- both words of the state with this number
 abbrev pub pair_at : List ℕ → ℕ → Bounds
-pair_at list state = record { lower = value_of (slice_index list (word_of Lower state)); upper = value_of (slice_index list (word_of Upper state)) }
+pair_at list state = record {
+  lower = value_of (slice_index list (word_of Lower state));
+  upper = value_of (slice_index list (word_of Upper state));
+}
 
 abbrev pub width : Bounds → ℤ
 width pair = pair.upper -ℤ pair.lower
@@ -38,7 +41,9 @@ states_of game = states_in game.checkers (kinds_of game)
 -- there are two words for each state, within the bound, the lower one at most the upper one
 pub record AreRight (words : WordList) : Type 0 where
   pub long : length words.list ≡ words_in words.game
-  pub within : (state : ℕ) → state < states_of words.game → IsWithin words.game.stakes.bound (pair_at words.list state)
+  pub within :
+      (state : ℕ) → state < states_of words.game
+      → IsWithin words.game.stakes.bound (pair_at words.list state)
 
 -- no state's pair is wider, and some state's is as wide
 pub record IsWidest (words : WordList) (widest : ℤ) : Type 0 where

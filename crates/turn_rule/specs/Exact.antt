@@ -24,25 +24,34 @@ Values = Placement → ℕ → ℤ
 
 -- what the mover has after his play: his win, or what the other side, whose turn it then is, hasn't
 abbrev pub left_with : Terms → Scoring → ℕ → Values → ℕ → Placement → ℤ
-left_with stakes scoring turns later k q = if_won (points q) (λ won. pos (36 ^ turns) *ℤ scoring.win k won) (neg_ℤ (later (swap q) (kind_at stakes k).next))
+left_with stakes scoring turns later k q =
+    if_won (points q)
+    (λ won. pos (36 ^ turns) *ℤ scoring.win k won)
+    (neg_ℤ (later (swap q) (kind_at stakes k).next))
 
 -- rolling in a kind: the best plays of all 36 ways of two dice together, where so many turns follow
 abbrev pub rolled : Terms → Scoring → ℕ → Values → Placement → ℕ → ℤ
-rolled stakes scoring turns later p k = sum_over all_rolls (left_with stakes scoring turns later k) p
+rolled stakes scoring turns later p k =
+    sum_over all_rolls (left_with stakes scoring turns later k) p
 
 -- after a double the other side chooses what leaves the doubler least: to pass, or one of its answers
 abbrev pub after_double : Terms → Scoring → ℕ → Values → Placement → ℕ → Double → ℤ
 after_double stakes scoring turns later p k double =
-    least (pos (36 ^ suc turns) *ℤ scoring.pass k) (map (λ (taken : Taken). pos taken.factor *ℤ rolled stakes scoring turns later p taken.kind) double.answers.items)
+    least (pos (36 ^ suc turns) *ℤ scoring.pass k)
+    (map (λ (taken : Taken). pos taken.factor *ℤ rolled stakes scoring turns later p taken.kind)
+    double.answers.items)
 
 -- with a right to double the mover has the better of rolling at once and of doubling
 abbrev pub better_of : Terms → Scoring → ℕ → Values → Placement → ℕ → ℤ → Option Double → ℤ
 better_of stakes scoring turns later p k plain None = plain
-better_of stakes scoring turns later p k plain (Some double) = int_max plain (after_double stakes scoring turns later p k double)
+better_of stakes scoring turns later p k plain (Some double) =
+    int_max plain (after_double stakes scoring turns later p k double)
 
 -- before a turn, from what each position is worth after it
 abbrev pub before_turn : Terms → Scoring → ℕ → Values → Values
-before_turn stakes scoring turns later p k = better_of stakes scoring turns later p k (rolled stakes scoring turns later p k) (kind_at stakes k).double
+before_turn stakes scoring turns later p k =
+    better_of stakes scoring turns later p k
+    (rolled stakes scoring turns later p k) (kind_at stakes k).double
 
 -- the value of a game of so many turns to the side to move, over the scale times 36 for each turn
 unfoldable pub exact : Terms → Scoring → ℕ → Values

@@ -23,7 +23,11 @@ doubling_game = record { kinds = always_double ∷ []; bound = point_units 3; na
 
 -- a game without a cube in which of a gammon only this is known, that it wins one to three points
 abbrev pub vague_gammon : Kind
-vague_gammon = record { next = 0; win = exactly 1 ∷ record { lower = point_units 1; upper = point_units 3 } ∷ exactly 3 ∷ []; double = None }
+vague_gammon = record {
+  next = 0;
+  win = exactly 1 ∷ record { lower = point_units 1; upper = point_units 3 } ∷ exactly 3 ∷ [];
+  double = None;
+}
 
 abbrev pub vague_game : Terms
 vague_game = record { kinds = vague_gammon ∷ []; bound = point_units 3; name = Cubeless }
@@ -47,7 +51,12 @@ win_points single gammon backgammon Backgammon = pos backgammon
 
 -- over a scale of 1, such wins, a pass of one point, and an unfinished end that is worth so much to whose turn it is
 abbrev pub scored : (Won → ℤ) → ℤ → Scoring
-scored wins unfinished = record { scale = 1; win = λ k won. wins won; pass = λ k. pos 1; unfinished = λ p k. unfinished }
+scored wins unfinished = record {
+  scale = 1;
+  win = λ k won. wins won;
+  pass = λ k. pos 1;
+  unfinished = λ p k. unfinished;
+}
 
 -- a win counts its points, and a game that is cut off so much to the side whose turn it is
 abbrev pub cut_off_at : ℤ → Scoring

@@ -38,7 +38,9 @@ pub record HasRank (checkers rank : ℕ) (layout : List ℕ) : Type 0 where
 -- all layouts of so many checkers, by rising rank
 pub record AreLayouts (checkers : ℕ) (all : List (List ℕ)) : Type 0 where
   pub many : length all ≡ layouts checkers
-  pub each : (rank : ℕ) (none : List ℕ) → rank < length all → HasRank checkers rank (slice_index_or all rank none)
+  pub each :
+      (rank : ℕ) (none : List ℕ) → rank < length all
+      → HasRank checkers rank (slice_index_or all rank none)
 
 -- in each state on the squares before this one, the new table has the turn over the old one
 abbrev pub IsTurnedBefore : Terms → PairTable → PairTable → ℕ → Type 0

@@ -55,11 +55,13 @@ IsScoring game = IsScoringWithin game (bound_words game.stakes)
 
 -- a word bounds the exact value of a state in the game of so many turns
 abbrev pub IsBoundAt : End → Terms → Scoring → ℕ → ℤ → Placement → ℕ → Type 0
-IsBoundAt end stakes scoring turns word p k = IsBoundOf end word (exact stakes scoring turns p k) (scoring.scale * 36 ^ turns)
+IsBoundAt end stakes scoring turns word p k =
+    IsBoundOf end word (exact stakes scoring turns p k) (scoring.scale * 36 ^ turns)
 
 -- a pair encloses the exact value of a state in the game of so many turns
 abbrev pub EnclosesAt : Terms → Scoring → ℕ → Bounds → Placement → ℕ → Type 0
-EnclosesAt stakes scoring turns pair p k = Encloses pair (exact stakes scoring turns p k) (scoring.scale * 36 ^ turns)
+EnclosesAt stakes scoring turns pair p k =
+    Encloses pair (exact stakes scoring turns p k) (scoring.scale * 36 ^ turns)
 
 -- words enclose every state in the game of so many turns
 abbrev pub AreEnclosing : Game → Scoring → ℕ → Words → Type 0

@@ -34,7 +34,8 @@ if_won (Some won) value rest = value won
 -- What the mover has after his play: his win, or what the other side, whose turn it then is, hasn't.
 -- A lower bound of the one side is an upper bound of the other.
 abbrev pub worth : End → Kind → Words → Placement → ℤ
-worth end kind u q = if_won (points q) (λ won. at end (win kind won)) (neg_ℤ (u (other end) (swap q) kind.next))
+worth end kind u q =
+    if_won (points q) (λ won. at end (win kind won)) (neg_ℤ (u (other end) (swap q) kind.next))
 
 -- the greatest value of a list that isn't empty
 abbrev pub greatest : (Placement → ℤ) → List Placement → ℤ
@@ -49,7 +50,8 @@ sum_over (roll ∷ rolls) value p = pos roll.1 *ℤ greatest value (legal_ends p
 
 -- rolling in a kind that counts so many times: the mean over the 36 ways of two dice, rounded outwards
 abbrev pub roll_value : End → Terms → Words → Placement → ℕ → ℕ → ℤ
-roll_value end stakes u p k factor = outwards end (pos factor *ℤ sum_over all_rolls (worth end (kind_at stakes k) u) p)
+roll_value end stakes u p k factor =
+    outwards end (pos factor *ℤ sum_over all_rolls (worth end (kind_at stakes k) u) p)
 
 -- the least of a value and some others
 abbrev pub least : ℤ → List ℤ → ℤ
@@ -58,7 +60,9 @@ least value (v ∷ rest) = least (int_min value v) rest
 
 -- after a double the other side chooses what leaves the doubler least: to pass, or one of its answers
 abbrev pub doubled : End → Terms → Words → Placement → Double → ℤ
-doubled end stakes u p double = least (at end double.pass) (map (λ (taken : Taken). roll_value end stakes u p taken.kind taken.factor) double.answers.items)
+doubled end stakes u p double =
+    least (at end double.pass)
+    (map (λ (taken : Taken). roll_value end stakes u p taken.kind taken.factor) double.answers.items)
 
 -- with a right to double the mover has the better of rolling at once and of doubling
 abbrev pub or_double : End → Terms → Words → Placement → ℤ → Option Double → ℤ
