@@ -1,0 +1,28 @@
+-- Moments one after another.
+use Rattle.std.proofs.Common.{◌≡◌, ◌≤◌, ◌∙◌, ℕ, ℤ, IsTrue, arith, refl, sym, subst}
+use Rattle.directed_fixed.specs.declared.bounds.End.{End}
+use Rattle.turn_rule.specs.Turn.{Words}
+use Rattle.turn_rule.specs.States.{AreNoLooserOf}
+use Rattle.turn_rule.specs.Looks.{Source, Seen, States, Sought}
+use Rattle.turn_rule.specs.Found.{IsFound, IsFoundOf}
+use Rattle.turn_rule.proofs.Tight.{words-refl, words-trans}
+use Rattle.turn_rule.proofs.Found.{found-later, Tightened}
+use Rattle.column_turns.specs.Moments.{IsLater}
+
+pub later-refl : (a : Seen) → IsLater a a
+later-refl a = record { source = refl; notes = λ tells. words-refl a.source.checkers a.source.kinds a.notes; faults = omega arith }
+
+-- the notes of a later moment, in terms of the first one's source
+pub later-notes : (a b c : Seen) → IsLater a b → IsLater b c → Tightened a.source c.notes b.notes
+later-notes a b c one two = subst (λ (s : Source). Tightened s c.notes b.notes) one.source two.notes
+
+pub later-trans : (a b c : Seen) → IsLater a b → IsLater b c → IsLater a c
+later-trans a b c one two = record {
+  source = two.source ∙ one.source;
+  notes = λ tells. words-trans a.source.checkers a.source.kinds c.notes b.notes a.notes (later-notes a b c one two tells) (one.notes tells);
+  faults = omega (arith, one.faults, two.faults);
+}
+
+-- what was found stays found
+pub found-then : (end : End) (sought : Sought) (a b c : Seen) (x : ℤ) → IsLater a b → IsLater b c → IsFoundOf end sought a.source b.notes x → IsFoundOf end sought a.source c.notes x
+found-then end sought a b c x one two found = found-later end a.source b.notes c.notes sought.states (sought.limit a.source.bound) (sought.value end) x (later-notes a b c one two) found

@@ -1,0 +1,3 @@
+pub mod PlayWorths
+pub mod Laters
+pub mod RowCells

@@ -1,0 +1,5 @@
+//! The turns of all positions with the same checkers of the other side.
+#![tactic(auto)]
+
+mod play_worth;
+mod rows;

@@ -1,0 +1,50 @@
+ghost use Rattle.std.specs.Prelude.{◌≡◌, ◌<◌, ◌≤◌, ◌^◌, pos, ◌≤ℤ◌, IsTrue, length, sum};
+ghost use Rattle.position_rank.specs.Placement.{IsLayout};
+ghost use Rattle.game_payoff.specs.declared.payoff.Won.{Won};
+ghost use Rattle.directed_fixed.specs.Bounds.{IsWithin};
+ghost use Rattle.turn_rule.specs.Turn.{win};
+ghost use Rattle.turn_rule.specs.Rounds.{AreLayouts};
+ghost use Rattle.column_turns.specs.Moments.{IsLater};
+ghost use Rattle.column_turns.specs.Rows.{AreFoundTo, IsRow, IsSameBut};
+
+use crate::play_worth::play_worth;
+use cube_actions::Kind;
+use directed_fixed::{End, Fixed};
+use position_rank::{Layout, Position};
+use turn_rule::Pairs;
+
+/// Finds what the mover has after each play that leaves the other side with this layout.
+fn fill_layer<P: Pairs>(
+    end: End,
+    kind: &Kind,
+    layouts: &[Layout],
+    layer: usize,
+    other: &Layout,
+    row: &mut [Fixed],
+    pairs: &mut P,
+)
+    requires sure { IsTrue (P.seen pairs.old).source.sure }
+    requires layouts { AreLayouts (P.seen pairs.old).source.checkers layouts.now }
+    requires few { length layouts.now ≤ 4096 }
+    requires many { sum other.now ≡ (P.seen pairs.old).source.checkers }
+    requires next { kind.now.next < (P.seen pairs.old).source.kinds }
+    requires wins { (won : Won) → IsWithin (P.seen pairs.old).source.bound (win kind.now won) }
+    requires small { (P.seen pairs.old).source.bound ≤ℤ pos (2 ^ 36) }
+    requires layer { layer < 8 }
+    requires row { IsRow row.old }
+    ensures row { IsRow row.new }
+    ensures same { IsSameBut layer row.old row.new }
+    ensures found {
+        AreFoundTo end (P.seen pairs.old).source (P.seen pairs.new).notes kind.now
+        layouts.now other.now row.new layer (length layouts.now)
+    }
+    ensures later { IsLater (P.seen pairs.old) (P.seen pairs.new) }
+    ensures stays { P.stays pairs.new ≡ P.stays pairs.old }
+{
+    let first = u64::from(other.rank()) * layouts.len() as u64;
+    for rank in 0..layouts.len() {
+        let left = Position::new(layouts[rank], *other).unwrap();
+        let worth = play_worth(end, &left, first + rank as u64, kind, pairs);
+        row[layer * 4096 + rank] = worth;
+    }
+}
