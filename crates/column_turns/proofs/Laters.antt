@@ -1,10 +1,8 @@
 -- Moments one after another.
-use Rattle.std.proofs.Common.{◌≡◌, ◌≤◌, ◌∙◌, ℕ, ℤ, IsTrue, arith, refl, sym, subst}
+use Rattle.std.proofs.Common.{◌∙◌, ℤ, arith, refl, subst}
 use Rattle.directed_fixed.specs.declared.bounds.End.{End}
-use Rattle.turn_rule.specs.Turn.{Words}
-use Rattle.turn_rule.specs.States.{AreNoLooserOf}
-use Rattle.turn_rule.specs.Looks.{Source, Seen, States, Sought}
-use Rattle.turn_rule.specs.Found.{IsFound, IsFoundOf}
+use Rattle.turn_rule.specs.Looks.{Source, Seen, Sought}
+use Rattle.turn_rule.specs.Found.{IsFoundOf}
 use Rattle.turn_rule.proofs.Tight.{words-refl, words-trans}
 use Rattle.turn_rule.proofs.Found.{found-later, Tightened}
 use Rattle.column_turns.specs.Moments.{IsLater}

@@ -8,7 +8,7 @@ use Rattle.directed_fixed.specs.Bounds.{IsNoLooser, IsWithin, IsWithinUnits, at,
 use Rattle.hyper_outside.specs.declared.outside.LookStop.{LookStop}
 use Rattle.cube_actions.specs.declared.kind.Kind.{Kind}
 use Rattle.turn_rule.specs.Turn.{Words, win, if_won, worth}
-use Rattle.turn_rule.specs.Looks.{Source, IsLeft}
+use Rattle.turn_rule.specs.Looks.{Source}
 use Rattle.turn_rule.specs.Found.{IsSame, IsFoundOf, of_play}
 use Rattle.turn_rule.proofs.Tight.{tight-refl}
 use Rattle.turn_rule.proofs.Found.{FindsFrom}

@@ -1,53 +1,62 @@
 -- A row of which one cell more was found.
-use Rattle.std.proofs.Common.{◌≡◌, ◌<◌, ◌≤◌, ◌+◌, ◌*◌, ◌^◌, ◌≢◌, ◌∙◌, ℕ, ℤ, pos, ◌≤ℤ◌, List, [], length, get_or, set, inl, inr, get_or-set_same, get_or-set_other, below_more, ap, sym, subst, arith}
+use Rattle.std.proofs.Common.{◌≡◌, ◌<◌, ◌≤◌, ◌+◌, ◌*◌, ◌^◌, ◌≢◌, ◌∙◌, ℕ, ℤ, pos, ◌≤ℤ◌, List, [], length, get_or, set, Option, Some, None, get_or-set_same, get_or-set_other, below_more, ap, sym, subst, arith}
 use Rattle.std.proofs.lemmas.Int.{ints}
 use Rattle.std.proofs.lemmas.List.{length-set, get_or_default}
-use Rattle.std.proofs.lemmas.List.Elements.{All-set}
 use Rattle.position_rank.specs.Placement.{Placement}
 use Rattle.directed_fixed.specs.declared.bounds.End.{End}
 use Rattle.directed_fixed.specs.Bounds.{IsWithinUnits}
 use Rattle.cube_actions.specs.declared.kind.Kind.{Kind}
-use Rattle.turn_rule.specs.Looks.{Source, Seen}
-use Rattle.turn_rule.specs.Found.{of_play}
+use Rattle.turn_rule.specs.Looks.{Seen}
+use Rattle.turn_rule.specs.Found.{LeavesState, IsFoundOf, of_play}
+use Rattle.column_sums.specs.Leaps.{layout_at}
+use Rattle.column_sums.specs.Cells.{cell_of}
 use Rattle.column_turns.specs.Moments.{IsLater}
-use Rattle.column_turns.specs.Rows.{layout_at, cell_of, at_cell, IsFoundEnd, AreFoundTo, IsRow, IsSameBut}
+use Rattle.column_turns.specs.Rows.{at_cell, IsFoundEnd, AreFoundTo, AreFoundLayers, IsSameBefore}
 use Rattle.column_turns.proofs.Laters.{found-then}
 
-narrower : (bound x : ℤ) → bound ≤ℤ pos (2 ^ 36) → IsWithinUnits bound x → IsWithinUnits (pos (2 ^ 36)) x
+pub narrower : (bound x : ℤ) → bound ≤ℤ pos (2 ^ 36) → IsWithinUnits bound x → IsWithinUnits (pos (2 ^ 36)) x
 narrower bound x small h = record { from = omega (arith, ints, small, h.from); to = omega (arith, ints, small, h.to) }
 
-pub row-set : (row : List ℤ) (cell : ℕ) (bound x : ℤ) → IsRow row → bound ≤ℤ pos (2 ^ 36) → IsWithinUnits bound x → IsRow (set row cell x)
-row-set row cell bound x is small within = record {
-  cells = length-set row cell x ∙ is.cells;
-  small = All-set (IsWithinUnits (pos (2 ^ 36))) row cell x (narrower bound x small within) is.small;
-}
-
-pub same-set : (old row : List ℤ) (layer rank : ℕ) (x : ℤ) → IsSameBut layer old row → IsSameBut layer old (set row (cell_of layer rank) x)
+pub same-set : (old row : List (Option ℤ)) (layer rank : ℕ) (x : Option ℤ) → IsSameBefore layer old row → IsSameBefore layer old (set row (cell_of layer rank) x)
 same-set old row layer rank x same cell below =
     let apart : cell ≢ cell_of layer rank = omega (arith, below) in
-    get_or-set_other row (cell_of layer rank) cell x (pos 0) apart ∙ same cell below
+    get_or-set_other row (cell_of layer rank) cell x None apart ∙ same cell below
 
-module _ (end : End) (old : Seen) (kind : Kind) (layouts : List (List ℕ)) (other : List ℕ) where
-  -- what was found of some cells stays found
-  pub cells-later : (mid new : Seen) (row : List ℤ) (layer count : ℕ) → IsLater old mid → IsLater mid new
-      → AreFoundTo end old.source mid.notes kind layouts other row layer count → AreFoundTo end old.source new.notes kind layouts other row layer count
-  cells-later mid new row layer count one two before rank below leaves =
-      let left : Placement = record { mover = layout_at layouts rank; other = other } in
-      found-then end (of_play kind left) old mid new (at_cell row layer rank) one two (before rank below leaves)
+module _ (end : End) (old : Seen) (kind : Kind) where
+  -- what was found of an end stays found
+  pub end-later : (mid new : Seen) (left : Placement) (worth : Option ℤ) → IsLater old mid → IsLater mid new → IsFoundEnd end old.source mid.notes kind left worth → IsFoundEnd end old.source new.notes kind left worth
+  end-later mid new left worth one two found = (found.0, found.1, λ leaves. found-then end (of_play kind left) old mid new found.0 one two (found.2 leaves))
 
-  pub cell-more : (mid new : Seen) (row : List ℤ) (layer rank : ℕ) (x : ℤ) (left : Placement) → IsLater old mid → IsLater mid new → IsRow row → layer < 8 → rank < 4096
-      → left ≡ record { mover = layout_at layouts rank; other = other } → IsFoundEnd end old.source new.notes kind left x
-      → AreFoundTo end old.source mid.notes kind layouts other row layer rank
-      → AreFoundTo end old.source new.notes kind layouts other (set row (cell_of layer rank) x) layer (rank + 1)
-  cell-more mid new row layer rank x left one two is layer_few rank_few left_is found before =
-      let here : cell_of layer rank < length row = omega (arith, is.cells, layer_few, rank_few) in
-      below_more (λ (r : ℕ). IsFoundEnd end old.source new.notes kind (record { mover = layout_at layouts r; other = other }) (at_cell (set row (cell_of layer rank) x) layer r)) rank
-      (λ r below.
-      let apart : cell_of layer r ≢ cell_of layer rank = omega (arith, below) in
-      subst (IsFoundEnd end old.source new.notes kind (record { mover = layout_at layouts r; other = other })) (sym (get_or-set_other row (cell_of layer rank) (cell_of layer r) x (pos 0) apart))
-      (cells-later mid new row layer rank one two before r below))
-      (subst (IsFoundEnd end old.source new.notes kind (record { mover = layout_at layouts rank; other = other })) (sym (get_or-set_same row (cell_of layer rank) x (pos 0) here))
-      (subst (λ (q : Placement). IsFoundEnd end old.source new.notes kind q x) left_is found))
+  module _ (layouts : List (List ℕ)) (other : List ℕ) where
+    pub cell-more : (mid new : Seen) (row : List (Option ℤ)) (layer rank : ℕ) (x : ℤ) (left : Placement) → IsLater old mid → IsLater mid new → length (set row (cell_of layer rank) (Some x)) ≡ 32768 → layer < 8 → rank < 4096
+        → left ≡ record { mover = layout_at layouts rank; other = other } → (LeavesState old.source kind.next left → IsFoundOf end (of_play kind left) old.source new.notes x)
+        → AreFoundTo end old.source mid.notes kind layouts other row layer rank
+        → AreFoundTo end old.source new.notes kind layouts other (set row (cell_of layer rank) (Some x)) layer (rank + 1)
+    cell-more mid new row layer rank x left one two cells layer_few rank_few left_is found before =
+        let many = length-set row (cell_of layer rank) (Some x) in
+        let here : cell_of layer rank < length row = omega (arith, cells, many, layer_few, rank_few) in
+        below_more (λ (r : ℕ). IsFoundEnd end old.source new.notes kind (record { mover = layout_at layouts r; other = other }) (at_cell (set row (cell_of layer rank) (Some x)) layer r)) rank
+        (λ r below.
+        let apart : cell_of layer r ≢ cell_of layer rank = omega (arith, below) in
+        let there : Placement = record { mover = layout_at layouts r; other = other } in
+        subst (IsFoundEnd end old.source new.notes kind there) (sym (get_or-set_other row (cell_of layer rank) (cell_of layer r) (Some x) None apart))
+        (end-later mid new there (at_cell row layer r) one two (before r below)))
+        (subst (λ (q : Placement). IsFoundEnd end old.source new.notes kind q (at_cell (set row (cell_of layer rank) (Some x)) layer rank)) left_is
+        (x, get_or-set_same row (cell_of layer rank) (Some x) None here, found))
+
+    -- one layer more was found
+    pub layer-more : (others : List (List ℕ)) (mid new : Seen) (row row' : List (Option ℤ)) (layer : ℕ) → IsLater old mid → IsLater mid new → IsSameBefore layer row row' → length layouts ≤ 3276 → other ≡ layout_at others layer
+        → AreFoundLayers end old.source mid.notes kind layouts others row layer
+        → AreFoundTo end old.source new.notes kind layouts other row' layer (length layouts)
+        → AreFoundLayers end old.source new.notes kind layouts others row' (layer + 1)
+    layer-more others mid new row row' layer one two same few other_is before this =
+        below_more (λ (l : ℕ). AreFoundTo end old.source new.notes kind layouts (layout_at others l) row' l (length layouts)) layer
+        (λ l below rank here.
+        let left : Placement = record { mover = layout_at layouts rank; other = layout_at others l } in
+        let earlier : cell_of l rank < layer * 4096 = omega (arith, below, here, few) in
+        subst (IsFoundEnd end old.source new.notes kind left) (sym (same (cell_of l rank) earlier))
+        (end-later mid new left (at_cell row l rank) one two (before l below rank here)))
+        (subst (λ (o : List ℕ). AreFoundTo end old.source new.notes kind layouts o row' layer (length layouts)) other_is this)
 
 -- the position of a layout of the list
 pub left-at : (layouts : List (List ℕ)) (rank : ℕ) (mover other : List ℕ) (left : Placement) → rank < length layouts → mover ≡ get_or layouts rank mover → left ≡ record { mover = mover; other = other }
