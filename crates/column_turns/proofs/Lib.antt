@@ -1,3 +1,7 @@
 pub mod PlayWorths
 pub mod Laters
 pub mod RowCells
+pub mod MoreRanks
+pub mod Places
+pub mod SumsFound
+pub mod SlicesFound
