@@ -1,11 +1,12 @@
 -- A row of which one cell more was found.
 use Rattle.std.proofs.Common.{◌≡◌, ◌<◌, ◌≤◌, ◌+◌, ◌*◌, ◌^◌, ◌≢◌, ◌∙◌, ℕ, ℤ, pos, ◌≤ℤ◌, List, [], length, get_or, set, Option, Some, None, get_or-set_same, get_or-set_other, below_more, ap, sym, subst, arith}
 use Rattle.std.proofs.lemmas.Int.{ints}
-use Rattle.std.proofs.lemmas.List.{length-set, get_or_default}
-use Rattle.position_rank.specs.Placement.{Placement}
+use Rattle.std.proofs.lemmas.List.{length-set}
+use Rattle.position_rank.specs.Placement.{Placement, IsPosition}
 use Rattle.directed_fixed.specs.declared.bounds.End.{End}
 use Rattle.directed_fixed.specs.Bounds.{IsWithinUnits}
 use Rattle.cube_actions.specs.declared.kind.Kind.{Kind}
+use Rattle.turn_rule.specs.Turn.{Words}
 use Rattle.turn_rule.specs.Looks.{Seen}
 use Rattle.turn_rule.specs.Found.{LeavesState, IsFoundOf, of_play}
 use Rattle.column_sums.specs.Leaps.{layout_at}
@@ -25,9 +26,10 @@ same-set old row layer rank x same cell below =
 module _ (end : End) (old : Seen) (kind : Kind) where
   -- what was found of an end stays found
   pub end-later : (mid new : Seen) (left : Placement) (worth : Option ℤ) → IsLater old mid → IsLater mid new → IsFoundEnd end old.source mid.notes kind left worth → IsFoundEnd end old.source new.notes kind left worth
-  end-later mid new left worth one two found = (found.0, found.1, λ leaves. found-then end (of_play kind left) old mid new found.0 one two (found.2 leaves))
+  end-later mid new left worth one two found = λ position leaves. let here = found position leaves in (here.0, here.1, found-then end (of_play kind left) old mid new here.0 one two here.2)
 
   module _ (layouts : List (List ℕ)) (other : List ℕ) where
+    -- one cell more, whose end was found
     pub cell-more : (mid new : Seen) (row : List (Option ℤ)) (layer rank : ℕ) (x : ℤ) (left : Placement) → IsLater old mid → IsLater mid new → length (set row (cell_of layer rank) (Some x)) ≡ 32768 → layer < 8 → rank < 4096
         → left ≡ record { mover = layout_at layouts rank; other = other } → (LeavesState old.source kind.next left → IsFoundOf end (of_play kind left) old.source new.notes x)
         → AreFoundTo end old.source mid.notes kind layouts other row layer rank
@@ -42,7 +44,13 @@ module _ (end : End) (old : Seen) (kind : Kind) where
         subst (IsFoundEnd end old.source new.notes kind there) (sym (get_or-set_other row (cell_of layer rank) (cell_of layer r) (Some x) None apart))
         (end-later mid new there (at_cell row layer r) one two (before r below)))
         (subst (λ (q : Placement). IsFoundEnd end old.source new.notes kind q (at_cell (set row (cell_of layer rank) (Some x)) layer rank)) left_is
-        (x, get_or-set_same row (cell_of layer rank) (Some x) None here, found))
+        (λ position leaves. (x, get_or-set_same row (cell_of layer rank) (Some x) None here, found leaves)))
+
+    -- one cell more, of no position
+    pub cell-none : (noted : Words) (row : List (Option ℤ)) (layer rank : ℕ) → (IsPosition (record { mover = layout_at layouts rank; other = other }) → ⊥)
+        → AreFoundTo end old.source noted kind layouts other row layer rank → AreFoundTo end old.source noted kind layouts other row layer (rank + 1)
+    cell-none noted row layer rank none before =
+        below_more (λ (r : ℕ). IsFoundEnd end old.source noted kind (record { mover = layout_at layouts r; other = other }) (at_cell row layer r)) rank before (λ position leaves. absurd (none position))
 
     -- one layer more was found
     pub layer-more : (others : List (List ℕ)) (mid new : Seen) (row row' : List (Option ℤ)) (layer : ℕ) → IsLater old mid → IsLater mid new → IsSameBefore layer row row' → length layouts ≤ 3276 → other ≡ layout_at others layer
@@ -57,8 +65,3 @@ module _ (end : End) (old : Seen) (kind : Kind) where
         subst (IsFoundEnd end old.source new.notes kind left) (sym (same (cell_of l rank) earlier))
         (end-later mid new left (at_cell row l rank) one two (before l below rank here)))
         (subst (λ (o : List ℕ). AreFoundTo end old.source new.notes kind layouts o row' layer (length layouts)) other_is this)
-
--- the position of a layout of the list
-pub left-at : (layouts : List (List ℕ)) (rank : ℕ) (mover other : List ℕ) (left : Placement) → rank < length layouts → mover ≡ get_or layouts rank mover → left ≡ record { mover = mover; other = other }
-    → left ≡ record { mover = layout_at layouts rank; other = other }
-left-at layouts rank mover other left here at is = is ∙ ap (λ (m : List ℕ). record { mover = m; other = other }) (at ∙ get_or_default layouts rank mover [] here)

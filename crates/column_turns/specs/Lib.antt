@@ -1,3 +1,4 @@
 pub mod Moments
 pub mod Rows
 pub mod Turns
+pub mod Columns

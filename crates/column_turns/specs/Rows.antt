@@ -1,7 +1,7 @@
 -- A row: for each cell of a column, what a turn that ends there is worth. A cell tells which layer the other side is left with, and the rank
 -- of the mover's layout.
 use Rattle.std.specs.Prelude.{◌≡◌, ◌<◌, ◌*◌, ℕ, ℤ, List, length, Option, Some, None, slice_index_or}
-use Rattle.position_rank.specs.Placement.{Placement}
+use Rattle.position_rank.specs.Placement.{Placement, IsPosition}
 use Rattle.directed_fixed.specs.declared.bounds.End.{End}
 use Rattle.cube_actions.specs.declared.kind.Kind.{Kind}
 use Rattle.turn_rule.specs.Turn.{Words}
@@ -13,10 +13,11 @@ use Rattle.column_sums.specs.Cells.{cell_of}
 abbrev pub at_cell : List (Option ℤ) → ℕ → ℕ → Option ℤ
 at_cell row layer rank = slice_index_or row (cell_of layer rank) None
 
--- there is a value, and where a play may leave these checkers it was found of what the mover then has
+-- where a play may leave these checkers, there is a value, which was found of what the mover then has
 abbrev pub IsFoundEnd : End → Source → Words → Kind → Placement → Option ℤ → Type 0
 IsFoundEnd end source noted kind left worth =
-    (x : ℤ) × (worth ≡ Some x) × (LeavesState source kind.next left → IsFoundOf end (of_play kind left) source noted x)
+    IsPosition left → LeavesState source kind.next left
+    → (x : ℤ) × (worth ≡ Some x) × IsFoundOf end (of_play kind left) source noted x
 
 -- so it is of the first few cells of a layer
 abbrev pub AreFoundTo : End → Source → Words → Kind → List (List ℕ) → List ℕ → List (Option ℤ) → ℕ → ℕ → Type 0

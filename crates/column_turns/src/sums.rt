@@ -2,13 +2,14 @@ ghost use Rattle.std.specs.Prelude.{◌≡◌, ◌≢◌, ◌<◌, ◌≤◌, �
 ghost use Rattle.directed_fixed.specs.Bounds.{IsWithinUnits};
 ghost use Rattle.turn_rule.specs.Looks.{AreStakesOf};
 ghost use Rattle.column_sums.specs.Leaps.{layout_at};
+ghost use Rattle.column_sums.specs.Tables.{IsRow};
 ghost use Rattle.column_turns.specs.Moments.{IsLater};
 ghost use Rattle.column_turns.specs.Turns.{
     place_in, mover_at, AreSumsOf, AreSumsOfKind, IsColumnOf
 };
 
 use crate::rows::fill_row;
-use column_sums::{Column, Row, Steps};
+use column_sums::{Column, Row};
 use cube_actions::Stakes;
 use directed_fixed::{End, Fixed};
 use turn_rule::Pairs;
@@ -20,7 +21,9 @@ fn put_sums(one: &[Fixed], many: usize, kinds: usize, number: usize, all: &mut [
     requires kinds { kinds ≤ 14 }
     requires number { number < kinds }
     requires room { many * kinds ≤ length all.old }
-    requires small_one { All (IsWithinUnits (pos (2 ^ 42))) one.now }
+    requires small_one {
+        (i : ℕ) → i < many → IsWithinUnits (pos (2 ^ 42)) (slice_index_or one.now i (pos 0))
+    }
     requires small { All (IsWithinUnits (pos (2 ^ 42))) all.old }
     ensures room { length all.new ≡ length all.old }
     ensures small { All (IsWithinUnits (pos (2 ^ 42))) all.new }
@@ -44,7 +47,6 @@ fn sum_kind<P: Pairs>(
     end: End,
     number: usize,
     stakes: &Stakes,
-    steps: &Steps,
     column: &mut Column,
     row: &mut Row,
     one: &mut [Fixed],
@@ -55,18 +57,20 @@ fn sum_kind<P: Pairs>(
     requires stakes { AreStakesOf (P.seen pairs.old).source stakes.now }
     requires number { number < length stakes.now.kinds }
     requires column {
-        IsColumnOf (P.seen pairs.old).source steps.now column.old.others column.old.movers
+        IsColumnOf (P.seen pairs.old).source column.old.layouts column.old.others column.old.movers
     }
-    requires one { length steps.now ≤ length one.old }
+    requires one { length column.old.movers ≤ length one.old }
+    requires row { IsRow row.old }
     requires room { length column.old.movers * length stakes.now.kinds ≤ length all.old }
     requires small { All (IsWithinUnits (pos (2 ^ 42))) all.old }
     ensures column { column.new ≡ column.old }
+    ensures row { IsRow row.new }
     ensures one { length one.new ≡ length one.old }
     ensures room { length all.new ≡ length all.old }
     ensures small { All (IsWithinUnits (pos (2 ^ 42))) all.new }
     ensures found {
         AreSumsOfKind end (P.seen pairs.old).source (P.seen pairs.new).notes stakes.now
-        (mover_at steps.now (layout_at column.old.others 0) column.old.movers)
+        (mover_at column.old.layouts (layout_at column.old.others 0) column.old.movers)
         (length column.old.movers) number all.new
     }
     ensures same {
@@ -79,12 +83,12 @@ fn sum_kind<P: Pairs>(
 {
     // What `bound` ensures says that the stakes are valid.
     let _bound = stakes.bound();
-    // What `count` ensures says that no layer comes twice and that plays lead to layers.
-    let _layers = column.layers().count();
-    let many = column.movers();
-    let kind = stakes.kind(number);
-    fill_row(end, kind, steps.layouts(), column.layers(), row, pairs);
-    column.sum(steps, row, one);
+    // What `layers` ensures says that no layer comes twice and that plays lead to layers.
+    let _layers = column.layers();
+    let movers = column.movers();
+    let many = movers.len();
+    fill_row(end, stakes.kind(number), column, row, pairs);
+    column.sum(row, one);
     put_sums(one, many, stakes.kinds(), number, all);
 }
 
@@ -92,7 +96,6 @@ fn sum_kind<P: Pairs>(
 pub(crate) fn sum_kinds<P: Pairs>(
     end: End,
     stakes: &Stakes,
-    steps: &Steps,
     column: &mut Column,
     row: &mut Row,
     one: &mut [Fixed],
@@ -102,24 +105,26 @@ pub(crate) fn sum_kinds<P: Pairs>(
     requires sure { IsTrue (P.seen pairs.old).source.sure }
     requires stakes { AreStakesOf (P.seen pairs.old).source stakes.now }
     requires column {
-        IsColumnOf (P.seen pairs.old).source steps.now column.old.others column.old.movers
+        IsColumnOf (P.seen pairs.old).source column.old.layouts column.old.others column.old.movers
     }
-    requires one { length steps.now ≤ length one.old }
+    requires one { length column.old.movers ≤ length one.old }
+    requires row { IsRow row.old }
     requires room { length column.old.movers * length stakes.now.kinds ≤ length all.old }
     requires small { All (IsWithinUnits (pos (2 ^ 42))) all.old }
     ensures column { column.new ≡ column.old }
+    ensures row { IsRow row.new }
     ensures one { length one.new ≡ length one.old }
     ensures room { length all.new ≡ length all.old }
     ensures small { All (IsWithinUnits (pos (2 ^ 42))) all.new }
     ensures found {
         AreSumsOf end (P.seen pairs.old).source (P.seen pairs.new).notes stakes.now
-        (mover_at steps.now (layout_at column.old.others 0) column.old.movers)
+        (mover_at column.old.layouts (layout_at column.old.others 0) column.old.movers)
         (length column.old.movers) (length stakes.now.kinds) all.new
     }
     ensures later { IsLater (P.seen pairs.old) (P.seen pairs.new) }
     ensures stays { P.stays pairs.new ≡ P.stays pairs.old }
 {
     for number in 0..stakes.kinds() {
-        sum_kind(end, number, stakes, steps, column, row, one, all, pairs);
+        sum_kind(end, number, stakes, column, row, one, all, pairs);
     }
 }

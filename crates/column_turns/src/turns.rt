@@ -1,14 +1,21 @@
-ghost use Rattle.std.specs.Prelude.{◌≡◌, ◌≢◌, ◌<◌, ◌≤◌, ◌+◌, ◌*◌, ◌^◌, ℕ, pos, All, length, slice_index_or};
+ghost use Rattle.std.specs.Prelude.{◌≡◌, ◌≢◌, ◌<◌, ◌≤◌, ◌+◌, ◌*◌, ◌^◌, ℕ, pos, All, IsTrue, length, slice_index_or};
 ghost use Rattle.position_rank.specs.Placement.{Placement};
 ghost use Rattle.directed_fixed.specs.Bounds.{IsWithinUnits};
 ghost use Rattle.cube_actions.specs.Stakes.{nothing};
 ghost use Rattle.turn_rule.specs.Turn.{Words};
-ghost use Rattle.turn_rule.specs.Looks.{Source, IsTurnPair};
-ghost use Rattle.column_turns.specs.Turns.{place_in, AreSummed, AreTurnsOf};
+ghost use Rattle.turn_rule.specs.Looks.{Source, AreStakesOf, IsTurnPair};
+ghost use Rattle.column_sums.specs.Leaps.{layout_at};
+ghost use Rattle.column_sums.specs.Tables.{IsRow};
+ghost use Rattle.column_turns.specs.Moments.{IsLater};
+ghost use Rattle.column_turns.specs.Turns.{
+    place_in, mover_at, AreSummed, AreTurnsOf, IsColumnOf
+};
 
+use crate::sums::sum_kinds;
+use column_sums::{Column, Row};
 use cube_actions::Stakes;
-use directed_fixed::{Fixed, Pair};
-use turn_rule::pair_from_sums;
+use directed_fixed::{End, Fixed, Pair};
+use turn_rule::{Pairs, pair_from_sums};
 
 /// Works out the pair of the turn in each kind of one position.
 fn pair_position(i: usize, stakes: &Stakes, lower: &[Fixed], upper: &[Fixed], pairs: &mut [Pair])
@@ -65,4 +72,48 @@ pub(crate) fn pair_positions(
     for i in 0..many {
         pair_position(i, stakes, lower, upper, pairs);
     }
+}
+
+/// Works out the pairs of a column's turns.
+pub(crate) fn turn_column<P: Pairs>(
+    stakes: &Stakes,
+    column: &mut Column,
+    row: &mut Row,
+    one: &mut [Fixed],
+    lower: &mut [Fixed],
+    upper: &mut [Fixed],
+    turns: &mut [Pair],
+    pairs: &mut P,
+)
+    requires sure { IsTrue (P.seen pairs.old).source.sure }
+    requires stakes { AreStakesOf (P.seen pairs.old).source stakes.now }
+    requires column {
+        IsColumnOf (P.seen pairs.old).source column.old.layouts column.old.others column.old.movers
+    }
+    requires one { length column.old.movers ≤ length one.old }
+    requires row { IsRow row.old }
+    requires lower { length column.old.movers * length stakes.now.kinds ≤ length lower.old }
+    requires upper { length column.old.movers * length stakes.now.kinds ≤ length upper.old }
+    requires turns { length column.old.movers * length stakes.now.kinds ≤ length turns.old }
+    requires small_lower { All (IsWithinUnits (pos (2 ^ 42))) lower.old }
+    requires small_upper { All (IsWithinUnits (pos (2 ^ 42))) upper.old }
+    ensures column { column.new ≡ column.old }
+    ensures row { IsRow row.new }
+    ensures one { length one.new ≡ length one.old }
+    ensures lower { length lower.new ≡ length lower.old }
+    ensures upper { length upper.new ≡ length upper.old }
+    ensures room { length turns.new ≡ length turns.old }
+    ensures small_lower { All (IsWithinUnits (pos (2 ^ 42))) lower.new }
+    ensures small_upper { All (IsWithinUnits (pos (2 ^ 42))) upper.new }
+    ensures turns {
+        AreTurnsOf (P.seen pairs.old).source (P.seen pairs.new).notes stakes.now
+        (mover_at column.old.layouts (layout_at column.old.others 0) column.old.movers)
+        (length column.old.movers) turns.new
+    }
+    ensures later { IsLater (P.seen pairs.old) (P.seen pairs.new) }
+    ensures stays { P.stays pairs.new ≡ P.stays pairs.old }
+{
+    sum_kinds(End::Lower, stakes, column, row, one, lower, pairs);
+    sum_kinds(End::Upper, stakes, column, row, one, upper, pairs);
+    pair_positions(column.movers().len(), stakes, lower, upper, turns);
 }

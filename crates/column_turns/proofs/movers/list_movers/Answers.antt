@@ -1,8 +1,7 @@
-use Rattle.std.proofs.Common.{◌≡◌, ◌<◌, ◌≤◌, ◌+◌, ◌++◌, ◌∙◌, Bool, false, IsTrue, ◌∷◌, [], ℕ, length, get_or, inl, inr, subst, sym, arith}
+use Rattle.std.proofs.Common.{◌≡◌, ◌<◌, ◌++◌, ◌∙◌, Bool, false, IsTrue, ◌∷◌, [], ℕ, length, get_or, inl, inr, subst, sym, arith}
 use Rattle.std.proofs.lemmas.Bool.{cases_lt}
-use Rattle.position_rank.specs.Placement.{Placement, IsLive}
+use Rattle.position_rank.specs.Placement.{IsLive}
 use Rattle.column_turns.specs.Turns.{at_rank}
-use Rattle.column_turns.proofs.RowCells.{left-at}
 use Rattle.column_turns.proofs.MoreRanks.{length-more, all-more, each-more, there-more, there-last}
 use Rattle.column_turns.proofs.movers.list_movers.Goals as goal
 use Rattle.column_turns.proofs.movers.list_movers.Goals.{then-is_live, else-is_live}
@@ -14,12 +13,12 @@ pub loop-rank-preserved : goal.loop-rank-preserved
 loop-rank-preserved c =
     let before = c.loop-rank.invariant in
     let rank = c.loop-rank.rank in
-    let layouts = c.args.layouts.now in
+    let layouts = c.args.column.now.layouts in
     let other = c.args.other.now in
     let items = c.loop-rank.movers.items in
     let made = rw c.unwrap-position.ensures at c.new.ensures.value in
-    let here = c.loop-rank-test.true in
-    let position_is = left-at layouts rank c.index-layouts-rank.result other c.unwrap-position.result here c.index-layouts-rank.is made.0 in
+    let here : rank < length layouts = omega (arith, c.loop-rank-test.true, c.many-rank-end.ensures.many) in
+    let position_is = rw c.layout.ensures at made.0 in
     elim c.if-is_live.branch [
       | then-is_live w ↦ (
           let live : IsLive (at_rank layouts other rank) = subst IsLive position_is (c.is_live.ensures.0 w.if-is_live.true) in

@@ -8,7 +8,7 @@ abbrev pub invariant-loop-rank : goal.invariant-loop-rank
 invariant-loop-rank l = record {
   room : vec_capacity l.movers ≡ vec_capacity l.fn.movers;
   few : length l.movers.items ≤ l.rank;
-  within : All (λ (rank : ℕ). rank < length l.layouts) l.movers.items;
-  live : (i : ℕ) → i < length l.movers.items → IsLive (at_rank l.layouts l.other (get_or l.movers.items i 0));
-  all : (rank : ℕ) → rank < l.rank → IsLive (at_rank l.layouts l.other rank) → (i : ℕ) × (i < length l.movers.items) × (get_or l.movers.items i 0 ≡ rank);
+  within : All (λ (rank : ℕ). rank < length l.column.layouts) l.movers.items;
+  live : (i : ℕ) → i < length l.movers.items → IsLive (at_rank l.column.layouts l.other (get_or l.movers.items i 0));
+  all : (rank : ℕ) → rank < l.rank → IsLive (at_rank l.column.layouts l.other rank) → (i : ℕ) × (i < length l.movers.items) × (get_or l.movers.items i 0 ≡ rank);
 }

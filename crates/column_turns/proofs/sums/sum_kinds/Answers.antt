@@ -17,10 +17,11 @@ loop-number-preserved g c =
     let stakes = c.args.stakes.now in
     let kinds = length stakes.kinds in
     let column = c.args.column.now in
-    let place = mover_at c.args.steps.now (layout_at column.others 0) column.movers in
+    let place = mover_at column.layouts (layout_at column.others 0) column.movers in
     let found = rw (before.later.source, before.column) at swept.found in
     record {
       column = swept.column ∙ before.column;
+      row = swept.row;
       one = swept.one ∙ before.one;
       room = swept.room ∙ before.room;
       small = swept.small;

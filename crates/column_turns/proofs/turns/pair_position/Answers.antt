@@ -1,4 +1,4 @@
-use Rattle.std.proofs.Common.{◌≡◌, ◌≢◌, ◌<◌, ◌+◌, ◌*◌, ◌∙◌, ℕ, length, get_or, set, get_or-set_same, get_or-set_other, inl, inr, below_more, sym, subst, arith}
+use Rattle.std.proofs.Common.{◌<◌, ◌+◌, ◌*◌, ◌∙◌, ℕ, length, get_or, set, get_or-set_same, get_or-set_other, below_more, sym, subst, arith}
 use Rattle.std.proofs.lemmas.List.{length-set}
 use Rattle.directed_fixed.specs.declared.bounds.End.TheVariants.{Lower, Upper}
 use Rattle.cube_actions.specs.Stakes.{nothing}

@@ -1,9 +1,8 @@
-use Rattle.std.proofs.Common.{◌≡◌, ◌<◌, ℕ, length, get_or}
+use Rattle.std.proofs.Common.{◌≡◌, ℕ, length}
 use Rattle.position_rank.specs.Placement.{Placement}
-use Rattle.cube_actions.specs.Stakes.{nothing}
 use Rattle.turn_rule.specs.Turn.{Words}
-use Rattle.turn_rule.specs.Looks.{Source, IsTurnPair}
-use Rattle.column_turns.specs.Turns.{place_in, AreSummed, AreTurnsOf}
+use Rattle.turn_rule.specs.Looks.{Source}
+use Rattle.column_turns.specs.Turns.{AreSummed, AreTurnsOf}
 use Rattle.column_turns.proofs.turns.pair_positions.Given as goal
 
 -- the positions so far

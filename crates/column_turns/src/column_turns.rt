@@ -1,0 +1,164 @@
+ghost use Rattle.std.specs.Prelude.{◌≡◌, ◌<◌, ◌≤◌, ◌*◌, ℕ, IfOk, IsTrue, length, slice_index, slice_index_or};
+ghost use Rattle.position_rank.specs.Placement.{IsPosition};
+ghost use Rattle.cube_actions.specs.Stakes.{nothing};
+ghost use Rattle.turn_rule.specs.Looks.{AreStakesOf};
+ghost use Rattle.turn_rule.specs.Rounds.{AreLayouts};
+ghost use Rattle.column_sums.specs.Leaps.{layout_at};
+ghost use Rattle.column_turns.specs.Moments.{IsLater};
+ghost use Rattle.column_turns.specs.Turns.{mover_at, place_in, AreLiveMovers, AreTurnsOf};
+
+use crate::movers::list_movers;
+use crate::turns::turn_column;
+use column_sums::{Column, Row};
+use cube_actions::Stakes;
+use directed_fixed::{Fixed, Pair};
+use hyper_outside::NoMemory;
+use position_rank::{Layout, Position};
+use std::alloc::Global;
+use std::marker::Model;
+use turn_rule::Pairs;
+
+/// The pairs of a column's turns: for each layout of the mover whose position with one layout of the other side is live, and for each kind.
+/// It is filled again for one column after another, and takes no memory then.
+#[derive(Drop)]
+pub struct ColumnTurns {
+    checkers: u8,
+    kinds: usize,
+    column: Column,
+    row: Row,
+    other: Layout,
+    movers: Vec<u16>,
+    one: Vec<Fixed>,
+    lower: Vec<Fixed>,
+    upper: Vec<Fixed>,
+    pairs: Vec<Pair>,
+}
+
+impl Model for ColumnTurns {
+    ghost use Rattle.std.specs.Prelude.{vec_capacity};
+    ghost use Rattle.column_turns.specs.Columns.{ColumnPairs, IsColumn};
+
+    ghost Value = { ColumnPairs };
+
+    ghost view = {
+        λ a. record {
+            layouts = a.column.layouts;
+            kinds = a.kinds;
+            other = a.other;
+            movers = a.column.movers;
+            pairs = a.pairs.items;
+        }
+    };
+
+    ghost invariant = {
+        λ a. IsColumn a.checkers (vec_capacity a.movers) (record {
+            layouts = a.column.layouts;
+            kinds = a.kinds;
+            other = a.other;
+            movers = a.column.movers;
+            pairs = a.pairs.items;
+        }) a.row a.one.items a.lower.items a.upper.items
+    };
+}
+
+impl ColumnTurns {
+    /// No column yet, of a game of one to three checkers a side with these stakes. It asks for memory, and may answer `NoMemory`.
+    pub fn new(alloc: Global, checkers: u8, stakes: &Stakes) -> Result<ColumnTurns, NoMemory>
+        requires low { 1 ≤ checkers }
+        requires high { checkers ≤ 3 }
+        ensures layouts { IfOk result (λ turns. AreLayouts checkers turns.layouts) }
+        ensures kinds { IfOk result (λ turns. turns.kinds ≡ length stakes.now.kinds) }
+    {
+        let column = Column::new(alloc, checkers)?;
+        let many = column.many();
+        let kinds = stakes.kinds();
+        let zero = Fixed::whole(0);
+        Ok(ColumnTurns {
+            checkers,
+            kinds,
+            other: *column.layout(0),
+            column,
+            row: Row::new(alloc)?,
+            movers: Vec::with_capacity(alloc, many)?,
+            one: vec![in alloc; zero; many]?,
+            lower: vec![in alloc; zero; many * kinds]?,
+            upper: vec![in alloc; zero; many * kinds]?,
+            pairs: vec![in alloc; Pair::exactly(zero); many * kinds]?,
+        })
+    }
+
+    /// Works out the turns of the column of the other side's layout with this rank. Each pair is at least as tight as the turn over the
+    /// source's floor, and no tighter than the turn over its notes at the end.
+    pub fn fill<P: Pairs>(&mut self, other: usize, stakes: &Stakes, pairs: &mut P)
+        requires sure { IsTrue (P.seen pairs.old).source.sure }
+        requires stakes { AreStakesOf (P.seen pairs.old).source stakes.now }
+        requires kinds { self.old.kinds ≡ length stakes.now.kinds }
+        requires layouts { AreLayouts (P.seen pairs.old).source.checkers self.old.layouts }
+        requires other { other < length self.old.layouts }
+        ensures layouts { self.new.layouts ≡ self.old.layouts }
+        ensures kinds { self.new.kinds ≡ self.old.kinds }
+        ensures other { self.new.other ≡ layout_at self.old.layouts other }
+        ensures movers { AreLiveMovers self.new.layouts self.new.other self.new.movers }
+        ensures turns {
+            AreTurnsOf (P.seen pairs.old).source (P.seen pairs.new).notes stakes.now
+            (mover_at self.new.layouts self.new.other self.new.movers)
+            (length self.new.movers) self.new.pairs
+        }
+        ensures later { IsLater (P.seen pairs.old) (P.seen pairs.new) }
+        ensures stays { P.stays pairs.new ≡ P.stays pairs.old }
+    {
+        self.other = *self.column.layout(other);
+        list_movers(&self.column, &self.other, &mut self.movers);
+        self.column.begin(&self.other, self.movers.as_slice());
+        turn_column(
+            stakes,
+            &mut self.column,
+            &mut self.row,
+            self.one.as_mut_slice(),
+            self.lower.as_mut_slice(),
+            self.upper.as_mut_slice(),
+            self.pairs.as_mut_slice(),
+            pairs,
+        );
+    }
+
+    /// How many layouts there are of the game's checkers.
+    pub fn layouts(&self) -> usize
+        ensures layouts { result ≡ length self.now.layouts }
+        ensures few { result ≤ 3276 }
+    {
+        self.column.many()
+    }
+
+    /// How many positions of the column are live.
+    #[inline]
+    pub fn len(&self) -> usize
+        ensures { result ≡ length self.now.movers }
+    {
+        self.column.movers().len()
+    }
+
+    /// One of the live positions.
+    #[inline]
+    pub fn position(&self, i: usize) -> Position
+        requires { i < length self.now.movers }
+        ensures position { result ≡ mover_at self.now.layouts self.now.other self.now.movers i }
+        ensures valid { IsPosition result }
+    {
+        let rank = self.column.movers()[i];
+        let mover = *self.column.layout(usize::from(rank));
+        Position::new(mover, self.other).unwrap()
+    }
+
+    /// The pair of the turn of one of the live positions in a kind.
+    #[inline]
+    pub fn pair(&self, i: usize, kind: usize) -> Pair
+        requires position { i < length self.now.movers }
+        requires kind { kind < self.now.kinds }
+        ensures { result ≡ slice_index_or self.now.pairs (place_in self.now.kinds i kind) nothing }
+    {
+        // What `movers` ensures bounds their number.
+        let _movers = self.column.movers();
+        self.pairs[i * self.kinds + kind]
+    }
+}
