@@ -1,6 +1,6 @@
 -- What was looked up cell by cell makes the sums of a column found.
-use Rattle.std.proofs.Common.{◌≡◌, ◌≤◌, ◌<◌, ◌∙◌, ℕ, ℤ, pos, ◌*ℤ◌, List, [], length, sum, get_or, Option, Some, None, ap, sym, subst, arith}
-use Rattle.position_rank.specs.Placement.{Placement, swap}
+use Rattle.std.proofs.Common.{◌≡◌, ◌≤◌, ◌<◌, ◌+◌, ◌*◌, ◌∙◌, ℕ, ℤ, pos, ◌*ℤ◌, List, [], length, sum, get_or, Option, Some, None, ap, sym, subst, arith}
+use Rattle.position_rank.specs.Placement.{Placement, swap, IsPosition}
 use Rattle.position_rank.specs.Ranks.{rank_of, layouts}
 use Rattle.position_rank.proofs.RankLaws.{layouts-same, rank-below}
 use Rattle.roll_table.specs.Rolls.{all_rolls}
@@ -42,11 +42,11 @@ module _ (end : End) (s : Source) (stakes : Terms) (noted : Words) (k : ℕ) (al
   cell-value layer rank h r x e = some-is _ x _ e (row-values s.checkers all others row layouts-are few eight distinct is-row layer rank h r)
 
   end-found : (layer rank : ℕ) → layer < length others → rank < length all → (q : Placement) → placement_of all others layer rank ≡ q
-      → LeavesState s (kind_at stakes k).next q → IsFound end s noted (IsLeft (kind_at stakes k).next q) s.bound (λ u. worth end (kind_at stakes k) u q) (value_of others row q)
-  end-found layer rank h r q is leaves =
+      → IsPosition q → LeavesState s (kind_at stakes k).next q → IsFound end s noted (IsLeft (kind_at stakes k).next q) s.bound (λ u. worth end (kind_at stakes k) u q) (value_of others row q)
+  end-found layer rank h r q is position leaves =
       let kind = kind_at stakes k in
       let leaves' : LeavesState s kind.next (placement_of all others layer rank) = subst (λ (b : Placement). LeavesState s kind.next b) (sym is) leaves in
-      let here = found layer rank h r leaves' in
+      let here = found layer rank h r (subst IsPosition (sym is) position) leaves' in
       let value = cell-value layer rank h r here.0 here.1 in
       let at_cell = subst (λ (x : ℤ). IsFound end s noted (IsLeft kind.next (placement_of all others layer rank)) s.bound (λ u. worth end kind u (placement_of all others layer rank)) x) (sym value) here.2 in
       subst (λ (b : Placement). IsFound end s noted (IsLeft kind.next b) s.bound (λ u. worth end kind u b) (value_of others row b)) is at_cell
@@ -65,4 +65,4 @@ module _ (end : End) (s : Source) (stakes : Terms) (noted : Words) (k : ℕ) (al
       let mover : layout_at all (rank_of q.mover) ≡ q.mover = layouts-same (layout_at all (rank_of q.mover)) q.mover has.valid stays.0.mover (has.many ∙ sym many) has.ranked in
       let state' : IsState (game_of s.checkers stakes) p k = subst (λ (n : ℕ). IsStateOf s.checkers n p k) fits.kinds state in
       let leaves : LeavesState s (kind_at stakes k).next q = λ on. subst (λ (n : ℕ). IsStateOf s.checkers n (swap q) (kind_at stakes k).next) (sym fits.kinds) (next_state (game_of s.checkers stakes) valid p k state' roll q right m on) in
-      end-found layer.0 (rank_of q.mover) layer.1 rank q (same-board (layout_at all (rank_of q.mover)) (layout_at others layer.0) q mover layer.2) leaves))
+      end-found layer.0 (rank_of q.mover) layer.1 rank q (same-board (layout_at all (rank_of q.mover)) (layout_at others layer.0) q mover layer.2) stays.0 leaves))

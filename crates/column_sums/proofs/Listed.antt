@@ -1,6 +1,6 @@
 -- Listings.
-use Rattle.std.proofs.Common.{◌≡◌, ◌≢◌, ◌≤◌, ◌<◌, ◌+◌, ◌∙◌, ◌++◌, ◌||◌, inl, inr, ℕ, zero, suc, Bool, true, false, eqb, get_or, set, length-set, get_or-set_same, get_or-set_other, List, [], ◌∷◌, length, length-append, take, replicate, refl, ap, sym, subst, arith}
-use Rattle.std.specs.List.{list_any}
+use Rattle.std.proofs.Common.{◌≡◌, ◌≢◌, ◌≤◌, ◌<◌, ◌+◌, ◌∙◌, ◌++◌, ◌||◌, ◌⊎◌, inl, inr, ℕ, zero, suc, Bool, true, false, eqb, get_or, set, length-set, get_or-set_same, get_or-set_other, List, [], ◌∷◌, length, length-append, take, replicate, refl, ap, sym, subst, arith}
+use Rattle.std.specs.List.{list_any, IsDistinct}
 use Rattle.std.proofs.lemmas.Bool.{cases_lt, cases_eq}
 use Rattle.std.proofs.lemmas.Bool.Decides.{nat_tests}
 use Rattle.std.proofs.lemmas.List.{get_or_append_left, get_or-append-add, get_or-take, get_or-replicate, length-take, length-replicate}
@@ -215,3 +215,14 @@ few-first cells count many within low apart =
     let below : j < count = omega (arith, k, short) in
     let before : i < count = omega (arith, h, below) in
     apart i j h (omega (arith, below, within)) (sym (get_or-take count cells i 0 before) ∙ (same ∙ get_or-take count cells j 0 below)))
+
+-- each cell of a longer list is one of the shorter, or the last
+pub only-more : (cells : List ℕ) (cell i : ℕ) → i < length (cells ++ cell ∷ []) → IsListed cells (get_or (cells ++ cell ∷ []) i 0) ⊎ (get_or (cells ++ cell ∷ []) i 0 ≡ cell)
+only-more cells cell i h = elim (cases_lt i (length cells)) [
+  | inl before ↦ inl (i, before, sym (get_or_append_left cells (cell ∷ []) 0 i before))
+  | inr from ↦ (let last : length cells ≡ i = omega (arith, h, from, longer-by cells cell) in inr (subst (λ (n : ℕ). get_or (cells ++ cell ∷ []) n 0 ≡ cell) last (at-last cells cell)))
+]
+
+-- each cell of a list is listed in it
+pub only-same : (cells : List ℕ) (cell i : ℕ) → i < length cells → IsListed cells (get_or cells i 0) ⊎ (get_or cells i 0 ≡ cell)
+only-same cells cell i h = inl (i, h, refl)

@@ -1,6 +1,6 @@
 -- Cells whose values were found by looking words up.
 use Rattle.std.specs.Prelude.{◌≡◌, ◌<◌, ℕ, ℤ, List, length, Option, Some, None, slice_index_or}
-use Rattle.position_rank.specs.Placement.{Placement}
+use Rattle.position_rank.specs.Placement.{Placement, IsPosition}
 use Rattle.directed_fixed.specs.declared.bounds.End.{End}
 use Rattle.cube_actions.specs.declared.kind.Kind.{Kind}
 use Rattle.turn_rule.specs.Turn.{Words}
@@ -13,10 +13,11 @@ use Rattle.column_sums.specs.Cells.{cell_of}
 abbrev pub placement_of : List (List ℕ) → List (List ℕ) → ℕ → ℕ → Placement
 placement_of layouts others layer rank = record { mover = layout_at layouts rank; other = layout_at others layer }
 
--- where a play may leave the placement of a cell, its value is what was found of it, at one end in a kind
+-- where a play may leave the position of a cell, its value is what was found of it, at one end in a kind
 abbrev pub AreFoundCells : End → Source → Words → Kind → List (List ℕ) → List (List ℕ) → List (Option ℤ) → Type 0
 AreFoundCells end source noted kind layouts others row =
     (layer rank : ℕ) → layer < length others → rank < length layouts
+    → IsPosition (placement_of layouts others layer rank)
     → LeavesState source kind.next (placement_of layouts others layer rank)
     → (x : ℤ) × (slice_index_or row (cell_of layer rank) None ≡ Some x)
     × IsFoundOf end (of_play kind (placement_of layouts others layer rank)) source noted x

@@ -66,6 +66,8 @@ impl Column {
         ensures first { layout_at self.new.others 0 ≡ other.now }
         ensures movers { (i : ℕ) → i < length movers.now
             → IsListed self.new.movers (slice_index movers.now i) }
+        ensures only { (i : ℕ) → i < length self.new.movers
+            → IsListed movers.now (slice_index self.new.movers i) }
     {
         self.moves.begin(other, movers);
     }

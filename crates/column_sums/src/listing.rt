@@ -1,6 +1,6 @@
 ghost use Rattle.std.specs.Prelude.{◌≡◌, ◌≢◌, ◌⊎◌, ◌<◌, ◌≤◌, ℕ, All, [], IfOk, length, replicate, take, slice_index, false};
 ghost use Rattle.column_sums.specs.Cells.{IsCellOrNone};
-ghost use Rattle.column_sums.specs.Listings.{AreKept, AreCells, AreUnmarked, IsListedOrNone, LeadsInto, LeadsToCells};
+ghost use Rattle.column_sums.specs.Listings.{AreKept, AreCells, AreUnmarked, IsListed, IsListedOrNone, LeadsInto, LeadsToCells};
 
 use crate::cells::{CELLS, NO_CELL, Reach};
 use hyper_outside::NoMemory;
@@ -62,6 +62,8 @@ impl Listing {
         requires { cell < 32768 }
         ensures kept { AreKept self.old self.new }
         ensures listed { IsListedOrNone self.new cell }
+        ensures only { (i : ℕ) → i < length self.new
+            → IsListed self.old (slice_index self.new i) ⊎ (slice_index self.new i ≡ cell) }
         ensures cells { (many layers : ℕ) → AreCells many layers self.old
             → IsCellOrNone many layers cell → AreCells many layers self.new }
     {

@@ -58,6 +58,8 @@ fn list_movers(listing: &mut Listing, movers: &[u16])
     requires { All (λ rank. rank < 4095) movers.now }
     ensures listed { (i : ℕ) → i < length movers.now
         → IsListed listing.new (slice_index movers.now i) }
+    ensures only { (i : ℕ) → i < length listing.new
+        → IsListed movers.now (slice_index listing.new i) }
     ensures cells { (many : ℕ) → many ≤ 4095 → All (λ rank. rank < many) movers.now
         → AreCells many 1 listing.new }
 {
@@ -182,6 +184,7 @@ impl Moves {
         ensures first { layout_at self.new.layers 0 ≡ other.now }
         ensures movers { (i : ℕ) → i < length movers.now
             → IsMover self.new.listing self.new.movers (slice_index movers.now i) }
+        ensures only { (i : ℕ) → i < self.new.movers → IsListed movers.now (slice_index self.new.listing i) }
     {
         self.layers.set(other);
         list_movers(&mut self.listing, movers);

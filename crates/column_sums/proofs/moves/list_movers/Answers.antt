@@ -16,5 +16,9 @@ loop-mover-preserved c =
             let same : at ≡ i = omega (arith, last, below) in
             subst (λ (j : ℕ). IsListed c.add.new.self (get_or movers j 0)) same (listed-some c.add.new.self (get_or movers at 0) (c.requires at 0 c.loop-mover-test.true) c.add.ensures.listed))
       ];
+      only = λ i below. elim (c.add.ensures.only i below) [
+        | inl old ↦ subst (IsListed movers) old.2 (c.loop-mover.invariant.only old.0 old.1)
+        | inr is ↦ (at, c.loop-mover-test.true, sym is)
+      ];
       cells = λ many few all. c.add.ensures.cells many 1 (c.loop-mover.invariant.cells many few all) (inr (rank-cell many (get_or movers at 0) few (all at 0 c.loop-mover-test.true)));
     }

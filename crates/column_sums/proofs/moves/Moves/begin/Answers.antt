@@ -65,3 +65,11 @@ returns-clause-movers c = λ i h.
     let l = c.list_movers.ensures.listed i h in
     let count : length c.cells.result.now ≡ length start = ap (λ (xs : List ℕ). length xs) c.cells.ensures.cells in
     (l.0, omega (arith, l.1, count), ap (λ (xs : List ℕ). get_or xs l.0 0) same ∙ (kept.same l.0 l.1 ∙ l.2))
+
+pub returns-clause-only : goal.returns-clause-only
+returns-clause-only c = λ i h.
+    let start = c.list_movers.new.listing in
+    let count : length c.cells.result.now ≡ length start = ap (λ (xs : List ℕ). length xs) c.cells.ensures.cells in
+    let here : i < length start = omega (arith, h, count) in
+    let is = c.list_movers.ensures.only i here in
+    (is.0, is.1, is.2 ∙ sym (ap (λ (xs : List ℕ). get_or xs i 0) c.finish_lists.ensures.same ∙ c.list_one_die.ensures.kept.same i here))
