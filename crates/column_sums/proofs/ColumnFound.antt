@@ -1,5 +1,5 @@
 -- What was looked up cell by cell makes the sums of a column found.
-use Rattle.std.proofs.Common.{◌≡◌, ◌≤◌, ◌<◌, ◌+◌, ◌*◌, ◌∙◌, ℕ, ℤ, pos, ◌*ℤ◌, List, [], length, sum, get_or, Option, Some, None, ap, sym, subst, arith}
+use Rattle.std.proofs.Common.{◌≡◌, ◌≤◌, ◌<◌, ◌∙◌, ℕ, ℤ, pos, ◌*ℤ◌, List, [], length, sum, get_or, Option, Some, None, ap, sym, subst, arith}
 use Rattle.position_rank.specs.Placement.{Placement, swap, IsPosition}
 use Rattle.position_rank.specs.Ranks.{rank_of, layouts}
 use Rattle.position_rank.proofs.RankLaws.{layouts-same, rank-below}

@@ -1,4 +1,4 @@
-use Rattle.std.proofs.Common.{◌≡◌, inl, inr, ℕ, get_or, subst, arith}
+use Rattle.std.proofs.Common.{◌≡◌, inl, inr, ℕ, get_or, subst, arith, sym}
 use Rattle.std.proofs.lemmas.Bool.{cases_lt}
 use Rattle.column_sums.specs.Listings.{IsListed}
 use Rattle.column_sums.proofs.Listed.{listed-again, listed-some, rank-cell}

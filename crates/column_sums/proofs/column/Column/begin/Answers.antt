@@ -1,4 +1,4 @@
-use Rattle.std.proofs.Common.{◌≡◌, ◌<◌, ◌∙◌, ℕ, length, take, sym, arith}
+use Rattle.std.proofs.Common.{◌<◌, ◌∙◌, sym, arith}
 use Rattle.std.proofs.lemmas.List.{get_or-take, length-take}
 use Rattle.column_sums.proofs.column.Column.begin.Goals as goal
 

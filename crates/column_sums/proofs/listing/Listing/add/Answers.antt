@@ -1,6 +1,5 @@
-use Rattle.std.proofs.Common.{◌≡◌, ◌≤◌, ◌<◌, ◌+◌, ◌∙◌, ◌++◌, inl, inr, [], ◌∷◌, ℕ, Bool, true, false, List, get_or, set, length, ap, sym, subst, arith, vec_capacity}
-use Rattle.column_sums.specs.Listings.{IsListing, IsListedOrNone}
-use Rattle.column_sums.proofs.Listed.{room-push, listing-push, at-last, longer-by, any_mark, only-more, only-same}
+use Rattle.std.proofs.Common.{◌≡◌, ◌∙◌, inr, false, get_or, length, sym, arith, vec_capacity}
+use Rattle.column_sums.proofs.Listed.{room-push, listing-push, at-last, longer-by, any_mark, only-more}
 use Rattle.column_sums.proofs.listing.Listing.add.Goals as goal
 
 pub push_reserved-requires : goal.push_reserved-requires
@@ -26,4 +25,4 @@ returns-clause-listed c =
     rw c.push_reserved.ensures.items (inr (length cells, omega (arith, longer-by cells c.args.cell), at-last cells c.args.cell))
 
 pub returns-clause-only : goal.returns-clause-only
-returns-clause-only c = rw c.push_reserved.ensures.items (only-more c.self.inside.cells.items c.args.cell)
+returns-clause-only c = rw (c.push_reserved.ensures.items, ← c.self.view_is) (λ i h. only-more c.self.inside.cells.items c.args.cell i h)
