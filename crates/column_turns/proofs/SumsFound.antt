@@ -1,5 +1,5 @@
 -- The sums of a column, from what was found of the plays' ends.
-use Rattle.std.proofs.Common.{◌≡◌, ◌<◌, ◌≤◌, ◌^◌, ◌∙◌, ℕ, ℤ, pos, ◌≤ℤ◌, ◌*ℤ◌, List, [], length, get_or, Option, sym, subst, refl}
+use Rattle.std.proofs.Common.{◌≡◌, ◌<◌, ◌≤◌, ◌^◌, ◌∙◌, ℕ, ℤ, pos, ◌≤ℤ◌, ◌*ℤ◌, List, [], length, get_or, Option, sym, subst, refl, arith}
 use Rattle.position_rank.specs.Placement.{Placement}
 use Rattle.roll_table.specs.Rolls.{all_rolls}
 use Rattle.directed_fixed.specs.declared.bounds.End.{End}
@@ -15,18 +15,12 @@ use Rattle.column_sums.specs.Tables.{IsTable, IsRow}
 use Rattle.column_sums.specs.ColumnOf.{ColumnOf, AreColumnSums}
 use Rattle.column_sums.specs.FoundCells.{AreFoundCells}
 use Rattle.column_sums.specs.Values.{value_of}
+use Rattle.turn_rule.proofs.Within.{bound-positive, bound-small}
+use Rattle.turn_rule.proofs.RollSums.{sum-small}
+use Rattle.column_sums.proofs.RowValues.{row-values}
+use Rattle.column_sums.proofs.ColumnFound.{column-found}
 use Rattle.column_turns.specs.Rows.{AreFoundLayers}
 use Rattle.column_turns.specs.Turns.{mover_at, IsColumnOf}
-
--- Stub: laws of column_sums.
-column-found : (end : End) (s : Source) (stakes : Terms) (noted : Words) (k : ℕ) (layouts others : List (List ℕ)) (row : List (Option ℤ)) → IsValid stakes → AreStakesOf s stakes → IsRow row → length others ≤ 8
-    → AreDistinct others → AreClosed others → AreFoundCells end s noted (kind_at stakes k) layouts others row
-    → (movers : List ℕ) → IsColumnOf s layouts others movers → (i : ℕ) → i < length movers → k < length stakes.kinds
-    → IsFoundOf end (of_sum stakes (mover_at layouts (layout_at others 0) movers i) k) s noted (best_sum all_rolls (value_of others row) (mover_at layouts (layout_at others 0) movers i))
-column-found end s stakes noted k layouts others row valid fits is few distinct closed found movers column i below here = ?
-
-row-values : (s : Source) (layouts others : List (List ℕ)) (movers : List ℕ) (row : List (Option ℤ)) → IsColumnOf s layouts others movers → length others ≤ 8 → AreDistinct others → IsRow row → IsTable (value_of others row) [] layouts others row
-row-values s layouts others movers row column few distinct is = ?
 
 module _ (end : End) (s : Source) (stakes : Terms) (noted : Words) (k : ℕ) (column : ColumnOf) (row : List (Option ℤ)) (one : List ℤ) where
   pub sums-found : IsValid stakes → AreStakesOf s stakes → IsColumnOf s column.layouts column.others column.movers → length column.others ≤ 8 → AreDistinct column.others → AreClosed column.others → IsRow row → k < length stakes.kinds
@@ -36,5 +30,14 @@ module _ (end : End) (s : Source) (stakes : Terms) (noted : Words) (k : ℕ) (co
   sums-found valid fits is few distinct closed right here found sums i below =
       let layouts = column.layouts in
       let others = column.others in
-      subst (IsFoundOf end (of_sum stakes (mover_at layouts (layout_at others 0) column.movers i) k) s noted) (sym (sums (value_of others row) (row-values s layouts others column.movers row is few distinct right) i below))
-      (column-found end s stakes noted k layouts others row valid fits right few distinct closed (λ layer rank l r position leaves. found layer l rank r position leaves) column.movers is i below here)
+      let p = mover_at layouts (layout_at others 0) column.movers i in
+      let cells : AreFoundCells end s noted (kind_at stakes k) layouts others row = λ layer rank l r. found layer l rank r in
+      subst (IsFoundOf end (of_sum stakes p k) s noted) (sym (sums (value_of others row) (row-values s.checkers layouts others row is.all is.few few distinct right) i below))
+      (column-found end s stakes noted k layouts others row is.all is.few few distinct right cells valid fits closed p (is.states i k below (rw fits.kinds here)) (0, is.some, refl))
+
+  -- it is small
+  pub sums-small : IsValid stakes → AreStakesOf s stakes → (p : Placement) (x : ℤ) → IsFoundOf end (of_sum stakes p k) s noted x → IsWithinUnits (pos (2 ^ 42)) x
+  sums-small valid fits p x found =
+      let positive : pos 0 ≤ℤ s.bound = rw fits.bound (bound-positive stakes valid) in
+      let small : s.bound ≤ℤ pos (2 ^ 36) = rw fits.bound (bound-small stakes valid) in
+      sum-small 36 s.bound x (omega arith) positive small found.within

@@ -26,4 +26,4 @@ returns-clause-turns g c =
       low = λ i k here below. found-then Lower (of_sum stakes (place i) k) old mid new (get_or c.sum_kinds.new.all (place_in kinds i k) (pos 0)) one.later two.later (one.found i k here below);
       high = rw (one.later.source, one.column) at two.found;
     } in
-    (rw (c.len.ensures, c.movers.ensures.movers, two.column, one.column) at c.pair_positions.ensures.turns) old.source new.notes place summed
+    (rw (c.movers.ensures.movers, two.column, one.column) at c.pair_positions.ensures.turns) old.source new.notes place summed
