@@ -5,3 +5,4 @@ pub mod MoreRanks
 pub mod Places
 pub mod SumsFound
 pub mod SlicesFound
+pub mod ColumnStates

@@ -1,5 +1,5 @@
 -- A list of ranks with one more.
-use Rattle.std.proofs.Common.{◌≡◌, ◌<◌, ◌≤◌, ◌+◌, ◌++◌, ◌∙◌, ℕ, zero, suc, List, [], ◌∷◌, length, All, get_or, inl, inr, ap, sym, subst, arith}
+use Rattle.std.proofs.Common.{◌≡◌, ◌<◌, ◌+◌, ◌++◌, ◌∙◌, ℕ, zero, suc, List, [], ◌∷◌, length, All, get_or, inl, inr, ap, sym, subst, arith}
 use Rattle.std.proofs.lemmas.Bool.{cases_lt}
 use Rattle.std.proofs.lemmas.List.{length-append, get_or_append_left, get_or-append-add}
 use Rattle.std.proofs.lemmas.List.Elements.{All-append}
@@ -13,9 +13,9 @@ module _ (items : List ℕ) (rank : ℕ) where
 
   pub all-more : (P : ℕ → Type 0) → All P items → P rank → All P (items ++ rank ∷ [])
   all-more P before this = All-append P items (rank ∷ []) before one where
-      one : All P (rank ∷ [])
-      one zero d below = this
-      one (suc k) d below = absurd (omega arith)
+    one : All P (rank ∷ [])
+    one zero d below = this
+    one (suc k) d below = absurd (omega arith)
 
   -- what holds of each item
   pub each-more : (P : ℕ → Type 0) → ((i : ℕ) → i < length items → P (get_or items i 0)) → P rank → (i : ℕ) → i < length (items ++ rank ∷ []) → P (get_or (items ++ rank ∷ []) i 0)

@@ -1,5 +1,5 @@
 -- Where the values of positions and kinds stand.
-use Rattle.std.proofs.Common.{◌≡◌, ◌<◌, ◌+◌, ◌*◌, ◌≢◌, ◌∙◌, ℕ, ℤ, pos, List, length, get_or, set, inl, inr, get_or-set_same, get_or-set_other, below_more, ap, sym, arith}
+use Rattle.std.proofs.Common.{◌≡◌, ◌<◌, ◌+◌, ◌*◌, ◌≢◌, ◌∙◌, ℕ, ℤ, pos, List, length, get_or, set, inl, inr, get_or-set_same, get_or-set_other, below_more, ap, arith}
 use Rattle.std.proofs.lemmas.Bool.{cases_lt, cases_eq}
 use Rattle.std.proofs.lemmas.Nat.{mul-add-lt}
 use Rattle.std.proofs.lemmas.List.{get_or_default}

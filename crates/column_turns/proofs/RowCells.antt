@@ -1,5 +1,5 @@
 -- A row of which one cell more was found.
-use Rattle.std.proofs.Common.{◌≡◌, ◌<◌, ◌≤◌, ◌+◌, ◌*◌, ◌^◌, ◌≢◌, ◌∙◌, ℕ, ℤ, pos, ◌≤ℤ◌, List, [], length, get_or, set, Option, Some, None, get_or-set_same, get_or-set_other, below_more, ap, sym, subst, arith}
+use Rattle.std.proofs.Common.{◌≡◌, ◌<◌, ◌≤◌, ◌+◌, ◌*◌, ◌^◌, ◌≢◌, ◌∙◌, ℕ, ℤ, pos, ◌≤ℤ◌, List, length, set, Option, Some, None, get_or-set_same, get_or-set_other, below_more, sym, subst, arith}
 use Rattle.std.proofs.lemmas.Int.{ints}
 use Rattle.std.proofs.lemmas.List.{length-set}
 use Rattle.position_rank.specs.Placement.{Placement, IsPosition}

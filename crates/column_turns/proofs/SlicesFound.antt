@@ -1,5 +1,5 @@
 -- The sums of one position among those of all.
-use Rattle.std.proofs.Common.{◌≡◌, ◌<◌, ◌≤◌, ◌+◌, ◌*◌, ◌-◌, ◌∙◌, ℕ, ℤ, pos, List, length, take, drop, get_or, sym, subst, ap, arith}
+use Rattle.std.proofs.Common.{◌≡◌, ◌<◌, ◌+◌, ◌*◌, ◌-◌, ◌∙◌, ℕ, ℤ, pos, List, length, take, drop, get_or, sym, subst, ap, arith}
 use Rattle.std.proofs.lemmas.List.{get_or-drop, get_or-take}
 use Rattle.position_rank.specs.Placement.{Placement}
 use Rattle.directed_fixed.specs.declared.bounds.End.{End}
@@ -7,7 +7,7 @@ use Rattle.cube_actions.specs.Stakes.{Terms}
 use Rattle.turn_rule.specs.Turn.{Words}
 use Rattle.turn_rule.specs.Looks.{Source}
 use Rattle.turn_rule.specs.Found.{IsFoundOf, AreFoundSums, of_sum}
-use Rattle.column_turns.specs.Turns.{place_in, AreSumsOf}
+use Rattle.column_turns.specs.Turns.{AreSumsOf}
 
 pub slice-found : (end : End) (source : Source) (noted : Words) (stakes : Terms) (place : ℕ → Placement) (many i n : ℕ) (sums : List ℤ) → i < many → n ≡ length stakes.kinds
     → AreSumsOf end source noted stakes place many (length stakes.kinds) sums → AreFoundSums end source noted stakes (place i) (take (i * n + n - i * n) (drop (i * n) sums))

@@ -1,16 +1,15 @@
 -- The sums of a column, from what was found of the plays' ends.
-use Rattle.std.proofs.Common.{◌≡◌, ◌<◌, ◌≤◌, ◌^◌, ◌∙◌, ℕ, ℤ, pos, ◌≤ℤ◌, ◌*ℤ◌, List, [], length, get_or, Option, sym, subst, refl, arith}
+use Rattle.std.proofs.Common.{◌<◌, ◌≤◌, ◌^◌, ℕ, ℤ, pos, ◌≤ℤ◌, List, [], length, get_or, Option, sym, subst, refl, arith}
 use Rattle.position_rank.specs.Placement.{Placement}
 use Rattle.roll_table.specs.Rolls.{all_rolls}
 use Rattle.directed_fixed.specs.declared.bounds.End.{End}
 use Rattle.directed_fixed.specs.Bounds.{IsWithinUnits}
 use Rattle.cube_actions.specs.Stakes.{Terms, kind_at, IsValid}
-use Rattle.turn_rule.specs.Turn.{Words, worth, sum_over}
-use Rattle.turn_rule.specs.Looks.{Source, AreStakesOf, MayFollow}
-use Rattle.turn_rule.specs.Found.{IsFound, IsFoundOf, of_sum}
+use Rattle.turn_rule.specs.Turn.{Words}
+use Rattle.turn_rule.specs.Looks.{Source, AreStakesOf}
+use Rattle.turn_rule.specs.Found.{IsFoundOf, of_sum}
 use Rattle.column_sums.specs.Leaps.{layout_at}
-use Rattle.column_sums.specs.AfterHits.{AreDistinct, AreClosed, IsLayer}
-use Rattle.column_sums.specs.Cascade.{best_sum}
+use Rattle.column_sums.specs.AfterHits.{AreDistinct, AreClosed}
 use Rattle.column_sums.specs.Tables.{IsTable, IsRow}
 use Rattle.column_sums.specs.ColumnOf.{ColumnOf, AreColumnSums}
 use Rattle.column_sums.specs.FoundCells.{AreFoundCells}

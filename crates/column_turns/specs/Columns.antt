@@ -1,5 +1,5 @@
 -- A column's pairs, and the room in which they are worked out.
-use Rattle.std.specs.Prelude.{◌≡◌, ◌<◌, ◌≤◌, ◌*◌, ◌^◌, ℕ, ℤ, pos, All, List, Option, length, sum}
+use Rattle.std.specs.Prelude.{◌≡◌, ◌≤◌, ◌*◌, ◌^◌, ℕ, ℤ, pos, All, List, Option, length, sum}
 use Rattle.position_rank.specs.Placement.{IsLayout}
 use Rattle.directed_fixed.specs.Bounds.{Bounds, IsWithinUnits}
 use Rattle.turn_rule.specs.Rounds.{AreLayouts}

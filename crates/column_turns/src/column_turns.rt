@@ -1,5 +1,6 @@
-ghost use Rattle.std.specs.Prelude.{◌≡◌, ◌<◌, ◌≤◌, ◌*◌, ℕ, IfOk, IsTrue, length, slice_index, slice_index_or};
+ghost use Rattle.std.specs.Prelude.{◌≡◌, ◌<◌, ◌≤◌, ◌*◌, ◌^◌, ℕ, pos, All, IfOk, IsTrue, length, slice_index, slice_index_or};
 ghost use Rattle.position_rank.specs.Placement.{IsPosition};
+ghost use Rattle.directed_fixed.specs.Bounds.{IsWithinUnits};
 ghost use Rattle.cube_actions.specs.Stakes.{nothing};
 ghost use Rattle.turn_rule.specs.Looks.{AreStakesOf};
 ghost use Rattle.turn_rule.specs.Rounds.{AreLayouts};
@@ -40,25 +41,38 @@ impl Model for ColumnTurns {
 
     ghost Value = { ColumnPairs };
 
-    ghost view = {
-        λ a. record {
-            layouts = a.column.layouts;
-            kinds = a.kinds;
-            other = a.other;
-            movers = a.column.movers;
-            pairs = a.pairs.items;
-        }
-    };
+    ghost view = { λ a. record {
+      layouts = a.column.layouts;
+      kinds = a.kinds;
+      other = a.other;
+      movers = a.column.movers;
+      pairs = a.pairs.items;
+    } };
 
-    ghost invariant = {
-        λ a. IsColumn a.checkers (vec_capacity a.movers) (record {
-            layouts = a.column.layouts;
-            kinds = a.kinds;
-            other = a.other;
-            movers = a.column.movers;
-            pairs = a.pairs.items;
-        }) a.row a.one.items a.lower.items a.upper.items
-    };
+    ghost invariant = { λ a. IsColumn a.checkers (vec_capacity a.movers) (record {
+      layouts = a.column.layouts;
+      kinds = a.kinds;
+      other = a.other;
+      movers = a.column.movers;
+      pairs = a.pairs.items;
+    }) a.row a.one.items a.lower.items a.upper.items };
+}
+
+/// So many values of 0.
+fn zeros(alloc: Global, count: usize) -> Result<Vec<Fixed>, NoMemory>
+    ensures many { IfOk result (λ values. length values.items ≡ count) }
+    ensures small { IfOk result (λ values. All (IsWithinUnits (pos (2 ^ 42))) values.items) }
+{
+    let values = vec![in alloc; Fixed::whole(0); count]?;
+    Ok(values)
+}
+
+/// So many pairs of 0 and 0.
+fn zero_pairs(alloc: Global, count: usize) -> Result<Vec<Pair>, NoMemory>
+    ensures { IfOk result (λ pairs. length pairs.items ≡ count) }
+{
+    let pairs = vec![in alloc; Pair::exactly(Fixed::whole(0)); count]?;
+    Ok(pairs)
 }
 
 impl ColumnTurns {
@@ -72,18 +86,17 @@ impl ColumnTurns {
         let column = Column::new(alloc, checkers)?;
         let many = column.many();
         let kinds = stakes.kinds();
-        let zero = Fixed::whole(0);
         Ok(ColumnTurns {
             checkers,
             kinds,
-            other: *column.layout(0),
             column,
             row: Row::new(alloc)?,
+            other: Position::start(checkers).mover(),
             movers: Vec::with_capacity(alloc, many)?,
-            one: vec![in alloc; zero; many]?,
-            lower: vec![in alloc; zero; many * kinds]?,
-            upper: vec![in alloc; zero; many * kinds]?,
-            pairs: vec![in alloc; Pair::exactly(zero); many * kinds]?,
+            one: zeros(alloc, many)?,
+            lower: zeros(alloc, many * kinds)?,
+            upper: zeros(alloc, many * kinds)?,
+            pairs: zero_pairs(alloc, many * kinds)?,
         })
     }
 
@@ -99,17 +112,17 @@ impl ColumnTurns {
         ensures kinds { self.new.kinds ≡ self.old.kinds }
         ensures other { self.new.other ≡ layout_at self.old.layouts other }
         ensures movers { AreLiveMovers self.new.layouts self.new.other self.new.movers }
-        ensures turns {
-            AreTurnsOf (P.seen pairs.old).source (P.seen pairs.new).notes stakes.now
+        ensures turns { AreTurnsOf (P.seen pairs.old).source (P.seen pairs.new).notes stakes.now
             (mover_at self.new.layouts self.new.other self.new.movers)
-            (length self.new.movers) self.new.pairs
-        }
+            (length self.new.movers) self.new.pairs }
         ensures later { IsLater (P.seen pairs.old) (P.seen pairs.new) }
         ensures stays { P.stays pairs.new ≡ P.stays pairs.old }
     {
         self.other = *self.column.layout(other);
         list_movers(&self.column, &self.other, &mut self.movers);
         self.column.begin(&self.other, self.movers.as_slice());
+        // What `movers` ensures bounds their number and their ranks.
+        let _movers = self.column.movers();
         turn_column(
             stakes,
             &mut self.column,

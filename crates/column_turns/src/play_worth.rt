@@ -28,11 +28,9 @@ pub(crate) fn play_worth<P: Pairs>(
     requires next { kind.now.next < (P.seen pairs.old).source.kinds }
     requires wins { (won : Won) → IsWithin (P.seen pairs.old).source.bound (win kind.now won) }
     requires square { square ≡ square_rank_of (swap left.now) }
-    ensures found {
-        LeavesState (P.seen pairs.old).source kind.now.next left.now
+    ensures found { LeavesState (P.seen pairs.old).source kind.now.next left.now
         → IsFoundOf end (of_play kind.now left.now) (P.seen pairs.old).source
-        (P.seen pairs.new).notes result
-    }
+        (P.seen pairs.new).notes result }
     ensures within { IsWithinUnits (P.seen pairs.old).source.bound result }
     ensures later { IsLater (P.seen pairs.old) (P.seen pairs.new) }
     ensures stays { P.stays pairs.new ≡ P.stays pairs.old }

@@ -34,11 +34,9 @@ fn fill_layer<P: Pairs>(
     requires row { IsRow row.old }
     ensures row { IsRow row.new }
     ensures same { IsSameBefore layer row.old row.new }
-    ensures found {
-        AreFoundTo end (P.seen pairs.old).source (P.seen pairs.new).notes kind.now
+    ensures found { AreFoundTo end (P.seen pairs.old).source (P.seen pairs.new).notes kind.now
         column.now.layouts (layout_at column.now.others layer) row.new layer
-        (length column.now.layouts)
-    }
+        (length column.now.layouts) }
     ensures few { length column.now.layouts ≤ 3276 }
     ensures later { IsLater (P.seen pairs.old) (P.seen pairs.new) }
     ensures stays { P.stays pairs.new ≡ P.stays pairs.old }
@@ -71,10 +69,8 @@ pub(crate) fn fill_row<P: Pairs>(
     requires small { (P.seen pairs.old).source.bound ≤ℤ pos (2 ^ 36) }
     requires row { IsRow row.old }
     ensures row { IsRow row.new }
-    ensures found {
-        AreFoundLayers end (P.seen pairs.old).source (P.seen pairs.new).notes kind.now
-        column.now.layouts column.now.others row.new (length column.now.others)
-    }
+    ensures found { AreFoundLayers end (P.seen pairs.old).source (P.seen pairs.new).notes kind.now
+        column.now.layouts column.now.others row.new (length column.now.others) }
     ensures later { IsLater (P.seen pairs.old) (P.seen pairs.new) }
     ensures stays { P.stays pairs.new ≡ P.stays pairs.old }
 {

@@ -5,7 +5,11 @@ ghost use Rattle.column_sums.specs.Leaps.{layout_at};
 ghost use Rattle.column_sums.specs.Tables.{IsRow};
 ghost use Rattle.column_turns.specs.Moments.{IsLater};
 ghost use Rattle.column_turns.specs.Turns.{
-    place_in, mover_at, AreSumsOf, AreSumsOfKind, IsColumnOf
+  place_in,
+  mover_at,
+  AreSumsOf,
+  AreSumsOfKind,
+  IsColumnOf,
 };
 
 use crate::rows::fill_row;
@@ -21,21 +25,15 @@ fn put_sums(one: &[Fixed], many: usize, kinds: usize, number: usize, all: &mut [
     requires kinds { kinds ≤ 14 }
     requires number { number < kinds }
     requires room { many * kinds ≤ length all.old }
-    requires small_one {
-        (i : ℕ) → i < many → IsWithinUnits (pos (2 ^ 42)) (slice_index_or one.now i (pos 0))
-    }
+    requires small_one { (i : ℕ) → i < many → IsWithinUnits (pos (2 ^ 42)) (slice_index_or one.now i (pos 0)) }
     requires small { All (IsWithinUnits (pos (2 ^ 42))) all.old }
     ensures room { length all.new ≡ length all.old }
     ensures small { All (IsWithinUnits (pos (2 ^ 42))) all.new }
-    ensures put {
-        (i : ℕ) → i < many → slice_index_or all.new (place_in kinds i number) (pos 0)
-        ≡ slice_index_or one.now i (pos 0)
-    }
-    ensures same {
-        (i k : ℕ) → k < kinds → k ≢ number
+    ensures put { (i : ℕ) → i < many → slice_index_or all.new (place_in kinds i number) (pos 0)
+        ≡ slice_index_or one.now i (pos 0) }
+    ensures same { (i k : ℕ) → k < kinds → k ≢ number
         → slice_index_or all.new (place_in kinds i k) (pos 0)
-        ≡ slice_index_or all.old (place_in kinds i k) (pos 0)
-    }
+        ≡ slice_index_or all.old (place_in kinds i k) (pos 0) }
 {
     for i in 0..many {
         all[i * kinds + number] = one[i];
@@ -56,9 +54,7 @@ fn sum_kind<P: Pairs>(
     requires sure { IsTrue (P.seen pairs.old).source.sure }
     requires stakes { AreStakesOf (P.seen pairs.old).source stakes.now }
     requires number { number < length stakes.now.kinds }
-    requires column {
-        IsColumnOf (P.seen pairs.old).source column.old.layouts column.old.others column.old.movers
-    }
+    requires column { IsColumnOf (P.seen pairs.old).source column.old.layouts column.old.others column.old.movers }
     requires one { length column.old.movers ≤ length one.old }
     requires row { IsRow row.old }
     requires room { length column.old.movers * length stakes.now.kinds ≤ length all.old }
@@ -68,16 +64,12 @@ fn sum_kind<P: Pairs>(
     ensures one { length one.new ≡ length one.old }
     ensures room { length all.new ≡ length all.old }
     ensures small { All (IsWithinUnits (pos (2 ^ 42))) all.new }
-    ensures found {
-        AreSumsOfKind end (P.seen pairs.old).source (P.seen pairs.new).notes stakes.now
+    ensures found { AreSumsOfKind end (P.seen pairs.old).source (P.seen pairs.new).notes stakes.now
         (mover_at column.old.layouts (layout_at column.old.others 0) column.old.movers)
-        (length column.old.movers) number all.new
-    }
-    ensures same {
-        (i k : ℕ) → k < length stakes.now.kinds → k ≢ number
+        (length column.old.movers) number all.new }
+    ensures same { (i k : ℕ) → k < length stakes.now.kinds → k ≢ number
         → slice_index_or all.new (place_in (length stakes.now.kinds) i k) (pos 0)
-        ≡ slice_index_or all.old (place_in (length stakes.now.kinds) i k) (pos 0)
-    }
+        ≡ slice_index_or all.old (place_in (length stakes.now.kinds) i k) (pos 0) }
     ensures later { IsLater (P.seen pairs.old) (P.seen pairs.new) }
     ensures stays { P.stays pairs.new ≡ P.stays pairs.old }
 {
@@ -104,9 +96,7 @@ pub(crate) fn sum_kinds<P: Pairs>(
 )
     requires sure { IsTrue (P.seen pairs.old).source.sure }
     requires stakes { AreStakesOf (P.seen pairs.old).source stakes.now }
-    requires column {
-        IsColumnOf (P.seen pairs.old).source column.old.layouts column.old.others column.old.movers
-    }
+    requires column { IsColumnOf (P.seen pairs.old).source column.old.layouts column.old.others column.old.movers }
     requires one { length column.old.movers ≤ length one.old }
     requires row { IsRow row.old }
     requires room { length column.old.movers * length stakes.now.kinds ≤ length all.old }
@@ -116,11 +106,9 @@ pub(crate) fn sum_kinds<P: Pairs>(
     ensures one { length one.new ≡ length one.old }
     ensures room { length all.new ≡ length all.old }
     ensures small { All (IsWithinUnits (pos (2 ^ 42))) all.new }
-    ensures found {
-        AreSumsOf end (P.seen pairs.old).source (P.seen pairs.new).notes stakes.now
+    ensures found { AreSumsOf end (P.seen pairs.old).source (P.seen pairs.new).notes stakes.now
         (mover_at column.old.layouts (layout_at column.old.others 0) column.old.movers)
-        (length column.old.movers) (length stakes.now.kinds) all.new
-    }
+        (length column.old.movers) (length stakes.now.kinds) all.new }
     ensures later { IsLater (P.seen pairs.old) (P.seen pairs.new) }
     ensures stays { P.stays pairs.new ≡ P.stays pairs.old }
 {

@@ -8,7 +8,11 @@ ghost use Rattle.column_sums.specs.Leaps.{layout_at};
 ghost use Rattle.column_sums.specs.Tables.{IsRow};
 ghost use Rattle.column_turns.specs.Moments.{IsLater};
 ghost use Rattle.column_turns.specs.Turns.{
-    place_in, mover_at, AreSummed, AreTurnsOf, IsColumnOf
+  place_in,
+  mover_at,
+  AreSummed,
+  AreTurnsOf,
+  IsColumnOf,
 };
 
 use crate::sums::sum_kinds;
@@ -26,18 +30,14 @@ fn pair_position(i: usize, stakes: &Stakes, lower: &[Fixed], upper: &[Fixed], pa
     requires small_lower { All (IsWithinUnits (pos (2 ^ 42))) lower.now }
     requires small_upper { All (IsWithinUnits (pos (2 ^ 42))) upper.now }
     ensures room { length pairs.new ≡ length pairs.old }
-    ensures turns {
-        (source : Source) (noted : Words) (place : ℕ → Placement) (many : ℕ) → i < many
+    ensures turns { (source : Source) (noted : Words) (place : ℕ → Placement) (many : ℕ) → i < many
         → AreSummed source noted stakes.now place many lower.now upper.now
         → (k : ℕ) → k < length stakes.now.kinds
         → IsTurnPair stakes.now (place i) k source noted
-        (slice_index_or pairs.new (place_in (length stakes.now.kinds) i k) nothing)
-    }
-    ensures same {
-        (a k : ℕ) → k < length stakes.now.kinds → a ≢ i
+        (slice_index_or pairs.new (place_in (length stakes.now.kinds) i k) nothing) }
+    ensures same { (a k : ℕ) → k < length stakes.now.kinds → a ≢ i
         → slice_index_or pairs.new (place_in (length stakes.now.kinds) a k) nothing
-        ≡ slice_index_or pairs.old (place_in (length stakes.now.kinds) a k) nothing
-    }
+        ≡ slice_index_or pairs.old (place_in (length stakes.now.kinds) a k) nothing }
 {
     let kinds = stakes.kinds();
     let first = i * kinds;
@@ -63,11 +63,9 @@ pub(crate) fn pair_positions(
     requires small_lower { All (IsWithinUnits (pos (2 ^ 42))) lower.now }
     requires small_upper { All (IsWithinUnits (pos (2 ^ 42))) upper.now }
     ensures room { length pairs.new ≡ length pairs.old }
-    ensures turns {
-        (source : Source) (noted : Words) (place : ℕ → Placement)
+    ensures turns { (source : Source) (noted : Words) (place : ℕ → Placement)
         → AreSummed source noted stakes.now place many lower.now upper.now
-        → AreTurnsOf source noted stakes.now place many pairs.new
-    }
+        → AreTurnsOf source noted stakes.now place many pairs.new }
 {
     for i in 0..many {
         pair_position(i, stakes, lower, upper, pairs);
@@ -87,9 +85,7 @@ pub(crate) fn turn_column<P: Pairs>(
 )
     requires sure { IsTrue (P.seen pairs.old).source.sure }
     requires stakes { AreStakesOf (P.seen pairs.old).source stakes.now }
-    requires column {
-        IsColumnOf (P.seen pairs.old).source column.old.layouts column.old.others column.old.movers
-    }
+    requires column { IsColumnOf (P.seen pairs.old).source column.old.layouts column.old.others column.old.movers }
     requires one { length column.old.movers ≤ length one.old }
     requires row { IsRow row.old }
     requires lower { length column.old.movers * length stakes.now.kinds ≤ length lower.old }
@@ -105,11 +101,9 @@ pub(crate) fn turn_column<P: Pairs>(
     ensures room { length turns.new ≡ length turns.old }
     ensures small_lower { All (IsWithinUnits (pos (2 ^ 42))) lower.new }
     ensures small_upper { All (IsWithinUnits (pos (2 ^ 42))) upper.new }
-    ensures turns {
-        AreTurnsOf (P.seen pairs.old).source (P.seen pairs.new).notes stakes.now
+    ensures turns { AreTurnsOf (P.seen pairs.old).source (P.seen pairs.new).notes stakes.now
         (mover_at column.old.layouts (layout_at column.old.others 0) column.old.movers)
-        (length column.old.movers) turns.new
-    }
+        (length column.old.movers) turns.new }
     ensures later { IsLater (P.seen pairs.old) (P.seen pairs.new) }
     ensures stays { P.stays pairs.new ≡ P.stays pairs.old }
 {

@@ -1,6 +1,6 @@
-use Rattle.std.proofs.Common.{◌≡◌, ◌<◌, ◌∙◌, List, ℕ, Option, None, Some, Bool, true, false, IsTrue, ap, arith}
+use Rattle.std.proofs.Common.{◌≡◌, ◌<◌, ◌∙◌, Option, None, Some, arith}
 use Rattle.std.specs.Option.{IsSome}
-use Rattle.position_rank.specs.Placement.{Placement, IsPosition}
+use Rattle.position_rank.specs.Placement.{IsPosition}
 use Rattle.column_sums.specs.Leaps.{layout_at}
 use Rattle.column_turns.proofs.Laters.{later-trans}
 use Rattle.column_turns.proofs.RowCells.{narrower, same-set, cell-more, cell-none}

@@ -1,4 +1,4 @@
-use Rattle.std.proofs.Common.{◌<◌, ℕ, pos, length, get_or, sym, subst, arith}
+use Rattle.std.proofs.Common.{◌<◌, pos, length, get_or, sym, subst}
 use Rattle.turn_rule.specs.Found.{IsFoundOf, of_sum}
 use Rattle.turn_rule.proofs.RollSums.{wins-within}
 use Rattle.column_sums.specs.Leaps.{layout_at}

@@ -1,6 +1,5 @@
-use Rattle.std.proofs.Common.{◌≡◌, ◌∙◌, ◌<◌, pos, length, get_or}
+use Rattle.std.proofs.Common.{◌≡◌, ◌∙◌, pos, length, get_or}
 use Rattle.directed_fixed.specs.declared.bounds.End.TheVariants.{Lower}
-use Rattle.turn_rule.specs.Looks.{Source}
 use Rattle.turn_rule.specs.Found.{of_sum}
 use Rattle.column_sums.specs.Leaps.{layout_at}
 use Rattle.column_turns.specs.Turns.{mover_at, place_in, AreSummed}
