@@ -135,6 +135,22 @@ impl ColumnTurns {
         );
     }
 
+    /// How many checkers a side has.
+    pub fn checkers(&self) -> u8
+        ensures low { 1 ≤ result }
+        ensures high { result ≤ 3 }
+        ensures layouts { AreLayouts result self.now.layouts }
+    {
+        self.checkers
+    }
+
+    /// How many kinds there are.
+    pub fn kinds(&self) -> usize
+        ensures { result ≡ self.now.kinds }
+    {
+        self.kinds
+    }
+
     /// How many layouts there are of the game's checkers.
     pub fn layouts(&self) -> usize
         ensures layouts { result ≡ length self.now.layouts }

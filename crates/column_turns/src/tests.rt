@@ -1,0 +1,114 @@
+ghost use Rattle.std.specs.Prelude.{◌≡◌, ◌<◌, ◌≤◌, length};
+ghost use Rattle.turn_rule.specs.Rounds.{AreLayouts};
+ghost use Rattle.column_turns.specs.TestPairs.{untold_of, zeros};
+
+use super::*;
+use cube_actions::Stakes;
+use directed_fixed::Fixed;
+use hyper_outside::LookStop;
+use move_rules::PlayList;
+use position_rank::{Layout, Position};
+use std::process::Abort;
+use turn_rule::{Pairs, turn_bounds};
+
+/// Words of whole points from -3 to 3, scattered over the states, of so many checkers and kinds.
+#[derive(Drop)]
+struct Scattered {
+    checkers: u8,
+    kinds: usize,
+}
+
+impl Scattered {
+    fn word(&self, square: u64, kind: usize, salt: u64) -> Fixed {
+        let mixed = (square % 999_983 * 37 + kind as u64 % 14 * 11 + salt % 2 * 5) % 101 % 7;
+        match mixed {
+            0 => Fixed::whole(-3),
+            1 => Fixed::whole(-2),
+            2 => Fixed::whole(-1),
+            3 => Fixed::whole(0),
+            4 => Fixed::whole(1),
+            5 => Fixed::whole(2),
+            _ => Fixed::whole(3),
+        }
+    }
+}
+
+impl Pairs for Scattered {
+    ghost stays = { λ s. tt };
+
+    ghost seen = { λ s. record { source = untold_of s.checkers s.kinds; notes = zeros; faults = 0 } };
+
+    fn lower_of(&mut self, position: &Position, kind: usize) -> Result<Fixed, LookStop> {
+        Ok(self.word(position.square_rank(), kind, 0))
+    }
+
+    fn upper_of(&mut self, position: &Position, kind: usize) -> Result<Fixed, LookStop> {
+        Ok(self.word(position.square_rank(), kind, 1))
+    }
+
+    ghost floor_within = { λ s tells. Prim.absurd (Prim.cc) };
+
+    ghost notes_within = { λ s tells. Prim.absurd (Prim.cc) };
+}
+
+/// Compares each pair of a column with the turn of its position alone, and counts the pairs.
+fn compare(
+    rt: &impl Abort,
+    turns: &mut ColumnTurns,
+    other: usize,
+    stakes: &Stakes,
+    list: &mut PlayList,
+) -> usize {
+    let checkers = turns.checkers();
+    let mut words = Scattered {
+        checkers,
+        kinds: stakes.kinds(),
+    };
+    assert!(rt; stakes.bound() == Fixed::whole(3));
+    assert!(rt; turns.kinds() == stakes.kinds());
+    assert!(rt; other < turns.layouts());
+    turns.fill(other, stakes, &mut words);
+    let mut compared = 0;
+    for i in 0..turns.len() {
+        let position = turns.position(i);
+        assert!(rt; position.checkers() == checkers && position.is_live());
+        for kind in 0..stakes.kinds() {
+            let alone = turn_bounds(stakes, &position, kind, &mut words, list);
+            assert_eq!(rt; alone, Ok(turns.pair(i, kind)));
+            compared += 1;
+        }
+    }
+    compared
+}
+
+/// The rank of a layout on these places.
+fn rank(rt: &impl Abort, places: &[u8]) -> usize {
+    let layout = Layout::from_places(places).expect(rt, "no layout");
+    layout.rank() as usize
+}
+
+// A layout with one checker has 26 places. No position is live whose other side is off, and 24 points of the mover and the bar are not the
+// point of the other side: 24 columns of 24 movers, and the column of the bar of 25.
+#[test]
+fn gives_one_checker_the_turns_of_its_positions(rt: HostRuntime) {
+    let stakes = Stakes::jacoby();
+    let mut turns = ColumnTurns::new(rt.alloc(), 1, &stakes).expect(&rt, "no memory");
+    let mut list = PlayList::new();
+    let mut compared = 0;
+    for other in 0..26 {
+        compared += compare(&rt, &mut turns, other, &stakes, &mut list);
+    }
+    assert_eq!(rt; compared, (24 * 24 + 25) * 3);
+}
+
+// Two blots; closed; one on the bar; all but one off.
+#[test]
+fn gives_two_checkers_the_turns_of_their_positions(rt: HostRuntime) {
+    let stakes = Stakes::cubeless();
+    let mut turns = ColumnTurns::new(rt.alloc(), 2, &stakes).expect(&rt, "no memory");
+    let mut list = PlayList::new();
+    for places in [[20, 5], [6, 6], [25, 3], [4, 0]] {
+        let other = rank(&rt, &places);
+        assert!(rt; compare(&rt, &mut turns, other, &stakes, &mut list) > 250);
+    }
+}
