@@ -1,4 +1,6 @@
 ghost use Rattle.std.specs.Prelude.{◌≡◌, ◌<◌, ◌≤◌, length};
+ghost use Rattle.directed_fixed.specs.Bounds.{IsWithinUnits};
+ghost use Rattle.cube_actions.specs.Stakes.{point_units};
 ghost use Rattle.turn_rule.specs.Rounds.{AreLayouts};
 ghost use Rattle.column_turns.specs.TestPairs.{untold_of, zeros};
 
@@ -19,7 +21,9 @@ struct Scattered {
 }
 
 impl Scattered {
-    fn word(&self, square: u64, kind: usize, salt: u64) -> Fixed {
+    fn word(&self, square: u64, kind: usize, salt: u64) -> Fixed
+        ensures { IsWithinUnits (point_units 3) result }
+    {
         let mixed = (square % 999_983 * 37 + kind as u64 % 14 * 11 + salt % 2 * 5) % 101 % 7;
         match mixed {
             0 => Fixed::whole(-3),
@@ -51,7 +55,7 @@ impl Pairs for Scattered {
     ghost notes_within = { λ s tells. Prim.absurd (Prim.cc) };
 }
 
-/// Compares each pair of a column with the turn of its position alone, and counts the pairs.
+/// Compares each pair of a column with the turn of its position alone, and counts the positions.
 fn compare(
     rt: &impl Abort,
     turns: &mut ColumnTurns,
@@ -68,17 +72,20 @@ fn compare(
     assert!(rt; turns.kinds() == stakes.kinds());
     assert!(rt; other < turns.layouts());
     turns.fill(other, stakes, &mut words);
-    let mut compared = 0;
     for i in 0..turns.len() {
         let position = turns.position(i);
-        assert!(rt; position.checkers() == checkers && position.is_live());
+        assert!(rt; position.checkers() == checkers);
+        assert!(rt; position.is_live());
         for kind in 0..stakes.kinds() {
+            let mut words = Scattered {
+                checkers,
+                kinds: stakes.kinds(),
+            };
             let alone = turn_bounds(stakes, &position, kind, &mut words, list);
             assert_eq!(rt; alone, Ok(turns.pair(i, kind)));
-            compared += 1;
         }
     }
-    compared
+    turns.len()
 }
 
 /// The rank of a layout on these places.
@@ -94,11 +101,12 @@ fn gives_one_checker_the_turns_of_its_positions(rt: HostRuntime) {
     let stakes = Stakes::jacoby();
     let mut turns = ColumnTurns::new(rt.alloc(), 1, &stakes).expect(&rt, "no memory");
     let mut list = PlayList::new();
-    let mut compared = 0;
+    let mut compared: usize = 0;
     for other in 0..26 {
-        compared += compare(&rt, &mut turns, other, &stakes, &mut list);
+        let live = compare(&rt, &mut turns, other, &stakes, &mut list);
+        compared = compared.saturating_add(live);
     }
-    assert_eq!(rt; compared, (24 * 24 + 25) * 3);
+    assert_eq!(rt; compared, 24 * 24 + 25);
 }
 
 // Two blots; closed; one on the bar; all but one off.
@@ -109,6 +117,6 @@ fn gives_two_checkers_the_turns_of_their_positions(rt: HostRuntime) {
     let mut list = PlayList::new();
     for places in [[20, 5], [6, 6], [25, 3], [4, 0]] {
         let other = rank(&rt, &places);
-        assert!(rt; compare(&rt, &mut turns, other, &stakes, &mut list) > 250);
+        assert!(rt; compare(&rt, &mut turns, other, &stakes, &mut list) > 200);
     }
 }
