@@ -25,7 +25,8 @@ fn put_sums(one: &[Fixed], many: usize, kinds: usize, number: usize, all: &mut [
     requires kinds { kinds ≤ 14 }
     requires number { number < kinds }
     requires room { many * kinds ≤ length all.old }
-    requires small_one { (i : ℕ) → i < many → IsWithinUnits (pos (2 ^ 42)) (slice_index_or one.now i (pos 0)) }
+    requires small_one { (i : ℕ) → i < many
+        → IsWithinUnits (pos (2 ^ 42)) (slice_index_or one.now i (pos 0)) }
     requires small { All (IsWithinUnits (pos (2 ^ 42))) all.old }
     ensures room { length all.new ≡ length all.old }
     ensures small { All (IsWithinUnits (pos (2 ^ 42))) all.new }
@@ -54,7 +55,8 @@ fn sum_kind<P: Pairs>(
     requires sure { IsTrue (P.seen pairs.old).source.sure }
     requires stakes { AreStakesOf (P.seen pairs.old).source stakes.now }
     requires number { number < length stakes.now.kinds }
-    requires column { IsColumnOf (P.seen pairs.old).source column.old.layouts column.old.others column.old.movers }
+    requires column { IsColumnOf (P.seen pairs.old).source column.old.layouts
+        column.old.others column.old.movers }
     requires one { length column.old.movers ≤ length one.old }
     requires row { IsRow row.old }
     requires room { length column.old.movers * length stakes.now.kinds ≤ length all.old }
@@ -96,7 +98,8 @@ pub(crate) fn sum_kinds<P: Pairs>(
 )
     requires sure { IsTrue (P.seen pairs.old).source.sure }
     requires stakes { AreStakesOf (P.seen pairs.old).source stakes.now }
-    requires column { IsColumnOf (P.seen pairs.old).source column.old.layouts column.old.others column.old.movers }
+    requires column { IsColumnOf (P.seen pairs.old).source column.old.layouts
+        column.old.others column.old.movers }
     requires one { length column.old.movers ≤ length one.old }
     requires row { IsRow row.old }
     requires room { length column.old.movers * length stakes.now.kinds ≤ length all.old }

@@ -85,7 +85,8 @@ pub(crate) fn turn_column<P: Pairs>(
 )
     requires sure { IsTrue (P.seen pairs.old).source.sure }
     requires stakes { AreStakesOf (P.seen pairs.old).source stakes.now }
-    requires column { IsColumnOf (P.seen pairs.old).source column.old.layouts column.old.others column.old.movers }
+    requires column { IsColumnOf (P.seen pairs.old).source column.old.layouts
+        column.old.others column.old.movers }
     requires one { length column.old.movers ≤ length one.old }
     requires row { IsRow row.old }
     requires lower { length column.old.movers * length stakes.now.kinds ≤ length lower.old }
