@@ -15,7 +15,7 @@ use Rattle.turn_rule.specs.States.{IsStateOf, IsState}
 use Rattle.turn_rule.specs.Games.{game_of}
 use Rattle.turn_rule.specs.Looks.{Source, AreStakesOf, IsLeft, MayFollow}
 use Rattle.turn_rule.specs.Found.{IsFound, LeavesState}
-use Rattle.turn_rule.specs.Rounds.{AreLayouts}
+use Rattle.turn_rule.specs.Layouts.{AreLayouts}
 use Rattle.turn_rule.proofs.Within.{next_state, bound-positive}
 use Rattle.column_sums.specs.Cascade.{best_over, best_sum}
 use Rattle.column_sums.specs.Leaps.{layout_at}

@@ -7,7 +7,7 @@ use Rattle.position_rank.specs.Placement.{IsLayout, moved}
 use Rattle.position_rank.specs.Ranks.{layouts, rank_of}
 use Rattle.position_rank.proofs.RankLaws.{layouts-same}
 use Rattle.move_rules.specs.Ends.{down_from, places}
-use Rattle.turn_rule.specs.Rounds.{AreLayouts}
+use Rattle.turn_rule.specs.Layouts.{AreLayouts}
 use Rattle.column_sums.specs.Columns.{Step, step_from, steps_from, with_step, may_leave_alone}
 use Rattle.column_sums.specs.declared.leaps.Leap.{Leap}
 use Rattle.column_sums.specs.declared.steps.Fan.{Fan}

@@ -2,7 +2,7 @@
 use Rattle.std.proofs.Common.{◌≡◌, ◌≢◌, ◌≤◌, ◌<◌, ◌∙◌, refl, Bool, true, false, cond, ℤ, pos, Option, Some, None, ℕ, zero, suc, get_or, List, [], ◌∷◌, length, ap, sym, arith}
 use Rattle.std.proofs.lemmas.Slice.Eq.{bytes_eq-Decides}
 use Rattle.std.specs.Str.{bytes_eq}
-use Rattle.turn_rule.specs.Rounds.{AreLayouts}
+use Rattle.turn_rule.specs.Layouts.{AreLayouts}
 use Rattle.column_sums.specs.Cascade.{or_value, best_over}
 use Rattle.column_sums.specs.Leaps.{layout_at}
 use Rattle.column_sums.specs.Cells.{cell_of, no_cell}

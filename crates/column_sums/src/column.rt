@@ -1,7 +1,7 @@
 ghost use Rattle.std.specs.Prelude.{◌≡◌, ◌<◌, ◌≤◌, ℕ, ℤ, All, IfOk, [], length, slice_index};
 ghost use Rattle.position_rank.specs.Placement.{Placement};
 ghost use Rattle.roll_table.specs.Rolls.{all_rolls};
-ghost use Rattle.turn_rule.specs.Rounds.{AreLayouts};
+ghost use Rattle.turn_rule.specs.Layouts.{AreLayouts};
 ghost use Rattle.column_sums.specs.AfterHits.{AreDistinct, AreClosed};
 ghost use Rattle.column_sums.specs.ColumnOf.{AreColumnSums};
 ghost use Rattle.column_sums.specs.Leaps.{layout_at};

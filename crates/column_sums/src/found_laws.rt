@@ -9,7 +9,7 @@ ghost use Rattle.turn_rule.specs.Turn.{Words};
 ghost use Rattle.turn_rule.specs.Looks.{Source, AreStakesOf};
 ghost use Rattle.turn_rule.specs.States.{IsStateOf};
 ghost use Rattle.turn_rule.specs.Found.{IsFoundOf, of_play, of_sum};
-ghost use Rattle.turn_rule.specs.Rounds.{AreLayouts};
+ghost use Rattle.turn_rule.specs.Layouts.{AreLayouts};
 ghost use Rattle.column_sums.specs.AfterHits.{AreDistinct, AreClosed, IsLayer};
 ghost use Rattle.column_sums.specs.Cascade.{best_sum};
 ghost use Rattle.column_sums.specs.FoundCells.{AreFoundCells};

@@ -4,7 +4,7 @@ ghost use Rattle.roll_table.specs.Rolls.{Dice, IsRoll, all_rolls};
 ghost use Rattle.move_rules.specs.Ends.{after_move, places, legal_ends};
 ghost use Rattle.move_rules.specs.Listing.{full};
 ghost use Rattle.turn_rule.specs.Turn.{greatest, sum_over};
-ghost use Rattle.turn_rule.specs.Rounds.{AreLayouts};
+ghost use Rattle.turn_rule.specs.Layouts.{AreLayouts};
 ghost use Rattle.column_sums.specs.AfterHits.{AreDistinct};
 ghost use Rattle.column_sums.specs.Cascade.{over_places, best_over, best_of_roll, best_sum, most, ends_of};
 ghost use Rattle.column_sums.specs.Columns.{Step, step_from, landed_if, steps_from, over_steps, AreStruck};

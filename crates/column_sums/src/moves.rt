@@ -1,5 +1,5 @@
 ghost use Rattle.std.specs.Prelude.{◌≡◌, ◌+◌, ◌-◌, ◌<◌, ◌≤◌, ℕ, All, IfOk, [], length, slice_index, slice_index_or, vec_capacity};
-ghost use Rattle.turn_rule.specs.Rounds.{AreLayouts};
+ghost use Rattle.turn_rule.specs.Layouts.{AreLayouts};
 ghost use Rattle.column_sums.specs.Leaps.{layout_at};
 ghost use Rattle.column_sums.specs.Listings.{IsListed, AreKept, AreCells, LeadsInto, LeadsToCells};
 ghost use Rattle.column_sums.specs.MoveLists.{AreReaches, AreReady, AreRooms, AreBegun, AreDieLists, IsEmpty, IsMover, HasRoom, IsDieList};

@@ -2,7 +2,7 @@ ghost use Rattle.std.specs.Prelude.{◌≡◌, ◌<◌, ◌≤◌, ◌+◌, ◌-
 ghost use Rattle.move_rules.specs.Ends.{places};
 ghost use Rattle.position_rank.specs.Placement.{IsLayout};
 ghost use Rattle.position_rank.specs.Ranks.{layouts, rank_of};
-ghost use Rattle.turn_rule.specs.Rounds.{AreLayouts};
+ghost use Rattle.turn_rule.specs.Layouts.{AreLayouts};
 ghost use Rattle.column_sums.specs.Columns.{step_from, steps_from};
 ghost use Rattle.column_sums.specs.Leaps.{layout_at, AreLeaps, IsLeapIf, IsStepIf};
 ghost use Rattle.column_sums.specs.Grids.{AreFansTo};

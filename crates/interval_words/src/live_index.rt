@@ -1,7 +1,7 @@
 ghost use Rattle.std.specs.Prelude.{◌≡◌, ℕ, ◌<◌, ◌≤◌, ◌+◌, ◌*◌, ◌^◌, ◌↔◌, IfOk, IsTrue, length, sum};
 ghost use Rattle.position_rank.specs.Ranks.{layouts, square_rank_of};
 ghost use Rattle.position_rank.specs.Placement.{IsPosition, IsLive};
-ghost use Rattle.turn_rule.specs.Rounds.{AreLayouts};
+ghost use Rattle.turn_rule.specs.Layouts.{AreLayouts};
 ghost use Rattle.interval_words.specs.LiveIndex.{AreCounted};
 ghost use Rattle.position_rank.specs.LiveRanks.{live_below, live_positions, live_rank_of};
 

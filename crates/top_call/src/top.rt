@@ -17,7 +17,7 @@ use equity_report::{Refusal, write_bound, write_refusal};
 use hyper_outside::{Failed, Files, Gate, NoMemory, Sink};
 use std::alloc::Global;
 use std::thread::Threads;
-use turn_rule::PlainTable;
+use plain_table::PlainTable;
 
 /// The status of a run that did all that it was asked for.
 pub const DONE: u8 = 0;

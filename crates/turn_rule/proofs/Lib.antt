@@ -5,9 +5,7 @@ pub mod Within
 pub mod Agreement
 pub mod Tightness
 pub mod Monotone
-pub mod TableLemmas
-pub mod RowLemmas
-pub mod GameLemmas
+pub mod Squares
 pub mod Tight
 pub mod Found
 pub mod Plays

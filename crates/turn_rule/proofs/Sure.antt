@@ -1,5 +1,5 @@
 -- Over a sure source each look-up is answered, and where its floor and its notes give one value, the answer is exact.
-use Rattle.std.proofs.Common.{◌≡◌, ℕ, ℤ, ◌≤ℤ◌, IsTrue, Result, Ok, Err, refl, subst}
+use Rattle.std.proofs.Common.{◌≡◌, ◌∙◌, ℕ, ℤ, ◌≤ℤ◌, IsTrue, Result, Ok, Err, ap, refl, subst}
 use Rattle.std.specs.Result.{IsOk}
 use Rattle.directed_fixed.specs.declared.bounds.End.{End}
 use Rattle.directed_fixed.specs.declared.bounds.End.TheVariants.{Lower, Upper}
@@ -9,7 +9,13 @@ use Rattle.hyper_outside.specs.declared.outside.LookStop.TheVariants.{ReadFault,
 use Rattle.turn_rule.specs.Turn.{Words}
 use Rattle.turn_rule.specs.Looks.{Source, Damage, States, MayStop, Looked, IsPairOf}
 use Rattle.turn_rule.proofs.Tight.{tight-both}
-use Rattle.turn_rule.proofs.TableLemmas.{both_ends}
+
+-- a pair by its two ends
+both_ends : (pair : Bounds) (low high : ℤ) → pair.lower ≡ low → pair.upper ≡ high → pair ≡ record { lower = low; upper = high }
+both_ends pair low high h k =
+    let with_lower : ℤ → Bounds = λ z. record { lower = z; upper = pair.upper } in
+    let with_upper : ℤ → Bounds = λ z. record { lower = low; upper = z } in
+    ap with_lower h ∙ ap with_upper k
 
 never_stops : (s : Source) (a b : ℕ) (meant : Damage → Type 0) (stop : LookStop) → IsTrue s.sure → MayStop s a b meant stop → ⊥
 never_stops s a b meant ReadFault sure stopped = cc (sure, stopped.0)

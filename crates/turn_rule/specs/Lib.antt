@@ -1,8 +1,7 @@
 pub mod Turn
 pub mod Games
 pub mod States
-pub mod Tables
-pub mod Rounds
+pub mod Layouts
 pub mod PlayEnds
 pub mod Looks
 pub mod Found

@@ -78,6 +78,10 @@ abbrev pub bound_words : Terms → Words
 bound_words stakes Lower p k = neg_ℤ stakes.bound
 bound_words stakes Upper p k = stakes.bound
 
+-- the pair of which only the bound is known
+abbrev pub bound_pair : Terms → Bounds
+bound_pair stakes = record { lower = neg_ℤ stakes.bound; upper = stakes.bound }
+
 -- the words after so many rounds, in each of which every state takes its turn over the words of the round before
 unfoldable pub rounds : Terms → ℕ → Words
 rounds stakes zero = bound_words stakes

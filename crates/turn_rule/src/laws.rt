@@ -7,7 +7,6 @@ ghost use Rattle.turn_rule.specs.declared.game.Game.{Game};
 ghost use Rattle.turn_rule.specs.Games.{IsGame};
 ghost use Rattle.turn_rule.specs.Turn.{Words, bound_words, turn, rounds};
 ghost use Rattle.turn_rule.specs.States.{AreWithin, AreNoLooser, Agree, pair_of};
-ghost use Rattle.turn_rule.specs.Tables.{squares_of, place_of};
 ghost use Rattle.turn_rule.specs.Examples.{between, gains, losses, doubling_game};
 
 /// Over words within the bound of the stakes, lower at most upper, a turn gives such words.
@@ -84,15 +83,4 @@ pub fn doubled_examples()
         ≡ gains 477218588 477218589 }
     ensures not_doubled { pair_of (rounds doubling_game 2) (placed (6 ∷ 5 ∷ []) (1 ∷ off ∷ [])) 0
         ≡ losses 2863311531 2863311530 }
-{}
-
-/// How many squares there are of one, two and three checkers a side, and where the pairs of a
-/// position stand: its mover's layout is the 22nd of 351, its other side's the second, and each
-/// square has a pair for each kind.
-pub fn table_examples()
-    ensures one { squares_of 1 ≡ 676 }
-    ensures two { squares_of 2 ≡ 123201 }
-    ensures three { squares_of 3 ≡ 10732176 }
-    ensures one_kind { place_of 1 (placed (6 ∷ off ∷ []) (1 ∷ off ∷ [])) 0 ≡ 7372 }
-    ensures fourth_of_14_kinds { place_of 14 (placed (6 ∷ off ∷ []) (1 ∷ off ∷ [])) 3 ≡ 103211 }
 {}

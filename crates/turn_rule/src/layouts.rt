@@ -1,5 +1,5 @@
 ghost use Rattle.std.specs.Prelude.{◌≤◌, IfOk, length};
-ghost use Rattle.turn_rule.specs.Rounds.{AreLayouts};
+ghost use Rattle.turn_rule.specs.Layouts.{AreLayouts};
 
 use hyper_outside::NoMemory;
 use position_rank::{Layout, layout_count};

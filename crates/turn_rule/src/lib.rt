@@ -11,12 +11,8 @@ mod laws;
 mod layouts;
 mod look_laws;
 mod pairs;
-mod plain_reader;
-mod plain_table;
 mod play_end;
 mod sum;
-mod sweep;
-mod table;
 #[cfg(test)]
 mod tests;
 mod value;
@@ -41,12 +37,10 @@ pub use from_sums::pair_from_sums;
 pub use game::Game;
 pub use laws::{
     doubled_examples, rounded_examples, rounds_stay_within_the_bound, rounds_tighten,
-    table_examples, tighter_words_tighten_turns, turns_look_at_states_alone,
+    tighter_words_tighten_turns, turns_look_at_states_alone,
     turns_stay_within_the_bound, worked_examples,
 };
 pub use layouts::all_layouts;
 pub use look_laws::{one_list_gives_the_roll, one_list_gives_the_turn, sure_sources_answer};
 pub use pairs::Pairs;
-pub use plain_reader::PlainReader;
-pub use plain_table::PlainTable;
 pub use worth::{end_of, other_end, win_of, word_of};

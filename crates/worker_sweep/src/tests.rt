@@ -13,7 +13,7 @@ use std::sync::atomic::{AtomicU64, Ordering};
 use std::test::Fail;
 use std::thread;
 use std::thread::Threads;
-use turn_rule::PlainTable;
+use plain_table::PlainTable;
 
 /// How often a held worker looks whether it may go on, before it gives up.
 const TURNS: u32 = 50_000_000;

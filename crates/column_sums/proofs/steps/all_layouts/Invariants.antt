@@ -1,5 +1,5 @@
 use Rattle.std.proofs.Common.{◌≡◌, ◌<◌, ℕ, List, length, slice_index_or}
-use Rattle.turn_rule.specs.Rounds.{HasRank}
+use Rattle.turn_rule.specs.Layouts.{HasRank}
 use Rattle.column_sums.proofs.steps.all_layouts.Given as goal
 
 abbrev pub invariant-loop-rank : goal.invariant-loop-rank

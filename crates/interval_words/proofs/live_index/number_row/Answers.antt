@@ -6,7 +6,7 @@ use Rattle.position_rank.specs.Placement.{Placement, IsPosition}
 use Rattle.position_rank.specs.Ranks.{square_rank_of}
 use Rattle.position_rank.specs.LiveRanks.{live_below}
 use Rattle.position_rank.proofs.LiveLaws.{live-counts, dead-counts}
-use Rattle.turn_rule.specs.Rounds.{HasRank}
+use Rattle.turn_rule.specs.Layouts.{HasRank}
 use Rattle.interval_words.specs.LiveIndex.{AreCounted}
 use Rattle.interval_words.proofs.IndexLemmas.{counted-more}
 use Rattle.interval_words.proofs.live_index.number_row.Goals as goal

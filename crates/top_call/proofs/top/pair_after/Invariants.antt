@@ -1,6 +1,6 @@
 use Rattle.std.proofs.Common.{◌≡◌, sum}
 use Rattle.cube_actions.specs.Stakes.{cubeless}
-use Rattle.turn_rule.specs.Rounds.{HasRounds}
+use Rattle.plain_table.specs.Rounds.{HasRounds}
 use Rattle.top_call.proofs.top.pair_after.Given as goal
 
 abbrev pub invariant-loop-round : goal.invariant-loop-round

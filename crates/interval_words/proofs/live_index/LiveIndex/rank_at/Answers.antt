@@ -4,8 +4,8 @@ use Rattle.position_rank.specs.Placement.{Placement, IsPosition}
 use Rattle.position_rank.specs.Ranks.{layouts, square_rank_of}
 use Rattle.position_rank.specs.LiveRanks.{live_below, live_rank_of}
 use Rattle.position_rank.proofs.LiveLaws.{live-rank-in}
-use Rattle.turn_rule.specs.Tables.{squares_of}
-use Rattle.turn_rule.proofs.GameLemmas.{square-below}
+use Rattle.turn_rule.specs.Layouts.{squares_of}
+use Rattle.turn_rule.proofs.Squares.{square-below}
 use Rattle.interval_words.proofs.live_index.LiveIndex.rank_at.Goals as goal
 
 below : (p : Placement) (square : ℕ) → IsPosition p → square ≡ square_rank_of p → square < squares_of (sum p.mover)
