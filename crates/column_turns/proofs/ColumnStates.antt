@@ -4,7 +4,7 @@ use Rattle.std.proofs.Math.Seq.{take-append_seam}
 use Rattle.std.proofs.Math.Nat.{mul-le-mul_right}
 use Rattle.position_rank.specs.Placement.{IsLayout, IsLive}
 use Rattle.turn_rule.specs.Looks.{Source, IsSourceState}
-use Rattle.turn_rule.specs.Rounds.{AreLayouts}
+use Rattle.turn_rule.specs.Layouts.{AreLayouts}
 use Rattle.column_sums.specs.Leaps.{layout_at}
 use Rattle.column_sums.specs.Listings.{IsListed}
 use Rattle.column_turns.specs.Turns.{at_rank, AreLiveMovers, IsColumnOf}

@@ -2,7 +2,7 @@
 use Rattle.std.specs.Prelude.{◌≡◌, ◌≤◌, ◌*◌, ◌^◌, ℕ, ℤ, pos, All, List, Option, length, sum}
 use Rattle.position_rank.specs.Placement.{IsLayout}
 use Rattle.directed_fixed.specs.Bounds.{Bounds, IsWithinUnits}
-use Rattle.turn_rule.specs.Rounds.{AreLayouts}
+use Rattle.turn_rule.specs.Layouts.{AreLayouts}
 use Rattle.column_sums.specs.Tables.{IsRow}
 
 -- The layouts of a game's checkers and how many kinds it has, the layout of the other side in the column, the ranks of its movers, and a pair

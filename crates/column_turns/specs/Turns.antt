@@ -8,7 +8,7 @@ use Rattle.cube_actions.specs.Stakes.{Terms, nothing}
 use Rattle.turn_rule.specs.Turn.{Words}
 use Rattle.turn_rule.specs.Looks.{Source, AreStakesOf, IsSourceState, AreSourceWords, IsTurnPair}
 use Rattle.turn_rule.specs.Found.{IsFoundOf, of_sum}
-use Rattle.turn_rule.specs.Rounds.{AreLayouts}
+use Rattle.turn_rule.specs.Layouts.{AreLayouts}
 use Rattle.column_sums.specs.Leaps.{layout_at}
 
 -- the position of the layout with this rank in the column of the other side's layout

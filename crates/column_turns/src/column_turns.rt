@@ -3,7 +3,7 @@ ghost use Rattle.position_rank.specs.Placement.{IsPosition};
 ghost use Rattle.directed_fixed.specs.Bounds.{IsWithinUnits};
 ghost use Rattle.cube_actions.specs.Stakes.{nothing};
 ghost use Rattle.turn_rule.specs.Looks.{AreStakesOf};
-ghost use Rattle.turn_rule.specs.Rounds.{AreLayouts};
+ghost use Rattle.turn_rule.specs.Layouts.{AreLayouts};
 ghost use Rattle.column_sums.specs.Leaps.{layout_at};
 ghost use Rattle.column_turns.specs.Moments.{IsLater};
 ghost use Rattle.column_turns.specs.Turns.{mover_at, place_in, AreLiveMovers, AreTurnsOf};

@@ -2,7 +2,7 @@ ghost use Rattle.std.specs.Prelude.{◌≡◌, ◌<◌, ◌≤◌, ◌^◌, pos,
 ghost use Rattle.game_payoff.specs.declared.payoff.Won.{Won};
 ghost use Rattle.directed_fixed.specs.Bounds.{IsWithin};
 ghost use Rattle.turn_rule.specs.Turn.{win};
-ghost use Rattle.turn_rule.specs.Rounds.{AreLayouts};
+ghost use Rattle.turn_rule.specs.Layouts.{AreLayouts};
 ghost use Rattle.column_sums.specs.Leaps.{layout_at};
 ghost use Rattle.column_sums.specs.Tables.{IsRow};
 ghost use Rattle.column_turns.specs.Moments.{IsLater};

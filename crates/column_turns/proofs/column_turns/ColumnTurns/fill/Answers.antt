@@ -1,5 +1,5 @@
 use Rattle.std.proofs.Common.{◌≡◌, ◌∙◌, ap, arith}
-use Rattle.turn_rule.specs.Rounds.{HasRank}
+use Rattle.turn_rule.specs.Layouts.{HasRank}
 use Rattle.column_sums.specs.ColumnOf.{ColumnOf}
 use Rattle.column_turns.proofs.ColumnStates.{listed-movers, column-of, written, room-for}
 use Rattle.column_turns.proofs.column_turns.ColumnTurns.fill.Goals as goal
