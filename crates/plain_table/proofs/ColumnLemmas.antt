@@ -43,6 +43,13 @@ pub record IsOfTable (old : PairTable) (p : Placement) : Type 0 where
   pub position : IsPosition p
   pub many : sum p.mover ≡ old.checkers
 
+pub of-table : (old : PairTable) (column : ColumnPairs) (rank : ℕ) → AreLayouts old.checkers column.layouts → rank < length column.layouts → column.other ≡ layout_at column.layouts rank → AreLiveMovers column.layouts column.other column.movers
+    → (i : ℕ) → i < length column.movers → IsOfTable old (position_at column i)
+of-table old column rank all inside is live i below =
+    let mover = all.each (get_or column.movers i 0) [] (live.within i 0 below) in
+    let other : HasRank old.checkers rank column.other = subst (HasRank old.checkers rank) (sym is) (all.each rank [] inside) in
+    record { position = record { mover = mover.valid; other = other.valid; same = mover.many ∙ sym other.many }; many = mover.many }
+
 same-pair : (mid next : PairTable) (p : Placement) (k : ℕ) → next.kinds ≡ mid.kinds → get_or next.pairs (square_rank_of p * mid.kinds + k) nothing ≡ get_or mid.pairs (square_rank_of p * mid.kinds + k) nothing → pair_of (words_of next) p k ≡ pair_of (words_of mid) p k
 same-pair mid next p k kinds same = ap (λ (n : ℕ). get_or next.pairs (square_rank_of p * n + k) nothing) kinds ∙ same
 
@@ -93,10 +100,10 @@ module _ (stakes : Terms) (old start : PairTable) (column : ColumnPairs) where
             let room : r < length column.layouts = rw (all.many, ← state.many) (rank-below q.mover state.position.mover) in
             let this = all.each r [] room in
             let mover : layout_at column.layouts r ≡ q.mover = layouts-same (layout_at column.layouts r) q.mover this.valid state.position.mover (this.many ∙ sym state.many) this.ranked in
-            let q_is : at_rank column.layouts column.other r ≡ q = place mover other in
+            let with_mover : List ℕ → Placement = λ m. record { mover = m; other = column.other } in
+            let with_other : List ℕ → Placement = λ o. record { mover = q.mover; other = o } in
+            let q_is : at_rank column.layouts column.other r ≡ q = ap with_mover mover ∙ ap with_other other in
             let found = live.all r room (rw q_is state.live) in
             let p_is : position_at column found.0 ≡ q = ap (at_rank column.layouts column.other) found.2 ∙ q_is in
             subst (λ (b : Placement). pair_of (words_of new) b k ≡ pair_of (turn stakes (words_of old)) b k) p_is (filled.so_far found.0 k found.1 kind))
-      ] where
-        place : {a b c d : List ℕ} → a ≡ b → c ≡ d → record { mover = a; other = c } ≡ record { mover = b; other = d }
-        place refl refl = refl
+      ]

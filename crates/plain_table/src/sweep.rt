@@ -56,12 +56,7 @@ fn sweep_column(
 }
 
 /// Gives every state its turn over the old table, a column after the other.
-pub(crate) fn sweep_columns(
-    stakes: &Stakes,
-    turns: &mut ColumnTurns,
-    old: &Table,
-    new: &mut Table,
-)
+pub(crate) fn sweep_columns(stakes: &Stakes, turns: &mut ColumnTurns, old: &Table, new: &mut Table)
     requires over { IsColumnOver stakes.now turns.old old.now }
     requires alike { AreAlike old.now new.old }
     requires full { IsFull new.old }
