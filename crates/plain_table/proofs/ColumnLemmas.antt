@@ -1,15 +1,13 @@
 -- One column more.
 use Rattle.std.proofs.Common.{◌≡◌, ◌<◌, ◌+◌, ◌*◌, ◌∙◌, ℕ, ℤ, List, [], length, sum, get_or, sym, ap, subst, inl, inr, refl, arith}
 use Rattle.std.proofs.lemmas.Bool.{cases_lt, cases_eq}
-use Rattle.position_rank.specs.Placement.{Placement, IsLayout, IsPosition}
-use Rattle.position_rank.specs.Ranks.{layouts, rank_of, square_rank_of}
+use Rattle.position_rank.specs.Placement.{Placement, IsPosition}
+use Rattle.position_rank.specs.Ranks.{rank_of, square_rank_of}
 use Rattle.position_rank.proofs.RankLaws.{layouts-same, positions-same, rank-below}
 use Rattle.directed_fixed.specs.declared.bounds.End.{End}
-use Rattle.directed_fixed.specs.Bounds.{Bounds}
 use Rattle.cube_actions.specs.Stakes.{Terms, nothing}
-use Rattle.turn_rule.specs.Games.{game_of}
 use Rattle.turn_rule.specs.Turn.{Words, turn}
-use Rattle.turn_rule.specs.States.{IsState, pair_of}
+use Rattle.turn_rule.specs.States.{pair_of}
 use Rattle.turn_rule.specs.Looks.{MayFollowTurn, IsTurnPair}
 use Rattle.turn_rule.specs.Layouts.{AreLayouts, HasRank}
 use Rattle.turn_rule.proofs.Sure.{exact-pair}
@@ -17,7 +15,7 @@ use Rattle.column_sums.specs.Leaps.{layout_at}
 use Rattle.column_turns.specs.Columns.{ColumnPairs}
 use Rattle.column_turns.specs.Turns.{at_rank, AreLiveMovers, AreTurnsOf}
 use Rattle.plain_table.specs.Tables.{PairTable, IsFull, words_of, read_from}
-use Rattle.plain_table.specs.Columns.{position_at, turn_at, IsColumnOver, IsSameBut}
+use Rattle.plain_table.specs.Columns.{position_at, turn_at, IsSameBut}
 use Rattle.plain_table.specs.Rounds.{AreAlike, IsTurnedBefore}
 
 -- over a table's words alone, a column's pairs are the turns

@@ -1,5 +1,5 @@
 -- Whole tables: that of no round, and one that was turned.
-use Rattle.std.proofs.Common.{◌≡◌, ◌<◌, ◌+◌, ◌*◌, ℕ, zero, suc, length, replicate, get_or, sum, sym, ap, subst, ◌∙◌, refl, add-one, arith}
+use Rattle.std.proofs.Common.{◌≡◌, ◌<◌, ◌+◌, ◌*◌, ℕ, zero, suc, length, replicate, get_or, sym, ap, subst, ◌∙◌, refl, add-one, arith}
 use Rattle.position_rank.specs.Placement.{Placement}
 use Rattle.position_rank.specs.Ranks.{layouts, rank_of, square_rank_of}
 use Rattle.position_rank.proofs.RankLaws.{rank-below}

@@ -1,5 +1,5 @@
 -- Places of a table, and what a write leaves.
-use Rattle.std.proofs.Common.{◌≡◌, ◌≢◌, ◌<◌, ◌+◌, ◌*◌, ◌∙◌, ℕ, length, get_or, set, subst, length-set, ap, refl, arith, get_or-set_same, get_or-set_other, below_more}
+use Rattle.std.proofs.Common.{◌≡◌, ◌≢◌, ◌<◌, ◌+◌, ◌*◌, ◌∙◌, ℕ, length, get_or, set, subst, length-set, refl, arith, get_or-set_same, get_or-set_other, below_more}
 use Rattle.std.proofs.lemmas.Nat.{mul-add-lt}
 use Rattle.position_rank.specs.Placement.{Placement}
 use Rattle.position_rank.specs.Ranks.{square_rank_of}

@@ -1,10 +1,10 @@
 -- A column's turns beside a table of the same game.
-use Rattle.std.specs.Prelude.{◌≡◌, ◌≢◌, ◌<◌, ◌+◌, ◌*◌, ℕ, List, length, sum, slice_index_or}
-use Rattle.position_rank.specs.Placement.{Placement, IsPosition}
+use Rattle.std.specs.Prelude.{◌≡◌, ◌≢◌, ◌<◌, ◌+◌, ◌*◌, ℕ, length, slice_index_or}
+use Rattle.position_rank.specs.Placement.{Placement}
 use Rattle.directed_fixed.specs.Bounds.{Bounds}
 use Rattle.cube_actions.specs.Stakes.{Terms, nothing}
 use Rattle.turn_rule.specs.Games.{game_of}
-use Rattle.turn_rule.specs.States.{AreWithin, pair_of}
+use Rattle.turn_rule.specs.States.{AreWithin}
 use Rattle.turn_rule.specs.Layouts.{AreLayouts}
 use Rattle.column_turns.specs.Columns.{ColumnPairs}
 use Rattle.column_turns.specs.Turns.{mover_at, place_in}
@@ -29,4 +29,5 @@ pub record IsColumnOver (stakes : Terms) (column : ColumnPairs) (table : PairTab
 abbrev pub IsSameBut : ℕ → PairTable → PairTable → Type 0
 IsSameBut square old new =
     (s k : ℕ) → s ≢ square → k < old.kinds
-    → slice_index_or new.pairs (s * old.kinds + k) nothing ≡ slice_index_or old.pairs (s * old.kinds + k) nothing
+    → slice_index_or new.pairs (s * old.kinds + k) nothing
+    ≡ slice_index_or old.pairs (s * old.kinds + k) nothing

@@ -8,7 +8,8 @@ use Rattle.turn_rule.specs.Turn.{Words}
 use Rattle.turn_rule.specs.Looks.{Source}
 use Rattle.turn_rule.specs.Layouts.{squares_of}
 
--- the pairs of a game of so many checkers a side and so many kinds, by rising square rank and then kind
+-- the pairs of a game of so many checkers a side and so many kinds, by rising square rank and
+-- then kind
 pub record PairTable : Type 0 where
   pub checkers : ℕ
   pub kinds : ℕ
@@ -28,4 +29,12 @@ words_of table end p k = at end (slice_index_or table.pairs (place_of table.kind
 
 -- where a table's words are looked up: each look-up is answered, by the table's word
 abbrev pub read_from : PairTable → ℤ → Source
-read_from table bound = record { checkers = table.checkers; kinds = table.kinds; bound = bound; sure = true; tells = true; floor = words_of table; damage = λ p k. None }
+read_from table bound = record {
+  checkers = table.checkers;
+  kinds = table.kinds;
+  bound = bound;
+  sure = true;
+  tells = true;
+  floor = words_of table;
+  damage = λ p k. None;
+}

@@ -1,4 +1,4 @@
-use Rattle.std.proofs.Common.{◌≡◌, ◌∙◌, sym, refl}
+use Rattle.std.proofs.Common.{◌∙◌, sym, refl}
 use Rattle.cube_actions.specs.Stakes.{IsValid}
 use Rattle.plain_table.specs.Tables.{IsFull}
 use Rattle.plain_table.specs.Rounds.{HasRounds}
@@ -17,10 +17,10 @@ invariant_of-result c =
     record {
       valid = valid;
       over = record {
-          layouts = rw c.in_ok-current.ensures c.in_ok-turns.ensures.layouts;
-          kinds = rw c.copied.ensures c.in_ok-turns.ensures.kinds;
-          kinds_too = rw (c.copied.ensures, c.in_ok-current.ensures) c.kinds.ensures.kinds;
-          within = rounds-agree-within (record { stakes = stakes; table = now }) 0 valid has;
+        layouts = rw c.in_ok-current.ensures c.in_ok-turns.ensures.layouts;
+        kinds = rw c.copied.ensures c.in_ok-turns.ensures.kinds;
+        kinds_too = rw (c.copied.ensures, c.in_ok-current.ensures) c.kinds.ensures.kinds;
+        within = rounds-agree-within (record { stakes = stakes; table = now }) 0 valid has;
       };
       alike = rw (c.in_ok-current.ensures, c.in_ok-next.ensures) (record { checkers = refl; kinds = c.kinds-2.ensures.kinds ∙ sym c.kinds.ensures.kinds });
       full_now = full;

@@ -11,10 +11,10 @@ invariant_of-self c =
     rw (c.swap.ensures.x_after, c.swap.ensures.y_after) (record {
       valid = ready.valid;
       over = record {
-          layouts = rw (swept.alike.checkers, swept.layouts) ready.over.layouts;
-          kinds = swept.kinds ∙ ready.over.kinds;
-          kinds_too = swept.alike.kinds ∙ ready.over.kinds_too;
-          within = rw swept.alike.checkers (turned-within self.stakes self.current c.sweep_columns.new.new ready.valid ready.over.within turned);
+        layouts = rw (swept.alike.checkers, swept.layouts) ready.over.layouts;
+        kinds = swept.kinds ∙ ready.over.kinds;
+        kinds_too = swept.alike.kinds ∙ ready.over.kinds_too;
+        within = rw swept.alike.checkers (turned-within self.stakes self.current c.sweep_columns.new.new ready.valid ready.over.within turned);
       };
       alike = record { checkers = sym swept.alike.checkers; kinds = sym swept.alike.kinds };
       full_now = swept.full;
