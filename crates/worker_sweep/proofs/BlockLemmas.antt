@@ -1,30 +1,35 @@
--- Swept blocks stay swept, and cover all live positions.
-use Rattle.std.proofs.Common.{◌≡◌, inl, inr, sum, ◌+◌, ◌/◌, ◌<◌, ◌++◌, ℕ, ℤ, List, [], ◌∷◌, arith, subst, sym, ◌∙◌}
-use Rattle.std.proofs.lemmas.Bool.{cases_lt}
-use Rattle.position_rank.specs.Placement.{Placement, IsPosition, IsLive}
-use Rattle.position_rank.specs.LiveRanks.{live_positions, live_rank_of}
-use Rattle.position_rank.proofs.LiveLaws.{live-rank-in, live-same}
+-- Swept blocks stay swept, and cover all states.
+use Rattle.std.proofs.Common.{◌≡◌, sum, zero, suc, ◌+◌, ◌<◌, ◌≤◌, ◌++◌, ℕ, ℤ, List, [], ◌∷◌, arith, refl, ap, subst, sym, ◌∙◌}
+use Rattle.position_rank.specs.Placement.{Placement}
+use Rattle.position_rank.specs.Ranks.{layouts, rank_of}
+use Rattle.position_rank.proofs.RankLaws.{layouts-one, layouts-two, layouts-three, rank-below}
 use Rattle.directed_fixed.specs.declared.bounds.End.{End}
 use Rattle.directed_fixed.specs.Bounds.{IsNoLooser}
-use Rattle.turn_rule.specs.Games.{kinds_of}
 use Rattle.turn_rule.specs.States.{AreNoLooser}
 use Rattle.turn_rule.specs.Turn.{rounds}
 use Rattle.turn_rule.specs.declared.game.Game.{Game}
 use Rattle.interval_words.specs.declared.view.Note.{Note}
 use Rattle.interval_words.specs.declared.view.View.{View}
 use Rattle.interval_words.specs.Numbers.{tightest}
-use Rattle.interval_words.specs.Core.{noted}
+use Rattle.interval_words.specs.Core.{noted, known}
 use Rattle.interval_words.specs.Events.{IsRoundDone}
 use Rattle.interval_words.proofs.Ends.{tight-refl, tight-trans, tightest-left, tightest-right, tight-tightest}
 use Rattle.interval_words.proofs.Views.{noted-cases, noted-more, noted-opening}
-use Rattle.worker_sweep.specs.Blocks.{blocks, AreSwept, IsSwept}
+use Rattle.worker_sweep.specs.Blocks.{blocks, IsSwept}
+
+-- there are layouts of one to three checkers
+pub some-blocks : (checkers : ℕ) → 1 ≤ checkers → checkers ≤ 3 → 0 < blocks checkers
+some-blocks zero low high = absurd (omega arith)
+some-blocks (suc zero) low high = rw layouts-one (omega arith)
+some-blocks (suc (suc zero)) low high = rw layouts-two (omega arith)
+some-blocks (suc (suc (suc zero))) low high = rw layouts-three (omega arith)
+some-blocks (suc (suc (suc (suc n)))) low high = absurd (omega arith)
 
 -- where all blocks are swept, the round is done
 pub round-done : (game : Game) (view : View) → ((block : ℕ) → block < blocks game.checkers → IsSwept game view block) → IsRoundDone game view
 round-done game view all end p k state =
-    let rank = live_rank_of p in
-    let below : rank < live_positions game.checkers = subst (λ (n : ℕ). rank < live_positions n) state.many (live-rank-in p state.position state.live) in
-    all (rank / 256) (omega (arith, below)) end p k state (omega (arith, below)) (omega (arith, below))
+    let below : rank_of p.other < layouts game.checkers = omega (arith, rank-below p.other state.position.other, ap (λ (n : ℕ). layouts n) (sym state.position.same ∙ state.many)) in
+    all (rank_of p.other) below end p k state refl
 
 -- the tighter of tighter values
 tightest-mono : (end : End) (a b c : ℤ) → IsNoLooser end b c → IsNoLooser end (tightest end a b) (tightest end a c)
@@ -47,21 +52,11 @@ module _ (game : Game) where
   append-right (m ∷ ms) ns end p k state = tight-trans end _ _ _ (noted-more game m (ms ++ ns) end p k state) (append-right ms ns end p k state)
 
   -- with tighter notes and the same base, what is swept stays swept
-  pub swept-still : (a b : View) (from to : ℕ) → b.base ≡ a.base → AreNoLooser game (noted game b.notes) (noted game a.notes) → AreSwept game a from to → AreSwept game b from to
-  swept-still a b from to same tighter swept end p k state low high =
+  pub swept-still : (a b : View) (block : ℕ) → b.base ≡ a.base → AreNoLooser game (noted game b.notes) (noted game a.notes) → IsSwept game a block → IsSwept game b block
+  swept-still a b block same tighter swept end p k state here =
       subst (λ (n : ℕ). IsNoLooser end (tightest end (noted game b.notes end p k) (rounds game.stakes n end p k)) (rounds game.stakes (n + 1) end p k)) (sym same)
-      (tight-trans end _ _ _ (tightest-left-mono end _ _ _ (tighter end p k state)) (swept end p k state low high))
+      (tight-trans end _ _ _ (tightest-left-mono end _ _ _ (tighter end p k state)) (swept end p k state here))
 
-  -- one position more is swept
-  pub ranks-more : (old new : View) (from rank : ℕ) (q : Placement) → new.base ≡ old.base → AreNoLooser game (noted game new.notes) (noted game old.notes) → AreSwept game old from rank
-      → IsPosition q → IsLive q → sum q.mover ≡ game.checkers → live_rank_of q ≡ rank
-      → ((end : End) (k : ℕ) → k < kinds_of game → IsNoLooser end (noted game new.notes end q k) (rounds game.stakes (old.base + 1) end q k)) → AreSwept game new from (rank + 1)
-  ranks-more old new from rank q same tighter before is live many at done end p k state low high = elim (cases_lt (live_rank_of p) rank) [
-    | inl earlier ↦ swept-still old new from rank same tighter before end p k state low earlier
-    | inr last ↦ (
-        let here : live_rank_of p ≡ live_rank_of q = omega (arith, high, last, at) in
-        let p_is : p ≡ q = live-same p q state.position is state.live live (state.many ∙ sym many) here in
-        subst (λ (n : ℕ). IsNoLooser end (tightest end (noted game new.notes end p k) (rounds game.stakes n end p k)) (rounds game.stakes (n + 1) end p k)) (sym same)
-        (tight-trans end _ _ _ (tightest-left end (noted game new.notes end p k) (rounds game.stakes old.base end p k))
-        (subst (λ (b : Placement). IsNoLooser end (noted game new.notes end b k) (rounds game.stakes (old.base + 1) end b k)) (sym p_is) (done end k state.kind))))
-  ]
+  -- where notes alone tell it, a state is swept
+  pub swept-noted : (view : View) (end : End) (p : Placement) (k : ℕ) → IsNoLooser end (noted game view.notes end p k) (rounds game.stakes (view.base + 1) end p k) → IsNoLooser end (known game view end p k) (rounds game.stakes (view.base + 1) end p k)
+  swept-noted view end p k noted_is = tight-trans end _ _ _ (tightest-left end (noted game view.notes end p k) (rounds game.stakes view.base end p k)) noted_is

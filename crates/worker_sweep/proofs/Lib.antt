@@ -4,3 +4,4 @@ pub mod StateLemmas
 pub mod TakeIn
 pub mod RoundLemmas
 pub mod Going
+pub mod ColumnLemmas

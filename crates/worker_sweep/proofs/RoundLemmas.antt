@@ -1,11 +1,11 @@
 -- Workers over a round.
-use Rattle.std.proofs.Common.{◌≡◌, ◌+◌, ◌<◌, ◌≤◌, ℕ, zero, suc, [], ◌∷◌, false, List, All, length, get_or, set, inl, inr, arith, ap, sym, subst, ◌∙◌}
+use Rattle.std.proofs.Common.{◌≡◌, ◌+◌, ◌<◌, ◌≤◌, ℕ, zero, suc, [], ◌∷◌, false, List, All, length, get_or, set, inl, inr, arith, refl, ap, sym, subst, ◌∙◌}
 use Rattle.std.proofs.lemmas.Bool.{cases_lt}
 use Rattle.std.proofs.lemmas.List.{get_or-set_same, get_or-set_other, length-set, length-replicate}
 use Rattle.block_claims.specs.Claiming.{ClaimTable, Claimer}
 use Rattle.interval_words.specs.Seats.{GameTable, GameSeat, SitsAt, KeepsNotes}
 use Rattle.worker_sweep.specs.Blocks.{blocks}
-use Rattle.worker_sweep.specs.Workers.{SeatsAndMarks, IsAtWork, IsReady, unmarked}
+use Rattle.worker_sweep.specs.Workers.{SeatsAndMarks, IsAtWork, IsReady, unmarked, unmarked_worker}
 use Rattle.interval_words.proofs.SeatNotes.{sits-kept}
 
 module _ (board : GameTable) (claims : ClaimTable) (base : ℕ) where
@@ -43,15 +43,15 @@ rest-still P xs i x rest k d from below =
     subst P (sym (get_or-set_other xs i k x d (λ e. absurd (omega (arith, from, e))))) (rest k d (omega (arith, from)) (omega (arith, below, length-set xs i x)))
 
 -- a worker that begins
-pub begins : (board : GameTable) (claims : ClaimTable) (number count : ℕ) (seat own : GameSeat) (claimer : Claimer) (new : SeatsAndMarks) → SitsAt board seat → own ≡ seat → claimer.table ≡ claims.table → count ≡ blocks board.game.checkers
-    → new ≡ record { seat = own; claims = claimer; number = number; marks = unmarked count } → IsReady board claims seat.view.base new
-begins board claims number count seat own claimer new sits same claimed many is = subst (IsReady board claims seat.view.base) (sym is) (record {
+pub begins : (board : GameTable) (claims : ClaimTable) (number : ℕ) (seat own : GameSeat) (claimer : Claimer) (new : SeatsAndMarks) → SitsAt board seat → own ≡ seat → claimer.table ≡ claims.table
+    → new ≡ unmarked_worker own claimer number (blocks board.game.checkers) → IsReady board claims seat.view.base new
+begins board claims number seat own claimer new sits same claimed is = subst (IsReady board claims seat.view.base) (sym is) (record {
   works = record {
-    works = record { seat = subst (SitsAt board) (sym same) sits; marks = length-replicate count false ∙ many };
+    works = record { seat = subst (SitsAt board) (sym same) sits; marks = length-replicate (blocks board.game.checkers) false };
     claimer = claimed;
     after = ap (λ s. s.view.base) same;
   };
-  unmarked = ap unmarked many;
+  unmarked = refl;
 })
 
 -- all of one element

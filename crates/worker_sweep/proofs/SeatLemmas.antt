@@ -48,29 +48,3 @@ told-both board old middle new state pair p k one two sits at_state is Lower =
     let first = sits-kept board old middle one.keeps sits in
     tight-trans Lower _ _ _ (two.keeps.notes board.game first.game Lower p k is) (one.told p k at_state)
 told-both board old middle new state pair p k one two sits at_state is Upper = two.told p k at_state
-
--- one kind more of a position is swept
-pub done-more : (board middle new : GameTable) (first second third : GameSeat) (p : Placement) (kind : ℕ) → middle ≡ board → new ≡ middle → KeepsNotes first second → KeepsNotes second third → first.view.game ≡ Some board.game
-    → ((end : End) (k : ℕ) → k < kind → IsNoLooser end (noted middle.game second.view.notes end p k) (rounds board.game.stakes (first.view.base + 1) end p k))
-    → ((end : End) → IsNoLooser end (noted new.game third.view.notes end p kind) (rounds middle.game.stakes (second.view.base + 1) end p kind))
-    → ((k : ℕ) → k < kind + 1 → IsState board.game p k)
-    → (end : End) (k : ℕ) → k < kind + 1 → IsNoLooser end (noted new.game third.view.notes end p k) (rounds board.game.stakes (first.view.base + 1) end p k)
-done-more board middle new first second third p kind same_middle same_new one two names before last states end k below = elim (cases_lt k kind) [
-  | inl earlier ↦ (
-      subst (λ (g : GameTable). IsNoLooser end (noted g.game third.view.notes end p k) (rounds board.game.stakes (first.view.base + 1) end p k)) (sym (same_new ∙ same_middle))
-      (tight-trans end _ _ _ (two.notes board.game (one.game ∙ names) end p k (states k below)) (subst (λ (g : GameTable). IsNoLooser end (noted g.game second.view.notes end p k) (rounds board.game.stakes (first.view.base + 1) end p k)) same_middle (before end k earlier))))
-  | inr from ↦ (
-      let at : k ≡ kind = omega (arith, below, from) in
-      subst (λ (n : ℕ). IsNoLooser end (noted new.game third.view.notes end p n) (rounds board.game.stakes (first.view.base + 1) end p n)) (sym at)
-      (subst (λ (g : GameTable). IsNoLooser end (noted new.game third.view.notes end p kind) (rounds g.game.stakes (first.view.base + 1) end p kind)) same_middle
-      (subst (λ (n : ℕ). IsNoLooser end (noted new.game third.view.notes end p kind) (rounds middle.game.stakes (n + 1) end p kind)) one.base (last end))))
-]
-
--- what is swept of one board's position is so of the same board and position
-pub position-done : (board a b : GameTable) (old new : View) (q r : Placement) → a ≡ board → b ≡ a → r ≡ q
-    → ((end : End) (k : ℕ) → k < kinds_of a.game → IsNoLooser end (noted b.game new.notes end r k) (rounds a.game.stakes (old.base + 1) end r k))
-    → (end : End) (k : ℕ) → k < kinds_of board.game → IsNoLooser end (noted board.game new.notes end q k) (rounds board.game.stakes (old.base + 1) end q k)
-position-done board a b old new q r a_is b_is r_is done =
-    let one = subst (λ (x : GameTable). (end : End) (k : ℕ) → k < kinds_of a.game → IsNoLooser end (noted x.game new.notes end r k) (rounds a.game.stakes (old.base + 1) end r k)) b_is done in
-    let two = subst (λ (x : GameTable). (end : End) (k : ℕ) → k < kinds_of x.game → IsNoLooser end (noted x.game new.notes end r k) (rounds x.game.stakes (old.base + 1) end r k)) a_is one in
-    subst (λ (x : Placement). (end : End) (k : ℕ) → k < kinds_of board.game → IsNoLooser end (noted board.game new.notes end x k) (rounds board.game.stakes (old.base + 1) end x k)) r_is two

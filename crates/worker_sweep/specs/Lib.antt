@@ -1,3 +1,4 @@
 pub mod Blocks
 pub mod Sources
 pub mod Workers
+pub mod Columns

@@ -6,7 +6,10 @@ use Rattle.block_claims.specs.declared.views.ClaimView.{ClaimView}
 use Rattle.block_claims.specs.Claiming.{ClaimTable, Claimer}
 use Rattle.turn_rule.specs.declared.game.Game.{Game}
 use Rattle.interval_words.specs.Seats.{GameTable, GameSeat, SitsAt}
+use Rattle.interval_words.specs.declared.view.View.{View}
+use Rattle.column_turns.specs.Columns.{ColumnPairs}
 use Rattle.worker_sweep.specs.Blocks.{blocks, IsSwept}
+use Rattle.worker_sweep.specs.Columns.{IsRoomOf}
 
 -- a worker's seats at the board and at the claims, its number, and for each block whether it has swept it in this round
 pub record SeatsAndMarks : Type 0 where
@@ -21,6 +24,14 @@ is_marked marks block = slice_index_or marks block false
 -- no block is marked
 abbrev pub unmarked : ℕ → List Bool
 unmarked blocks = replicate blocks false
+
+-- a worker that has marked nothing
+abbrev pub unmarked_worker : GameSeat → Claimer → ℕ → ℕ → SeatsAndMarks
+unmarked_worker seat claims number blocks = record { seat = seat; claims = claims; number = number; marks = unmarked blocks }
+
+-- a column has room for those of the view's game
+pub record HasRoom (view : View) (column : ColumnPairs) : Type 0 where
+  pub room : (game : Game) → view.game ≡ Some game → IsRoomOf game column
 
 -- the marked blocks are swept
 pub record IsHonest (worker : SeatsAndMarks) : Type 0 where

@@ -2,6 +2,7 @@
 #![tactic(auto)]
 
 mod blocks;
+mod columns;
 mod rounds;
 mod seat_pairs;
 mod sweep;

@@ -125,11 +125,9 @@ fn make_crew(
     seat: &mut BoardSeat,
     claim_seat: &mut ClaimSeat,
     workers: u32,
-    blocks: u64,
 ) -> Result<Vec<Worker>, NoMemory>
     requires seat { SitsAt board.now seat.old }
     requires claims { claim_seat.old.table ≡ claims.now.table }
-    requires blocks { blocks ≡ blocks_in board.now.game.checkers }
     ensures seat { seat.new ≡ seat.old }
     ensures claim_seat { claim_seat.new ≡ claim_seat.old }
     ensures many { IfOk result (λ crew. length crew.items ≡ workers) }
@@ -140,7 +138,7 @@ fn make_crew(
     for number in 0..workers {
         let board_seat = board.split(seat);
         let own_claims = claims.split(claim_seat);
-        crew.push(Worker::new(alloc, board_seat, own_claims, number, blocks)?)?;
+        crew.push(Worker::new(alloc, board, board_seat, own_claims, number)?)?;
     }
     Ok(crew)
 }
@@ -171,18 +169,9 @@ pub fn run_rounds<R: Threads + Sync, G: Gate + Sync>(
     ensures closed { IfOk result AreClosed }
 {
     let (board, mut seat) = Board::new(alloc, checkers, stakes)?;
-    let blocks = block_count(&board);
-    let (claims, mut claim_seat) = Claims::new(alloc, blocks)?;
-    let mut crew = make_crew(
-        alloc,
-        &board,
-        &claims,
-        &mut seat,
-        &mut claim_seat,
-        workers,
-        blocks,
-    )?;
-    let mut owner = Worker::new(alloc, seat, claim_seat, 0, blocks)?;
+    let (claims, mut claim_seat) = Claims::new(alloc, block_count(&board))?;
+    let mut crew = make_crew(alloc, &board, &claims, &mut seat, &mut claim_seat, workers)?;
+    let mut owner = Worker::new(alloc, &board, seat, claim_seat, 0)?;
     run_each(
         rt, &board, &claims, gate, &mut owner, &mut crew, workers, rounds,
     );

@@ -1,50 +1,62 @@
-ghost use Rattle.std.specs.Prelude.{◌≡◌, ◌≤◌, All, sum, length};
+ghost use Rattle.std.specs.Prelude.{◌≡◌, ◌<◌, ◌≤◌, All, IfOk, sum, length};
 ghost use Rattle.position_rank.specs.Placement.{IsPosition, IsLive};
 ghost use Rattle.turn_rule.specs.States.{IsState};
 ghost use Rattle.interval_words.specs.WordLists.{WordList};
 
 use super::*;
-use cube_actions::Stakes;
+use cube_actions::{Phase, Score, Stakes, Starts};
 use hyper_outside::{Gate, OpenGate};
 use interval_words::Words;
+use plain_table::PlainTable;
 use position_rank::{Position, read_position};
+use std::alloc::{AllocError, Global};
 use std::process::Abort;
 use std::sync::atomic::{AtomicU64, Ordering};
 use std::test::Fail;
 use std::thread;
 use std::thread::Threads;
-use plain_table::PlainTable;
 
 /// How often a held worker looks whether it may go on, before it gives up.
 const TURNS: u32 = 50_000_000;
 
-/// Holds worker 0 at its first block until worker 1 has come to its first, and worker 1 there until worker 0 has come to its second.
+/// How many blocks there are of one checker a side.
+const BLOCKS: usize = 26;
+
+/// Numbers from 0 on that many threads count up.
+fn counters(alloc: Global, many: usize) -> Result<Vec<AtomicU64>, AllocError>
+    ensures { IfOk result (λ counters. length counters.items ≡ many) }
+{
+    let mut counters = Vec::new(alloc);
+    for _ in 0..many {
+        counters.push(AtomicU64::new(0))?;
+    }
+    Ok(counters)
+}
+
+/// Holds each of two workers at its first block until the other has come to its first, and whoever comes to block 1
+/// there until all blocks have been come to.
 #[derive(Drop)]
 struct Meeting {
-    first: AtomicU64,
-    second: AtomicU64,
+    /// How often each worker passed each block, worker 0 first.
+    passes: Vec<AtomicU64>,
+    /// How many blocks each worker has come to.
+    came: Vec<AtomicU64>,
+    all: AtomicU64,
     gave_up: AtomicU64,
-    passes: [AtomicU64; 6],
+    ghost many: { (length passes.items ≡ 52) × (length came.items ≡ 2) },
 }
 
 impl Meeting {
-    fn new() -> Meeting {
-        Meeting {
-            first: AtomicU64::new(0),
-            second: AtomicU64::new(0),
+    fn new(alloc: Global) -> Result<Meeting, AllocError> {
+        Ok(Meeting {
+            passes: counters(alloc, 2 * BLOCKS)?,
+            came: counters(alloc, 2)?,
+            all: AtomicU64::new(0),
             gave_up: AtomicU64::new(0),
-            passes: [
-                AtomicU64::new(0),
-                AtomicU64::new(0),
-                AtomicU64::new(0),
-                AtomicU64::new(0),
-                AtomicU64::new(0),
-                AtomicU64::new(0),
-            ],
-        }
+        })
     }
 
-    /// Waits until a worker has come to so many blocks.
+    /// Waits until so many blocks were come to.
     fn hold(&self, came: &AtomicU64, many: u64) {
         for _turn in 0..TURNS {
             if came.load(Ordering::SeqCst) >= many {
@@ -54,26 +66,48 @@ impl Meeting {
         }
         self.gave_up.fetch_add(1, Ordering::SeqCst);
     }
+
+    /// How often a worker passed a block.
+    fn passed(&self, worker: usize, block: usize) -> u64
+        requires worker { worker < 2 }
+        requires block { block < 26 }
+    {
+        self.passes[worker * BLOCKS + block].load(Ordering::SeqCst)
+    }
 }
 
 impl Gate for Meeting {
     fn pass(&self, worker: u32, block: u64) {
-        if worker < 2 && block < 3 {
-            let place = 3 * worker as usize + block as usize;
-            self.passes[place].fetch_add(1, Ordering::SeqCst);
-        } else {
+        if worker >= 2 || block >= BLOCKS as u64 {
             self.gave_up.fetch_add(1, Ordering::SeqCst);
+            return;
         }
-        if worker == 0 {
-            let before = self.first.fetch_add(1, Ordering::SeqCst);
-            if before == 0 {
-                self.hold(&self.second, 1);
-            }
+        let worker = worker as usize;
+        self.passes[worker * BLOCKS + block as usize].fetch_add(1, Ordering::SeqCst);
+        self.all.fetch_add(1, Ordering::SeqCst);
+        if self.came[worker].fetch_add(1, Ordering::SeqCst) == 0 {
+            self.hold(&self.came[1 - worker], 1);
+        }
+        if block == 1 {
+            self.hold(&self.all, BLOCKS as u64);
+        }
+    }
+}
+
+/// Counts how often each block is passed.
+#[derive(Drop)]
+struct Counting {
+    passes: Vec<AtomicU64>,
+    outside: AtomicU64,
+    ghost many: { length passes.items ≡ 26 },
+}
+
+impl Gate for Counting {
+    fn pass(&self, _worker: u32, block: u64) {
+        if block < BLOCKS as u64 {
+            self.passes[block as usize].fetch_add(1, Ordering::SeqCst);
         } else {
-            let before = self.second.fetch_add(1, Ordering::SeqCst);
-            if before == 0 {
-                self.hold(&self.first, 2);
-            }
+            self.outside.fetch_add(1, Ordering::SeqCst);
         }
     }
 }
@@ -99,15 +133,17 @@ fn units(rt: &impl Abort, words: &Words, text: &str, kind: usize) -> (i64, i64) 
 
 #[test]
 fn two_at_once(rt: HostRuntime) -> Result<(), Fail> {
-    let gate = Meeting::new();
+    let gate = Meeting::new(rt.alloc())?;
     let closed = run_rounds(&rt, rt.alloc(), 1, &Stakes::cubeless(), 1, 2, &gate).expect(
         &rt,
         "no memory",
     );
     assert_eq!(rt; gate.gave_up.load(Ordering::SeqCst), 0);
-    let once = [1, 0, 1, 0, 1, 0];
-    for place in 0..6 {
-        assert_eq!(rt; gate.passes[place].load(Ordering::SeqCst), once[place]);
+    let late = usize::from(gate.passed(0, 1) == 0);
+    for block in 0..BLOCKS {
+        let others = u64::from(block != 1);
+        assert_eq!(rt; gate.passed(late, block), 1 - others);
+        assert_eq!(rt; gate.passed(1 - late, block), others);
     }
     assert_eq!(rt;
         units(&rt, closed.words(), "12 / 1", 0),
@@ -117,22 +153,47 @@ fn two_at_once(rt: HostRuntime) -> Result<(), Fail> {
 }
 
 #[test]
+fn each_block_passes_once_a_round(rt: HostRuntime) -> Result<(), Fail> {
+    let gate = Counting {
+        passes: counters(rt.alloc(), BLOCKS)?,
+        outside: AtomicU64::new(0),
+    };
+    run_rounds(&rt, rt.alloc(), 1, &Stakes::money(), 3, 4, &gate).expect(&rt, "no memory");
+    assert_eq!(rt; gate.outside.load(Ordering::SeqCst), 0);
+    for block in 0..BLOCKS {
+        assert_eq!(rt; gate.passes[block].load(Ordering::SeqCst), 3);
+    }
+    Ok(())
+}
+
+// A column rests on those that were tightened earlier in the same round, and not on later ones.
+#[test]
 fn one_worker_reads_what_it_wrote(rt: HostRuntime) -> Result<(), Fail> {
-    let cubeless = run_rounds(&rt, rt.alloc(), 1, &Stakes::cubeless(), 1, 1, &OpenGate).expect(
+    let closed = run_rounds(&rt, rt.alloc(), 1, &Stakes::cubeless(), 1, 1, &OpenGate).expect(
         &rt,
         "no memory",
     );
     assert_eq!(rt;
-        units(&rt, cubeless.words(), "6 / 1", 0),
-        (4_294_967_296, 4_294_967_296)
-    );
-    let jacoby = run_rounds(&rt, rt.alloc(), 1, &Stakes::jacoby(), 2, 4, &OpenGate).expect(
-        &rt,
-        "no memory",
+        units(&rt, closed.words(), "12 / 9", 0),
+        (-2_710_895_827, 4_202_003_325)
     );
     assert_eq!(rt;
-        units(&rt, jacoby.words(), "6 / 1", 0),
-        (4_294_967_296, 4_294_967_296)
+        units(&rt, closed.words(), "6 / 1", 0),
+        (3_221_225_472, 9_663_676_416)
+    );
+    let mut table = PlainTable::new(rt.alloc(), 1, &Stakes::cubeless()).expect(&rt, "no memory");
+    table.sweep_all();
+    for text in &["12 / 1", "6 / 1"] {
+        let plain = table.pair(&live(&rt, text, 1), 0);
+        assert_eq!(rt;
+            units(&rt, closed.words(), text, 0),
+            (plain.lower().units(), plain.upper().units())
+        );
+    }
+    let plain = table.pair(&live(&rt, "12 / 9", 1), 0);
+    assert_eq!(rt;
+        (plain.lower().units(), plain.upper().units()),
+        (-10_498_808_946, 12_407_683_300)
     );
     Ok(())
 }
@@ -141,7 +202,21 @@ fn one_worker_reads_what_it_wrote(rt: HostRuntime) -> Result<(), Fail> {
 fn blocks_of_each_number_of_checkers(rt: HostRuntime) -> Result<(), Fail> {
     assert_eq!(rt;
         (blocks_of(1), blocks_of(2), blocks_of(3)),
-        (3, 417, 31_068)
+        (26, 351, 3_276)
+    );
+    Ok(())
+}
+
+// Three checkers a side, in which the last checker is borne off at once.
+#[test]
+fn three_checkers_have_memory(rt: HostRuntime) -> Result<(), Fail> {
+    let closed = run_rounds(&rt, rt.alloc(), 3, &Stakes::cubeless(), 1, 4, &OpenGate).expect(
+        &rt,
+        "no memory",
+    );
+    assert_eq!(rt;
+        units(&rt, closed.words(), "1 off off / 1 off off", 0),
+        (4_294_967_296, 4_294_967_296)
     );
     Ok(())
 }
@@ -196,76 +271,45 @@ fn compare_each<R: Threads + Sync + Abort + AllocGlobal>(
     }
 }
 
-#[test]
-fn one_checker_as_tight_as_a_plain_table(rt: HostRuntime) -> Result<(), Fail> {
+/// The last game of a match, in which both sides need a point.
+fn last_game(rt: &impl Abort) -> Stakes {
+    let score = Score::new(1, 1, Phase::Post).expect(rt, "a score");
+    let starts = Starts::new(1);
+    assert!(rt; starts.covers(score));
+    Stakes::of_score(score, &starts)
+}
+
+fn compare_all<R: Threads + Sync + Abort + AllocGlobal>(rt: &R, checkers: u8, crews: &[u32])
+    requires low { 1 ≤ checkers }
+    requires high { checkers ≤ 3 }
+    requires crews { All (λ workers. (1 ≤ workers) × (workers ≤ 64)) crews.now }
+{
     for stakes in &[
         Stakes::cubeless(),
         Stakes::money(),
         Stakes::jacoby(),
         Stakes::money_beavers(),
         Stakes::jacoby_beavers(),
+        last_game(rt),
     ] {
-        compare_each(&rt, 1, stakes, &[1, 2, 4, 64]);
+        compare_each(rt, checkers, stakes, crews);
     }
+}
+
+#[test]
+fn one_checker_as_tight_as_a_plain_table(rt: HostRuntime) -> Result<(), Fail> {
+    compare_all(&rt, 1, &[1, 2, 4, 64]);
     Ok(())
 }
 
 #[test]
-fn cubeless_by_few_workers(rt: HostRuntime) -> Result<(), Fail> {
-    compare_each(&rt, 2, &Stakes::cubeless(), &[1, 2]);
+fn two_checkers_by_few_workers(rt: HostRuntime) -> Result<(), Fail> {
+    compare_all(&rt, 2, &[1, 2]);
     Ok(())
 }
 
 #[test]
-fn cubeless_by_many_workers(rt: HostRuntime) -> Result<(), Fail> {
-    compare_each(&rt, 2, &Stakes::cubeless(), &[4, 64]);
-    Ok(())
-}
-
-#[test]
-fn money_by_few_workers(rt: HostRuntime) -> Result<(), Fail> {
-    compare_each(&rt, 2, &Stakes::money(), &[1, 2]);
-    Ok(())
-}
-
-#[test]
-fn money_by_many_workers(rt: HostRuntime) -> Result<(), Fail> {
-    compare_each(&rt, 2, &Stakes::money(), &[4, 64]);
-    Ok(())
-}
-
-#[test]
-fn jacoby_by_few_workers(rt: HostRuntime) -> Result<(), Fail> {
-    compare_each(&rt, 2, &Stakes::jacoby(), &[1, 2]);
-    Ok(())
-}
-
-#[test]
-fn jacoby_by_many_workers(rt: HostRuntime) -> Result<(), Fail> {
-    compare_each(&rt, 2, &Stakes::jacoby(), &[4, 64]);
-    Ok(())
-}
-
-#[test]
-fn money_beavers_by_few_workers(rt: HostRuntime) -> Result<(), Fail> {
-    compare_each(&rt, 2, &Stakes::money_beavers(), &[1, 2]);
-    Ok(())
-}
-
-#[test]
-fn money_beavers_by_many_workers(rt: HostRuntime) -> Result<(), Fail> {
-    compare_each(&rt, 2, &Stakes::money_beavers(), &[4, 64]);
-    Ok(())
-}
-
-#[test]
-fn jacoby_beavers_by_few_workers(rt: HostRuntime) -> Result<(), Fail> {
-    compare_each(&rt, 2, &Stakes::jacoby_beavers(), &[1, 2]);
-    Ok(())
-}
-
-#[test]
-fn jacoby_beavers_by_many_workers(rt: HostRuntime) -> Result<(), Fail> {
-    compare_each(&rt, 2, &Stakes::jacoby_beavers(), &[4, 64]);
+fn two_checkers_by_many_workers(rt: HostRuntime) -> Result<(), Fail> {
+    compare_all(&rt, 2, &[4, 64]);
     Ok(())
 }

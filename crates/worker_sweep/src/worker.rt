@@ -1,20 +1,18 @@
 ghost use Rattle.std.specs.Prelude.{◌≡◌, ℕ, ◌+◌, ◌<◌, ◌≤◌, ◌||◌, true, IfOk, length, replicate, slice_set};
 ghost use Rattle.interval_words.specs.Core.{settled};
 ghost use Rattle.interval_words.specs.Seats.{SitsAt, KeepsNotes};
-ghost use Rattle.worker_sweep.specs.Blocks.{blocks};
-ghost use Rattle.worker_sweep.specs.Workers.{SeatsAndMarks, WorksAt, IsHonest, WentThrough, is_marked, unmarked};
+ghost use Rattle.worker_sweep.specs.Blocks.{blocks, IsSwept};
+ghost use Rattle.worker_sweep.specs.Workers.{SeatsAndMarks, WorksAt, IsHonest, WentThrough, is_marked, unmarked, unmarked_worker};
 
-use crate::blocks::{BLOCK, block_count};
-use crate::seat_pairs::sweep_ranks;
+use crate::blocks::block_count;
+use crate::columns::sweep_column;
 use block_claims::{ClaimSeat, Claims};
+use column_turns::ColumnTurns;
 use hyper_outside::{Gate, NoMemory};
 use interval_words::{Board, BoardSeat};
-use move_rules::PlayList;
-use position_rank::Position;
 use std::alloc::Global;
 use std::marker::Model;
 use std::mem;
-use turn_rule::RollEnds;
 
 /// A worker: a seat at a board and one at its claims, and for each block whether the worker has swept it in this round.
 #[derive(Drop)]
@@ -23,42 +21,47 @@ pub struct Worker {
     claims: ClaimSeat,
     number: u32,
     swept: Vec<bool>,
-    ends: RollEnds,
-    list: PlayList,
+    turns: ColumnTurns,
 }
 
 impl Model for Worker {
-    ghost use Rattle.worker_sweep.specs.Workers.{SeatsAndMarks, IsHonest};
+    ghost use Rattle.worker_sweep.specs.Workers.{SeatsAndMarks, IsHonest, HasRoom};
 
     ghost Value = { SeatsAndMarks };
 
     ghost view = { λ a. record { seat = a.seat; claims = a.claims; number = a.number; marks = a.swept.items } };
 
-    ghost invariant = { λ a. IsHonest (record { seat = a.seat; claims = a.claims; number = a.number; marks = a.swept.items }) };
+    ghost invariant = { λ a. IsHonest (record {
+      seat = a.seat;
+      claims = a.claims;
+      number = a.number;
+      marks = a.swept.items;
+    }) × HasRoom a.seat.view a.turns };
 }
 
 impl Worker {
-    /// A worker with these seats and this number, which has swept none of so many blocks. It asks for memory for the marks, and may answer
-    /// `NoMemory`; then both seats are gone.
+    /// A worker of a board with these seats and this number, which has swept none of its blocks. It asks for memory for
+    /// the marks and the room of a column, and may answer `NoMemory`; then both seats are gone.
     pub fn new(
         alloc: Global,
+        board: &Board,
         board_seat: BoardSeat,
         claim_seat: ClaimSeat,
         number: u32,
-        blocks: u64,
     ) -> Result<Worker, NoMemory>
-        ensures { IfOk result (λ worker. worker ≡ record { seat = board_seat; claims = claim_seat; number = number; marks = unmarked blocks }) }
+        requires { SitsAt board.now board_seat }
+        ensures { IfOk result
+            (λ worker. worker ≡ unmarked_worker board_seat claim_seat number
+            (blocks board.now.game.checkers)) }
     {
-        let swept = vec![in alloc; false; blocks as usize]?;
-        let mut list = PlayList::new();
-        let ends = RollEnds::of(&Position::start(1), &mut list);
+        let swept = vec![in alloc; false; block_count(board) as usize]?;
+        let turns = ColumnTurns::new(alloc, board.checkers(), board.stakes())?;
         Ok(Worker {
             seat: board_seat,
             claims: claim_seat,
             number,
             swept,
-            ends,
-            list,
+            turns,
         })
     }
 
@@ -84,16 +87,14 @@ impl Worker {
         requires works { WorksAt board.now self.old }
         requires block { block < blocks board.now.game.checkers }
         ensures seat { KeepsNotes self.old.seat self.new.seat }
+        ensures swept { IsSwept board.now.game self.new.seat.view block }
         ensures marks { self.new.marks ≡ slice_set self.old.marks block true }
         ensures claims { self.new.claims ≡ self.old.claims }
         ensures number { self.new.number ≡ self.old.number }
     {
-        let all = board.index().count();
-        let from = block * BLOCK;
-        let to = all.min(from + BLOCK);
         let copy = board.split(&mut self.seat);
         let seat = mem::replace(&mut self.seat, copy);
-        self.seat = sweep_ranks(board, seat, from, to, &mut self.ends, &mut self.list);
+        self.seat = sweep_column(board, seat, block, &mut self.turns);
         self.swept[block as usize] = true;
     }
 
@@ -154,11 +155,14 @@ impl Worker {
         requires other { WorksAt board.now other.old }
         requires base { other.old.seat.view.base ≡ self.old.seat.view.base }
         ensures seat { KeepsNotes self.old.seat self.new.seat }
-        ensures marks { (block : ℕ) → is_marked self.new.marks block ≡ (is_marked self.old.marks block || is_marked other.old.marks block) }
+        ensures marks { (block : ℕ)
+            → is_marked self.new.marks block
+            ≡ (is_marked self.old.marks block || is_marked other.old.marks block) }
         ensures many { length self.new.marks ≡ length self.old.marks }
         ensures claims { self.new.claims ≡ self.old.claims }
         ensures number { self.new.number ≡ self.old.number }
-        ensures other { other.new ≡ record other.old { seat = self.old.seat; marks = unmarked (length other.old.marks) } }
+        ensures other { other.new
+            ≡ record other.old { seat = self.old.seat; marks = unmarked (length other.old.marks) } }
     {
         let copy = board.split(&mut self.seat);
         let seat = mem::replace(&mut other.seat, copy);
@@ -171,7 +175,8 @@ impl Worker {
         requires works { WorksAt board.now self.old }
         ensures seat { KeepsNotes self.old.seat self.new.seat }
         ensures many { length self.new.marks ≡ length self.old.marks }
-        ensures marks { (block : ℕ) → block < blocks board.now.game.checkers → is_marked self.new.marks block ≡ true }
+        ensures marks { (block : ℕ) → block < blocks board.now.game.checkers
+            → is_marked self.new.marks block ≡ true }
         ensures claims { self.new.claims ≡ self.old.claims }
         ensures number { self.new.number ≡ self.old.number }
     {
@@ -185,8 +190,14 @@ impl Worker {
     /// Ends the round, for which all blocks are marked.
     pub(crate) fn settle(&mut self, board: &Board)
         requires works { WorksAt board.now self.old }
-        requires marks { (block : ℕ) → block < blocks board.now.game.checkers → is_marked self.old.marks block ≡ true }
-        ensures { self.new ≡ record self.old { seat = record self.old.seat { view = settled self.old.seat.view }; marks = unmarked (length self.old.marks) } }
+        requires marks { (block : ℕ) → block < blocks board.now.game.checkers
+            → is_marked self.old.marks block ≡ true }
+        ensures { self.new
+            ≡ record self.old {
+              seat = record self.old.seat { view = settled self.old.seat.view };
+              marks = unmarked
+                  (length self.old.marks);
+            } }
     {
         board.settle(&mut self.seat);
         self.swept.fill(false);
@@ -194,6 +205,7 @@ impl Worker {
 
     /// Knows what another worker knows from now on.
     pub(crate) fn follow(&mut self, board: &Board, other: &mut Worker)
+        requires own { SitsAt board.now self.old.seat }
         requires works { WorksAt board.now other.old }
         requires marks { self.old.marks ≡ unmarked (length self.old.marks) }
         ensures other { other.new ≡ other.old }
@@ -215,7 +227,9 @@ fn move_marks(from: &mut Vec<bool>, to: &mut Vec<bool>)
     requires { length from.old.items ≡ length to.old.items }
     ensures from { from.new.items ≡ unmarked (length from.old.items) }
     ensures many { length to.new.items ≡ length to.old.items }
-    ensures to { (block : ℕ) → is_marked to.new.items block ≡ (is_marked to.old.items block || is_marked from.old.items block) }
+    ensures to { (block : ℕ)
+        → is_marked to.new.items block
+        ≡ (is_marked to.old.items block || is_marked from.old.items block) }
 {
     for block in 0..from.len() {
         if from[block] {

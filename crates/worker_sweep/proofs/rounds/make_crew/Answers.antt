@@ -9,7 +9,7 @@ loop-number-preserved c =
     let seats = c.split-board_seat.ensures.seat ∙ c.loop-number.invariant.seat in
     let claimers = c.split-own_claims.ensures.seat ∙ c.loop-number.invariant.claim_seat in
     let P = IsReady c.args.board.now c.args.claims.now c.args.seat.now.view.base in
-    let worker : P c.in_ok-new.field-0 = begins c.args.board.now c.args.claims.now c.loop-number.number c.args.blocks c.args.seat.now _ _ _ c.requires.seat (c.split-board_seat.ensures.copy ∙ c.loop-number.invariant.seat) (ap (λ s. s.table) c.split-own_claims.ensures.other) c.requires.blocks c.in_ok-new.ensures in
+    let worker : P c.in_ok-new.field-0 = begins c.args.board.now c.args.claims.now c.loop-number.number c.args.seat.now _ _ _ c.requires.seat (c.split-board_seat.ensures.copy ∙ c.loop-number.invariant.seat) (ap (λ s. s.table) c.split-own_claims.ensures.other) c.in_ok-new.ensures in
     record {
       seat = seats;
       claim_seat = claimers;

@@ -1,6 +1,7 @@
 use Rattle.std.proofs.Common.{◌≡◌, ap, sym, subst, ◌∙◌}
-use Rattle.interval_words.specs.Seats.{joining, KeepsNotes}
-use Rattle.worker_sweep.proofs.TakeIn.{honest-joined, keeps-joined}
+use Rattle.interval_words.specs.Seats.{SitsAt, joining, KeepsNotes}
+use Rattle.interval_words.proofs.SeatNotes.{sits-kept}
+use Rattle.worker_sweep.proofs.TakeIn.{honest-joined, keeps-joined, none-marked, room-at}
 use Rattle.worker_sweep.proofs.worker.Worker.take_in.Goals as goal
 
 joins : (c : goal.After-move_marks) → c.join.new.seat ≡ joining c.self.inside.seat c.other.inside.seat
@@ -13,7 +14,12 @@ pub invariant_of-self : goal.invariant_of-self
 invariant_of-self c =
     let own = ap (λ w. w.seat.view.game) c.self.view_is ∙ c.requires.works.seat.game in
     let others = ap (λ w. w.seat.view.game) c.other.view_is ∙ c.requires.other.seat.game in
-    record { marks = honest-joined c.self.inside.seat c.other.inside.seat _ (joins c) (same c) c.self.inside.swept.items c.other.inside.swept.items c.move_marks.new.to.items c.self.invariant.marks c.other.invariant.marks (others ∙ sym own) c.move_marks.ensures.to }
+    let board = c.args.board.now in
+    let at : SitsAt board c.self.inside.seat = subst (SitsAt board) (sym (ap (λ w. w.seat) c.self.view_is)) c.requires.works.seat in
+    let kept = keeps-joined c.self.inside.seat c.other.inside.seat _ (joins c) (same c) in (
+      record { marks = honest-joined c.self.inside.seat c.other.inside.seat _ (joins c) (same c) c.self.inside.swept.items c.other.inside.swept.items c.move_marks.new.to.items c.self.invariant.0.marks c.other.invariant.0.marks (others ∙ sym own) c.move_marks.ensures.to },
+      room-at board c.self.inside.seat c.join.new.seat c.self.inside.turns at (sits-kept board _ c.join.new.seat kept at) c.self.invariant.1,
+    )
 
 pub returns-clause-seat : goal.returns-clause-seat
 returns-clause-seat c = subst (λ s. KeepsNotes s c.join.new.seat) (ap (λ w. w.seat) c.self.view_is) (keeps-joined c.self.inside.seat c.other.inside.seat _ (joins c) (same c))
