@@ -184,7 +184,8 @@ impl Moves {
         ensures first { layout_at self.new.layers 0 ≡ other.now }
         ensures movers { (i : ℕ) → i < length movers.now
             → IsMover self.new.listing self.new.movers (slice_index movers.now i) }
-        ensures only { (i : ℕ) → i < self.new.movers → IsListed movers.now (slice_index self.new.listing i) }
+        ensures only { (i : ℕ) → i < self.new.movers
+            → IsListed movers.now (slice_index self.new.listing i) }
     {
         self.layers.set(other);
         list_movers(&mut self.listing, movers);

@@ -29,7 +29,12 @@ impl Model for Worker {
 
     ghost Value = { SeatsAndMarks };
 
-    ghost view = { λ a. record { seat = a.seat; claims = a.claims; number = a.number; marks = a.swept.items } };
+    ghost view = { λ a. record {
+      seat = a.seat;
+      claims = a.claims;
+      number = a.number;
+      marks = a.swept.items;
+    } };
 
     ghost invariant = { λ a. IsHonest (record {
       seat = a.seat;
