@@ -15,9 +15,9 @@ use cube_actions::Stakes;
 use directed_fixed::Pair;
 use equity_report::{Refusal, write_bound, write_refusal};
 use hyper_outside::{Failed, Files, Gate, NoMemory, Sink};
+use plain_table::PlainTable;
 use std::alloc::Global;
 use std::thread::Threads;
-use plain_table::PlainTable;
 
 /// The status of a run that did all that it was asked for.
 pub const DONE: u8 = 0;

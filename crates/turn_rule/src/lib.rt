@@ -37,8 +37,8 @@ pub use from_sums::pair_from_sums;
 pub use game::Game;
 pub use laws::{
     doubled_examples, rounded_examples, rounds_stay_within_the_bound, rounds_tighten,
-    tighter_words_tighten_turns, turns_look_at_states_alone,
-    turns_stay_within_the_bound, worked_examples,
+    tighter_words_tighten_turns, turns_look_at_states_alone, turns_stay_within_the_bound,
+    worked_examples,
 };
 pub use layouts::all_layouts;
 pub use look_laws::{one_list_gives_the_roll, one_list_gives_the_turn, sure_sources_answer};

@@ -1,7 +1,6 @@
 ghost use Rattle.std.specs.Prelude.{◌≡◌, ◌≤◌, Err, sum};
 ghost use Rattle.std.proofs.Common.{rules};
 ghost use Rattle.position_rank.specs.Placement.{Placement, IsPosition, IsLive};
-ghost use Rattle.cube_actions.specs.Stakes.{cubeless};
 ghost use Rattle.hyper_outside.specs.Causes.{counted};
 ghost use Rattle.turn_rule.specs.Turn.{Words};
 ghost use Rattle.turn_rule.specs.States.{IsStateOf, AreWithinOf};
