@@ -1,5 +1,5 @@
 -- Swept blocks stay swept, and cover all states.
-use Rattle.std.proofs.Common.{◌≡◌, sum, zero, suc, ◌+◌, ◌<◌, ◌≤◌, ◌++◌, ℕ, ℤ, List, [], ◌∷◌, arith, refl, ap, subst, sym, ◌∙◌}
+use Rattle.std.proofs.Common.{◌≡◌, zero, suc, ◌+◌, ◌<◌, ◌≤◌, ◌++◌, ℕ, ℤ, List, [], ◌∷◌, arith, refl, ap, subst, sym, ◌∙◌}
 use Rattle.position_rank.specs.Placement.{Placement}
 use Rattle.position_rank.specs.Ranks.{layouts, rank_of}
 use Rattle.position_rank.proofs.RankLaws.{layouts-one, layouts-two, layouts-three, rank-below}

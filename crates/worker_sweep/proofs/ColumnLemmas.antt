@@ -1,7 +1,6 @@
 -- A column's pairs are brought to a board, one after the other.
-use Rattle.std.proofs.Common.{◌≡◌, inl, inr, ◌+◌, ◌<◌, ◌≤◌, ℕ, List, length, sum, get_or, arith, ap, refl, sym, subst, ◌∙◌}
+use Rattle.std.proofs.Common.{◌≡◌, inl, inr, ◌+◌, ◌<◌, ℕ, List, length, sum, get_or, arith, ap, refl, sym, subst, ◌∙◌}
 use Rattle.std.proofs.lemmas.Bool.{cases_lt}
-use Rattle.std.specs.Bool.{IsTrue}
 use Rattle.position_rank.specs.Placement.{Placement, IsLayout, IsLive}
 use Rattle.position_rank.specs.Ranks.{rank_of, layouts}
 use Rattle.position_rank.proofs.RankLaws.{layouts-same, rank-below}
@@ -11,7 +10,7 @@ use Rattle.directed_fixed.specs.Bounds.{Bounds, at, IsNoLooser, IsWithinUnits}
 use Rattle.cube_actions.specs.Stakes.{IsValid, nothing}
 use Rattle.turn_rule.specs.declared.game.Game.{Game}
 use Rattle.turn_rule.specs.Games.{kinds_of}
-use Rattle.turn_rule.specs.Turn.{Words, turn, rounds}
+use Rattle.turn_rule.specs.Turn.{rounds}
 use Rattle.turn_rule.specs.States.{IsState}
 use Rattle.turn_rule.specs.Looks.{IsTurnPair}
 use Rattle.turn_rule.specs.Layouts.{AreLayouts}

@@ -1,6 +1,5 @@
 -- A seat after one note more.
-use Rattle.std.proofs.lemmas.Bool.{cases_lt}
-use Rattle.std.proofs.Common.{◌≡◌, ◌+◌, ◌<◌, inl, inr, ℕ, ℤ, Some, None, Ok, arith, ap, refl, sym, subst, ◌∙◌}
+use Rattle.std.proofs.Common.{◌≡◌, ℕ, ℤ, Some, None, Ok, arith, ap, refl}
 use Rattle.position_rank.specs.Placement.{Placement}
 use Rattle.directed_fixed.specs.declared.bounds.End.{End}
 use Rattle.directed_fixed.specs.declared.bounds.End.TheVariants.{Lower, Upper}
@@ -10,10 +9,9 @@ use Rattle.turn_rule.specs.Turn.{rounds}
 use Rattle.turn_rule.specs.States.{IsState, AreWithin}
 use Rattle.turn_rule.specs.Looks.{Looked, IsAnswer}
 use Rattle.turn_rule.specs.declared.game.Game.{Game}
-use Rattle.interval_words.specs.declared.view.View.{View}
 use Rattle.interval_words.specs.Numbers.{state_of, word_of}
 use Rattle.interval_words.specs.Core.{noted, known}
-use Rattle.interval_words.specs.Seats.{GameTable, GameSeat, SitsAt, KeepsNotes, Brings, Knows, noting}
+use Rattle.interval_words.specs.Seats.{GameTable, GameSeat, SitsAt, Brings, Knows, noting}
 use Rattle.interval_words.proofs.SeatNotes.{sits-kept, keeps-noting, told-noting}
 use Rattle.interval_words.proofs.Ends.{tight-trans, tightest-right}
 use Rattle.worker_sweep.specs.Sources.{source_of}

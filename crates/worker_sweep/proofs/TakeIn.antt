@@ -1,5 +1,5 @@
 -- A worker takes in what another has noted and swept.
-use Rattle.std.proofs.Common.{◌≡◌, ◌≢◌, ◌+◌, ◌<◌, length, set, ◌||◌, ℕ, zero, suc, refl, List, Bool, true, false, Some, arith, subst, sym, ap, ◌∙◌, inl, inr}
+use Rattle.std.proofs.Common.{◌≡◌, ◌≢◌, ◌<◌, length, set, ◌||◌, ℕ, zero, suc, refl, List, Bool, true, false, Some, arith, subst, sym, ap, ◌∙◌, inl, inr}
 use Rattle.std.proofs.lemmas.Bool.{or_cases, cases_lt}
 use Rattle.std.proofs.lemmas.List.{get_or-set_other}
 use Rattle.interval_words.proofs.Allowed.{one-game}

@@ -1,4 +1,4 @@
-use Rattle.std.proofs.Common.{All, subst, ap, sym, ◌∙◌}
+use Rattle.std.proofs.Common.{All, subst, ap, sym}
 use Rattle.worker_sweep.specs.Workers.{IsReady}
 use Rattle.worker_sweep.proofs.rounds.run_rounds.Goals as goal
 

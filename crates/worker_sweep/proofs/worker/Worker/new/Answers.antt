@@ -1,4 +1,4 @@
-use Rattle.std.proofs.Common.{length, ap, sym, subst, ◌∙◌}
+use Rattle.std.proofs.Common.{length, ap, subst, ◌∙◌}
 use Rattle.turn_rule.specs.Layouts.{AreLayouts}
 use Rattle.worker_sweep.specs.Columns.{IsRoomOf}
 use Rattle.worker_sweep.proofs.TakeIn.{none-marked, has-room}

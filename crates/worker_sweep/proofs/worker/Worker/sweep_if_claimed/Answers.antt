@@ -1,7 +1,7 @@
 use Rattle.std.proofs.lemmas.Bool.{cases_lt}
-use Rattle.std.proofs.Common.{◌≡◌, inl, inr, rules, length, arith, refl, sym, subst, ap, ◌∙◌}
+use Rattle.std.proofs.Common.{inl, inr, rules, length, arith, refl, sym, subst, ap, ◌∙◌}
 use Rattle.std.specs.Bool.{IsTrue}
-use Rattle.worker_sweep.specs.Workers.{SeatsAndMarks, WentThrough}
+use Rattle.worker_sweep.specs.Workers.{WentThrough}
 use Rattle.worker_sweep.proofs.Going.{went-on, went-sweeping}
 use Rattle.worker_sweep.proofs.worker.Worker.sweep_if_claimed.Goals as goal
 

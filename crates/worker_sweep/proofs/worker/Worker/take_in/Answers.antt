@@ -1,7 +1,7 @@
 use Rattle.std.proofs.Common.{◌≡◌, ap, sym, subst, ◌∙◌}
 use Rattle.interval_words.specs.Seats.{SitsAt, joining, KeepsNotes}
 use Rattle.interval_words.proofs.SeatNotes.{sits-kept}
-use Rattle.worker_sweep.proofs.TakeIn.{honest-joined, keeps-joined, none-marked, room-at}
+use Rattle.worker_sweep.proofs.TakeIn.{honest-joined, keeps-joined, room-at}
 use Rattle.worker_sweep.proofs.worker.Worker.take_in.Goals as goal
 
 joins : (c : goal.After-move_marks) → c.join.new.seat ≡ joining c.self.inside.seat c.other.inside.seat
