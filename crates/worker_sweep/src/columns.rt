@@ -18,8 +18,8 @@ fn tighten_position(pairs: &mut SeatPairs, turns: &ColumnTurns, i: usize, kinds:
     requires position { i < length turns.now.movers }
     ensures board { pairs.new.board.now ≡ pairs.old.board.now }
     ensures kept { KeepsNotes pairs.old.seat pairs.new.seat }
-    ensures noted { AreNotedTo pairs.old.board.now.game pairs.new.seat.view (position_in turns.now i)
-        (kinds_of pairs.old.board.now.game) }
+    ensures noted { AreNotedTo pairs.old.board.now.game pairs.new.seat.view
+        (position_in turns.now i) (kinds_of pairs.old.board.now.game) }
 {
     let position = turns.position(i);
     let square = position.square_rank();
