@@ -10,9 +10,10 @@ ghost use Rattle.column_sums.specs.Grids.{AreFansTo};
 use crate::leaps::Leap;
 use arrayvec::ArrayVec;
 use hyper_outside::NoMemory;
-use position_rank::{Layout, layout_count};
+use position_rank::Layout;
 use std::alloc::Global;
 use std::marker::Model;
+use turn_rule::all_layouts;
 
 /// The steps of one layout by one die.
 #[derive(Default, Drop)]
@@ -84,21 +85,6 @@ impl Steps {
     {
         self.fans[rank * 6 + (die as usize - 1)].leaps.as_slice()
     }
-}
-
-/// All layouts of so many checkers, by rising rank.
-fn all_layouts(alloc: Global, checkers: u8) -> Result<Vec<Layout>, NoMemory>
-    requires low { 1 ≤ checkers }
-    requires high { checkers ≤ 3 }
-    ensures all { IfOk result (λ all. AreLayouts checkers all.items) }
-    ensures few { IfOk result (λ all. length all.items ≤ 3276) }
-{
-    let count = layout_count(checkers);
-    let mut all = Vec::new(alloc);
-    for rank in 0..count {
-        all.push(Layout::unrank(checkers, rank))?;
-    }
-    Ok(all)
 }
 
 /// Adds the steps of a layout by each die.
