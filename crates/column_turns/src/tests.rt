@@ -94,8 +94,8 @@ fn rank(rt: &impl Abort, places: &[u8]) -> usize {
     layout.rank() as usize
 }
 
-// A layout with one checker has 26 places. No position is live whose other side is off, and 24 points of the mover and the bar are not the
-// point of the other side: 24 columns of 24 movers, and the column of the bar of 25.
+// A mover's checkers stand on 24 points, on the bar or off, but not on the other side's points and not all off: so many
+// ways for one, two or three checkers on so many places.
 #[test]
 fn gives_one_checker_the_turns_of_its_positions(rt: HostRuntime) {
     let stakes = Stakes::jacoby();
@@ -109,14 +109,37 @@ fn gives_one_checker_the_turns_of_its_positions(rt: HostRuntime) {
     assert_eq!(rt; compared, 24 * 24 + 25);
 }
 
-// Two blots; closed; one on the bar; all but one off.
+// Two blots; a closed point; one on the bar; all but one off.
 #[test]
 fn gives_two_checkers_the_turns_of_their_positions(rt: HostRuntime) {
     let stakes = Stakes::cubeless();
     let mut turns = ColumnTurns::new(rt.alloc(), 2, &stakes).expect(&rt, "no memory");
     let mut list = PlayList::new();
-    for places in [[20, 5], [6, 6], [25, 3], [4, 0]] {
+    let columns = [([20, 5], 299), ([6, 6], 324), ([25, 3], 324), ([4, 0], 324)];
+    for (places, live) in columns {
         let other = rank(&rt, &places);
-        assert!(rt; compare(&rt, &mut turns, other, &stakes, &mut list) > 200);
+        let compared = compare(&rt, &mut turns, other, &stakes, &mut list);
+        assert_eq!(rt; compared, live);
+    }
+}
+
+// Three blots; a closed point and a blot; three on a point; one on the bar, and two; all but one off.
+#[test]
+fn gives_three_checkers_the_turns_of_their_positions(rt: HostRuntime) {
+    let stakes = Stakes::jacoby();
+    let mut turns = ColumnTurns::new(rt.alloc(), 3, &stakes).expect(&rt, "no memory");
+    let mut list = PlayList::new();
+    let columns = [
+        ([24, 13, 4], 2299),
+        ([6, 6, 2], 2599),
+        ([7, 7, 7], 2924),
+        ([25, 10, 3], 2599),
+        ([25, 25, 8], 2924),
+        ([5, 0, 0], 2924),
+    ];
+    for (places, live) in columns {
+        let other = rank(&rt, &places);
+        let compared = compare(&rt, &mut turns, other, &stakes, &mut list);
+        assert_eq!(rt; compared, live);
     }
 }

@@ -12,7 +12,7 @@ fn owned(alloc: Global, words: &[&str]) -> Result<Vec<String>, AllocError> {
 }
 
 // The words, the status, and all that is put.
-const ROWS: [(&[&str], u8, &str); 28] = [
+const ROWS: [(&[&str], u8, &str); 29] = [
     (
         &["bound", "1", "1", "24 / 24"],
         0,
@@ -47,6 +47,11 @@ const ROWS: [(&[&str], u8, &str); 28] = [
         &["bound", "2", "2", "5 off / 1 off"],
         0,
         "position 5 off / 1 off\nrounds 2\nalone 0.722222 0.722223 3101920824 3101920825\n",
+    ),
+    (
+        &["bound", "3", "1", "1 off off / 1 off off"],
+        0,
+        "position 1 off off / 1 off off\nrounds 1\nalone 1.000000 1.000000 4294967296 4294967296\n",
     ),
     (&["bound", "1", "1", "1 / 24"], 2, "refused 2 position 4\n"),
     (&["bound", "1", "1", "6 /  1"], 2, "refused 2 position 1\n"),
