@@ -60,19 +60,24 @@ may-still board old new column i k pair valid sits kept may inside below is =
     subst (λ (b : Bounds). MaySweep board.game new.view (position_in column i) k b) (sym is)
     (sweeps-later board old new (position_in column i) k (pair_in column i k) valid sits kept (may.states i k inside below) (may.pairs i k inside below))
 
+-- each of a column's positions is a state in each kind
+pub column-states : (game : Game) (column : ColumnPairs) (block : ℕ) → AreLayouts game.checkers column.layouts → block < length column.layouts → column.other ≡ layout_at column.layouts block
+    → AreLiveMovers column.layouts column.other column.movers → (i k : ℕ) → i < length column.movers → k < kinds_of game → IsState game (position_in column i) k
+column-states game column block are inside other_is movers i k below kind =
+    let mover_has = are.each _ _ (movers.within i 0 below) in
+    let other_has = are.each block _ inside in
+    record {
+      position = record { mover = mover_has.valid; other = subst IsLayout (sym other_is) other_has.valid; same = mover_has.many ∙ sym (ap (λ (o : List ℕ). sum o) other_is ∙ other_has.many) };
+      many = mover_has.many;
+      live = movers.live i below;
+      kind = kind;
+    }
+
 -- a column that was worked out over the seat's notes may be brought
 pub column-filled : (game : Game) (view : View) (column : ColumnPairs) (block : ℕ) → AreLayouts game.checkers column.layouts → block < length column.layouts → column.other ≡ layout_at column.layouts block → column.kinds ≡ kinds_of game
     → AreLiveMovers column.layouts column.other column.movers → AreTurnsOf (source_of game view.base) (noted game view.notes) game.stakes (mover_at column.layouts column.other column.movers) (length column.movers) column.pairs → MayBringColumn game view column
 column-filled game view column block are inside other_is kinds movers turns = record {
-  states = λ i k below kind.
-      let mover_has = are.each _ _ (movers.within i 0 below) in
-      let other_has = are.each block _ inside in
-      record {
-        position = record { mover = mover_has.valid; other = subst IsLayout (sym other_is) other_has.valid; same = mover_has.many ∙ sym (ap (λ (o : List ℕ). sum o) other_is ∙ other_has.many) };
-        many = mover_has.many;
-        live = movers.live i below;
-        kind = kind;
-      };
+  states = column-states game column block are inside other_is movers;
   pairs = λ i k below kind. turn-sweeps game view (position_in column i) k (pair_in column i k)
       (subst (λ (n : ℕ). IsTurnPair game.stakes (position_in column i) k (source_of game view.base) (noted game view.notes) (get_or column.pairs (place_in n i k) nothing)) (sym kinds) (turns i k below kind));
 }

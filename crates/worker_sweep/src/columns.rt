@@ -1,6 +1,7 @@
-ghost use Rattle.std.specs.Prelude.{◌≡◌, ◌<◌, length};
+ghost use Rattle.std.specs.Prelude.{◌≡◌, ◌<◌, ℕ, length};
 ghost use Rattle.cube_actions.specs.Stakes.{IsValid};
 ghost use Rattle.turn_rule.specs.Games.{kinds_of};
+ghost use Rattle.turn_rule.specs.States.{IsState};
 ghost use Rattle.interval_words.specs.Seats.{SitsAt, KeepsNotes};
 ghost use Rattle.worker_sweep.specs.Blocks.{blocks, IsSwept};
 ghost use Rattle.worker_sweep.specs.Columns.{IsRoomOf, MayBringColumn, AreNotedTo, position_in};
@@ -28,6 +29,19 @@ fn tighten_position(pairs: &mut SeatPairs, turns: &ColumnTurns, i: usize, kinds:
     }
 }
 
+/// Reads a word of each of the column's positions. They stand far apart in memory, and a step that tightens one waits
+/// until it is there; reads don't wait for one another.
+fn fetch_words(pairs: &mut SeatPairs, turns: &ColumnTurns)
+    requires states { (i : ℕ) → i < length turns.now.movers
+        → IsState pairs.old.board.now.game (position_in turns.now i) 0 }
+    ensures board { pairs.new.board.now ≡ pairs.old.board.now }
+    ensures kept { KeepsNotes pairs.old.seat pairs.new.seat }
+{
+    for i in 0..turns.len() {
+        pairs.fetch(&turns.position(i));
+    }
+}
+
 /// Works out a column whole, with the words as they stand meanwhile, and then tightens its words to its pairs. Gives the
 /// seat back.
 pub(crate) fn sweep_column(
@@ -47,6 +61,7 @@ pub(crate) fn sweep_column(
     let kinds = stakes.kinds();
     let mut pairs = SeatPairs::new(board, seat);
     turns.fill(block as usize, stakes, &mut pairs);
+    fetch_words(&mut pairs, turns);
     for i in 0..turns.len() {
         tighten_position(&mut pairs, turns, i, kinds);
     }

@@ -91,6 +91,17 @@ impl<'a> SeatPairs<'a> {
         SeatPairs { board, seat }
     }
 
+    /// Reads the lower word of a position's first kind.
+    pub(crate) fn fetch(&mut self, position: &Position)
+        requires state { IsState self.old.board.now.game position.now 0 }
+        ensures board { self.new.board.now ≡ self.old.board.now }
+        ensures kept { KeepsNotes self.old.seat self.new.seat }
+    {
+        let state = self.board.number_at(position, position.square_rank(), 0);
+        // What the word is doesn't matter yet; it has to be on its way.
+        let _word = self.board.read_lower(&mut self.seat, state);
+    }
+
     /// Tightens both words of a state to a pair that may be brought for it.
     pub(crate) fn tighten(&mut self, position: &Position, square: u64, kind: usize, pair: Pair)
         requires valid { IsValid self.old.board.now.game.stakes }

@@ -3,6 +3,7 @@ use Rattle.std.proofs.lemmas.Bool.{cases_lt}
 use Rattle.cube_actions.specs.Stakes.{Terms, IsValid}
 use Rattle.turn_rule.specs.Games.{kinds_of}
 use Rattle.turn_rule.specs.Layouts.{AreLayouts}
+use Rattle.turn_rule.specs.States.{IsState}
 use Rattle.column_sums.specs.Leaps.{layout_at}
 use Rattle.interval_words.specs.Core.{noted}
 use Rattle.interval_words.specs.Seats.{GameTable, GameSeat, SitsAt, KeepsNotes}
@@ -10,15 +11,27 @@ use Rattle.interval_words.proofs.SeatNotes.{keeps-trans, sits-kept}
 use Rattle.column_turns.specs.Turns.{AreTurnsOf, mover_at}
 use Rattle.worker_sweep.specs.Columns.{AreNotedTo, position_in}
 use Rattle.worker_sweep.specs.Sources.{source_of}
-use Rattle.worker_sweep.proofs.ColumnLemmas.{column-later, column-filled, noted-later, column-swept}
+use Rattle.worker_sweep.proofs.ColumnLemmas.{column-later, column-states, column-filled, noted-later, column-swept}
 use Rattle.worker_sweep.proofs.StateLemmas.{keeps-looked}
 use Rattle.worker_sweep.proofs.columns.sweep_column.Goals as goal
+
+pub fetch_words-requires : goal.fetch_words-requires
+fetch_words-requires c =
+    let game = c.args.board.now.game in
+    let column = c.fill.new.self in
+    let layouts = subst (AreLayouts game.checkers) (sym c.fill.ensures.layouts) c.requires.room.layouts in
+    let inside : c.args.block < length column.layouts = omega (arith, c.requires.block, layouts.many) in
+    let valid : IsValid game.stakes = subst IsValid c.stakes-stakes.ensures c.kinds-kinds.ensures.valid in
+    let board_is = ap (λ s. s.0) c.fill.ensures.stays ∙ c.new-pairs.ensures.board in
+    let is = column-states game column c.args.block layouts inside (c.fill.ensures.other ∙ ap (λ (l : List (List ℕ)). layout_at l c.args.block) (sym c.fill.ensures.layouts)) c.fill.ensures.movers in
+    record { states = λ i below. subst (λ (b : GameTable). IsState b.game (position_in column i) 0) (sym board_is) (is i 0 below valid.some) }
 
 pub loop-i-init : goal.loop-i-init
 loop-i-init c =
     let old = c.new-pairs.result in
     let new = c.fill.new.pairs in
-    let game = c.args.board.now.game in
+    let board = c.args.board.now in
+    let game = board.game in
     let column = c.fill.new.self in
     let same : new.board.now ≡ old.board.now = ap (λ s. s.0) c.fill.ensures.stays in
     let base : new.seat.view.base ≡ old.seat.view.base = ap (λ s. s.1) c.fill.ensures.stays in
@@ -32,10 +45,14 @@ loop-i-init c =
     let two = subst (λ (b : GameTable). AreTurnsOf (source_of game old.seat.view.base) (noted b.game new.seat.view.notes) c.stakes-stakes.result.now place many column.pairs) (same ∙ board_is) one in
     let three = subst (λ (n : ℕ). AreTurnsOf (source_of game n) (noted game new.seat.view.notes) c.stakes-stakes.result.now place many column.pairs) (sym base) two in
     let turns = subst (λ (s : Terms). AreTurnsOf (source_of game new.seat.view.base) (noted game new.seat.view.notes) s place many column.pairs) c.stakes-stakes.ensures three in
+    let after = subst (λ (s : GameSeat). KeepsNotes s new.seat) c.new-pairs.ensures.seat looked in
+    let sits : SitsAt board new.seat = sits-kept board c.args.seat new.seat after c.requires.seat in
+    let valid : IsValid game.stakes = subst IsValid c.stakes-stakes.ensures c.kinds-kinds.ensures.valid in
+    let filled = column-filled game new.seat.view column c.args.block layouts inside (c.fill.ensures.other ∙ ap (λ (l : List (List ℕ)). layout_at l c.args.block) (sym c.fill.ensures.layouts)) (c.fill.ensures.kinds ∙ c.requires.room.kinds) c.fill.ensures.movers turns in
     record {
-      board = same ∙ board_is;
-      kept = subst (λ (s : GameSeat). KeepsNotes s new.seat) c.new-pairs.ensures.seat looked;
-      column = column-filled game new.seat.view column c.args.block layouts inside (c.fill.ensures.other ∙ ap (λ (l : List (List ℕ)). layout_at l c.args.block) (sym c.fill.ensures.layouts)) (c.fill.ensures.kinds ∙ c.requires.room.kinds) c.fill.ensures.movers turns;
+      board = c.fetch_words.ensures.board ∙ (same ∙ board_is);
+      kept = keeps-trans _ _ _ after c.fetch_words.ensures.kept;
+      column = column-later board new.seat c.fetch_words.new.pairs.seat column valid sits c.fetch_words.ensures.kept filled;
       noted = λ i below. absurd (omega (arith, below));
     }
 
