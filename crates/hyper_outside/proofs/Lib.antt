@@ -3,3 +3,4 @@ pub mod Held
 pub mod Stocks
 pub mod PlaceLemmas
 mod Writing
+pub mod Filling

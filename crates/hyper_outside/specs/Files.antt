@@ -1,5 +1,5 @@
 -- What the calls of files do to the bytes that stand under each name. A name that isn't there has none.
-use Rattle.std.specs.Prelude.{◌≡◌, ◌≢◌, ℕ, ◌<◌, ◌≤◌, ◌⊎◌, List, [], ◌++◌, length, take, drop, Option, Some, None, unwrap_or, Result, Ok, Err}
+use Rattle.std.specs.Prelude.{◌≡◌, ◌≢◌, ℕ, ◌<◌, ◌≤◌, ◌⊎◌, List, [], ◌++◌, length, take, drop, min, Option, Some, None, unwrap_or, Result, Ok, Err}
 
 -- the bytes under each name
 abbrev pub Contents : Type 0
@@ -23,6 +23,12 @@ pub record Reads (file : Option (List ℕ)) (at : ℕ) (old new : List ℕ) (cou
   pub room : count ≤ length old
   pub there : count ≤ length (bytes_from at file)
   pub some : 0 < length old → 0 < length (bytes_from at file) → 0 < count
+  pub front : take count new ≡ take count (bytes_from at file)
+  pub rest : drop count new ≡ drop count old
+
+-- the front of the buffer has the file's bytes from this place on, as many as there are and have room, and the rest of it stays
+pub record Fills (file : Option (List ℕ)) (at : ℕ) (old new : List ℕ) (count : ℕ) : Type 0 where
+  pub count_is : count ≡ min (length old) (length (bytes_from at file))
   pub front : take count new ≡ take count (bytes_from at file)
   pub rest : drop count new ≡ drop count old
 

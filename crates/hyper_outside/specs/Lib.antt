@@ -6,3 +6,4 @@ pub mod Pile
 pub mod Store
 pub mod Places
 pub mod MemFiles
+pub mod Reading

@@ -6,12 +6,14 @@ mod files;
 mod gate;
 mod outside;
 mod pile;
+mod reading;
 mod sinks;
 mod store;
 
 pub use files::MemFiles;
 pub use gate::{Gate, OpenGate};
 pub use outside::{BadWords, Failed, Files, LookStop, NoMemory, PageFault, Sink, WordsKind};
+pub use reading::fill;
 pub use sinks::{HonestSink, MemSink, RealSink};
 
 #[cfg(test)]
