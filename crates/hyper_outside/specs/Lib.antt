@@ -6,4 +6,5 @@ pub mod Pile
 pub mod Store
 pub mod Places
 pub mod MemFiles
+pub mod HonestFiles
 pub mod Reading

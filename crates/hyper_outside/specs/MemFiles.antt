@@ -1,18 +1,19 @@
 -- Files in memory that fail on demand.
-use Rattle.std.specs.Prelude.{ℕ, Bool, not, ◌||◌, List, [], ◌++◌, length, is_some, if◌then◌else◌}
+use Rattle.std.specs.Prelude.{ℕ, Bool, not, ◌||◌, List, [], ◌++◌, length, is_some, Option, None, if◌then◌else◌}
 use Rattle.hyper_outside.specs.Causes.{counted}
 use Rattle.hyper_outside.specs.Calls.{CallList, no_calls, called, listed, front_of}
 use Rattle.hyper_outside.specs.Store.{Stock, no_stock, takes, takes_name, stocked, bytes_of}
 
 pub record DemandingFiles : Type 0 where
   pub stock : Stock
+  pub most : Option ℕ  -- how many bytes a read gives at most
   pub calls : CallList
   pub read_faults : ℕ
   pub write_faults : ℕ
 
--- no files, no room, no call
+-- no files, no room, no limit, no call
 abbrev pub no_files : DemandingFiles
-no_files = record { stock = no_stock; calls = no_calls; read_faults = 0; write_faults = 0 }
+no_files = record { stock = no_stock; most = None; calls = no_calls; read_faults = 0; write_faults = 0 }
 
 -- the same calls and faults over another stock
 abbrev pub restocked : DemandingFiles → Stock → DemandingFiles

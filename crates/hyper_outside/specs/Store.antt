@@ -1,8 +1,9 @@
 -- Files in memory, with room for more.
-use Rattle.std.specs.Prelude.{ℕ, zero, suc, ◌+◌, ◌-◌, nat_lt, nat_le, Bool, ◌||◌, ◌&&◌, List, [], ◌∷◌, ◌++◌, length, Option, Some, None, is_some, unwrap_or, if◌then◌else◌}
-use Rattle.std.specs.Option.{option_map}
+use Rattle.std.specs.Prelude.{ℕ, zero, suc, ◌+◌, ◌-◌, nat_lt, nat_le, Bool, ◌||◌, ◌&&◌, List, [], ◌∷◌, ◌++◌, length, Option, Some, None, IfSome, ◌≤◌, is_some, unwrap_or, min, if◌then◌else◌}
+use Rattle.std.specs.Option.{option_map, option_map_or}
 use Rattle.std.specs.Str.{bytes_eq}
 use Rattle.hyper_outside.specs.Files.{bytes_from}
+use Rattle.hyper_outside.specs.Calls.{front_of}
 
 -- a name with its bytes
 pub record File : Type 0 where
@@ -60,6 +61,16 @@ stocked stock name bytes = record {
   room = stock.room + length (bytes_of stock name) - length bytes;
 }
 
+-- after a start, which changes nothing where there is no place for the name
+abbrev pub started : Stock → List ℕ → Stock
+started stock name = if takes_name stock name then stocked stock name [] else stock
+
+-- after an append of these bytes, or of the front of them that a failing one still adds: it changes nothing where there is no place
+-- for the name or no room for all of them
+abbrev pub appended : Stock → List ℕ → List ℕ → Option ℕ → Stock
+appended stock name bytes failing =
+    if takes stock name (length bytes) then stocked stock name (bytes_of stock name ++ front_of failing bytes) else stock
+
 -- with a file of a new name, which takes a place and its room
 abbrev pub filed : Stock → List ℕ → List ℕ → Stock
 filed stock name bytes = record {
@@ -79,3 +90,11 @@ with_file stock name bytes = stocked (roomier stock 1 (length bytes)) name bytes
 -- how many bytes can be read of a name from this place on
 abbrev pub length_from : ℕ → List File → List ℕ → ℕ
 length_from at files name = length (bytes_from at (held_bytes files name))
+
+-- so many, or the most where there is a limit
+abbrev pub at_most : Option ℕ → ℕ → ℕ
+at_most limit n = option_map_or (λ most. min most n) limit n
+
+-- the limit leaves something
+abbrev pub LeavesSome : Option ℕ → Type 0
+LeavesSome limit = IfSome limit (λ most. 1 ≤ most)

@@ -2,6 +2,7 @@
 #![tactic(auto)]
 
 mod calls;
+mod faults;
 mod files;
 mod gate;
 mod outside;
@@ -10,7 +11,7 @@ mod reading;
 mod sinks;
 mod store;
 
-pub use files::MemFiles;
+pub use files::{HonestFiles, MemFiles};
 pub use gate::{Gate, OpenGate};
 pub use outside::{BadWords, Failed, Files, LookStop, NoMemory, PageFault, Sink, WordsKind};
 pub use reading::fill;

@@ -1,11 +1,14 @@
 ghost use Rattle.std.specs.Str.{bytes_eq};
-ghost use Rattle.std.specs.Prelude.{position, ◌≡◌, ℕ, ◌+◌, ◌-◌, ◌<◌, ◌≤◌, List, [], ◌∷◌, ◌++◌, length, All, IsTrue, IsOk, IfOk, OnOk, OnErr, vec_len, vec_capacity};
+ghost use Rattle.std.specs.Prelude.{position, ◌≡◌, ℕ, ◌+◌, ◌-◌, ◌<◌, ◌≤◌, List, [], ◌∷◌, ◌++◌, length, All, IsTrue, IsOk, IfOk, OnOk, OnErr, is_ok, is_some, not, ◌&&◌, min, take, drop, vec_len, vec_capacity};
 ghost use Rattle.std.specs.List.{AllZip};
-ghost use Rattle.std.specs.Option.{option_copied};
+ghost use Rattle.std.specs.Option.{option_copied, option_map};
 ghost use Rattle.hyper_outside.specs.Places.{HasMemory, IsGrown, IsSpare};
-ghost use Rattle.hyper_outside.specs.Store.{held_bytes, place_of, takes, takes_name, no_stock, stocked, filed, with_file, bytes_of, roomier};
+ghost use Rattle.hyper_outside.specs.Store.{held_bytes, place_of, takes, takes_name, no_stock, stocked, filed, with_file, bytes_of, roomier, started, appended, at_most, LeavesSome, length_from};
+ghost use Rattle.hyper_outside.specs.Calls.{front_of};
+ghost use Rattle.hyper_outside.specs.Files.{KeepsOthers, Reads, StartsEmpty, Appends, bytes_from};
 
-use crate::outside::NoMemory;
+use crate::calls::front;
+use crate::outside::{Failed, NoMemory};
 use std::alloc::Global;
 use std::marker::Model;
 
@@ -195,7 +198,7 @@ impl Store {
     }
 
     /// Leaves the name with no bytes.
-    pub fn start(&mut self, name: &str)
+    fn clear(&mut self, name: &str)
         requires { IsTrue (takes_name self.old name.now) }
         ensures { self.new ≡ stocked self.old name.now [] }
     {
@@ -212,7 +215,7 @@ impl Store {
     }
 
     /// Adds bytes at the end of the name's.
-    pub fn append(&mut self, name: &str, bytes: &[u8])
+    fn extend(&mut self, name: &str, bytes: &[u8])
         requires { IsTrue (takes self.old name.now (length bytes.now)) }
         ensures { self.new ≡ stocked self.old name.now (bytes_of self.old name.now ++ bytes.now) }
     {
@@ -227,6 +230,63 @@ impl Store {
         }
     }
 
+    /// How many bytes stand under a name.
+    pub fn size(&self, name: &str) -> Option<u64>
+        ensures { result ≡ option_map length (held_bytes self.now.files name.now) }
+    {
+        match self.held(name) {
+            Some(bytes) => Some(bytes.len() as u64),
+            None => None,
+        }
+    }
+
+    /// Reads as many bytes from a place on as there are, fit, and are no more than the limit.
+    pub fn read_at(&self, name: &str, at: u64, limit: Option<usize>, buf: &mut [u8]) -> usize
+        requires { LeavesSome limit }
+        ensures reads { Reads (held_bytes self.now.files name.now) at buf.old buf.new result }
+        ensures most { result ≡ at_most limit
+            (min (length buf.old) (length_from at self.now.files name.now)) }
+    {
+        copy_front(front(rest_from(self.held(name), at), limit), buf)
+    }
+
+    /// Leaves the name with no bytes. `Failed` exactly where it is new and there is no place for it, and then all is as before.
+    pub fn start(&mut self, name: &str) -> Result<(), Failed>
+        ensures starts { StartsEmpty (held_bytes self.old.files)
+            (held_bytes self.new.files) name.now result }
+        ensures others { KeepsOthers name.now (held_bytes self.old.files)
+            (held_bytes self.new.files) }
+        ensures answer { is_ok result ≡ takes_name self.old name.now }
+        ensures after { self.new ≡ started self.old name.now }
+    {
+        if !self.takes_name(name) {
+            return Err(Failed);
+        }
+        self.clear(name);
+        Ok(())
+    }
+
+    /// Adds bytes at the end of the name's, or the front of them that a failing call still adds. `Failed` exactly where the call is to
+    /// fail, there is no place for the name or no room for all bytes. Where there is no place or no room nothing is added.
+    pub fn append(&mut self, name: &str, bytes: &[u8], failing: Option<usize>) -> Result<(), Failed>
+        ensures appends { Appends (held_bytes self.old.files)
+            (held_bytes self.new.files) name.now bytes.now result }
+        ensures others { KeepsOthers name.now (held_bytes self.old.files)
+            (held_bytes self.new.files) }
+        ensures answer { is_ok result
+            ≡ (not (is_some failing) && takes self.old name.now (length bytes.now)) }
+        ensures after { self.new ≡ appended self.old name.now bytes.now failing }
+    {
+        if !self.takes(name, bytes.len()) {
+            return Err(Failed);
+        }
+        self.extend(name, front(bytes, failing));
+        if failing.is_some() {
+            return Err(Failed);
+        }
+        Ok(())
+    }
+
     /// Puts a file, and takes the room of it. After `NoMemory` the files are as before.
     pub fn put_file(&mut self, name: &str, bytes: &[u8]) -> Result<(), NoMemory>
         ensures ok { OnOk result (self.new ≡ with_file self.old name.now bytes.now) }
@@ -235,11 +295,32 @@ impl Store {
         self.take_room(1, bytes.len())?;
         match self.place_of(name) {
             Some(_) => {
-                self.start(name);
-                self.append(name, bytes);
+                self.clear(name);
+                self.extend(name, bytes);
                 Ok(())
             }
             None => self.add_file(name, bytes),
         }
     }
+}
+
+/// What can be read of a file from a place on.
+fn rest_from(file: Option<&[u8]>, at: u64) -> &[u8]
+    ensures { result.now ≡ bytes_from at (option_copied file.entry) }
+{
+    match file {
+        Some(bytes) if at < bytes.len() as u64 => &bytes[at as usize..],
+        _ => &[],
+    }
+}
+
+/// Copies as many bytes as fit to the front of a buffer, and answers how many.
+fn copy_front(bytes: &[u8], buf: &mut [u8]) -> usize
+    ensures count { result ≡ min (length buf.old) (length bytes.now) }
+    ensures front { take result buf.new ≡ take result bytes.now }
+    ensures rest { drop result buf.new ≡ drop result buf.old }
+{
+    let count = bytes.len().min(buf.len());
+    buf[..count].copy_from_slice(&bytes[..count]);
+    count
 }
