@@ -2,5 +2,5 @@ pub mod Fronts
 pub mod Held
 pub mod Stocks
 pub mod PlaceLemmas
-mod Writing
+mod WriterLemmas
 pub mod Filling

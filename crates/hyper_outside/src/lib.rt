@@ -8,13 +8,16 @@ mod gate;
 mod outside;
 mod pile;
 mod reading;
+mod real_files;
 mod sinks;
 mod store;
+mod writing;
 
 pub use files::{HonestFiles, MemFiles};
 pub use gate::{Gate, OpenGate};
 pub use outside::{BadWords, Failed, Files, LookStop, NoMemory, PageFault, Sink, WordsKind};
-pub use reading::fill;
+pub use reading::{WholeStop, fill, read_whole};
+pub use real_files::RealFiles;
 pub use sinks::{HonestSink, MemSink, RealSink};
 
 #[cfg(test)]

@@ -1,9 +1,11 @@
-ghost use Rattle.std.specs.Prelude.{◌≡◌, ◌≤◌, ◌<◌, ◌+◌, ◌^◌, [], IfOk, IsTrue, Ok, length, take, drop};
+ghost use Rattle.std.specs.Prelude.{◌≡◌, ◌≤◌, ◌<◌, ◌+◌, ◌^◌, [], IfOk, IsTrue, Ok, vec_len, length, take, drop};
 ghost use Rattle.hyper_outside.specs.Causes.{HasCause};
 ghost use Rattle.hyper_outside.specs.Files.{SameFiles, Fills, bytes_from};
-ghost use Rattle.hyper_outside.specs.Reading.{AddsRead};
+ghost use Rattle.hyper_outside.specs.Reading.{AddsRead, IsWhole, HasReadCause};
+ghost use Rattle.hyper_outside.specs.declared.reading.WholeStop.TheVariants.{ReadFault, NoMemory};
 
 use crate::outside::{Failed, Files};
+use std::alloc::{AllocError, Global};
 
 /// Reads on, behind what is in the buffer already.
 fn read_more<F: Files>(
@@ -53,4 +55,62 @@ pub fn fill<F: Files>(files: &mut F, name: &str, at: u64, buf: &mut [u8]) -> Res
         done += count;
     }
     Ok(done)
+}
+
+/// Why a whole file could not be read.
+#[derive(Clone, Copy, Debug, PartialEq, Eq)]
+pub enum WholeStop {
+    /// There is no file of the name.
+    Missing,
+    /// The file has more bytes than asked for.
+    TooLong,
+    /// A call of the outside failed.
+    ReadFault,
+    /// There was no memory.
+    NoMemory,
+}
+
+impl From<Failed> for WholeStop {
+    ghost from_gives = { λ _ stop. stop ≡ ReadFault };
+
+    fn from(_failed: Failed) -> Self {
+        WholeStop::ReadFault
+    }
+}
+
+impl From<AllocError> for WholeStop {
+    ghost from_gives = { λ _ stop. stop ≡ NoMemory };
+
+    fn from(_error: AllocError) -> Self {
+        WholeStop::NoMemory
+    }
+}
+
+/// Reads a file of at most `most` bytes. It reads as many bytes as `size` answers, or fewer where a read answers none before. `Missing`
+/// comes where `size` answers that there is no file, `TooLong` where it answers more than `most`, `ReadFault` where a call failed.
+pub fn read_whole<F: Files>(
+    alloc: Global,
+    files: &mut F,
+    name: &str,
+    most: u64,
+) -> Result<Vec<u8>, WholeStop>
+    ensures within { IfOk result (λ bytes. vec_len bytes ≤ most) }
+    ensures whole { IsTrue (F.tells files.old)
+        → IsWhole (F.held files.old name.now) most result }
+    ensures tells { F.tells files.new ≡ F.tells files.old }
+    ensures same { IsTrue (F.tells files.old)
+        → SameFiles (F.held files.old) (F.held files.new) }
+    ensures cause { HasReadCause (F.read_faults files.old) (F.read_faults files.new) result }
+    ensures write_faults { F.write_faults files.new ≡ F.write_faults files.old }
+{
+    let Some(size) = files.size(name)? else {
+        return Err(WholeStop::Missing);
+    };
+    if size > most {
+        return Err(WholeStop::TooLong);
+    }
+    let mut bytes = vec![in alloc; 0; size as usize]?;
+    let count = fill(files, name, 0, bytes.as_mut_slice())?;
+    bytes.truncate(count);
+    Ok(bytes)
 }

@@ -1,14 +1,15 @@
-ghost use Rattle.std.specs.Prelude.{◌≡◌, ℕ, ◌+◌, ◌≤◌, ◌↔◌, nat_le, not, List, [], ◌∷◌, ◌++◌, length, take, IfOk, IfSome, IfNone, OnOk, OnErr, is_ok};
-ghost use Rattle.std.specs.Io.KnownBytes.{Appends, Keeps};
+ghost use Rattle.std.specs.Prelude.{◌≡◌, ℕ, ◌+◌, ◌≤◌, ◌↔◌, nat_le, not, List, [], ◌∷◌, ◌++◌, length, IfOk, OnOk, OnErr, is_ok};
 ghost use Rattle.hyper_outside.specs.Sink.{Puts, Takes};
 ghost use Rattle.hyper_outside.specs.Calls.{with_failing};
 ghost use Rattle.hyper_outside.specs.Pile.{honest_with, no_bytes, with_room, after_honest, put_fails, after_put, honest_output, demanding_output};
 
 use crate::calls::{Calls, front};
+use crate::faults::counted;
 use crate::outside::{Failed, NoMemory, Sink};
 use crate::pile::Pile;
+use crate::writing::write_out;
 use std::alloc::Global;
-use std::io::{ErrorKind, Write};
+use std::io::Write;
 use std::marker::Model;
 
 /// A sink in memory that is taken at its start. It fails only where bytes don't fit in the room that is left.
@@ -160,22 +161,6 @@ impl<W> RealSink<W> {
     }
 }
 
-/// Hands bytes to a writer, and answers how many it took: none where it was interrupted. `None` comes where it failed,
-/// or took none otherwise.
-fn hand_over<W: Write>(writer: &mut W, bytes: &[u8]) -> Option<usize>
-    ensures within { IfSome result (λ count. count ≤ length bytes.now) }
-    ensures taken { IfSome result
-        (λ count. Appends (W.contents writer.old) (W.contents writer.new) (take count bytes.now)) }
-    ensures failed { IfNone result (Keeps (W.contents writer.old) (W.contents writer.new)) }
-{
-    match writer.write(bytes) {
-        Ok(0) => None,
-        Ok(count) => Some(count),
-        Err(error) if error.kind() == ErrorKind::Interrupted => Some(0),
-        Err(_) => None,
-    }
-}
-
 impl<W: Write> Sink for RealSink<W> {
     ghost use Rattle.hyper_outside.specs.Sink.{untold};
 
@@ -188,18 +173,6 @@ impl<W: Write> Sink for RealSink<W> {
         ensures taken { Takes (W.contents self.old.inner)
             (W.contents self.new.inner) bytes.now result }
     {
-        let mut rest = bytes;
-        for _ in 0..u64::MAX {
-            if rest.is_empty() {
-                return Ok(());
-            }
-            let Some(count) = hand_over(&mut self.inner, rest) else {
-                break;
-            };
-            let (_, left) = rest.split_at(count);
-            rest = left;
-        }
-        self.faults = self.faults.saturating_add(1);
-        Err(Failed)
+        counted(write_out(&mut self.inner, bytes), &mut self.faults)
     }
 }

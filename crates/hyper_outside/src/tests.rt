@@ -1,5 +1,6 @@
 use super::*;
 use std::test::Fail;
+use std::{env, fs, process};
 
 #[test]
 fn mem_sink_fails_on_demand(rt: HostRuntime) -> Result<(), Fail> {
@@ -80,5 +81,98 @@ fn mem_files_read_back(rt: HostRuntime) -> Result<(), Fail> {
     let new = files.held("new").unwrap_or(b"none");
     assert_eq!(rt; new, b"abcdef".as_slice());
     assert!(rt; files.held("more").is_none());
+    Ok(())
+}
+
+fn whole_stop(rt: &HostRuntime, files: &mut MemFiles, name: &str, most: u64) -> Option<WholeStop> {
+    read_whole(rt.alloc(), files, name, most).err()
+}
+
+#[test]
+fn short_reads_fill_all_the_same(rt: HostRuntime) -> Result<(), Fail> {
+    let mut files = MemFiles::new(rt.alloc());
+    files.with_file("old", b"hello you")?;
+    files.short_reads(2);
+    let mut buf = [b'.'; 4];
+    assert_eq!(rt; files.read_at("old", 1, &mut buf), Ok(2));
+    assert_eq!(rt; buf.as_slice(), b"el..".as_slice());
+    assert_eq!(rt; fill(&mut files, "old", 1, &mut buf), Ok(4));
+    assert_eq!(rt; buf.as_slice(), b"ello".as_slice());
+    assert_eq!(rt; fill(&mut files, "old", 6, &mut buf), Ok(3));
+    assert_eq!(rt; buf.as_slice(), b"youo".as_slice());
+    let whole = read_whole(rt.alloc(), &mut files, "old", 9);
+    assert_eq!(rt;
+        whole.as_ref().map(|bytes| bytes.as_slice()),
+        Ok(b"hello you".as_slice())
+    );
+    assert_eq!(rt;
+        whole_stop(&rt, &mut files, "old", 8),
+        Some(WholeStop::TooLong)
+    );
+    assert_eq!(rt;
+        whole_stop(&rt, &mut files, "new", 9),
+        Some(WholeStop::Missing)
+    );
+    // the next call, of size, and the third after it, the second read
+    files.fail_call(15, 0)?;
+    files.fail_call(18, 0)?;
+    assert_eq!(rt;
+        whole_stop(&rt, &mut files, "old", 9),
+        Some(WholeStop::ReadFault)
+    );
+    assert_eq!(rt;
+        whole_stop(&rt, &mut files, "old", 9),
+        Some(WholeStop::ReadFault)
+    );
+    Ok(())
+}
+
+#[test]
+fn honest_files_fail_when_full(rt: HostRuntime) -> Result<(), Fail> {
+    let mut files = HonestFiles::with_room(rt.alloc(), 1, 5)?;
+    assert_eq!(rt; files.append("a", b"abcdef"), Err(Failed));
+    assert_eq!(rt; files.size("a"), Ok(None));
+    assert_eq!(rt; files.append("a", b"abc"), Ok(()));
+    assert_eq!(rt; files.start("b"), Err(Failed));
+    assert_eq!(rt; files.append("a", b"def"), Err(Failed));
+    assert_eq!(rt; files.append("a", b"de"), Ok(()));
+    let mut buf = [b'.'; 4];
+    assert_eq!(rt; files.read_at("a", 2, &mut buf), Ok(3));
+    assert_eq!(rt; buf.as_slice(), b"cde.".as_slice());
+    assert_eq!(rt; files.start("a"), Ok(()));
+    assert_eq!(rt; files.append("a", b"fghij"), Ok(()));
+    assert_eq!(rt; files.held("a").unwrap_or(b"none"), b"fghij".as_slice());
+    Ok(())
+}
+
+#[test]
+fn real_files_read_back(rt: HostRuntime) -> Result<(), Fail> {
+    let id = process::id(rt.process());
+    let folder = format!(in rt.alloc(); "{}/hyper_outside.{id}", env::temp_dir(&rt)?.display())?;
+    let name = format!(in rt.alloc(); "{folder}/file")?;
+    let lost = format!(in rt.alloc(); "{folder}/none/file")?;
+    fs::create_dir(&rt, folder.as_str())?;
+    let mut files = RealFiles::new(&rt);
+    let mut buf = [b'.'; 4];
+    assert_eq!(rt; files.size(name.as_str()), Ok(None));
+    assert_eq!(rt; files.read_at(name.as_str(), 0, &mut buf), Ok(0));
+    assert_eq!(rt; files.start(name.as_str()), Ok(()));
+    assert_eq!(rt; files.size(name.as_str()), Ok(Some(0)));
+    assert_eq!(rt; files.append(name.as_str(), b"hello"), Ok(()));
+    assert_eq!(rt; files.append(name.as_str(), b" you"), Ok(()));
+    assert_eq!(rt; files.size(name.as_str()), Ok(Some(9)));
+    assert_eq!(rt; files.read_at(name.as_str(), 3, &mut buf), Ok(4));
+    assert_eq!(rt; buf.as_slice(), b"lo y".as_slice());
+    assert_eq!(rt; files.read_at(name.as_str(), 7, &mut buf), Ok(2));
+    assert_eq!(rt; buf.as_slice(), b"ou y".as_slice());
+    assert_eq!(rt; files.read_at(name.as_str(), 9, &mut buf), Ok(0));
+    assert_eq!(rt; files.size(lost.as_str()), Ok(None));
+    assert_eq!(rt; files.start(lost.as_str()), Err(Failed));
+    assert_eq!(rt; files.append(lost.as_str(), b"x"), Err(Failed));
+    assert_eq!(rt; files.read_at(folder.as_str(), 0, &mut buf), Err(Failed));
+    assert_eq!(rt; files.start(name.as_str()), Ok(()));
+    assert_eq!(rt; files.size(name.as_str()), Ok(Some(0)));
+    fs::remove_file(&rt, name.as_str())?;
+    fs::remove_dir(&rt, folder.as_str())?;
     Ok(())
 }
