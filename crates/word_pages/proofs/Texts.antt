@@ -1,0 +1,57 @@
+-- Words as bytes, both ways.
+use Rattle.std.proofs.Common.{◌≡◌, ◌∙◌, ℕ, zero, suc, ◌+◌, ◌*◌, ◌<◌, List, [], ◌∷◌, ◌++◌, length, take, drop, get_or, length-append, refl, sym, ap, arith, flat_map}
+use Rattle.std.proofs.Math.Nat.{mul-suc}
+use Rattle.std.proofs.lemmas.List.{drop-drop, take_more}
+use Rattle.std.proofs.lemmas.Grind.{flat_map-append}
+use Rattle.byteorder.specs.Endian.{big_number, big_bytes}
+use Rattle.byteorder.specs.Numbers.{length-bytes_high_first}
+use Rattle.word_pages.specs.declared.version.Version.{Version}
+use Rattle.word_pages.specs.Words.{word_size, words_of}
+
+-- so many times one more
+pub times_more : (n k : ℕ) → n * suc k ≡ n + n * k
+times_more n k = let more = mul-suc n k in omega (arith, more)
+
+-- ---- writing
+
+pub length-cells : (size : ℕ) (words : List ℕ) → length (flat_map (big_bytes size) words) ≡ size * length words
+length-cells size [] = omega arith
+length-cells size (word ∷ words) =
+    let first = length-bytes_high_first size word in
+    let rest = length-cells size words in
+    let both = length-append (big_bytes size word) (flat_map (big_bytes size) words) in
+    let more = times_more size (length words) in
+    omega (arith, first, rest, both, more)
+
+-- one word more is written
+pub cells_next : (size i : ℕ) (words : List ℕ) → i < length words
+    → flat_map (big_bytes size) (take i words) ++ big_bytes size (get_or words i 0) ≡ flat_map (big_bytes size) (take (i + 1) words)
+cells_next size i words lt =
+    flat_map_one (get_or words i 0) ∙ sym (ap (flat_map (big_bytes size)) (take_more words i 0 lt) ∙ flat_map-append (big_bytes size) (take i words) (get_or words i 0 ∷ []))
+  where
+    flat_map_one : (word : ℕ) → flat_map (big_bytes size) (take i words) ++ big_bytes size word ≡ flat_map (big_bytes size) (take i words) ++ flat_map (big_bytes size) (word ∷ [])
+    flat_map_one word = ap (λ (bytes : List ℕ). flat_map (big_bytes size) (take i words) ++ bytes) (nothing_more (big_bytes size word))
+      where
+        nothing_more : (bytes : List ℕ) → bytes ≡ bytes ++ []
+        nothing_more [] = refl
+        nothing_more (byte ∷ bytes) = ap (λ (rest : List ℕ). byte ∷ rest) (nothing_more bytes)
+
+-- ---- reading
+
+pub length-words_of : (version : Version) (n : ℕ) (bytes : List ℕ) → length (words_of version n bytes) ≡ n
+length-words_of version zero bytes = refl
+length-words_of version (suc n) bytes = let rest = length-words_of version n (drop (word_size version) bytes) in omega (arith, rest)
+
+-- one word more is read
+pub words_next : (version : Version) (n : ℕ) (bytes : List ℕ)
+    → words_of version (n + 1) bytes ≡ words_of version n bytes ++ big_number (word_size version) (drop (word_size version * n) bytes) ∷ []
+words_next version zero bytes =
+    let none : word_size version * 0 ≡ 0 = omega arith in
+    ap (λ k. big_number (word_size version) (drop k bytes) ∷ []) (sym none)
+words_next version (suc n) bytes =
+    let size = word_size version in
+    let more : suc n + 1 ≡ suc (n + 1) = omega arith in
+    let on : size + size * n ≡ size * suc n = sym (times_more size n) in
+    ap (λ k. words_of version k bytes) more
+    ∙ ap (λ (words : List ℕ). big_number size bytes ∷ words) (words_next version n (drop size bytes))
+    ∙ ap (λ (rest : List ℕ). big_number size bytes ∷ (words_of version n (drop size bytes) ++ big_number size rest ∷ [])) (drop-drop (size * n) size bytes ∙ ap (λ k. drop k bytes) on)

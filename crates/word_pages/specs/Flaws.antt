@@ -1,0 +1,33 @@
+-- What is wrong with pairs and with pages, and at which place of the file. Words come in pairs, the lower one first.
+use Rattle.std.specs.Prelude.{ℕ, ◌+◌, ◌*◌, ◌&&◌, Bool, not, if◌then◌else◌, nat_lt, int_le, ℤ, pos, neg_ℤ, ◌-ℤ◌, List, [], ◌∷◌, Option, Some, None}
+use Rattle.std.specs.Option.{option_or}
+use Rattle.directed_fixed.specs.declared.word.TheConstants.{WORD_OFFSET}
+use Rattle.hyper_outside.specs.declared.outside.PageFault.{PageFault}
+use Rattle.hyper_outside.specs.declared.outside.PageFault.TheVariants.{Word, Crossed}
+use Rattle.word_pages.specs.declared.version.Version.{Version}
+use Rattle.word_pages.specs.declared.flaws.Flaw.{Flaw}
+use Rattle.word_pages.specs.Words.{word_size}
+
+-- the value that a word stands for
+abbrev pub value_of : ℕ → ℤ
+value_of word = pos word -ℤ WORD_OFFSET
+
+-- the word's value lies within the bound on both sides of 0
+abbrev pub is_in_range : ℤ → ℕ → Bool
+is_in_range bound word = int_le (neg_ℤ bound) (value_of word) && int_le (value_of word) bound
+
+-- nothing where all is well, else this fault here
+abbrev pub flaw_unless : Bool → PageFault → ℕ → Option Flaw
+flaw_unless well fault at = if well then None else Some (record { fault = fault; at = at })
+
+-- the first flaw of a pair that stands at this place of the file
+abbrev pub pair_flaw : Version → ℤ → ℕ → ℕ → ℕ → Option Flaw
+pair_flaw version bound at lower upper =
+    option_or (flaw_unless (is_in_range bound lower) Word at)
+    (option_or (flaw_unless (is_in_range bound upper) Word (at + word_size version)) (flaw_unless (not (nat_lt upper lower)) Crossed at))
+
+-- the first flaw of pairs, the first of which stands at this place
+abbrev pub pairs_flaw : Version → ℤ → ℕ → List ℕ → Option Flaw
+pairs_flaw version bound at [] = None
+pairs_flaw version bound at (word ∷ []) = None
+pairs_flaw version bound at (lower ∷ upper ∷ words) = option_or (pair_flaw version bound at lower upper) (pairs_flaw version bound (at + 2 * word_size version) words)

@@ -1,0 +1,26 @@
+-- Words as bytes. Each takes as many bytes as the version of the file says, the highest first.
+use Rattle.std.specs.Prelude.{ℕ, zero, suc, ◌^◌, ◌<◌, List, [], ◌∷◌, drop, flat_map}
+use Rattle.byteorder.specs.Endian.{big_bytes, big_number}
+use Rattle.word_pages.specs.declared.version.Version.{Version}
+use Rattle.word_pages.specs.declared.version.Version.TheVariants.{One, Two}
+
+-- how many bytes a word takes
+abbrev pub word_size : Version → ℕ
+word_size One = 8
+word_size Two = 5
+
+-- a word is low enough for them
+abbrev pub Fits : Version → ℕ → Type 0
+Fits version word = word < 256 ^ word_size version
+
+-- the bytes of a word, and those of words, one after the other
+abbrev pub word_text : Version → ℕ → List ℕ
+word_text version word = big_bytes (word_size version) word
+
+abbrev pub words_text : Version → List ℕ → List ℕ
+words_text version words = flat_map (word_text version) words
+
+-- the first n words that bytes hold
+abbrev pub words_of : Version → ℕ → List ℕ → List ℕ
+words_of version zero bytes = []
+words_of version (suc n) bytes = big_number (word_size version) bytes ∷ words_of version n (drop (word_size version) bytes)

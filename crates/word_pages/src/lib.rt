@@ -1,0 +1,10 @@
+//! Words as bytes of a file, in pages that each end with their digest.
+#![tactic(auto)]
+
+mod flaws;
+mod version;
+mod words;
+
+pub use flaws::{Flaw, check_pairs, read_pairs};
+pub use version::Version;
+pub use words::{put_words, read_words};

@@ -1,0 +1,47 @@
+ghost use Rattle.std.specs.Prelude.{◌≡◌, ◌≤◌, ◌<◌, ◌+◌, ◌*◌, ◌^◌, ◌++◌, All, length, flat_map};
+ghost use Rattle.byteorder.specs.Endian.{big_bytes};
+ghost use Rattle.word_pages.specs.Words.{word_size, Fits, words_text, words_of};
+
+use crate::version::Version;
+use arrayvec::ArrayVec;
+use byteorder::{BigEndian, ByteOrder};
+
+/// Adds the bytes of words, one after the other.
+pub fn put_words<const N: usize>(version: Version, words: &[u64], out: &mut ArrayVec<u8, N>)
+    requires room { length out.old.items + word_size version * length words.now ≤ N }
+    requires fit { All (Fits version) words.now }
+    ensures { out.new.items ≡ out.old.items ++ words_text version words.now }
+{
+    match version {
+        Version::One => put_cells::<8, N>(words, out),
+        Version::Two => put_cells::<5, N>(words, out),
+    }
+}
+
+/// Adds words of `SIZE` bytes each.
+fn put_cells<const SIZE: usize, const N: usize>(words: &[u64], out: &mut ArrayVec<u8, N>)
+    requires some { 1 ≤ SIZE }
+    requires most { SIZE ≤ 8 }
+    requires room { length out.old.items + SIZE * length words.now ≤ N }
+    requires fit { All (λ word. word < 256 ^ SIZE) words.now }
+    ensures { out.new.items ≡ out.old.items ++ flat_map (big_bytes SIZE) words.now }
+{
+    'words: for word in words {
+        let mut cell = [0u8; SIZE];
+        BigEndian::write_uint(&mut cell, *word, SIZE);
+        if out.try_extend_from_slice(&cell).is_err() {
+            return;
+        }
+    }
+}
+
+/// Reads words from the front of bytes.
+pub fn read_words(version: Version, bytes: &[u8], words: &mut [u64])
+    requires { word_size version * length words.old ≤ length bytes.now }
+    ensures { words.new ≡ words_of version (length words.old) bytes.now }
+{
+    let size = version.word_size();
+    'words: for i in 0..words.len() {
+        words[i] = BigEndian::read_uint(&bytes[size * i..], size);
+    }
+}
