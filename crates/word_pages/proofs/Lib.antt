@@ -1,2 +1,4 @@
 pub mod Texts
 pub mod Pairs
+pub mod Appending
+pub mod Seals

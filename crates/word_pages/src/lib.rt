@@ -1,10 +1,12 @@
 //! Words as bytes of a file, in pages that each end with their digest.
 #![tactic(auto)]
 
+mod digest;
 mod flaws;
 mod version;
 mod words;
 
+pub use digest::{append_sealed, is_sealed, put_digest};
 pub use flaws::{Flaw, check_pairs, read_pairs};
 pub use version::Version;
 pub use words::{put_words, read_words};

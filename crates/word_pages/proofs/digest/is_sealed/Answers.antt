@@ -1,0 +1,28 @@
+use Rattle.std.proofs.Common.{◌∙◌, ◌-◌, length, sym, ap, ap₂, arith}
+use Rattle.std.proofs.lemmas.Bool.{false≢true}
+use Rattle.std.specs.Str.{bytes_eq}
+use Rattle.sha2.specs.Sha256.{sha256}
+use Rattle.word_pages.proofs.Seals.{digest-is, short-is, short-not_sealed, is_sealed-exactly}
+use Rattle.word_pages.proofs.digest.is_sealed.Goals as goal
+
+pub returns-then-bytes-lt-DIGEST_SIZE-clause-value :
+    goal.returns-then-bytes-lt-DIGEST_SIZE-clause-value
+returns-then-bytes-lt-DIGEST_SIZE-clause-value c = short-is c.args.bytes.now (omega (arith, c.if-bytes-lt-DIGEST_SIZE.true))
+
+pub returns-then-bytes-lt-DIGEST_SIZE-clause-exactly :
+    goal.returns-then-bytes-lt-DIGEST_SIZE-clause-exactly
+returns-then-bytes-lt-DIGEST_SIZE-clause-exactly c =
+    (λ wrong. absurd (false≢true wrong), λ same. absurd (short-not_sealed c.args.bytes.now _ (omega (arith, c.if-bytes-lt-DIGEST_SIZE.true)) same))
+
+pub returns-clause-value : goal.returns-clause-value
+returns-clause-value c =
+    let bytes = c.args.bytes.now in
+    let n = length bytes - 32 in
+    c.eq.ensures ∙ ap₂ bytes_eq c.split_at.ensures.back (c.as_slice.ensures ∙ c.digest.ensures ∙ ap sha256 c.split_at.ensures.front) ∙ digest-is n bytes (omega arith)
+
+pub returns-clause-exactly : goal.returns-clause-exactly
+returns-clause-exactly c =
+    let bytes = c.args.bytes.now in
+    let value = returns-clause-value c in
+    let exactly = is_sealed-exactly bytes in
+    (λ right. exactly.0 (sym value ∙ right), λ same. value ∙ exactly.1 same)
