@@ -1,3 +1,4 @@
 pub mod Words
 pub mod Sealed
 pub mod Flaws
+pub mod Pages

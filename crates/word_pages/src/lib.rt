@@ -3,10 +3,12 @@
 
 mod digest;
 mod flaws;
+mod page;
 mod version;
 mod words;
 
 pub use digest::{append_sealed, is_sealed, put_digest};
 pub use flaws::{Flaw, check_pairs, read_pairs};
+pub use page::read_page;
 pub use version::Version;
 pub use words::{put_words, read_words};

@@ -1,5 +1,6 @@
-ghost use Rattle.std.specs.Prelude.{◌≡◌};
+ghost use Rattle.std.specs.Prelude.{◌≡◌, ◌<◌, ◌^◌};
 ghost use Rattle.word_pages.specs.Words.{word_size};
+ghost use Rattle.word_pages.specs.Pages.{page_size};
 
 /// A version of the file's text.
 #[derive(Clone, Copy, Debug, PartialEq, Eq)]
@@ -19,5 +20,13 @@ impl Version {
             Version::One => 8,
             Version::Two => 5,
         }
+    }
+
+    /// How many bytes a page of so many words has.
+    pub fn page_size(self, words: usize) -> usize
+        requires { words < 2 ^ 60 }
+        ensures { result ≡ page_size self words }
+    {
+        self.word_size() * words + 32
     }
 }
