@@ -1,10 +1,10 @@
 -- Words as bytes, both ways.
-use Rattle.std.proofs.Common.{◌≡◌, ◌∙◌, ℕ, zero, suc, ◌+◌, ◌*◌, ◌<◌, List, [], ◌∷◌, ◌++◌, length, take, drop, get_or, length-append, refl, sym, ap, arith, flat_map}
+use Rattle.std.proofs.Common.{◌≡◌, ◌∙◌, ℕ, zero, suc, ◌+◌, ◌*◌, ◌<◌, ◌≤◌, ◌-◌, List, [], ◌∷◌, ◌++◌, length, take, drop, get_or, length-append, refl, sym, ap, ap₂, arith, flat_map}
 use Rattle.std.proofs.Math.Nat.{mul-suc}
-use Rattle.std.proofs.lemmas.List.{drop-drop, take_more}
+use Rattle.std.proofs.lemmas.List.{drop-drop, drop-take, take_more}
 use Rattle.std.proofs.lemmas.Grind.{flat_map-append}
 use Rattle.byteorder.specs.Endian.{big_number, big_bytes}
-use Rattle.byteorder.specs.Numbers.{length-bytes_high_first}
+use Rattle.byteorder.specs.Numbers.{big_from-take, length-bytes_high_first}
 use Rattle.word_pages.specs.declared.version.Version.{Version}
 use Rattle.word_pages.specs.Words.{word_size, words_of}
 
@@ -55,3 +55,14 @@ words_next version (suc n) bytes =
     ap (λ k. words_of version k bytes) more
     ∙ ap (λ (words : List ℕ). big_number size bytes ∷ words) (words_next version n (drop size bytes))
     ∙ ap (λ (rest : List ℕ). big_number size bytes ∷ (words_of version n (drop size bytes) ++ big_number size rest ∷ [])) (drop-drop (size * n) size bytes ∙ ap (λ k. drop k bytes) on)
+
+-- the words of bytes are in their front
+pub words_of-take : (version : Version) (n m : ℕ) (bytes : List ℕ) → word_size version * n ≤ m → words_of version n (take m bytes) ≡ words_of version n bytes
+words_of-take version zero m bytes le = refl
+words_of-take version (suc n) m bytes le =
+    let size = word_size version in
+    let more = times_more size n in
+    let parts : size + (m - size) ≡ m = omega (arith, le, more) in
+    let rest : drop size (take m bytes) ≡ take (m - size) (drop size bytes) = ap (λ k. drop size (take k bytes)) (sym parts) ∙ drop-take size (m - size) bytes in
+    ap₂ (λ (word : ℕ) (words : List ℕ). word ∷ words) (big_from-take 0 size m bytes (omega (arith, le, more)))
+    (ap (words_of version n) rest ∙ words_of-take version n (m - size) (drop size bytes) (omega (arith, le, more)))

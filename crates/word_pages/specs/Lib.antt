@@ -2,3 +2,4 @@ pub mod Words
 pub mod Sealed
 pub mod Flaws
 pub mod Pages
+pub mod Loads

@@ -3,12 +3,14 @@
 
 mod digest;
 mod flaws;
+mod load;
 mod page;
 mod version;
 mod words;
 
 pub use digest::{append_sealed, is_sealed, put_digest};
 pub use flaws::{Flaw, check_pairs, read_pairs};
+pub use load::{PageStop, load_page};
 pub use page::read_page;
 pub use version::Version;
 pub use words::{put_words, read_words};

@@ -1,0 +1,55 @@
+-- The first flaw of a page.
+use Rattle.std.proofs.Common.{◌≡◌, ◌∙◌, ◌⊎◌, inl, inr, ℕ, ◌+◌, ◌*◌, ◌≤◌, ◌<◌, Bool, true, false, List, length, take, Option, None, Some, Result, Ok, Err, IsErrAnd, subst, ℤ, refl, sym, ap, ap₂, arith, nat_le}
+use Rattle.std.proofs.lemmas.Bool.{cases_lt, false≢true, le-leb}
+use Rattle.std.proofs.lemmas.List.{take_all, take-take, length-take-le}
+use Rattle.std.specs.Option.{option_or}
+use Rattle.hyper_outside.specs.declared.outside.PageFault.{PageFault}
+use Rattle.hyper_outside.specs.declared.outside.PageFault.TheVariants.{Short, PageDigest}
+use Rattle.word_pages.specs.declared.version.Version.{Version}
+use Rattle.word_pages.specs.declared.flaws.Flaw.{Flaw}
+use Rattle.word_pages.specs.Words.{word_size, words_of}
+use Rattle.word_pages.specs.Sealed.{is_sealed}
+use Rattle.word_pages.specs.Flaws.{flaw_unless, pairs_flaw}
+use Rattle.word_pages.specs.Pages.{page_size, page_flaw}
+use Rattle.word_pages.specs.declared.load.PageStop.{PageStop}
+use Rattle.word_pages.specs.declared.load.PageStop.TheVariants.{ReadFault, BadPage}
+use Rattle.word_pages.specs.Loads.{AnswersPage}
+use Rattle.word_pages.proofs.Texts.{words_of-take}
+
+pub no_flaw : (well : Bool) (fault : PageFault) (at : ℕ) → well ≡ true → flaw_unless well fault at ≡ None
+no_flaw true fault at right = refl
+no_flaw false fault at right = absurd (false≢true right)
+
+-- what is wrong with a page that is long enough
+pub long-flaw : (version : Version) (bound : ℤ) (n at : ℕ) (bytes : List ℕ) → page_size version n ≤ length bytes
+    → page_flaw version bound n at bytes ≡ option_or (flaw_unless (is_sealed (take (page_size version n) bytes)) PageDigest (at + word_size version * n)) (pairs_flaw version bound at (words_of version n bytes))
+long-flaw version bound n at bytes long =
+    ap (λ (flaw : Option Flaw). option_or flaw (option_or (flaw_unless (is_sealed (take (page_size version n) bytes)) PageDigest (at + word_size version * n)) (pairs_flaw version bound at (words_of version n bytes))))
+    (no_flaw (nat_le (page_size version n) (length bytes)) Short (at + length bytes) (le-leb (page_size version n) (length bytes) long))
+
+-- bytes behind a page don't matter
+pub page_flaw-take : (version : Version) (bound : ℤ) (n at : ℕ) (bytes : List ℕ) → page_flaw version bound n at (take (page_size version n) bytes) ≡ page_flaw version bound n at bytes
+page_flaw-take version bound n at bytes = by_length (cases_lt (length bytes) (page_size version n))
+  where
+    by_length : (length bytes < page_size version n) ⊎ (page_size version n ≤ length bytes) → page_flaw version bound n at (take (page_size version n) bytes) ≡ page_flaw version bound n at bytes
+    by_length (inl short) = ap (page_flaw version bound n at) (take_all (page_size version n) bytes (omega (arith, short)))
+    by_length (inr long) =
+        let size = page_size version n in
+        let count = length-take-le size bytes long in
+        long-flaw version bound n at (take size bytes) (omega (arith, count))
+        ∙ ap₂ (λ (page : List ℕ) (words : List ℕ). option_or (flaw_unless (is_sealed page) PageDigest (at + word_size version * n)) (pairs_flaw version bound at words)) (take-take size size bytes (omega arith)) (words_of-take version n size bytes (omega arith))
+        ∙ sym (long-flaw version bound n at bytes long)
+
+-- nor for what may be answered
+pub answers_on : {T : Type 0} (version : Version) (bound : ℤ) (n at : ℕ) (bytes words : List ℕ) (result : Result T PageStop)
+    → AnswersPage version bound n at (take (page_size version n) bytes) words result → AnswersPage version bound n at bytes words result
+answers_on version bound n at bytes words (Ok x) told =
+    (sym (page_flaw-take version bound n at bytes) ∙ told.0, told.1 ∙ words_of-take version n (page_size version n) bytes (omega arith))
+answers_on version bound n at bytes words (Err (BadPage flaw)) told = sym (page_flaw-take version bound n at bytes) ∙ told
+answers_on version bound n at bytes words (Err ReadFault) told = told
+
+-- a flaw that is answered
+pub answers_bad : {T : Type 0} (version : Version) (bound : ℤ) (n at : ℕ) (bytes words : List ℕ) (flaw : Flaw) (result : Result T PageStop)
+    → IsErrAnd result (λ stop. stop ≡ BadPage flaw) → Some flaw ≡ page_flaw version bound n at bytes → AnswersPage version bound n at bytes words result
+answers_bad version bound n at bytes words flaw (Ok x) wrong is = absurd wrong
+answers_bad {T = T} version bound n at bytes words flaw (Err stop) same is = subst (λ (stop : PageStop). AnswersPage {T = T} version bound n at bytes words (Err stop)) (sym same) (sym is)
