@@ -1,7 +1,8 @@
 -- What is wrong with pairs and with pages, and at which place of the file. Words come in pairs, the lower one first.
-use Rattle.std.specs.Prelude.{ℕ, ◌+◌, ◌*◌, ◌&&◌, Bool, not, if◌then◌else◌, nat_lt, int_le, ℤ, pos, neg_ℤ, ◌-ℤ◌, List, [], ◌∷◌, Option, Some, None}
+use Rattle.std.specs.Prelude.{ℕ, ◌+◌, ◌*◌, ◌<◌, ◌&&◌, Bool, not, if◌then◌else◌, nat_lt, int_le, ℤ, pos, neg_ℤ, ◌-ℤ◌, List, [], ◌∷◌, length, slice_index, Option, Some, None}
 use Rattle.std.specs.Option.{option_or}
 use Rattle.directed_fixed.specs.declared.word.TheConstants.{WORD_OFFSET}
+use Rattle.directed_fixed.specs.Bounds.{Bounds, IsWithin}
 use Rattle.hyper_outside.specs.declared.outside.PageFault.{PageFault}
 use Rattle.hyper_outside.specs.declared.outside.PageFault.TheVariants.{Word, Crossed}
 use Rattle.word_pages.specs.declared.version.Version.{Version}
@@ -31,3 +32,14 @@ abbrev pub pairs_flaw : Version → ℤ → ℕ → List ℕ → Option Flaw
 pairs_flaw version bound at [] = None
 pairs_flaw version bound at (word ∷ []) = None
 pairs_flaw version bound at (lower ∷ upper ∷ words) = option_or (pair_flaw version bound at lower upper) (pairs_flaw version bound (at + 2 * word_size version) words)
+
+-- the pair with this number, counted from 0
+abbrev pub pair_of : List ℕ → ℕ → Bounds
+pair_of words k = record {
+  lower = value_of (slice_index words (2 * k));
+  upper = value_of (slice_index words (2 * k + 1));
+}
+
+-- each pair lies within the bound, the lower word at most the upper one
+abbrev pub AreWithin : ℤ → List ℕ → Type 0
+AreWithin bound words = (k : ℕ) → 2 * k + 1 < length words → IsWithin bound (pair_of words k)
