@@ -6,7 +6,7 @@ use Rattle.std.proofs.lemmas.Grind.{flat_map-append}
 use Rattle.byteorder.specs.Endian.{big_number, big_bytes}
 use Rattle.byteorder.specs.Numbers.{big_from-take, length-bytes_high_first}
 use Rattle.word_pages.specs.declared.version.Version.{Version}
-use Rattle.word_pages.specs.Words.{word_size, words_of}
+use Rattle.word_pages.specs.Words.{word_size, numbers_of, words_of}
 
 -- so many times one more
 pub times_more : (n k : ℕ) → n * suc k ≡ n + n * k
@@ -43,18 +43,16 @@ length-words_of version zero bytes = refl
 length-words_of version (suc n) bytes = let rest = length-words_of version n (drop (word_size version) bytes) in omega (arith, rest)
 
 -- one word more is read
-pub words_next : (version : Version) (n : ℕ) (bytes : List ℕ)
-    → words_of version (n + 1) bytes ≡ words_of version n bytes ++ big_number (word_size version) (drop (word_size version * n) bytes) ∷ []
-words_next version zero bytes =
-    let none : word_size version * 0 ≡ 0 = omega arith in
-    ap (λ k. big_number (word_size version) (drop k bytes) ∷ []) (sym none)
-words_next version (suc n) bytes =
-    let size = word_size version in
+pub numbers_next : (size n : ℕ) (bytes : List ℕ) → numbers_of size (n + 1) bytes ≡ numbers_of size n bytes ++ big_number size (drop (size * n) bytes) ∷ []
+numbers_next size zero bytes =
+    let none : size * 0 ≡ 0 = omega arith in
+    ap (λ k. big_number size (drop k bytes) ∷ []) (sym none)
+numbers_next size (suc n) bytes =
     let more : suc n + 1 ≡ suc (n + 1) = omega arith in
     let on : size + size * n ≡ size * suc n = sym (times_more size n) in
-    ap (λ k. words_of version k bytes) more
-    ∙ ap (λ (words : List ℕ). big_number size bytes ∷ words) (words_next version n (drop size bytes))
-    ∙ ap (λ (rest : List ℕ). big_number size bytes ∷ (words_of version n (drop size bytes) ++ big_number size rest ∷ [])) (drop-drop (size * n) size bytes ∙ ap (λ k. drop k bytes) on)
+    ap (λ k. numbers_of size k bytes) more
+    ∙ ap (λ (words : List ℕ). big_number size bytes ∷ words) (numbers_next size n (drop size bytes))
+    ∙ ap (λ (rest : List ℕ). big_number size bytes ∷ (numbers_of size n (drop size bytes) ++ big_number size rest ∷ [])) (drop-drop (size * n) size bytes ∙ ap (λ k. drop k bytes) on)
 
 -- the words of bytes are in their front
 pub words_of-take : (version : Version) (n m : ℕ) (bytes : List ℕ) → word_size version * n ≤ m → words_of version n (take m bytes) ≡ words_of version n bytes

@@ -20,7 +20,11 @@ word_text version word = big_bytes (word_size version) word
 abbrev pub words_text : Version → List ℕ → List ℕ
 words_text version words = flat_map (word_text version) words
 
+-- the first n numbers of so many bytes each
+abbrev pub numbers_of : ℕ → ℕ → List ℕ → List ℕ
+numbers_of size zero bytes = []
+numbers_of size (suc n) bytes = big_number size bytes ∷ numbers_of size n (drop size bytes)
+
 -- the first n words that bytes hold
 abbrev pub words_of : Version → ℕ → List ℕ → List ℕ
-words_of version zero bytes = []
-words_of version (suc n) bytes = big_number (word_size version) bytes ∷ words_of version n (drop (word_size version) bytes)
+words_of version n bytes = numbers_of (word_size version) n bytes

@@ -1,6 +1,6 @@
 ghost use Rattle.std.specs.Prelude.{◌≡◌, ◌≤◌, ◌<◌, ◌+◌, ◌*◌, ◌^◌, ◌++◌, All, length, flat_map};
 ghost use Rattle.byteorder.specs.Endian.{big_bytes};
-ghost use Rattle.word_pages.specs.Words.{word_size, Fits, words_text, words_of};
+ghost use Rattle.word_pages.specs.Words.{word_size, Fits, words_text, words_of, numbers_of};
 
 use crate::version::Version;
 use arrayvec::ArrayVec;
@@ -29,9 +29,8 @@ fn put_cells<const SIZE: usize, const N: usize>(words: &[u64], out: &mut ArrayVe
     'words: for word in words {
         let mut cell = [0u8; SIZE];
         BigEndian::write_uint(&mut cell, *word, SIZE);
-        if out.try_extend_from_slice(&cell).is_err() {
-            return;
-        }
+        // There is room for it.
+        let _added = out.try_extend_from_slice(&cell);
     }
 }
 
@@ -40,8 +39,20 @@ pub fn read_words(version: Version, bytes: &[u8], words: &mut [u64])
     requires { word_size version * length words.old ≤ length bytes.now }
     ensures { words.new ≡ words_of version (length words.old) bytes.now }
 {
-    let size = version.word_size();
+    match version {
+        Version::One => read_cells::<8>(bytes, words),
+        Version::Two => read_cells::<5>(bytes, words),
+    }
+}
+
+/// Reads words of `SIZE` bytes each.
+fn read_cells<const SIZE: usize>(bytes: &[u8], words: &mut [u64])
+    requires some { 1 ≤ SIZE }
+    requires most { SIZE ≤ 8 }
+    requires long { SIZE * length words.old ≤ length bytes.now }
+    ensures { words.new ≡ numbers_of SIZE (length words.old) bytes.now }
+{
     'words: for i in 0..words.len() {
-        words[i] = BigEndian::read_uint(&bytes[size * i..], size);
+        words[i] = BigEndian::read_uint(&bytes[SIZE * i..], SIZE);
     }
 }

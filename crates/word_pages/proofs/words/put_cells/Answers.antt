@@ -1,31 +1,34 @@
-use Rattle.std.proofs.Common.{◌≡◌, ◌∙◌, ℕ, suc, ◌+◌, ◌*◌, ◌≤◌, true, true≢false, List, Result, Ok, Err, IsOk, is_err, length, take, drop, replicate, flat_map, sym, ap, ap₂, arith, get_or, ◌-◌, length-append, length-drop}
+use Rattle.std.proofs.Common.{◌≡◌, ◌∙◌, ℕ, suc, ◌+◌, ◌*◌, ◌++◌, ◌≤◌, List, [], Result, Ok, Err, IsOk, OnOk, length, take, drop, get_or, replicate, flat_map, ap, ap₂, arith, append_assoc, length-append}
 use Rattle.std.proofs.Math.Nat.{mul-le-mul_left}
-use Rattle.std.proofs.lemmas.List.{length-replicate, length-take-le}
+use Rattle.std.proofs.lemmas.Bool.{false≢true}
+use Rattle.std.proofs.lemmas.List.{append-nil, drop_all, length-replicate, length-take-le}
 use Rattle.byteorder.specs.Endian.{big_bytes}
 use Rattle.byteorder.specs.Numbers.{length-bytes_high_first}
-use Rattle.word_pages.proofs.Texts.{length-cells, times_more}
+use Rattle.word_pages.proofs.Texts.{cells_next, length-cells, times_more}
 use Rattle.word_pages.proofs.words.put_cells.Goals as goal
 
-not_err : {T E : Type 0} (r : Result T E) → IsOk r → true ≡ is_err r → ⊥
-not_err (Ok x) ok e = true≢false e
-not_err (Err x) ok e = absurd (true≢false (sym ok))
+where_ok : {T E : Type 0} {P : Type 0} (r : Result T E) → IsOk r → OnOk r P → P
+where_ok (Ok x) ok told = told
+where_ok (Err e) wrong told = absurd (false≢true wrong)
 
-pub returns-then-is_err : goal.returns-then-is_err
-returns-then-is_err g c =
+pub words-preserved : goal.words-preserved
+words-preserved g c =
     let size = g.row.SIZE in
-    let done = take c.words.word-index c.args.words.now in
-    let so_far : length c.words.out.items ≡ length c.args.out.now.items + size * length done =
+    let i = c.words.word-index in
+    let start = c.args.out.now.items in
+    let words = c.args.words.now in
+    let done = flat_map (big_bytes size) (take i words) in
+    let word = get_or words i 0 in
+    let nothing : drop size (replicate {A = ℕ} size 0) ≡ [] = drop_all size (replicate size 0) (omega (arith, length-replicate {A = ℕ} size 0)) in
+    let cell : c.write_uint.new.buf ≡ big_bytes size word = c.write_uint.ensures ∙ ap (λ (rest : List ℕ). big_bytes size word ++ rest) nothing ∙ append-nil (big_bytes size word) in
+    let long : length c.write_uint.new.buf ≡ size = ap (λ (bytes : List ℕ). length bytes) cell ∙ length-bytes_high_first size word in
+    let so_far : length c.words.out.items ≡ length start + size * i =
     ap (λ (bytes : List ℕ). length bytes) c.words.invariant
-    ∙ length-append c.args.out.now.items (flat_map (big_bytes size) done)
-    ∙ ap (λ k. length c.args.out.now.items + k) (length-cells size done) in
-    let count : length done ≡ c.words.word-index = length-take-le c.words.word-index c.args.words.now (omega (arith, c.words-test.true)) in
-    let word = get_or c.args.words.now c.words.word-index 0 in
-    let cell : length c.write_uint.new.buf ≡ size =
-    ap (λ (bytes : List ℕ). length bytes) c.write_uint.ensures
-    ∙ length-append (big_bytes size word) (drop size (replicate size 0))
-    ∙ ap₂ (λ (a b : ℕ). a + b) (length-bytes_high_first size word) (length-drop size (replicate size 0) ∙ ap (λ (k : ℕ). k - size) (length-replicate size 0))
-    ∙ omega arith in
-    let more = times_more size c.words.word-index in
-    let room : size * suc c.words.word-index ≤ size * length c.args.words.now = mul-le-mul_left size (omega (arith, c.words-test.true)) in
-    let index : size * length done ≡ size * c.words.word-index = ap (λ k. size * k) count in
-    absurd (not_err c.try_extend_from_slice.result (c.try_extend_from_slice.ensures.variant.1 (omega (arith, c.requires.room, so_far, index, cell, more, room))) c.if-is_err.ensures.value)
+    ∙ length-append start done
+    ∙ ap (λ k. length start + k) (length-cells size (take i words) ∙ ap (λ k. size * k) (length-take-le i words (omega (arith, c.words-test.true)))) in
+    let more = times_more size i in
+    let room : size * suc i ≤ size * length words = mul-le-mul_left size (omega (arith, c.words-test.true)) in
+    where_ok c.try_extend_from_slice-added.result (c.try_extend_from_slice-added.ensures.variant.1 (omega (arith, c.requires.room, so_far, long, more, room))) c.try_extend_from_slice-added.ensures.ok
+    ∙ ap₂ (λ (before cell : List ℕ). before ++ cell) c.words.invariant cell
+    ∙ append_assoc start done (big_bytes size word)
+    ∙ ap (λ (bytes : List ℕ). start ++ bytes) (cells_next size i words c.words-test.true)
