@@ -1,6 +1,6 @@
 -- What reading a file leaves and answers.
 use Rattle.std.specs.Prelude.{◌≡◌, ℕ, ◌+◌, ◌<◌, ◌≤◌, List, ◌++◌, length, take, drop, ⊤, Option, None, Some, IfSome, Result, Ok, Err}
-use Rattle.std.specs.Io.KnownBytes.{Consumes}
+use Rattle.std.specs.Io.KnownBytes.{Consumes, Keeps}
 use Rattle.std.specs.declared.vec.Vec.{Vec}
 use Rattle.std.specs.declared.alloc.Global.{Global}
 use Rattle.hyper_outside.specs.declared.reading.WholeStop.{WholeStop}
@@ -14,10 +14,10 @@ pub record AddsRead (there : List ℕ) (done : ℕ) (old new : List ℕ) (count 
   pub front : take (done + count) new ≡ take done old ++ take count there
   pub rest : drop (done + count) new ≡ drop (done + count) old
 
--- a reader went to a place, and had these bytes from there on, as far as it tells its place and its bytes
-abbrev pub ReadFrom : {R : Type 0} → (R → Option ℕ) → (R → Option (List ℕ)) → ℕ → R → R → List ℕ → Type 0
-ReadFrom {R} place_of remaining at old new bytes =
-    (there : R) × IfSome (place_of old) (λ _. place_of there ≡ Some at) × Consumes (remaining there) (remaining new) bytes
+-- a reader went to a place of its bytes, and had these from there on, as far as it tells its place and its bytes
+abbrev pub ReadFrom : {R : Type 0} → (R → Option ℕ) → (R → Option (List ℕ)) → (R → Option (List ℕ)) → ℕ → R → R → List ℕ → Type 0
+ReadFrom {R} place_of bytes_of remaining at old new had =
+    (there : R) × IfSome (place_of old) (λ _. place_of there ≡ Some at) × Keeps (bytes_of old) (bytes_of there) × Consumes (remaining there) (remaining new) had
 
 -- what reading a whole file of at most so many bytes answers: all of its bytes, or why not
 abbrev pub IsWhole : Option (List ℕ) → ℕ → Result (Vec ℕ Global) WholeStop → Type 0

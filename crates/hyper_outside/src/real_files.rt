@@ -54,8 +54,8 @@ fn read_once<R: Read>(reader: &mut R, buf: &mut [u8]) -> io::Result<usize>
 /// Reads once from a place on.
 fn read_from<R: Read + Seek>(reader: &mut R, at: u64, buf: &mut [u8]) -> io::Result<usize>
     ensures within { IfOk result (λ count. count ≤ length buf.old) }
-    ensures from { IfOk result (λ count. ReadFrom R.stream_position R.remaining
-        at reader.old reader.new (take count buf.new)) }
+    ensures from { IfOk result (λ count. ReadFrom R.stream_position R.stream_bytes
+        R.remaining at reader.old reader.new (take count buf.new)) }
 {
     reader.seek(SeekFrom::Start(at))?;
     read_once(reader, buf)
