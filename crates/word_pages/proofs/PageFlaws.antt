@@ -1,6 +1,7 @@
 -- The first flaw of a page.
 use Rattle.std.proofs.Common.{◌≡◌, ◌∙◌, ◌⊎◌, inl, inr, ℕ, ◌+◌, ◌*◌, ◌≤◌, ◌<◌, Bool, true, false, List, length, take, Option, None, Some, Result, Ok, Err, IsErrAnd, subst, ℤ, refl, sym, ap, ap₂, arith, nat_le}
 use Rattle.std.proofs.lemmas.Bool.{cases_lt, false≢true, le-leb}
+use Rattle.std.proofs.lemmas.Bool.Decides.{leb_tells}
 use Rattle.std.proofs.lemmas.List.{take_all, take-take, length-take-le}
 use Rattle.std.specs.Option.{option_or}
 use Rattle.hyper_outside.specs.declared.outside.PageFault.{PageFault}
@@ -26,6 +27,33 @@ pub long-flaw : (version : Version) (bound : ℤ) (n at : ℕ) (bytes : List ℕ
 long-flaw version bound n at bytes long =
     ap (λ (flaw : Option Flaw). option_or flaw (option_or (flaw_unless (is_sealed (take (page_size version n) bytes)) PageDigest (at + word_size version * n)) (pairs_flaw version bound at (words_of version n bytes))))
     (no_flaw (nat_le (page_size version n) (length bytes)) Short (at + length bytes) (le-leb (page_size version n) (length bytes) long))
+
+not_long : (size count : ℕ) → count < size → nat_le size count ≡ false
+not_long size count short = elim (leb_tells size count) [
+  | inl long ↦ absurd (omega (arith, short, long.1))
+  | inr less ↦ less.0
+]
+
+-- bytes that end before the page's end
+pub short-flaw : (version : Version) (bound : ℤ) (n at : ℕ) (bytes : List ℕ) → length bytes < page_size version n
+    → Some (record { fault = Short; at = at + length bytes }) ≡ page_flaw version bound n at bytes
+short-flaw version bound n at bytes short =
+    sym (ap (λ (flaw : Option Flaw). option_or flaw (option_or (flaw_unless (is_sealed (take (page_size version n) bytes)) PageDigest (at + word_size version * n)) (pairs_flaw version bound at (words_of version n bytes))))
+    (ap (λ (well : Bool). flaw_unless well Short (at + length bytes)) (not_long (page_size version n) (length bytes) short)))
+
+-- a page with another digest
+pub digest-flaw : (version : Version) (bound : ℤ) (n at : ℕ) (bytes : List ℕ) → page_size version n ≤ length bytes → is_sealed (take (page_size version n) bytes) ≡ false
+    → Some (record { fault = PageDigest; at = at + word_size version * n }) ≡ page_flaw version bound n at bytes
+digest-flaw version bound n at bytes long wrong =
+    sym (long-flaw version bound n at bytes long
+    ∙ ap (λ (well : Bool). option_or (flaw_unless well PageDigest (at + word_size version * n)) (pairs_flaw version bound at (words_of version n bytes))) wrong)
+
+-- a page with its digest
+pub sealed-flaw : (version : Version) (bound : ℤ) (n at : ℕ) (bytes : List ℕ) → page_size version n ≤ length bytes → is_sealed (take (page_size version n) bytes) ≡ true
+    → pairs_flaw version bound at (words_of version n bytes) ≡ page_flaw version bound n at bytes
+sealed-flaw version bound n at bytes long right =
+    sym (long-flaw version bound n at bytes long
+    ∙ ap (λ (well : Bool). option_or (flaw_unless well PageDigest (at + word_size version * n)) (pairs_flaw version bound at (words_of version n bytes))) right)
 
 -- bytes behind a page don't matter
 pub page_flaw-take : (version : Version) (bound : ℤ) (n at : ℕ) (bytes : List ℕ) → page_flaw version bound n at (take (page_size version n) bytes) ≡ page_flaw version bound n at bytes

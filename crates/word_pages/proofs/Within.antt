@@ -5,7 +5,7 @@ use Rattle.std.proofs.lemmas.Bool.Decides.{nat_tests}
 use Rattle.std.proofs.lemmas.List.Elements.{All-from_get_or}
 use Rattle.std.specs.Option.{option_or}
 use Rattle.directed_fixed.specs.declared.word.TheConstants.{WORD_OFFSET}
-use Rattle.directed_fixed.specs.Bounds.{IsWithin}
+use Rattle.directed_fixed.specs.Bounds.{IsWithin, IsWithinUnits}
 use Rattle.hyper_outside.specs.declared.outside.PageFault.{PageFault}
 use Rattle.hyper_outside.specs.declared.outside.PageFault.TheVariants.{Word, Crossed}
 use Rattle.word_pages.specs.declared.version.Version.{Version}
@@ -72,6 +72,36 @@ within_pair version bound at lower upper within =
     or_none _ _ (no_flaw (is_in_range bound lower) Word at (both_true _ _ (is_at_most _ _ within.from) (is_at_most _ _ (higher _ _ _ within.in_order within.to))))
     (or_none _ _ (no_flaw (is_in_range bound upper) Word (at + word_size version) (both_true _ _ (is_at_most _ _ (higher _ _ _ within.from within.in_order)) (is_at_most _ _ within.to)))
     (no_flaw (not (nat_lt upper lower)) Crossed at (is_in_order lower upper within.in_order)))
+
+-- ---- the first flaw of a pair
+
+pub out_of_range : (bound : ℤ) (word : ℕ) → (IsWithinUnits bound (value_of word) → ⊥) → is_in_range bound word ≡ false
+out_of_range bound word outside = by_test (is_in_range bound word) refl
+  where
+    by_test : (b : Bool) → is_in_range bound word ≡ b → is_in_range bound word ≡ false
+    by_test false e = e
+    by_test true e = let parts = both _ _ e in absurd (outside (record { from = at_most _ _ parts.0; to = at_most _ _ parts.1 }))
+
+pub in_range : (bound : ℤ) (word : ℕ) → IsWithinUnits bound (value_of word) → is_in_range bound word ≡ true
+in_range bound word within = both_true _ _ (is_at_most _ _ within.from) (is_at_most _ _ within.to)
+
+pub lower-flaw : (version : Version) (bound : ℤ) (at lower upper : ℕ) → is_in_range bound lower ≡ false → Some (record { fault = Word; at = at }) ≡ pair_flaw version bound at lower upper
+lower-flaw version bound at lower upper wrong =
+    sym (ap (λ (well : Bool). option_or (flaw_unless well Word at) (option_or (flaw_unless (is_in_range bound upper) Word (at + word_size version)) (flaw_unless (not (nat_lt upper lower)) Crossed at))) wrong)
+
+pub upper-flaw : (version : Version) (bound : ℤ) (at lower upper : ℕ) → is_in_range bound lower ≡ true → is_in_range bound upper ≡ false → Some (record { fault = Word; at = at + word_size version }) ≡ pair_flaw version bound at lower upper
+upper-flaw version bound at lower upper right wrong =
+    sym (ap₂ (λ (low high : Bool). option_or (flaw_unless low Word at) (option_or (flaw_unless high Word (at + word_size version)) (flaw_unless (not (nat_lt upper lower)) Crossed at))) right wrong)
+
+pub order-flaw : (version : Version) (bound : ℤ) (at lower upper : ℕ) → is_in_range bound lower ≡ true → is_in_range bound upper ≡ true → flaw_unless (not (nat_lt upper lower)) Crossed at ≡ pair_flaw version bound at lower upper
+order-flaw version bound at lower upper low high =
+    sym (ap₂ (λ (low high : Bool). option_or (flaw_unless low Word at) (option_or (flaw_unless high Word (at + word_size version)) (flaw_unless (not (nat_lt upper lower)) Crossed at))) low high)
+
+pub crossed : (lower upper at : ℕ) → upper < lower → Some (record { fault = Crossed; at = at }) ≡ flaw_unless (not (nat_lt upper lower)) Crossed at
+crossed lower upper at less = grind (arith, nat_tests)
+
+pub ordered : (lower upper at : ℕ) → lower ≤ upper → None ≡ flaw_unless (not (nat_lt upper lower)) Crossed at
+ordered lower upper at le = grind (arith, nat_tests)
 
 -- ---- all pairs
 
