@@ -1,0 +1,19 @@
+//! The head of a file of bounds: what its words are of, the bytes that say it, and what is wrong first with such bytes.
+#![tactic(auto)]
+
+mod fault;
+mod fields;
+mod front;
+mod head;
+mod header;
+mod laws;
+mod reading;
+#[cfg(test)]
+mod tests;
+
+pub use fault::{BadFile, FileFault};
+pub use front::put_front;
+pub use head::Head;
+pub use header::Header;
+pub use laws::header_examples;
+pub use reading::read_header;
