@@ -1,3 +1,4 @@
+mod Faulty
 mod Mapped
 mod Numbers
 mod Readings

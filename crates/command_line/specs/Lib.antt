@@ -1,2 +1,5 @@
+pub mod Values
+pub mod Commands
 pub mod Words
 pub mod Reading
+pub mod Stops

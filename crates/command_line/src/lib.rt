@@ -1,13 +1,15 @@
 //! The words that a user writes after the program's name.
 #![tactic(auto)]
 
+mod command;
+mod commands;
+mod stop;
 mod text;
 mod values;
 mod words;
 
+pub use command::{Bound, Command, CommandName, Migrate, Show, Solve};
+pub use stop::WordsStop;
 pub use text::Text;
-pub use values::{MOST_CHECKERS, MOST_ROUNDS};
-pub use words::{Command, WordsStop, read_words};
-
-#[cfg(test)]
-mod tests;
+pub use values::{MOST_CHECKERS, MOST_ROUNDS, MOST_WORKERS, USUAL_ROUNDS};
+pub use words::read_words;

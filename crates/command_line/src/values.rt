@@ -1,17 +1,30 @@
-ghost use Rattle.std.specs.Prelude.{◌≡◌, ℕ, ◌≤◌, List, IfSome};
-ghost use Rattle.command_line.specs.Words.{is_option, is_faulty, number_within};
+ghost use Rattle.std.specs.Prelude.{◌≡◌, ◌==◌, ℕ, ◌≤◌, List, IfSome, option_map};
+ghost use Rattle.std.specs.List.{list_any};
+ghost use Rattle.command_line.specs.Values.{number_within, number_given, number_or, stakes_named, stakes_or, is_file_name, file_name, other_name};
+ghost use Rattle.command_line.specs.Words.{is_option, is_faulty};
 
-/// The most checkers per side.
+use cube_actions::StakesName;
+
+/// The most checkers per side, and those that `solve` takes where none are given.
 pub const MOST_CHECKERS: u8 = 3;
 
 /// The most rounds.
 pub const MOST_ROUNDS: u32 = 4096;
 
+/// The rounds that `solve` makes where none are given.
+pub const USUAL_ROUNDS: u32 = 64;
+
+/// The most workers.
+pub const MOST_WORKERS: u32 = 64;
+
 /// The most bytes of a word.
 pub const LONGEST_WORD: usize = 4096;
 
+/// The most bytes of a file's name.
+pub const LONGEST_NAME: usize = 255;
+
 /// A number from 1 to this limit, in decimal digits without a leading zero.
-pub fn number_within(word: &str, most: u32) -> Option<u32>
+pub(crate) fn number_within(word: &str, most: u32) -> Option<u32>
     ensures number { result ≡ number_within most word.now }
     ensures within { IfSome result (λ number. (1 ≤ number) × (number ≤ most)) }
 {
@@ -25,15 +38,96 @@ pub fn number_within(word: &str, most: u32) -> Option<u32>
     }
 }
 
+/// The number that is given.
+pub(crate) fn number_given(word: Option<&str>, most: u32) -> Option<u32>
+    ensures number { result ≡ number_given most (option_map (λ w. w.now) word.entry) }
+    ensures within { IfSome result (λ number. (1 ≤ number) × (number ≤ most)) }
+{
+    number_within(word?, most)
+}
+
+/// The number that is given, or the usual one where none is.
+pub(crate) fn number_or(word: Option<&str>, most: u32, usual: u32) -> Option<u32>
+    requires usual { (1 ≤ usual) × (usual ≤ most) }
+    ensures number { result ≡ number_or most usual (option_map (λ w. w.now) word.entry) }
+    ensures within { IfSome result (λ number. (1 ≤ number) × (number ≤ most)) }
+{
+    match word {
+        Some(word) => number_within(word, most),
+        None => Some(usual),
+    }
+}
+
+fn stakes_named(word: &str) -> Option<StakesName>
+    ensures { result ≡ stakes_named word.now }
+{
+    match word {
+        "cubeless" => Some(StakesName::Cubeless),
+        "money" => Some(StakesName::Money),
+        "jacoby" => Some(StakesName::Jacoby),
+        "money-beavers" => Some(StakesName::MoneyBeavers),
+        "jacoby-beavers" => Some(StakesName::JacobyBeavers),
+        _ => None,
+    }
+}
+
+/// The stakes that are given, or the usual ones where none are.
+pub(crate) fn stakes_or(word: Option<&str>, usual: StakesName) -> Option<StakesName>
+    ensures { result ≡ stakes_or usual (option_map (λ w. w.now) word.entry) }
+{
+    match word {
+        Some(word) => stakes_named(word),
+        None => Some(usual),
+    }
+}
+
+/// Whether it is 1 to 255 bytes, none of them 0.
+fn is_file_name(bytes: &[u8]) -> bool
+    ensures { result ≡ is_file_name bytes.now }
+{
+    if bytes.is_empty() || bytes.len() > LONGEST_NAME {
+        return false;
+    }
+    !has_zero(bytes)
+}
+
+fn has_zero(bytes: &[u8]) -> bool
+    ensures { result ≡ list_any (λ byte. byte == 0) bytes.now }
+{
+    bytes.iter().any(|byte| *byte == 0)
+}
+
+/// The file's name that is given.
+pub(crate) fn file_name<'a>(word: Option<&'a str>) -> Option<&'a str>
+    ensures { option_map (λ w. w.now) result
+        ≡ file_name (option_map (λ w. w.now) word.entry) }
+{
+    let word = word?;
+    if is_file_name(word.as_bytes()) {
+        Some(word)
+    } else {
+        None
+    }
+}
+
+/// The file's name that is given, if it isn't this one.
+pub(crate) fn other_name<'a>(name: &str, word: Option<&'a str>) -> Option<&'a str>
+    ensures { option_map (λ w. w.now) result
+        ≡ other_name name.now (option_map (λ w. w.now) word.entry) }
+{
+    let word = file_name(word)?;
+    if word == name { None } else { Some(word) }
+}
+
 /// Whether the word is an option.
-pub fn is_option(word: &[u8]) -> bool
+pub(crate) fn is_option(word: &[u8]) -> bool
     ensures { result ≡ is_option word.now }
 {
     word.starts_with(b"--")
 }
 
 /// Whether the word can't stand in any command.
-pub fn is_faulty(word: &[u8]) -> bool
+pub(crate) fn is_faulty(word: &[u8]) -> bool
     ensures { result ≡ is_faulty word.now }
 {
     if word.is_empty() || word.len() > LONGEST_WORD {

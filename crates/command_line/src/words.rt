@@ -1,75 +1,54 @@
-ghost use Rattle.std.specs.Prelude.{◌≡◌, ℕ, ◌∷◌, List, position, map, string_bytes};
+ghost use Rattle.std.specs.Prelude.{◌≡◌, ℕ, ◌∷◌, List, false, position, map, string_bytes};
 ghost use Rattle.std.specs.List.{list_any};
-ghost use Rattle.command_line.specs.Reading.{Gives, bytes_of};
-ghost use Rattle.command_line.specs.Words.{is_option, is_faulty, place_at, arguments, reading};
+ghost use Rattle.word_forms.specs.Form.{is_misread};
+ghost use Rattle.word_forms.specs.Clap.{bytes_of};
+ghost use Rattle.command_line.specs.Reading.{Gives};
+ghost use Rattle.command_line.specs.Words.{is_faulty, place_at, form_reading, words_reading, reading};
 
-use crate::text::Text;
-use crate::values::{MOST_CHECKERS, MOST_ROUNDS, is_faulty, is_option, number_within};
-use hyper_outside::{BadWords, NoMemory, WordsKind};
+use crate::command::{Command, CommandName};
+use crate::commands::read_values;
+use crate::stop::{WordsStop, bad, bad_form};
+use crate::values::is_faulty;
+use hyper_outside::WordsKind;
 use std::alloc::Global;
-
-/// What a user asks for.
-#[derive(Drop)]
-pub enum Command {
-    /// A pair of bounds of one position's value after some rounds.
-    Bound {
-        checkers: u8,
-        rounds: u32,
-        position: Text,
-    },
-}
-
-/// Why words were not read.
-#[derive(Clone, Copy, Debug, PartialEq, Eq)]
-pub enum WordsStop {
-    /// They are no command's words.
-    Bad(BadWords),
-    NoMemory,
-}
+use word_forms::read_form;
 
 /// Reads the words after the program's name.
 ///
 /// Of these refusals the first that holds is answered. `Command` comes at place 0 where no word is there or the first is no command's
-/// name. `Word` comes at the place of the first faulty word; the word after the name has place 1. `Form` comes at place 0 where there
-/// is an option or the arguments aren't three. `Value` comes at the number of the first argument out of its form.
+/// name. `Word` comes at the place of the first faulty word; the word after the name has place 1. `Form` comes at place 0 where an
+/// argument is missing or one is too many, or an option is another command's, repeated or without a value. `Value` comes at the lowest
+/// number of an argument or option out of its form.
 pub fn read_words(alloc: Global, words: &[String]) -> Result<Command, WordsStop>
     ensures { Gives (reading (bytes_of words.now)) result }
 {
     let Some((name, words)) = words.split_first() else {
         return Err(bad(WordsKind::Command, 0));
     };
-    if name.as_str() != "bound" {
-        return Err(bad(WordsKind::Command, 0));
+    match CommandName::read(name.as_str()) {
+        Some(command) => read_command(alloc, command, words),
+        None => Err(bad(WordsKind::Command, 0)),
     }
-    if let Some(at) = first_faulty(words) {
-        return Err(bad(WordsKind::Word, place_at(at)));
-    }
-    read_arguments(alloc, words)
 }
 
-/// Reads what stands behind the command's name.
-fn read_arguments(alloc: Global, words: &[String]) -> Result<Command, WordsStop>
-    ensures { Gives (arguments (bytes_of words.now)) result }
+/// Reads what stands behind a command's name.
+fn read_command(alloc: Global, name: CommandName, words: &[String]) -> Result<Command, WordsStop>
+    ensures { Gives (words_reading name (bytes_of words.now)) result }
 {
-    if has_option(words) {
-        return Err(bad(WordsKind::Form, 0));
+    match first_faulty(words) {
+        Some(at) => Err(bad(WordsKind::Word, place_at(at))),
+        None => read_arguments(alloc, name, words),
     }
-    if words.len() != 3 {
-        return Err(bad(WordsKind::Form, 0));
-    }
-    let Some(checkers) = number_within(words[0].as_str(), MOST_CHECKERS as u32) else {
-        return Err(bad(WordsKind::Value, 1));
-    };
-    let Some(rounds) = number_within(words[1].as_str(), MOST_ROUNDS) else {
-        return Err(bad(WordsKind::Value, 2));
-    };
-    match Text::new(alloc, words[2].as_str()) {
-        Ok(position) => Ok(Command::Bound {
-            checkers: checkers as u8,
-            rounds,
-            position,
-        }),
-        Err(NoMemory) => Err(WordsStop::NoMemory),
+}
+
+/// Reads words none of which is faulty.
+fn read_arguments(alloc: Global, name: CommandName, words: &[String]) -> Result<Command, WordsStop>
+    requires { list_any is_misread (bytes_of words.now) ≡ false }
+    ensures { Gives (form_reading name (bytes_of words.now)) result }
+{
+    match read_form(alloc, name.arguments(), name.options(), words) {
+        Ok(values) => read_values(alloc, name, &values),
+        Err(stop) => Err(bad_form(stop)),
     }
 }
 
@@ -78,13 +57,6 @@ fn first_faulty(words: &[String]) -> Option<usize>
     ensures { result ≡ position (λ word. is_faulty (string_bytes word)) words.now }
 {
     words.iter().position(|word| is_faulty(word.as_bytes()))
-}
-
-/// Whether some word is an option.
-fn has_option(words: &[String]) -> bool
-    ensures { result ≡ list_any (λ word. is_option (string_bytes word)) words.now }
-{
-    words.iter().any(|word| is_option(word.as_bytes()))
 }
 
 /// The place of the word at this index behind the name. The last number stands for all places above.
@@ -96,10 +68,4 @@ fn place_at(index: usize) -> u32
     } else {
         u32::MAX
     }
-}
-
-fn bad(kind: WordsKind, place: u32) -> WordsStop
-    ensures { result ≡ WordsStop.Bad (record { kind = kind; place = place }) }
-{
-    WordsStop::Bad(BadWords { kind, place })
 }

@@ -6,8 +6,12 @@ use Rattle.position_rank.specs.Placement.{Placement}
 use Rattle.position_rank.specs.declared.text.BadPosition.{BadPosition}
 use Rattle.position_rank.specs.Text.{read_position}
 use Rattle.hyper_outside.specs.declared.outside.BadWords.{BadWords}
-use Rattle.command_line.specs.Words.{Asked, reading}
-use Rattle.command_line.specs.Reading.{bytes_of}
+use Rattle.hyper_outside.specs.declared.outside.WordsKind.TheVariants.{Command}
+use Rattle.word_forms.specs.Clap.{bytes_of}
+use Rattle.command_line.specs.declared.command.Bound.{Bound as BoundAsked}
+use Rattle.command_line.specs.declared.command.Command.TheVariants.{Bound}
+use Rattle.command_line.specs.Commands.{Asked}
+use Rattle.command_line.specs.Words.{reading}
 use Rattle.cube_actions.specs.Stakes.{cubeless}
 use Rattle.turn_rule.specs.Turn.{rounds}
 use Rattle.turn_rule.specs.States.{pair_of}
@@ -21,12 +25,13 @@ fitting checkers rounds p =
     if sum p.mover == checkers then Ok (record { position = p; rounds = rounds })
     else Err (Base (sum p.mover) checkers)
 
-abbrev pub with_position : Asked → Result Placement BadPosition → Result Task Refusal
+abbrev pub with_position : BoundAsked → Result Placement BadPosition → Result Task Refusal
 with_position asked (Ok p) = fitting asked.checkers asked.rounds p
 with_position asked (Err bad) = Err (Position bad)
 
 abbrev pub with_words : Result Asked BadWords → Result Task Refusal
-with_words (Ok asked) = with_position asked (read_position asked.position)
+with_words (Ok (Bound asked)) = with_position asked (read_position asked.position)
+with_words (Ok _) = Err (Words (record { kind = Command; place = 0 }))
 with_words (Err bad) = Err (Words bad)
 
 -- the words are read first, then the position, and then the numbers of checkers are compared

@@ -1,24 +1,23 @@
-use Rattle.std.proofs.Common.{[], slice_index_or, sym, ◌∙◌, ap, arith}
-use Rattle.command_line.specs.declared.values.TheConstants.{MOST_CHECKERS, MOST_ROUNDS}
-use Rattle.command_line.specs.Reading.{bytes_of}
-use Rattle.command_line.specs.Words.{number_within}
-use Rattle.command_line.proofs.Readings.{option-refused, three-arguments, word-at, checkers-refused, rounds-refused}
+use Rattle.std.proofs.Common.{◌≡◌, ◌∙◌, List, Option, Some, Result, sym, ap, ap₂, subst}
+use Rattle.std.specs.Option.{option_map_or}
+use Rattle.hyper_outside.specs.declared.outside.BadWords.{BadWords}
+use Rattle.hyper_outside.specs.declared.outside.WordsKind.TheVariants.{Form as NotOfForm}
+use Rattle.word_forms.specs.Form.{Bytes, Form, Values, values_of}
+use Rattle.word_forms.specs.Clap.{form_of, bytes_of}
+use Rattle.command_line.specs.Commands.{Asked, refused, command_form, command_values}
+use Rattle.command_line.specs.Reading.{Gives}
 use Rattle.command_line.proofs.words.read_arguments.Goals as goal
 
-pub returns-then-has_option : goal.returns-then-has_option
-returns-then-has_option c = rw c.bad.ensures (option-refused c.args.words.now (sym c.if-has_option.ensures))
+abbrev form : (arguments options : List Bytes) → Form
+form arguments options = record { arguments = arguments; options = options }
 
-pub returns-in_default : goal.returns-in_default
-returns-in_default c =
-    let first = word-at c.args.words.now 0 c.index-words-0.result (omega arith) c.index-words-0.is ∙ sym c.as_str.ensures.value in
-    rw c.bad-in_default.ensures (
-    three-arguments c.args.words.now (sym c.if-has_option.ensures) c.if-words-ne3.false
-    ∙ checkers-refused (slice_index_or (bytes_of c.args.words.now) 0 []) (slice_index_or (bytes_of c.args.words.now) 1 []) (slice_index_or (bytes_of c.args.words.now) 2 []) (c.in_default.ensures.number ∙ ap (λ bs. number_within MOST_CHECKERS bs) (sym first)))
-
-pub returns-in_default-number_within : goal.returns-in_default-number_within
-returns-in_default-number_within c =
-    let first = word-at c.args.words.now 0 c.index-words-0.result (omega arith) c.index-words-0.is ∙ sym c.as_str.ensures.value in
-    let second = word-at c.args.words.now 1 c.index-words-1.result (omega arith) c.index-words-1.is ∙ sym c.as_str-2.ensures.value in
-    rw c.bad-in_default-number_within.ensures (
-    three-arguments c.args.words.now (sym c.if-has_option.ensures) c.if-words-ne3.false
-    ∙ rounds-refused (slice_index_or (bytes_of c.args.words.now) 0 []) (slice_index_or (bytes_of c.args.words.now) 1 []) (slice_index_or (bytes_of c.args.words.now) 2 []) _ (c.in-Some.ensures.number ∙ ap (λ bs. number_within MOST_CHECKERS bs) (sym first)) (c.in_default-number_within.ensures.number ∙ ap (λ bs. number_within MOST_ROUNDS bs) (sym second)))
+pub returns-in-Ok : goal.returns-in-Ok
+returns-in-Ok c =
+    let name = c.args.name in
+    let words = bytes_of c.args.words.now in
+    let is : form_of c.arguments.result.now c.options.result.now ≡ command_form name = ap₂ form c.arguments.ensures c.options.ensures in
+    let read = c.in-Ok.ensures in
+    let values : values_of (command_form name) words ≡ Some read.0 = ap (λ (f : Form). values_of f words) (sym is) ∙ read.1 in
+    subst (λ (expected : Result Asked BadWords). Gives expected c.read_values.result)
+    (sym (ap (λ (o : Option Values). option_map_or (command_values name) o (refused NotOfForm 0)) values))
+    (c.read_values.ensures read.0 read.2)

@@ -1,0 +1,13 @@
+use Rattle.command_line.proofs.commands.read_values.Goals as goal
+
+pub returns-in-Bound : goal.returns-in-Bound
+returns-in-Bound c = λ given has. rw c.in-Bound.is (c.read_bound.ensures given has)
+
+pub returns-in-Solve : goal.returns-in-Solve
+returns-in-Solve c = λ given has. rw c.in-Solve.is (c.read_solve.ensures given has)
+
+pub returns-in-Show : goal.returns-in-Show
+returns-in-Show c = λ given has. rw c.in-Show.is (c.read_show.ensures given has)
+
+pub returns-in-Migrate : goal.returns-in-Migrate
+returns-in-Migrate c = λ given has. rw c.in-Migrate.is (c.read_migrate.ensures given has)

@@ -1,0 +1,91 @@
+-- The commands: their names, their forms, and what their values ask for.
+use Rattle.std.specs.Prelude.{ℕ, [], ◌∷◌, codes, Option, Some, None, Result, Ok, Err, if◌then◌else◌}
+use Rattle.std.specs.Option.{option_map_or}
+use Rattle.std.specs.Str.{bytes_eq}
+use Rattle.hyper_outside.specs.declared.outside.BadWords.{BadWords}
+use Rattle.hyper_outside.specs.declared.outside.WordsKind.{WordsKind}
+use Rattle.hyper_outside.specs.declared.outside.WordsKind.TheVariants.{Value}
+use Rattle.cube_actions.specs.declared.name.StakesName.TheVariants.{Jacoby}
+use Rattle.word_forms.specs.Form.{Bytes, Form, Values, value_of}
+use Rattle.command_line.specs.declared.command.Command.{Command}
+use Rattle.command_line.specs.declared.command.Command.TheVariants.{Bound, Solve, Show, Migrate}
+use Rattle.command_line.specs.declared.command.CommandName.{CommandName}
+use Rattle.command_line.specs.declared.command.CommandName.TheVariants as name
+use Rattle.command_line.specs.declared.values.TheConstants.{MOST_CHECKERS, MOST_ROUNDS, MOST_WORKERS, USUAL_ROUNDS}
+use Rattle.command_line.specs.Values.{number_given, number_or, stakes_or, file_name, other_name}
+
+-- what right words ask for
+abbrev pub Asked : Type 0
+Asked = Command
+
+abbrev pub refused : WordsKind → ℕ → Result Asked BadWords
+refused kind place = Err (record { kind = kind; place = place })
+
+-- with the value of this number, which is refused where it is out of its form
+abbrev pub checked : {X : Type 0} → ℕ → Option X → (X → Result Asked BadWords) → Result Asked BadWords
+checked number value next = option_map_or next value (refused Value number)
+
+-- ---- each command: its form, and its values in the order of their numbers
+
+abbrev pub bound_form : Form
+bound_form = record { arguments = codes "CHECKERS" ∷ codes "ROUNDS" ∷ codes "POSITION" ∷ []; options = [] }
+
+-- a position has no form here
+abbrev pub bound_values : Values → Result Asked BadWords
+bound_values given =
+    checked 1 (number_given MOST_CHECKERS (value_of (codes "CHECKERS") given)) (λ checkers.
+    checked 2 (number_given MOST_ROUNDS (value_of (codes "ROUNDS") given)) (λ rounds.
+    checked 3 (value_of (codes "POSITION") given) (λ position.
+    Ok (Bound (record { checkers = checkers; rounds = rounds; position = position })))))
+
+abbrev pub solve_form : Form
+solve_form = record { arguments = codes "FILE" ∷ []; options = codes "checkers" ∷ codes "stakes" ∷ codes "rounds" ∷ codes "workers" ∷ [] }
+
+abbrev pub solve_values : Values → Result Asked BadWords
+solve_values given =
+    checked 1 (file_name (value_of (codes "FILE") given)) (λ file.
+    checked 2 (number_or MOST_CHECKERS MOST_CHECKERS (value_of (codes "checkers") given)) (λ checkers.
+    checked 3 (stakes_or Jacoby (value_of (codes "stakes") given)) (λ stakes.
+    checked 4 (number_or MOST_ROUNDS USUAL_ROUNDS (value_of (codes "rounds") given)) (λ rounds.
+    checked 5 (number_or MOST_WORKERS 1 (value_of (codes "workers") given)) (λ workers.
+    Ok (Solve (record { file = file; checkers = checkers; stakes = stakes; rounds = rounds; workers = workers })))))))
+
+abbrev pub show_form : Form
+show_form = record { arguments = codes "FILE" ∷ codes "POSITION" ∷ []; options = [] }
+
+abbrev pub show_values : Values → Result Asked BadWords
+show_values given =
+    checked 1 (file_name (value_of (codes "FILE") given)) (λ file.
+    checked 2 (value_of (codes "POSITION") given) (λ position.
+    Ok (Show (record { file = file; position = position }))))
+
+abbrev pub migrate_form : Form
+migrate_form = record { arguments = codes "OLD" ∷ codes "NEW" ∷ []; options = [] }
+
+-- the new name is another one
+abbrev pub migrate_values : Values → Result Asked BadWords
+migrate_values given =
+    checked 1 (file_name (value_of (codes "OLD") given)) (λ old.
+    checked 2 (other_name old (value_of (codes "NEW") given)) (λ new.
+    Ok (Migrate (record { old = old; new = new }))))
+
+-- ---- all of them
+
+abbrev pub command_named : Bytes → Option CommandName
+command_named word =
+    if bytes_eq word (codes "bound") then Some name.Bound
+    else (if bytes_eq word (codes "solve") then Some name.Solve
+    else (if bytes_eq word (codes "show") then Some name.Show
+    else (if bytes_eq word (codes "migrate") then Some name.Migrate else None)))
+
+abbrev pub command_form : CommandName → Form
+command_form name.Bound = bound_form
+command_form name.Solve = solve_form
+command_form name.Show = show_form
+command_form name.Migrate = migrate_form
+
+abbrev pub command_values : CommandName → Values → Result Asked BadWords
+command_values name.Bound given = bound_values given
+command_values name.Solve given = solve_values given
+command_values name.Show given = show_values given
+command_values name.Migrate given = migrate_values given

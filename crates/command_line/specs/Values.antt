@@ -1,0 +1,53 @@
+-- The forms of values.
+use Rattle.std.specs.Prelude.{ℕ, ◌==◌, nat_lt, nat_le, Bool, not, ◌&&◌, ◌||◌, List, length, slice_index, codes, Option, Some, None, if◌then◌else◌, option_and_then}
+use Rattle.std.specs.List.{list_any}
+use Rattle.std.specs.Str.{bytes_eq, all_ascii_digits}
+use Rattle.std.specs.Str.Parse.{digits_value}
+use Rattle.word_forms.specs.Form.{Bytes}
+use Rattle.cube_actions.specs.declared.name.StakesName.{StakesName}
+use Rattle.cube_actions.specs.declared.name.StakesName.TheVariants.{Cubeless, Money, Jacoby, MoneyBeavers, JacobyBeavers}
+
+-- decimal digits without a leading zero
+abbrev pub is_number : Bytes → Bool
+is_number digits = nat_lt 0 (length digits) && all_ascii_digits digits && (not (slice_index digits 0 == 48) || length digits == 1)
+
+-- the number that a word writes
+abbrev pub number_of : Bytes → Option ℕ
+number_of word = if is_number word then Some (digits_value 10 word) else None
+
+-- a number from 1 to this limit
+abbrev pub number_within : ℕ → Bytes → Option ℕ
+number_within most word = option_and_then (λ n. if nat_le 1 n && nat_le n most then Some n else None) (number_of word)
+
+-- the number that is given
+abbrev pub number_given : ℕ → Option Bytes → Option ℕ
+number_given most given = option_and_then (number_within most) given
+
+-- the same, or the usual one where none is given
+abbrev pub number_or : ℕ → ℕ → Option Bytes → Option ℕ
+number_or most usual None = Some usual
+number_or most usual (Some word) = number_within most word
+
+abbrev pub stakes_named : Bytes → Option StakesName
+stakes_named word =
+    if bytes_eq word (codes "cubeless") then Some Cubeless
+    else (if bytes_eq word (codes "money") then Some Money
+    else (if bytes_eq word (codes "jacoby") then Some Jacoby
+    else (if bytes_eq word (codes "money-beavers") then Some MoneyBeavers
+    else (if bytes_eq word (codes "jacoby-beavers") then Some JacobyBeavers else None))))
+
+-- the stakes that are given, or the usual ones where none are
+abbrev pub stakes_or : StakesName → Option Bytes → Option StakesName
+stakes_or usual None = Some usual
+stakes_or usual (Some word) = stakes_named word
+
+-- 1 to 255 bytes, none of them 0
+abbrev pub is_file_name : Bytes → Bool
+is_file_name word = nat_le 1 (length word) && nat_le (length word) 255 && not (list_any (λ byte. byte == 0) word)
+
+abbrev pub file_name : Option Bytes → Option Bytes
+file_name given = option_and_then (λ word. if is_file_name word then Some word else None) given
+
+-- a file's name that isn't this one
+abbrev pub other_name : Bytes → Option Bytes → Option Bytes
+other_name name given = option_and_then (λ word. if bytes_eq word name then None else Some word) (file_name given)

@@ -1,0 +1,117 @@
+ghost use Rattle.std.specs.Prelude.{◌≡◌};
+ghost use Rattle.word_forms.specs.Clap.{names};
+ghost use Rattle.command_line.specs.Commands.{command_named, command_form};
+
+use crate::text::Text;
+use cube_actions::StakesName;
+
+/// A position whose pair is found by some rounds in a game without a cube.
+#[derive(Drop)]
+pub struct Bound {
+    /// 1 to 3 a side.
+    pub checkers: u8,
+    /// 1 to 4096.
+    pub rounds: u32,
+    /// In any form.
+    pub position: Text,
+}
+
+/// A game that is solved by some rounds and written to a file.
+#[derive(Drop)]
+pub struct Solve {
+    /// The file's name, 1 to 255 bytes.
+    pub file: Text,
+    /// 1 to 3 a side.
+    pub checkers: u8,
+    /// Any but a match.
+    pub stakes: StakesName,
+    /// 1 to 4096.
+    pub rounds: u32,
+    /// 1 to 64.
+    pub workers: u32,
+}
+
+/// A position whose pairs are looked up in a file.
+#[derive(Drop)]
+pub struct Show {
+    /// The file's name, 1 to 255 bytes.
+    pub file: Text,
+    /// In any form.
+    pub position: Text,
+}
+
+/// A file that is written anew under another name, in the latest version.
+#[derive(Drop)]
+pub struct Migrate {
+    /// The name of the file to be read, 1 to 255 bytes.
+    pub old: Text,
+    /// The name of the file to be written, 1 to 255 bytes, another one.
+    pub new: Text,
+}
+
+/// What a user asks for.
+#[derive(Drop)]
+pub enum Command {
+    Bound(Bound),
+    Solve(Solve),
+    Show(Show),
+    Migrate(Migrate),
+}
+
+/// The commands.
+#[derive(Clone, Copy, Debug, PartialEq, Eq)]
+pub enum CommandName {
+    Bound,
+    Solve,
+    Show,
+    Migrate,
+}
+
+static BOUND: [&str; 3] = ["CHECKERS", "ROUNDS", "POSITION"];
+
+static SOLVE: [&str; 1] = ["FILE"];
+
+static SOLVE_OPTIONS: [&str; 4] = ["checkers", "stakes", "rounds", "workers"];
+
+static SHOW: [&str; 2] = ["FILE", "POSITION"];
+
+static MIGRATE: [&str; 2] = ["OLD", "NEW"];
+
+static NO_OPTIONS: [&str; 0] = [];
+
+impl CommandName {
+    /// The command of a name. `None` exactly where no command has that name.
+    pub fn read(word: &str) -> Option<CommandName>
+        ensures { result ≡ command_named word.now }
+    {
+        match word {
+            "bound" => Some(CommandName::Bound),
+            "solve" => Some(CommandName::Solve),
+            "show" => Some(CommandName::Show),
+            "migrate" => Some(CommandName::Migrate),
+            _ => None,
+        }
+    }
+
+    /// The names of its arguments, in their order.
+    pub fn arguments(self) -> &'static [&'static str]
+        ensures { names result.now ≡ (command_form self).arguments }
+    {
+        match self {
+            CommandName::Bound => BOUND.as_slice(),
+            CommandName::Solve => SOLVE.as_slice(),
+            CommandName::Show => SHOW.as_slice(),
+            CommandName::Migrate => MIGRATE.as_slice(),
+        }
+    }
+
+    /// The names of its options, each with a value.
+    pub fn options(self) -> &'static [&'static str]
+        ensures { names result.now ≡ (command_form self).options }
+    {
+        match self {
+            CommandName::Solve => SOLVE_OPTIONS.as_slice(),
+            CommandName::Bound | CommandName::Show | CommandName::Migrate => NO_OPTIONS.as_slice(),
+        }
+    }
+}

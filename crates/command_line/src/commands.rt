@@ -1,0 +1,113 @@
+ghost use Rattle.word_forms.specs.Form.{Values};
+ghost use Rattle.word_forms.specs.Clap.{HasValues};
+ghost use Rattle.command_line.specs.Commands.{bound_values, solve_values, show_values, migrate_values, command_values};
+ghost use Rattle.command_line.specs.Reading.{Gives};
+
+use crate::command::{Bound, Command, CommandName, Migrate, Show, Solve};
+use crate::stop::{WordsStop, bad_value};
+use crate::text::Text;
+use crate::values::{
+    MOST_CHECKERS, MOST_ROUNDS, MOST_WORKERS, USUAL_ROUNDS, file_name, number_given, number_or,
+    other_name, stakes_or,
+};
+use clap::ArgMatches;
+use cube_actions::StakesName;
+use std::alloc::Global;
+
+/// What a command's values ask for. Of those that are out of their form the first by number is refused.
+pub(crate) fn read_values(
+    alloc: Global,
+    name: CommandName,
+    values: &ArgMatches<'_>,
+) -> Result<Command, WordsStop>
+    ensures { (given : Values) → HasValues given values.now
+        → Gives (command_values name given) result }
+{
+    match name {
+        CommandName::Bound => read_bound(alloc, values),
+        CommandName::Solve => read_solve(alloc, values),
+        CommandName::Show => read_show(alloc, values),
+        CommandName::Migrate => read_migrate(alloc, values),
+    }
+}
+
+fn read_bound(alloc: Global, values: &ArgMatches<'_>) -> Result<Command, WordsStop>
+    ensures { (given : Values) → HasValues given values.now
+        → Gives (bound_values given) result }
+{
+    let Some(checkers) = number_given(values.get_str("CHECKERS"), MOST_CHECKERS as u32) else {
+        return Err(bad_value(1));
+    };
+    let Some(rounds) = number_given(values.get_str("ROUNDS"), MOST_ROUNDS) else {
+        return Err(bad_value(2));
+    };
+    let Some(position) = values.get_str("POSITION") else {
+        return Err(bad_value(3));
+    };
+    Ok(Command::Bound(Bound {
+        checkers: checkers as u8,
+        rounds,
+        position: Text::new(alloc, position)?,
+    }))
+}
+
+fn read_solve(alloc: Global, values: &ArgMatches<'_>) -> Result<Command, WordsStop>
+    ensures { (given : Values) → HasValues given values.now
+        → Gives (solve_values given) result }
+{
+    let Some(file) = file_name(values.get_str("FILE")) else {
+        return Err(bad_value(1));
+    };
+    let most = MOST_CHECKERS as u32;
+    let Some(checkers) = number_or(values.get_str("checkers"), most, most) else {
+        return Err(bad_value(2));
+    };
+    let Some(stakes) = stakes_or(values.get_str("stakes"), StakesName::Jacoby) else {
+        return Err(bad_value(3));
+    };
+    let Some(rounds) = number_or(values.get_str("rounds"), MOST_ROUNDS, USUAL_ROUNDS) else {
+        return Err(bad_value(4));
+    };
+    let Some(workers) = number_or(values.get_str("workers"), MOST_WORKERS, 1) else {
+        return Err(bad_value(5));
+    };
+    Ok(Command::Solve(Solve {
+        file: Text::new(alloc, file)?,
+        checkers: checkers as u8,
+        stakes,
+        rounds,
+        workers,
+    }))
+}
+
+fn read_show(alloc: Global, values: &ArgMatches<'_>) -> Result<Command, WordsStop>
+    ensures { (given : Values) → HasValues given values.now
+        → Gives (show_values given) result }
+{
+    let Some(file) = file_name(values.get_str("FILE")) else {
+        return Err(bad_value(1));
+    };
+    let Some(position) = values.get_str("POSITION") else {
+        return Err(bad_value(2));
+    };
+    Ok(Command::Show(Show {
+        file: Text::new(alloc, file)?,
+        position: Text::new(alloc, position)?,
+    }))
+}
+
+fn read_migrate(alloc: Global, values: &ArgMatches<'_>) -> Result<Command, WordsStop>
+    ensures { (given : Values) → HasValues given values.now
+        → Gives (migrate_values given) result }
+{
+    let Some(old) = file_name(values.get_str("OLD")) else {
+        return Err(bad_value(1));
+    };
+    let Some(new) = other_name(old, values.get_str("NEW")) else {
+        return Err(bad_value(2));
+    };
+    Ok(Command::Migrate(Migrate {
+        old: Text::new(alloc, old)?,
+        new: Text::new(alloc, new)?,
+    }))
+}

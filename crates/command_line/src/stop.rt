@@ -1,0 +1,47 @@
+ghost use Rattle.std.specs.Prelude.{◌≡◌};
+ghost use Rattle.command_line.specs.Stops.{form_refusal};
+
+use hyper_outside::{BadWords, NoMemory, WordsKind};
+use word_forms::FormStop;
+
+/// Why words were not read.
+#[derive(Clone, Copy, Debug, PartialEq, Eq)]
+pub enum WordsStop {
+    /// They are no command's words.
+    Bad(BadWords),
+    NoMemory,
+}
+
+impl From<NoMemory> for WordsStop {
+    ghost use Rattle.command_line.specs.declared.stop.WordsStop.TheVariants.{NoMemory};
+
+    ghost from_gives = { λ _ stop. stop ≡ NoMemory };
+
+    fn from(_stop: NoMemory) -> Self {
+        WordsStop::NoMemory
+    }
+}
+
+/// Words that are refused.
+pub(crate) fn bad(kind: WordsKind, place: u32) -> WordsStop
+    ensures { result ≡ WordsStop.Bad (record { kind = kind; place = place }) }
+{
+    WordsStop::Bad(BadWords { kind, place })
+}
+
+/// The value of this number is out of its form.
+pub(crate) fn bad_value(number: u32) -> WordsStop
+    ensures { result ≡ WordsStop.Bad (record { kind = WordsKind.Value; place = number }) }
+{
+    bad(WordsKind::Value, number)
+}
+
+/// The refusal of what isn't read as a form.
+pub(crate) fn bad_form(stop: FormStop) -> WordsStop
+    ensures { result ≡ form_refusal stop }
+{
+    match stop {
+        FormStop::Form => bad(WordsKind::Form, 0),
+        FormStop::NoMemory => WordsStop::NoMemory,
+    }
+}

@@ -1,0 +1,96 @@
+-- How the words behind a command's name are read as its arguments and options.
+use Rattle.std.specs.Prelude.{ℕ, ◌+◌, ◌==◌, ◌&&◌, Bool, false, not, List, [], ◌∷◌, ◌++◌, Option, Some, None, is_some, if◌then◌else◌, find, slice_get, option_map, option_and_then}
+use Rattle.std.specs.List.{list_all, list_any, before_first, after_first}
+use Rattle.std.specs.Str.{bytes_eq}
+
+-- a word's bytes
+abbrev pub Bytes : Type 0
+Bytes = List ℕ
+
+-- the names of a command's arguments, in their order, and of its options
+pub record Form : Type 0 where
+  pub arguments : List Bytes
+  pub options : List Bytes
+
+-- values by the names that they are given to, in the order of the words
+abbrev pub Values : Type 0
+Values = List (Bytes × Bytes)
+
+-- what has been read so far: the values, how many of them are arguments, and the option that waits for its value
+pub record Reading : Type 0 where
+  pub given : Values
+  pub count : ℕ
+  pub waiting : Option Bytes
+
+-- a word that can't stand behind a command's name: a dash alone or before another sign, and two dashes alone
+abbrev pub is_misread : Bytes → Bool
+is_misread [] = false
+is_misread (x ∷ []) = x == 45
+is_misread (x ∷ y ∷ []) = x == 45
+is_misread (x ∷ y ∷ z ∷ rest) = (x == 45) && not (y == 45)
+
+abbrev pub has_equals : Bytes → Bool
+has_equals text = list_any (λ x. x == 61) text
+
+-- what stands before the first `=`, and what stands after it
+abbrev pub name_and_value : Bytes → Bytes × Option Bytes
+name_and_value text = (before_first (λ x. x == 61) text, if has_equals text then Some (after_first (λ x. x == 61) text) else None)
+
+-- `--name` or `--name=value`, as the name and the value
+abbrev pub option_of : Bytes → Option (Bytes × Option Bytes)
+option_of (x ∷ y ∷ z ∷ rest) = if (x == 45) && (y == 45) then Some (name_and_value (z ∷ rest)) else None
+option_of _ = None
+
+abbrev pub is_given : Bytes → Values → Bool
+is_given name given = list_any (λ v. bytes_eq v.0 name) given
+
+-- the value that a name was given
+abbrev pub value_of : Bytes → Values → Option Bytes
+value_of name given = option_map (λ v. v.1) (find (λ v. bytes_eq v.0 name) given)
+
+-- a value for a name that has none yet
+abbrev pub give : Bytes → Bytes → Reading → Option Reading
+give name value r = if is_given name r.given then None else Some (record r { given = r.given ++ (name, value) ∷ []; waiting = None })
+
+-- the next argument, if there is one
+abbrev pub take_argument : Option Bytes → Bytes → Reading → Option Reading
+take_argument None word r = None
+take_argument (Some name) word r = give name word (record r { count = r.count + 1 })
+
+-- a word that is no option: the value that an option waits for, or the next argument
+abbrev pub take_value : Form → Option Bytes → Bytes → Reading → Option Reading
+take_value f (Some name) word r = give name word r
+take_value f None word r = take_argument (slice_get f.arguments r.count) word r
+
+-- an option of the command, with its value, or it waits for it
+abbrev pub take_known : Bytes → Option Bytes → Reading → Option Reading
+take_known name None r = Some (record r { waiting = Some name })
+take_known name (Some value) r = give name value r
+
+-- no option is read as the value of another
+abbrev pub take_option : Form → Bytes × Option Bytes → Reading → Option Reading
+take_option f o r = if is_some r.waiting then None
+    else (if list_any (λ name. bytes_eq name o.0) f.options then take_known o.0 o.1 r else None)
+
+abbrev pub take_as : Form → Option (Bytes × Option Bytes) → Bytes → Reading → Option Reading
+take_as f None word r = take_value f r.waiting word r
+take_as f (Some o) word r = take_option f o r
+
+abbrev pub take_word : Form → Bytes → Reading → Option Reading
+take_word f word r = take_as f (option_of word) word r
+
+-- the words, one after the other
+abbrev pub read : Form → List Bytes → Option Reading → Option Reading
+read f [] r = r
+read f (word ∷ words) r = read f words (option_and_then (take_word f word) r)
+
+-- no option waits, and each argument is given
+abbrev pub is_whole : Form → Reading → Bool
+is_whole f r = not (is_some r.waiting) && list_all (λ name. is_given name r.given) f.arguments
+
+abbrev pub nothing_read : Reading
+nothing_read = record { given = []; count = 0; waiting = None }
+
+-- the values that the words give, if they have the form
+abbrev pub values_of : Form → List Bytes → Option Values
+values_of f words = option_and_then (λ (r : Reading). if is_whole f r then Some r.given else None) (read f words (Some nothing_read))
