@@ -1,0 +1,39 @@
+# Completion for bash: commands, options, stakes and names of files. Source this file, as in: . completions/hypergammon.bash
+
+_hypergammon() {
+    local word=${COMP_WORDS[COMP_CWORD]} before=${COMP_WORDS[COMP_CWORD-1]} command=${COMP_WORDS[1]}
+    local commands='bound solve show migrate help'
+    local stakes='cubeless money jacoby money-beavers jacoby-beavers'
+    COMPREPLY=()
+    if [ "$COMP_CWORD" -eq 1 ]; then
+        mapfile -t COMPREPLY < <(compgen -W "$commands --version" -- "$word")
+        return
+    fi
+    # Bash cuts a word at `=`, which then is a word of its own.
+    if [ "$word" = = ]; then
+        word=
+    elif [ "$before" = = ]; then
+        before=${COMP_WORDS[COMP_CWORD-2]}
+    fi
+    case $command in
+        help) [ "$COMP_CWORD" -eq 2 ] && mapfile -t COMPREPLY < <(compgen -W "${commands% help}" -- "$word") ;;
+        solve)
+            case $before in
+                --stakes) mapfile -t COMPREPLY < <(compgen -W "$stakes" -- "$word") ;;
+                --checkers) mapfile -t COMPREPLY < <(compgen -W '1 2 3' -- "$word") ;;
+                --rounds | --workers) ;;
+                *)
+                    if [[ $word == -* ]]; then
+                        mapfile -t COMPREPLY < <(compgen -W '--checkers --stakes --rounds --workers' -- "$word")
+                    else
+                        mapfile -t COMPREPLY < <(compgen -f -- "$word")
+                    fi
+                    ;;
+            esac
+            ;;
+        show) [ "$COMP_CWORD" -eq 2 ] && mapfile -t COMPREPLY < <(compgen -f -- "$word") ;;
+        migrate) [ "$COMP_CWORD" -le 3 ] && mapfile -t COMPREPLY < <(compgen -f -- "$word") ;;
+    esac
+}
+
+complete -o filenames -F _hypergammon hypergammon ./hypergammon
