@@ -2,6 +2,7 @@ ghost use Rattle.std.specs.Prelude.{◌≡◌, ◌≤◌, Err, sum};
 ghost use Rattle.std.proofs.Common.{rules};
 ghost use Rattle.position_rank.specs.Placement.{Placement, IsPosition, IsLive};
 ghost use Rattle.hyper_outside.specs.Causes.{counted};
+ghost use Rattle.hyper_outside.specs.declared.outside.LookStop.TheVariants.{ReadFault};
 ghost use Rattle.turn_rule.specs.Turn.{Words};
 ghost use Rattle.turn_rule.specs.States.{IsStateOf, AreWithinOf};
 ghost use Rattle.turn_rule.specs.Looks.{Source};
@@ -91,6 +92,62 @@ fn hands_on_why_words_cannot_be_had(rt: HostRuntime) {
         );
         assert_eq!(rt; pairs.faults, 2);
     }
+}
+
+/// Words that aren't told, of which no lower one can be had.
+#[derive(Drop)]
+struct LowerStops {
+    faults: u64,
+}
+
+impl LowerStops {
+    fn fail(&mut self) -> Result<Fixed, LookStop>
+        ensures stop { result ≡ Err ReadFault }
+        ensures later { self.old.faults ≤ counted self.old.faults }
+        ensures counted { self.new ≡ record self.old { faults = counted self.old.faults } }
+    {
+        self.faults = self.faults.saturating_add(1);
+        Err(LookStop::ReadFault)
+    }
+}
+
+impl Pairs for LowerStops {
+    ghost use Rattle.std.specs.Prelude.{false};
+
+    ghost stays = { λ s. tt };
+
+    ghost seen = { λ s. record {
+      source = record untold { sure = false };
+      notes = zeros;
+      faults = s.faults;
+    } };
+
+    fn lower_of(&mut self, _position: &Position, _kind: usize) -> Result<Fixed, LookStop> {
+        self.fail()
+    }
+
+    fn upper_of(&mut self, _position: &Position, _kind: usize) -> Result<Fixed, LookStop> {
+        Ok(Fixed::whole(0))
+    }
+
+    ghost floor_within = { λ s tells. Prim.absurd (Prim.cc) };
+
+    ghost notes_within = { λ s tells. Prim.absurd (Prim.cc) };
+}
+
+#[test]
+fn hands_on_why_lower_words_cannot_be_had(rt: HostRuntime) {
+    let stakes = Stakes::cubeless();
+    let far = live(&rt, &[24], &[24], 1);
+    let mut list = PlayList::new();
+    let mut pairs = LowerStops { faults: 0 };
+    let rolled = roll_bounds(&stakes, &far, 0, 1, &mut pairs, &mut list);
+    assert_eq!(rt; rolled, Err(LookStop::ReadFault));
+    assert_eq!(rt;
+        turn_bounds(&stakes, &far, 0, &mut pairs, &mut list),
+        Err(LookStop::ReadFault)
+    );
+    assert_eq!(rt; pairs.faults, 2);
 }
 
 /// Words that aren't told, the lower above the upper.
