@@ -131,6 +131,14 @@ fn units(rt: &impl Abort, words: &Words, text: &str, kind: usize) -> (i64, i64) 
     (pair.lower().units(), pair.upper().units())
 }
 
+/// Both words of a state of one checker a side without a cube, after one round of a plain table, in units.
+fn plain_units(rt: &impl Abort, alloc: Global, text: &str) -> (i64, i64) {
+    let mut table = PlainTable::new(alloc, 1, &Stakes::cubeless()).expect(rt, "no memory");
+    table.sweep_all();
+    let pair = table.pair(&live(rt, text, 1), 0);
+    (pair.lower().units(), pair.upper().units())
+}
+
 // Of `12 / 1` 4 rolls win a gammon at once. After 30 the other side does, as the other worker has written by then. The two
 // of 6 and 5 lead to `1 / 1`, which is of the same column, so only the bound is known of it: from (8 - 60 - 6) / 36 to
 // (8 - 60 + 6) / 36 of a point. With one thread, block 1 would come before those that it rests on.
@@ -184,18 +192,12 @@ fn one_worker_reads_what_it_wrote(rt: HostRuntime) -> Result<(), Fail> {
         units(&rt, closed.words(), "6 / 1", 0),
         (3_221_225_472, 9_663_676_416)
     );
-    let mut table = PlainTable::new(rt.alloc(), 1, &Stakes::cubeless()).expect(&rt, "no memory");
-    table.sweep_all();
     for text in &["12 / 1", "6 / 1"] {
-        let plain = table.pair(&live(&rt, text, 1), 0);
-        assert_eq!(rt;
-            units(&rt, closed.words(), text, 0),
-            (plain.lower().units(), plain.upper().units())
-        );
+        let plain = plain_units(&rt, rt.alloc(), text);
+        assert_eq!(rt; units(&rt, closed.words(), text, 0), plain);
     }
-    let plain = table.pair(&live(&rt, "12 / 9", 1), 0);
     assert_eq!(rt;
-        (plain.lower().units(), plain.upper().units()),
+        plain_units(&rt, rt.alloc(), "12 / 9"),
         (-10_498_808_946, 12_407_683_300)
     );
     Ok(())
