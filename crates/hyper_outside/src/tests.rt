@@ -1,4 +1,5 @@
 use super::*;
+use std::alloc::Global;
 use std::test::Fail;
 use std::{env, fs, process};
 
@@ -46,11 +47,17 @@ fn real_sink_writes_to_a_vec(rt: HostRuntime) -> Result<(), Fail> {
     Ok(())
 }
 
-#[test]
-fn mem_files_read_back(rt: HostRuntime) -> Result<(), Fail> {
-    let mut files = MemFiles::new(rt.alloc());
+/// Files of which `old` has the bytes `hello`, with room for one name and four bytes more.
+fn with_old(alloc: Global) -> Result<MemFiles, NoMemory> {
+    let mut files = MemFiles::new(alloc);
     files.with_file("old", b"hello")?;
     files.room(1, 4)?;
+    Ok(files)
+}
+
+#[test]
+fn mem_files_read_back(rt: HostRuntime) -> Result<(), Fail> {
+    let mut files = with_old(rt.alloc())?;
     let mut buf = [b'.'; 4];
     assert_eq!(rt; files.size("old"), Ok(Some(5)));
     assert_eq!(rt; files.size("new"), Ok(None));
@@ -65,22 +72,35 @@ fn mem_files_read_back(rt: HostRuntime) -> Result<(), Fail> {
         assert_eq!(rt; files.read_at("old", *at, &mut buf), Ok(*count));
         assert_eq!(rt; buf.as_slice(), *want);
     }
+    Ok(())
+}
+
+#[test]
+fn mem_files_add_what_there_is_room_for(rt: HostRuntime) -> Result<(), Fail> {
+    let mut files = with_old(rt.alloc())?;
     assert_eq!(rt; files.start("old"), Ok(()));
     assert_eq!(rt; files.append("new", b"abcdef"), Ok(()));
     assert_eq!(rt; files.append("more", b"x"), Err(Failed));
     assert_eq!(rt; files.append("new", b"ghij"), Err(Failed));
-    files.fail_call(11, 1)?;
-    files.fail_call(12, 0)?;
-    files.fail_call(13, 0)?;
+    let new = files.held("new").unwrap_or(b"none");
+    assert_eq!(rt; new, b"abcdef".as_slice());
+    assert!(rt; files.held("more").is_none());
+    Ok(())
+}
+
+#[test]
+fn mem_files_fail_on_demand(rt: HostRuntime) -> Result<(), Fail> {
+    let mut files = with_old(rt.alloc())?;
+    assert_eq!(rt; files.start("old"), Ok(()));
+    files.fail_call(2, 1)?;
+    files.fail_call(3, 0)?;
+    files.fail_call(4, 0)?;
     assert_eq!(rt; files.append("old", b"gh"), Err(Failed));
     assert_eq!(rt; files.size("old"), Err(Failed));
     assert_eq!(rt; files.start("old"), Err(Failed));
     assert_eq!(rt; files.size("old"), Ok(Some(1)));
     let old = files.held("old").unwrap_or(b"none");
     assert_eq!(rt; old, b"g".as_slice());
-    let new = files.held("new").unwrap_or(b"none");
-    assert_eq!(rt; new, b"abcdef".as_slice());
-    assert!(rt; files.held("more").is_none());
     Ok(())
 }
 
