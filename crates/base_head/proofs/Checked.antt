@@ -1,5 +1,5 @@
 -- What follows of a value that was checked, and of checks one after the other.
-use Rattle.std.proofs.Common.{◌≡◌, Bool, true, false, not, ◌&&◌, Option, Some, None, Result, Ok, Err, IsErr, IsErrAnd, List, [], ◌∷◌, ◌++◌, if◌then◌else◌, refl, sym, ap, arith}
+use Rattle.std.proofs.Common.{◌≡◌, Bool, true, false, not, ◌&&◌, Option, Some, None, Result, Ok, Err, IsErr, IsErrAnd, List, [], ◌∷◌, ◌++◌, if◌then◌else◌, refl, ap, arith}
 use Rattle.std.specs.Option.{option_or}
 use Rattle.std.proofs.lemmas.Bool.{false≢true}
 use Rattle.base_head.specs.Faults.{Check, checked, first_wrong}

@@ -1,5 +1,5 @@
 -- How many kinds, starts and positions there can be.
-use Rattle.std.proofs.Common.{◌≡◌, ◌≤◌, ◌<◌, ◌∙◌, ℕ, zero, suc, ◌*◌, Bool, List, length, map, sym, ap, arith}
+use Rattle.std.proofs.Common.{◌≤◌, ℕ, zero, suc, ◌*◌, Bool, List, length, arith}
 use Rattle.std.proofs.Math.Nat.{mul-le-mul_left, mul-le-mul_right}
 use Rattle.std.proofs.lemmas.List.{length-map}
 use Rattle.std.proofs.lemmas.List.Sums.{length-filter, count_by-le-length}

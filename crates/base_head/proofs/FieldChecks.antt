@@ -1,5 +1,5 @@
 -- The checks of a header, group by group.
-use Rattle.std.proofs.Common.{◌≡◌, ◌∙◌, sym, ℕ, Option, Some, None, List, [], ◌∷◌, ◌++◌, ap}
+use Rattle.std.proofs.Common.{◌≡◌, ◌∙◌, sym, ℕ, Some, None, List, [], ◌∷◌, ◌++◌, ap}
 use Rattle.std.specs.Option.{option_or}
 use Rattle.base_head.specs.Faults.{first_wrong}
 use Rattle.base_head.specs.Headers.{file_length}

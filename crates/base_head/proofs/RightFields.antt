@@ -1,9 +1,7 @@
 -- What the numbers of a header are where nothing is wrong with them.
-use Rattle.std.proofs.Common.{◌≡◌, ◌≤◌, ◌<◌, ◌⊎◌, inl, inr, subst, ◌∙◌, ℕ, zero, suc, ◌+◌, Bool, true, false, Option, Some, None, length, [], ◌∷◌, nat_le, nat_lt, ◌==◌, ◌&&◌, if◌then◌else◌, not, refl, sym, ap, arith}
+use Rattle.std.proofs.Common.{◌≡◌, ◌≤◌, ◌<◌, ◌⊎◌, inl, inr, subst, ℕ, zero, suc, Bool, true, false, None, length, nat_le, nat_lt, ◌==◌, if◌then◌else◌, refl, arith}
 use Rattle.std.proofs.lemmas.Bool.Decides.{nat_tests}
 use Rattle.position_rank.specs.LiveRanks.{live_positions}
-use Rattle.cube_actions.specs.declared.name.StakesName.{StakesName}
-use Rattle.cube_actions.specs.declared.name.StakesName.TheVariants.{Cubeless, Money, Jacoby, MoneyBeavers, JacobyBeavers, Match}
 use Rattle.cube_actions.specs.Names.{names_of}
 use Rattle.cube_actions.specs.Ladder.{ladder}
 use Rattle.cube_actions.specs.Starts.{ladder_place}
@@ -11,11 +9,10 @@ use Rattle.cube_actions.specs.Scores.{MatchScore}
 use Rattle.word_pages.specs.declared.version.Version.{Version}
 use Rattle.word_pages.specs.declared.version.Version.TheVariants.{One, Two}
 use Rattle.base_head.specs.Faults.{first_wrong}
-use Rattle.base_head.specs.Heads.{TakesStakes, has_beavers}
-use Rattle.base_head.specs.Headers.{HasScore, IsHeader, IsLengthOf, starts_before, stakes_number, version_number}
-use Rattle.base_head.specs.HeaderFaults.{checkers_check, count_checks, field_checks, header_in, is_from_to, is_length_of, is_phase_at, is_phase_in, last_stakes, match_checks, name_in, name_numbered, other_checks, phase_numbered, score_in, stakes_checks, version_check, version_in}
+use Rattle.base_head.specs.Heads.{has_beavers}
+use Rattle.base_head.specs.Headers.{HasScore, IsHeader, IsLengthOf, starts_before}
+use Rattle.base_head.specs.HeaderFaults.{count_checks, field_checks, header_in, is_from_to, is_length_of, is_phase_at, is_phase_in, last_stakes, match_checks, name_in, name_numbered, other_checks, phase_numbered, score_in, stakes_checks, version_in}
 use Rattle.base_head.specs.declared.fields.Fields.{Fields}
-use Rattle.base_head.specs.declared.header.Header.{Header}
 use Rattle.base_head.proofs.Checked.{both-right, right-if, right-then}
 use Rattle.base_head.proofs.FieldChecks.{all-parts}
 

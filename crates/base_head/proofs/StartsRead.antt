@@ -1,5 +1,5 @@
 -- The starts that were read.
-use Rattle.std.proofs.Common.{◌≡◌, ◌∙◌, ℕ, zero, suc, ◌*◌, Bool, true, List, [], ◌∷◌, length, take, drop, Option, Some, if◌then◌else◌, refl, sym, ap, arith}
+use Rattle.std.proofs.Common.{◌≡◌, ◌∙◌, ℕ, zero, suc, ◌*◌, Bool, true, List, [], ◌∷◌, length, take, drop, Some, if◌then◌else◌, refl, sym, ap, arith}
 use Rattle.std.specs.Option.{option_map}
 use Rattle.directed_fixed.specs.Bounds.{Bounds}
 use Rattle.cube_actions.specs.declared.name.StakesName.{StakesName}
@@ -11,7 +11,6 @@ use Rattle.word_pages.specs.Words.{words_of}
 use Rattle.base_head.specs.Fronts.{bad_of, pairs_of_words, starts_fault, starts_length}
 use Rattle.base_head.specs.Heads.{AreStartsOf}
 use Rattle.base_head.specs.Headers.{IsLengthOf, digest_place, front_length, starts_before}
-use Rattle.base_head.specs.declared.fault.BadFile.{BadFile}
 use Rattle.base_head.specs.declared.fault.FileFault.TheVariants as faults
 use Rattle.base_head.specs.declared.header.Header.{Header}
 

@@ -1,8 +1,7 @@
 -- Pairs and their words.
-use Rattle.std.proofs.Common.{◌≡◌, ◌≤◌, ◌<◌, ◌∙◌, ℕ, zero, suc, ◌+◌, ◌*◌, ◌^◌, ℤ, pos, neg_ℤ, ◌+ℤ◌, ◌≤ℤ◌, List, [], ◌∷◌, ◌++◌, drop, length, slice_index, slice_index_or, get_or, refl, sym, ap, arith, append_assoc, append-nil, length-drop, length-append}
+use Rattle.std.proofs.Common.{◌≡◌, ◌≤◌, ◌<◌, ◌∙◌, ℕ, zero, suc, ◌+◌, ◌*◌, ◌^◌, ℤ, pos, neg_ℤ, ◌+ℤ◌, ◌≤ℤ◌, List, [], ◌∷◌, ◌++◌, drop, length, slice_index_or, get_or, refl, sym, ap, arith, append_assoc, append-nil, length-drop}
 use Rattle.std.proofs.lemmas.Int.{ints}
 use Rattle.directed_fixed.specs.Bounds.{Bounds, IsWithin, IsWithinUnits}
-use Rattle.directed_fixed.specs.declared.word.TheConstants.{WORD_OFFSET}
 use Rattle.cube_actions.specs.Stakes.{point_units}
 use Rattle.word_pages.specs.declared.version.Version.{Version}
 use Rattle.word_pages.specs.declared.version.Version.TheVariants.{One, Two}

@@ -1,5 +1,5 @@
 -- The head's part of a file: the header, the starts, and the digest of both.
-use Rattle.std.specs.Prelude.{◌≡◌, ◌<◌, ℕ, zero, suc, ◌*◌, ℤ, ◌+ℤ◌, nat_abs, List, [], ◌∷◌, ◌++◌, flat_map, length, take, drop, slice_index, Option, Some, Result, if◌then◌else◌}
+use Rattle.std.specs.Prelude.{ℕ, ◌*◌, ℤ, ◌+ℤ◌, nat_abs, List, [], ◌∷◌, ◌++◌, flat_map, take, drop, Option, Some, Result, if◌then◌else◌}
 use Rattle.std.specs.Option.{option_map}
 use Rattle.directed_fixed.specs.Bounds.{Bounds}
 use Rattle.directed_fixed.specs.declared.word.TheConstants.{WORD_OFFSET}

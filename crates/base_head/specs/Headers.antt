@@ -1,5 +1,5 @@
 -- The first 64 bytes of a file.
-use Rattle.std.specs.Prelude.{◌≡◌, ◌≤◌, ◌<◌, ◌+◌, ◌*◌, ◌/◌, ℕ, List, ◌++◌, codes, length}
+use Rattle.std.specs.Prelude.{◌≡◌, ◌≤◌, ◌<◌, ◌+◌, ◌*◌, ℕ, List, ◌++◌, codes, length}
 use Rattle.byteorder.specs.Endian.{big_bytes}
 use Rattle.position_rank.specs.LiveRanks.{live_positions}
 use Rattle.cube_actions.specs.declared.name.StakesName.{StakesName}

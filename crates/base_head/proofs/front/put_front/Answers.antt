@@ -1,4 +1,4 @@
-use Rattle.std.proofs.Common.{◌≡◌, ◌≤◌, ◌∙◌, ℕ, ◌+◌, ◌*◌, List, [], ◌++◌, length, ap, ap₂, arith, rules, length-append}
+use Rattle.std.proofs.Common.{◌≡◌, ◌≤◌, ◌∙◌, ℕ, ◌+◌, ◌*◌, List, [], ◌++◌, length, ap, arith, rules, length-append}
 use Rattle.cube_actions.specs.Starts.{StartPairs}
 use Rattle.word_pages.proofs.Texts.{length-cells}
 use Rattle.word_pages.specs.declared.version.Version.{Version}
@@ -6,7 +6,6 @@ use Rattle.word_pages.specs.declared.version.Version.TheVariants.{One, Two}
 use Rattle.word_pages.specs.Words.{word_size, words_text}
 use Rattle.base_head.specs.Fronts.{words_of_pairs}
 use Rattle.base_head.specs.Headers.{pair_size, spelled}
-use Rattle.base_head.specs.declared.header.Header.{Header}
 use Rattle.base_head.proofs.WordPairs.{length-words}
 use Rattle.base_head.proofs.front.put_front.Goals as goal
 

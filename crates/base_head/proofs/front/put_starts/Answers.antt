@@ -1,4 +1,4 @@
-use Rattle.std.proofs.Common.{◌≡◌, ◌∙◌, ◌+◌, ◌*◌, ◌≤◌, ℕ, List, length, take, ap, arith, rules, length-append}
+use Rattle.std.proofs.Common.{◌≡◌, ◌∙◌, ◌+◌, ◌*◌, ℕ, List, length, take, ap, arith, rules, length-append}
 use Rattle.std.proofs.lemmas.List.{length-take-le}
 use Rattle.word_pages.proofs.Texts.{length-cells}
 use Rattle.word_pages.specs.Words.{word_size, words_text}

@@ -1,4 +1,4 @@
-use Rattle.std.proofs.Common.{◌≡◌, ◌≤◌, ◌<◌, ◌∙◌, ℕ, ◌+◌, ◌*◌, ◌++◌, ◌∷◌, [], List, ℤ, drop, length-append, length, sym, ap, ap₂, arith, rules}
+use Rattle.std.proofs.Common.{◌∙◌, ℕ, ◌+◌, ◌*◌, ◌++◌, ◌∷◌, [], List, ℤ, drop, length-append, length, ap, ap₂, arith}
 use Rattle.directed_fixed.specs.Bounds.{Bounds}
 use Rattle.cube_actions.specs.Starts.{StartPairs}
 use Rattle.base_head.specs.Fronts.{pairs_of_words}

@@ -1,4 +1,4 @@
-use Rattle.std.proofs.Common.{◌≡◌, ◌∙◌, ◌+◌, ◌*◌, ◌≤◌, ℕ, List, length, take, flat_map, ap, arith, rules, length-append}
+use Rattle.std.proofs.Common.{◌≡◌, ◌∙◌, ◌+◌, ◌*◌, ℕ, List, length, take, flat_map, ap, arith, rules, length-append}
 use Rattle.std.proofs.lemmas.List.{length-take-le}
 use Rattle.word_pages.proofs.Texts.{length-cells}
 use Rattle.base_head.specs.Headers.{field}

@@ -1,4 +1,4 @@
-use Rattle.std.proofs.Common.{◌≡◌, ◌∙◌, ℕ, Option, Some, None, Ok, Err, [], ◌∷◌, refl, sym, ap, ap₂, subst, arith, rules, tests}
+use Rattle.std.proofs.Common.{◌≡◌, ◌∙◌, ℕ, Option, Some, None, sym, ap, ap₂, subst, rules}
 use Rattle.base_head.specs.Faults.{checked, first_wrong}
 use Rattle.base_head.specs.Headers.{file_length}
 use Rattle.base_head.specs.HeaderFaults.{field_checks, fields_of, header_fault, header_in, length_checks}

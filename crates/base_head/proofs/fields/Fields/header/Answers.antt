@@ -1,9 +1,9 @@
-use Rattle.std.proofs.Common.{Option, subst, ◌≡◌, ◌∙◌, Some, None, Ok, Err, [], ◌∷◌, refl, sym, ap, arith, rules, tests}
+use Rattle.std.proofs.Common.{Option, subst, ◌≡◌, ◌∙◌, Some, None, sym, ap, arith, rules}
 use Rattle.cube_actions.specs.declared.name.StakesName.{StakesName}
 use Rattle.base_head.specs.declared.fault.BadFile.{BadFile}
 use Rattle.base_head.specs.Headers.{IsLengthOf}
 use Rattle.base_head.specs.Faults.{checked, first_wrong}
-use Rattle.base_head.specs.HeaderFaults.{checkers_check, count_checks, field_checks, header_in, name_in, stakes_checks, version_check, version_in}
+use Rattle.base_head.specs.HeaderFaults.{field_checks, header_in, name_in}
 use Rattle.base_head.proofs.Checked.{checked-err, checked-ok}
 use Rattle.base_head.proofs.FieldChecks.{wrong-name, after-name}
 use Rattle.base_head.proofs.Counts.{names-few, starts-few}

@@ -1,6 +1,5 @@
-use Rattle.std.proofs.Common.{◌≡◌, Some, sym, rules, tests, arith}
+use Rattle.std.proofs.Common.{◌≡◌, Some, sym, rules, tests}
 use Rattle.std.proofs.lemmas.Bool.Decides.{nat_tests}
-use Rattle.std.proofs.lemmas.Grind.{common_steps}
 use Rattle.base_head.specs.Faults.{first_wrong}
 use Rattle.base_head.specs.HeaderFaults.{match_checks, score_in}
 use Rattle.base_head.proofs.Checked.{checked-err}

@@ -1,5 +1,4 @@
-use Rattle.std.proofs.Common.{◌≡◌, ◌≤◌, ℕ, ◌*◌, arith, ap₂, sym, subst}
-use Rattle.base_head.specs.Headers.{pair_size}
+use Rattle.std.proofs.Common.{◌≡◌, ◌≤◌, ℕ, ◌*◌, arith}
 use Rattle.base_head.proofs.Counts.{digest_place-low, body-low, header-positions-few}
 use Rattle.base_head.proofs.header.Header.file_length.Goals as goal
 

@@ -1,4 +1,4 @@
-use Rattle.std.proofs.Common.{◌≡◌, ◌∙◌, ℕ, List, [], ◌∷◌, ◌++◌, flat_map, refl, append_assoc}
+use Rattle.std.proofs.Common.{◌≡◌, ◌∙◌, ℕ, List, [], ◌∷◌, ◌++◌, flat_map, append_assoc}
 use Rattle.byteorder.specs.Endian.{big_bytes}
 use Rattle.base_head.specs.Headers.{far_field, field, magic, near_field, phase_field, stakes_number, version_number}
 use Rattle.base_head.proofs.header.Header.put.Goals as goal

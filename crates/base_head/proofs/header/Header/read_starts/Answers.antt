@@ -1,18 +1,14 @@
-use Rattle.std.proofs.Common.{◌≡◌, ◌∙◌, ℕ, ◌+◌, ◌*◌, Bool, true, List, length, take, drop, Option, Some, None, Ok, refl, sym, subst, ap, ap₂, arith, rules}
-use Rattle.std.specs.Option.{option_map}
+use Rattle.std.proofs.Common.{◌≡◌, ◌∙◌, ℕ, ◌+◌, ◌*◌, true, List, take, Option, Some, None, sym, subst, ap, ap₂}
 use Rattle.std.proofs.lemmas.List.{take_rest}
-use Rattle.cube_actions.specs.Stakes.{point_units}
 use Rattle.cube_actions.specs.Starts.{StartPairs}
-use Rattle.word_pages.specs.Flaws.{pairs_flaw}
 use Rattle.word_pages.specs.Sealed.{is_sealed}
 use Rattle.word_pages.specs.Words.{words_of}
 use Rattle.word_pages.proofs.Texts.{length-words_of}
 use Rattle.base_head.specs.Faults.{checked}
-use Rattle.base_head.specs.Fronts.{bad_of, head_in, pairs_of_words, starts_fault, starts_length}
+use Rattle.base_head.specs.Fronts.{head_in, pairs_of_words, starts_fault, starts_length}
 use Rattle.base_head.specs.Heads.{AreStartsOf, FileHead}
 use Rattle.base_head.specs.Headers.{front_length}
 use Rattle.base_head.specs.declared.fault.BadFile.{BadFile}
-use Rattle.base_head.specs.declared.header.Header.{Header}
 use Rattle.base_head.proofs.Checked.{checked-err, checked-ok, err-is, right-if}
 use Rattle.base_head.proofs.StartsRead.{even-pairs, sealed-starts, starts-go}
 use Rattle.base_head.proofs.header.Header.read_starts.Goals as goal
