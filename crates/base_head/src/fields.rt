@@ -95,7 +95,8 @@ impl Fields {
     }
 
     fn version(&self) -> Result<Version, BadFile>
-        ensures { result ≡ checked (first_wrong (version_check self.now ∷ [])) (version_in self.now) }
+        ensures { result
+            ≡ checked (first_wrong (version_check self.now ∷ [])) (version_in self.now) }
     {
         match self.version {
             1 => Ok(Version::One),

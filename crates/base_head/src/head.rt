@@ -25,7 +25,12 @@ impl Model for Head {
 
     ghost Value = { FileHead };
 
-    ghost view = { λ a. record { checkers = a.checkers; name = a.name; rounds = a.rounds; starts = a.starts } };
+    ghost view = { λ a. record {
+      checkers = a.checkers;
+      name = a.name;
+      rounds = a.rounds;
+      starts = a.starts;
+    } };
 
     ghost invariant = { λ a. IsHead (record {
       checkers = a.checkers;

@@ -32,54 +32,57 @@ fn fault_of(size: u64, fields: [u32; 10], positions: u64) -> Option<(FileFault, 
     }
 }
 
+/// Each field of the two files in turn gets a number, which is wrong there.
+const WRONG_FIELDS: [([u32; 10], usize, u32, FileFault, u64); 24] = [
+    (MATCH, 0, 3, FileFault::Version, 8),
+    (MATCH, 0, 0, FileFault::Version, 8),
+    (MATCH, 1, 0, FileFault::Head, 12),
+    (MATCH, 1, 4, FileFault::Head, 12),
+    (MATCH, 2, 6, FileFault::Head, 16),
+    (MATCH, 3, 0, FileFault::Head, 20),
+    (MATCH, 3, 6, FileFault::Head, 20),
+    (MATCH, 4, 1, FileFault::Head, 24),
+    (MATCH, 4, 6, FileFault::Head, 24),
+    (MATCH, 5, 1, FileFault::Head, 28),
+    (MATCH, 5, 3, FileFault::Head, 28),
+    (MATCH, 6, 0, FileFault::Head, 32),
+    (MATCH, 6, 1, FileFault::Head, 32),
+    (MATCH, 6, 6, FileFault::Head, 32),
+    (MATCH, 7, 4, FileFault::Head, 36),
+    (MATCH, 8, 0, FileFault::Head, 40),
+    (MATCH, 8, 4097, FileFault::Head, 40),
+    (MATCH, 9, 1, FileFault::Head, 44),
+    (CUBELESS, 3, 1, FileFault::Head, 20),
+    (CUBELESS, 4, 1, FileFault::Head, 24),
+    (CUBELESS, 5, 1, FileFault::Head, 28),
+    (CUBELESS, 6, 1, FileFault::Head, 32),
+    (CUBELESS, 7, 3, FileFault::Head, 36),
+    (CUBELESS, 9, 1, FileFault::Head, 44),
+];
+
+/// Numbers of positions and sizes, one of which is wrong.
+const WRONG_SIZES: [([u32; 10], u64, u64, FileFault, u64); 7] = [
+    (CUBELESS, 600, 6138, FileFault::Head, 48),
+    (CUBELESS, 601, 6137, FileFault::Short, 6137),
+    (CUBELESS, 601, 6139, FileFault::Long, 6138),
+    (CUBELESS, 601, 9744, FileFault::Long, 6138),
+    (MATCH, 601, 36_207, FileFault::Short, 36_207),
+    (MATCH, 601, 57_856, FileFault::Long, 36_208),
+    (MATCH, 602, 63, FileFault::Short, 63),
+];
+
 #[test]
 fn tells_the_first_fault_of_a_header(rt: HostRuntime) {
     assert_eq!(rt; fault_of(36_208, MATCH, 601), None);
     assert_eq!(rt; fault_of(6138, CUBELESS, 601), None);
-    // Each field of the two files in turn gets a number, which is wrong there.
-    let rows = [
-        (MATCH, 0, 3, FileFault::Version, 8),
-        (MATCH, 0, 0, FileFault::Version, 8),
-        (MATCH, 1, 0, FileFault::Head, 12),
-        (MATCH, 1, 4, FileFault::Head, 12),
-        (MATCH, 2, 6, FileFault::Head, 16),
-        (MATCH, 3, 0, FileFault::Head, 20),
-        (MATCH, 3, 6, FileFault::Head, 20),
-        (MATCH, 4, 1, FileFault::Head, 24),
-        (MATCH, 4, 6, FileFault::Head, 24),
-        (MATCH, 5, 1, FileFault::Head, 28),
-        (MATCH, 5, 3, FileFault::Head, 28),
-        (MATCH, 6, 0, FileFault::Head, 32),
-        (MATCH, 6, 1, FileFault::Head, 32),
-        (MATCH, 6, 6, FileFault::Head, 32),
-        (MATCH, 7, 4, FileFault::Head, 36),
-        (MATCH, 8, 0, FileFault::Head, 40),
-        (MATCH, 8, 4097, FileFault::Head, 40),
-        (MATCH, 9, 1, FileFault::Head, 44),
-        (CUBELESS, 3, 1, FileFault::Head, 20),
-        (CUBELESS, 4, 1, FileFault::Head, 24),
-        (CUBELESS, 5, 1, FileFault::Head, 28),
-        (CUBELESS, 6, 1, FileFault::Head, 32),
-        (CUBELESS, 7, 3, FileFault::Head, 36),
-        (CUBELESS, 9, 1, FileFault::Head, 44),
-    ];
-    for (base, place, number, fault, at) in rows {
+    for (base, place, number, fault, at) in WRONG_FIELDS {
         let mut fields = base;
         if let Some(field) = fields.get_mut(place) {
             *field = number;
         }
         assert_eq!(rt; fault_of(36_208, fields, 601), Some((fault, at)));
     }
-    let sizes = [
-        (CUBELESS, 600, 6138, FileFault::Head, 48),
-        (CUBELESS, 601, 6137, FileFault::Short, 6137),
-        (CUBELESS, 601, 6139, FileFault::Long, 6138),
-        (CUBELESS, 601, 9744, FileFault::Long, 6138),
-        (MATCH, 601, 36_207, FileFault::Short, 36_207),
-        (MATCH, 601, 57_856, FileFault::Long, 36_208),
-        (MATCH, 602, 63, FileFault::Short, 63),
-    ];
-    for (fields, positions, size, fault, at) in sizes {
+    for (fields, positions, size, fault, at) in WRONG_SIZES {
         assert_eq!(rt; fault_of(size, fields, positions), Some((fault, at)));
     }
     // Money with beavers in both versions.
@@ -170,7 +173,7 @@ fn tells_the_first_fault_of_the_starts(rt: HostRuntime) {
             74,
         ),
     ];
-    for (words, fault, at) in rows {
+    for (words, fault, at) in WRONG_FIELDS {
         assert_eq!(rt; told_of(match_front(words).as_slice()), Some((fault, at)));
     }
     let mut other = match_front(WORDS);
