@@ -2,3 +2,4 @@ mod Faulty
 mod Mapped
 mod Numbers
 mod Readings
+pub mod Rightness

@@ -3,3 +3,4 @@ pub mod Commands
 pub mod Words
 pub mod Reading
 pub mod Stops
+pub mod Right

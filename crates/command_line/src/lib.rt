@@ -3,12 +3,16 @@
 
 mod command;
 mod commands;
+mod laws;
 mod stop;
+#[cfg(test)]
+mod tests;
 mod text;
 mod values;
 mod words;
 
 pub use command::{Bound, Command, CommandName, Migrate, Show, Solve};
+pub use laws::commands_are_right;
 pub use stop::WordsStop;
 pub use text::Text;
 pub use values::{MOST_CHECKERS, MOST_ROUNDS, MOST_WORKERS, USUAL_ROUNDS};

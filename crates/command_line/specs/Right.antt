@@ -1,0 +1,48 @@
+-- What the commands that are read keep to.
+use Rattle.std.specs.Prelude.{◌≡◌, ◌≢◌, ◌≤◌, length}
+use Rattle.cube_actions.specs.Scores.{MatchScore}
+use Rattle.cube_actions.specs.declared.name.StakesName.TheVariants.{Match}
+use Rattle.word_forms.specs.Form.{Bytes}
+use Rattle.command_line.specs.declared.command.Bound.{Bound as BoundWords}
+use Rattle.command_line.specs.declared.command.Solve.{Solve as SolveWords}
+use Rattle.command_line.specs.declared.command.Show.{Show as ShowWords}
+use Rattle.command_line.specs.declared.command.Migrate.{Migrate as MigrateWords}
+use Rattle.command_line.specs.declared.command.Command.{Command}
+use Rattle.command_line.specs.declared.command.Command.TheVariants.{Bound, Solve, Show, Migrate}
+use Rattle.command_line.specs.declared.values.TheConstants.{MOST_CHECKERS, MOST_ROUNDS, MOST_WORKERS}
+
+-- a file's name has 1 to 255 bytes
+pub record IsName (name : Bytes) : Type 0 where
+  pub some : 1 ≤ length name
+  pub short : length name ≤ 255
+
+pub record IsRightBound (bound : BoundWords) : Type 0 where
+  pub some : 1 ≤ bound.checkers
+  pub few : bound.checkers ≤ MOST_CHECKERS
+  pub begun : 1 ≤ bound.rounds
+  pub ended : bound.rounds ≤ MOST_ROUNDS
+
+pub record IsRightSolve (solve : SolveWords) : Type 0 where
+  pub file : IsName solve.file
+  pub some : 1 ≤ solve.checkers
+  pub few : solve.checkers ≤ MOST_CHECKERS
+  pub no_match : (score : MatchScore) → solve.stakes ≢ Match score
+  pub begun : 1 ≤ solve.rounds
+  pub ended : solve.rounds ≤ MOST_ROUNDS
+  pub one : 1 ≤ solve.workers
+  pub most : solve.workers ≤ MOST_WORKERS
+
+abbrev pub IsRightShow : ShowWords → Type 0
+IsRightShow show = IsName show.file
+
+pub record IsRightMigrate (migrate : MigrateWords) : Type 0 where
+  pub old : IsName migrate.old
+  pub new : IsName migrate.new
+  pub apart : migrate.old ≢ migrate.new
+
+-- numbers within their limits, names of files within theirs, and stakes that aren't a match
+abbrev pub IsRightCommand : Command → Type 0
+IsRightCommand (Bound bound) = IsRightBound bound
+IsRightCommand (Solve solve) = IsRightSolve solve
+IsRightCommand (Show show) = IsRightShow show
+IsRightCommand (Migrate migrate) = IsRightMigrate migrate

@@ -1,0 +1,125 @@
+use super::*;
+use hyper_outside::{BadWords, WordsKind};
+use std::alloc::{AllocError, Global};
+use std::test::Fail;
+
+mod plain;
+
+fn owned(alloc: Global, words: &[&str]) -> Result<Vec<String>, AllocError> {
+    let mut all = Vec::new(alloc);
+    for word in words {
+        all.push(String::from_str(alloc, word)?)?;
+    }
+    Ok(all)
+}
+
+fn refusal(alloc: Global, words: &[&str]) -> Result<Option<(WordsKind, u32)>, AllocError> {
+    let words = owned(alloc, words)?;
+    match read_words(alloc, words.as_slice()) {
+        Err(WordsStop::Bad(BadWords { kind, place })) => Ok(Some((kind, place))),
+        Err(WordsStop::NoMemory) => Err(AllocError),
+        Ok(_) => Ok(None),
+    }
+}
+
+#[test]
+fn words_are_refused_in_order(rt: HostRuntime) -> Result<(), Fail> {
+    let cases: [(&[&str], WordsKind, u32); 14] = [
+        (&[], WordsKind::Command, 0),
+        (&["fly", "--"], WordsKind::Command, 0),
+        (&["bound", "-1", "1", "6 / 1"], WordsKind::Word, 1),
+        (&["bound", "1", "1", "--a="], WordsKind::Word, 3),
+        (&["bound", "9", "1", "--x"], WordsKind::Form, 0),
+        (&["bound", "4", "0", "6 / 1"], WordsKind::Value, 1),
+        (&["bound", "1", "4294967297", "x"], WordsKind::Value, 2),
+        (&["show", "x"], WordsKind::Form, 0),
+        (&["show", "x", "y", "--rounds", "3"], WordsKind::Form, 0),
+        (&["show", "a\0b", "x"], WordsKind::Value, 1),
+        (&["migrate", "x"], WordsKind::Form, 0),
+        (&["migrate", "x", "x"], WordsKind::Value, 2),
+        (&["migrate", "x\0", "x\0"], WordsKind::Value, 1),
+        (&["migrate", "x", "y", "z"], WordsKind::Form, 0),
+    ];
+    for (words, kind, place) in cases.iter() {
+        let found = refusal(rt.alloc(), words)?;
+        assert_eq!(rt; found, Some((*kind, *place)));
+    }
+    Ok(())
+}
+
+#[test]
+fn words_of_solve_are_refused(rt: HostRuntime) -> Result<(), Fail> {
+    let cases: [(&[&str], WordsKind, u32); 16] = [
+        (&["solve"], WordsKind::Form, 0),
+        (&["solve", "x", "-r", "3"], WordsKind::Word, 2),
+        (&["solve", "x", "--stakes="], WordsKind::Word, 2),
+        (&["solve", "x", "--"], WordsKind::Word, 2),
+        (&["solve", "x", "y"], WordsKind::Form, 0),
+        (&["solve", "x", "--stakes"], WordsKind::Form, 0),
+        (&["solve", "x", "--help"], WordsKind::Form, 0),
+        (&["solve", "x", "--=3"], WordsKind::Form, 0),
+        (
+            &["solve", "x", "--rounds", "3", "--rounds=3"],
+            WordsKind::Form,
+            0,
+        ),
+        (
+            &["solve", "x", "--stakes", "--rounds", "3"],
+            WordsKind::Form,
+            0,
+        ),
+        (&["solve", "x", "--stakes=a=b"], WordsKind::Value, 3),
+        (&["solve", "x", "--rounds", "0"], WordsKind::Value, 4),
+        (&["solve", "x", "--rounds", "4097"], WordsKind::Value, 4),
+        (
+            &["solve", "--workers=65", "x", "--rounds=+5"],
+            WordsKind::Value,
+            4,
+        ),
+        (&["solve", "x", "--workers", "65"], WordsKind::Value, 5),
+        (&["solve", "x", "--checkers", "007"], WordsKind::Value, 2),
+    ];
+    for (words, kind, place) in cases.iter() {
+        let found = refusal(rt.alloc(), words)?;
+        assert_eq!(rt; found, Some((*kind, *place)));
+    }
+    Ok(())
+}
+
+#[test]
+fn solve_has_usual_values(rt: HostRuntime) -> Result<(), Fail> {
+    let words = owned(rt.alloc(), &["solve", "two.base"])?;
+    match read_words(rt.alloc(), words.as_slice()) {
+        Ok(Command::Solve(asked)) => {
+            assert_eq!(rt; asked.file.as_str(), "two.base");
+            assert_eq!(rt; asked.checkers, 3);
+            assert_eq!(rt; asked.stakes, cube_actions::StakesName::Jacoby);
+            assert_eq!(rt; asked.rounds, 64);
+            assert_eq!(rt; asked.workers, 1);
+        }
+        _ => panic!(rt; "refused"),
+    }
+    Ok(())
+}
+
+#[test]
+fn long_words_and_names_are_refused(rt: HostRuntime) -> Result<(), Fail> {
+    let mut long = String::new(rt.alloc());
+    for _ in 0..255 {
+        long.push('x')?;
+    }
+    let name = refusal(rt.alloc(), &["solve", long.as_str()])?;
+    assert_eq!(rt; name, None);
+    long.push('x')?;
+    let longer = refusal(rt.alloc(), &["solve", long.as_str()])?;
+    assert_eq!(rt; longer, Some((WordsKind::Value, 1)));
+    for _ in 256..4096 {
+        long.push('x')?;
+    }
+    let word = refusal(rt.alloc(), &["show", "x", long.as_str()])?;
+    assert_eq!(rt; word, None);
+    long.push('x')?;
+    let longest = refusal(rt.alloc(), &["show", "x", long.as_str()])?;
+    assert_eq!(rt; longest, Some((WordsKind::Word, 2)));
+    Ok(())
+}
