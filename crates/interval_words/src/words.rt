@@ -146,6 +146,14 @@ impl Words {
         state_count(&self.index, &self.stakes)
     }
 
+    /// The words in their order: two for each state, by rising live rank and then kind, the lower one
+    /// first.
+    pub fn list(&self) -> &[u64]
+        ensures { result.now ≡ self.now.list }
+    {
+        self.list.as_slice()
+    }
+
     /// The pair of the state with this number, from 0.
     #[inline]
     pub fn pair_at(&self, state: usize) -> Pair

@@ -1,0 +1,9 @@
+pub mod Bases
+pub mod FrontBytes
+pub mod Loading
+pub mod ManyPages
+pub mod PageLists
+pub mod RightFiles
+pub mod Writing
+mod Fronts
+mod Words

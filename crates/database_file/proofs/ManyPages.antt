@@ -1,0 +1,178 @@
+-- Pages of words that follow one another.
+use Rattle.std.proofs.Common.{◌≡◌, ◌∙◌, ℕ, zero, suc, ◌+◌, ◌*◌, ◌-◌, ◌<◌, ◌≤◌, List, ◌++◌, length, take, drop, Option, None, Some, is_none, Result, Ok, Err, IsErrAnd, length-append, length-drop, refl, sym, ap, ap₂, subst, arith}
+use Rattle.std.proofs.Math.Nat.{le-div_iff_mul-le, mul-le-mul_left, suc-mul}
+use Rattle.std.proofs.Math.Seq.{drop-append_seam, drop-nil}
+use Rattle.std.proofs.lemmas.Bool.{false≢true, leb-true}
+use Rattle.std.proofs.lemmas.List.{drop-append-le, drop-drop, length-take, take-append-le}
+use Rattle.std.specs.Option.{option_or}
+use Rattle.hyper_outside.specs.Files.{bytes_from}
+use Rattle.word_pages.specs.declared.flaws.Flaw.{Flaw}
+use Rattle.word_pages.specs.declared.load.PageStop.{PageStop}
+use Rattle.word_pages.specs.declared.load.PageStop.TheVariants as reading
+use Rattle.word_pages.specs.Words.{word_size, words_of}
+use Rattle.word_pages.specs.Pages.{page_size, page_flaw}
+use Rattle.word_pages.specs.Loads.{AnswersPage}
+use Rattle.word_pages.proofs.PageFlaws.{page_flaw-take}
+use Rattle.word_pages.proofs.Texts.{words_of-take}
+use Rattle.word_pages.proofs.Within.{is_well, none_or, or_none}
+use Rattle.database_file.specs.declared.pages.Pages.{Pages}
+use Rattle.database_file.specs.declared.pages.PagesStop.{PagesStop}
+use Rattle.database_file.specs.declared.pages.PagesStop.TheVariants.{BadPage, NoMemory, ReadFault}
+use Rattle.database_file.specs.Pages.{AddsPage, AnswersPages, first_flaw, first_words, flaw_in, flaw_on, page_count, page_words, place_of, stopped_by, whole_page, words_on}
+
+-- the bytes behind others
+pub bytes_behind : (at more : ℕ) (file : Option (List ℕ)) → bytes_from (at + more) file ≡ drop more (bytes_from at file)
+bytes_behind at more None = sym (drop-nil more)
+bytes_behind at more (Some bytes) = sym (drop-drop more at bytes)
+
+-- where a page stops the reading, its flaw is told
+pub stops : (T : Type 0) {U : Type 0} (pages : Pages) (page n at : ℕ) (bytes there cells old : List ℕ) (stop : PageStop) (result : Result U PagesStop)
+    → n ≡ words_on pages page → at ≡ place_of pages page → there ≡ drop (page * whole_page pages) bytes
+    → AnswersPage {T = T} pages.version pages.bound n at there cells (Err stop)
+    → IsErrAnd result (λ given. given ≡ stopped_by stop) → AddsPage pages page bytes old old result
+stops T pages page n at bytes there cells old stop (Ok x) count place is told wrong = absurd wrong
+stops T {U = U} pages page n at bytes there cells old stop (Err given) count place is told same = subst (λ (given : PagesStop). AddsPage {T = U} pages page bytes old old (Err given)) (sym same) (by_stop stop told)
+  where
+    by_stop : (stop : PageStop) → AnswersPage {T = T} pages.version pages.bound n at there cells (Err stop) → AddsPage {T = U} pages page bytes old old (Err (stopped_by stop))
+    by_stop reading.ReadFault told = told
+    by_stop (reading.BadPage flaw) told =
+        ap₂ (λ (n : ℕ) (at : ℕ). page_flaw pages.version pages.bound n at (drop (page * whole_page pages) bytes)) (sym count) (sym place)
+        ∙ ap (page_flaw pages.version pages.bound n at) (sym is) ∙ told
+
+-- where it is right, its words are added
+pub adds : (pages : Pages) (page n at : ℕ) (bytes there cells old new : List ℕ)
+    → n ≡ words_on pages page → at ≡ place_of pages page → there ≡ drop (page * whole_page pages) bytes
+    → (page_flaw pages.version pages.bound n at there ≡ None) × (cells ≡ words_of pages.version n there) → new ≡ old ++ cells
+    → (flaw_on pages bytes page ≡ None) × (new ≡ old ++ page_words pages bytes page)
+adds pages page n at bytes there cells old new count place is read added = (
+  ap₂ (λ (n : ℕ) (at : ℕ). page_flaw pages.version pages.bound n at (drop (page * whole_page pages) bytes)) (sym count) (sym place)
+      ∙ ap (page_flaw pages.version pages.bound n at) (sym is) ∙ read.0,
+  added ∙ ap (λ (words : List ℕ). old ++ words) (read.1 ∙ ap₂ (λ (n : ℕ) (bytes : List ℕ). words_of pages.version n bytes) count is),
+)
+
+-- what stands behind the pages before
+pub stands_behind : (before part : List ℕ) (k : ℕ) → length before ≡ k → part ≡ drop k (before ++ part)
+stands_behind before part k long = sym (ap (λ k. drop k (before ++ part)) (sym long) ∙ drop-append_seam before part)
+
+-- a fault of the files is told only where a page told it
+pub fault_only : {U : Type 0} (stop : PageStop) (result : Result U PagesStop) → IsErrAnd result (λ given. given ≡ stopped_by stop) → result ≡ Err ReadFault → stop ≡ reading.ReadFault
+fault_only reading.ReadFault result same is = refl
+fault_only (reading.BadPage flaw) (Ok x) wrong is = absurd wrong
+fault_only (reading.BadPage flaw) (Err given) same is = grind (arith, same, is)
+
+-- ---- the first pages
+
+-- the first n pages have no flaw, and these are their words
+pub record AreRead (pages : Pages) (bytes : List ℕ) (n : ℕ) (list : List ℕ) : Type 0 where
+  pub right : first_flaw pages bytes n ≡ None
+  pub words : list ≡ first_words pages bytes n
+
+-- no page is longer than a whole one
+page_fits : (pages : Pages) (page : ℕ) → page_size pages.version (words_on pages page) ≤ whole_page pages
+page_fits pages page =
+    let few : words_on pages page ≤ pages.size = omega arith in
+    omega (arith, mul-le-mul_left (word_size pages.version) few)
+
+-- what stands behind a page doesn't matter for it
+page-front : (pages : Pages) (page : ℕ) (bytes more : List ℕ) → suc page * whole_page pages ≤ length bytes
+    → (flaw_on pages (bytes ++ more) page ≡ flaw_on pages bytes page) × (page_words pages (bytes ++ more) page ≡ page_words pages bytes page)
+page-front pages page bytes more long =
+    let n = words_on pages page in
+    let at = place_of pages page in
+    let size = page_size pages.version n in
+    let start = page * whole_page pages in
+    let there : List ℕ = drop start bytes in
+    let fits = page_fits pages page in
+    let next = suc-mul page (whole_page pages) in
+    let begins : start ≤ length bytes = omega (arith, long, next) in
+    let ends : size ≤ length there = omega (arith, long, next, fits, length-drop start bytes) in
+    let split : drop start (bytes ++ more) ≡ there ++ more = drop-append-le start bytes more begins in
+    let same : take size (there ++ more) ≡ take size there = take-append-le size there more ends in (
+      ap (page_flaw pages.version pages.bound n at) split
+          ∙ sym (page_flaw-take pages.version pages.bound n at (there ++ more)) ∙ ap (page_flaw pages.version pages.bound n at) same ∙ page_flaw-take pages.version pages.bound n at there,
+      ap (words_of pages.version n) split
+          ∙ sym (words_of-take pages.version n size (there ++ more) (omega arith)) ∙ ap (words_of pages.version n) same ∙ words_of-take pages.version n size there (omega arith),
+    )
+
+-- nor for those before it
+pub first-front : (pages : Pages) (n : ℕ) (bytes more : List ℕ) → n * whole_page pages ≤ length bytes
+    → (first_flaw pages (bytes ++ more) n ≡ first_flaw pages bytes n) × (first_words pages (bytes ++ more) n ≡ first_words pages bytes n)
+first-front pages zero bytes more long = (refl, refl)
+first-front pages (suc n) bytes more long =
+    let before = first-front pages n bytes more (omega (arith, long, suc-mul n (whole_page pages))) in
+    let last = page-front pages n bytes more long in
+    (ap₂ (λ (one : Option Flaw) (other : Option Flaw). option_or one other) before.0 last.0, ap₂ (λ (one : List ℕ) (other : List ℕ). one ++ other) before.1 last.1)
+
+pub read-front : (pages : Pages) (n : ℕ) (bytes more words : List ℕ) → length bytes ≡ n * whole_page pages → AreRead pages bytes n words → AreRead pages (bytes ++ more) n words
+read-front pages n bytes more words long read =
+    let same = first-front pages n bytes more (omega (arith, long)) in
+    record { right = same.0 ∙ read.right; words = read.words ∙ sym same.1 }
+
+-- one page more
+pub one_more : (pages : Pages) (n next : ℕ) (bytes words new : List ℕ) → next ≡ suc n → AreRead pages bytes n words
+    → (flaw_on pages bytes n ≡ None) × (new ≡ words ++ page_words pages bytes n) → AreRead pages bytes next new
+one_more pages n next bytes words new is read added = subst (λ (n : ℕ). AreRead pages bytes n new) (sym is) (record {
+  right = or_none _ _ read.right added.0;
+  words = added.1 ∙ ap (λ (words : List ℕ). words ++ page_words pages bytes n) read.words;
+})
+
+-- a page behind which there is another one is a whole one
+is_whole : (pages : Pages) (page : ℕ) → 0 < pages.size → suc page < page_count pages → words_on pages page ≡ pages.size
+is_whole pages page some more =
+    let fill = (le-div_iff_mul-le {k = pages.size} {x = suc (suc page)} {y = pages.count + (pages.size - 1)} some).0 more in
+    omega (arith, fill, suc-mul (suc page) pages.size, suc-mul page pages.size)
+
+-- where it is right, so many bytes were there
+pub long_enough : (pages : Pages) (page : ℕ) (before part : List ℕ) → 0 < pages.size → length before ≡ page * whole_page pages
+    → length part ≤ page_size pages.version (words_on pages page) → flaw_on pages (before ++ part) page ≡ None
+    → (page + 1 < page_count pages → length (before ++ part) ≡ (page + 1) * whole_page pages)
+long_enough pages page before part some long few right more =
+    let n = words_on pages page in
+    let there : List ℕ = drop (page * whole_page pages) (before ++ part) in
+    let behind = stands_behind before part (page * whole_page pages) long in
+    let ends = leb-true (page_size pages.version n) (length there) (is_well _ _ _ (none_or _ _ right).0) in
+    let next : (page + 1) * whole_page pages ≡ suc page * whole_page pages = ap (λ k. k * whole_page pages) (one page) in
+    let whole = ap (page_size pages.version) (is_whole pages page some (omega (arith, more))) in
+    omega (arith, long, few, ends, whole, ap (λ (bytes : List ℕ). length bytes) behind, length-append before part, suc-mul page (whole_page pages), next)
+  where
+    one : (page : ℕ) → page + 1 ≡ suc page
+    one page = omega arith
+
+-- what is written to the front of a buffer leaves its length
+pub kept : {A : Type 0} (len : ℕ) (new old items : List A) → len ≡ length items → length new ≡ length old → length old ≡ length items → length (take len (new ++ drop (length new) items)) ≡ length items
+kept len new old items is same lent = omega (arith, is, same, lent, length-take len (new ++ drop (length new) items), length-append new (drop (length new) items), length-drop (length new) items)
+
+-- ---- the first flaw
+
+or-some : (first then : Option Flaw) (flaw : Flaw) → first ≡ None → then ≡ Some flaw → option_or first then ≡ Some flaw
+or-some None then flaw none some = some
+or-some (Some other) then flaw some wrong = absurd (some_none other some)
+  where
+    some_none : (other : Flaw) → Some other ≡ None → ⊥
+    some_none other same = false≢true (ap (λ (flaw : Option Flaw). is_none flaw) same)
+
+some-or : (first then : Option Flaw) (flaw : Flaw) → first ≡ Some flaw → option_or first then ≡ Some flaw
+some-or first then flaw is = ap (λ (first : Option Flaw). option_or first then) is
+
+-- the flaw of the first pages is that of all of them
+flaw-stays : (pages : Pages) (bytes : List ℕ) (n m : ℕ) (flaw : Flaw) → first_flaw pages bytes n ≡ Some flaw → first_flaw pages bytes (m + n) ≡ Some flaw
+flaw-stays pages bytes n zero flaw is = ap (λ k. first_flaw pages bytes k) (none_more n) ∙ is
+  where
+    none_more : (n : ℕ) → 0 + n ≡ n
+    none_more n = omega arith
+flaw-stays pages bytes n (suc m) flaw is = ap (λ k. first_flaw pages bytes k) (one_more n m) ∙ some-or _ _ flaw (flaw-stays pages bytes n m flaw is)
+  where
+    one_more : (n m : ℕ) → suc m + n ≡ suc (m + n)
+    one_more n m = omega arith
+
+flaw-is : (pages : Pages) (bytes words : List ℕ) (page : ℕ) (flaw : Flaw) → page < page_count pages → AreRead pages bytes page words → flaw_on pages bytes page ≡ Some flaw → flaw_in pages bytes ≡ Some flaw
+flaw-is pages bytes words page flaw there read is =
+    let left : (page_count pages - suc page) + suc page ≡ page_count pages = omega (arith, there) in
+    ap (λ k. first_flaw pages bytes k) (sym left) ∙ flaw-stays pages bytes (suc page) (page_count pages - suc page) flaw (or-some _ _ flaw read.right is)
+
+-- where a page stops the reading, all pages are answered
+pub answers_stop : (U : Type 0) (pages : Pages) (bytes words new : List ℕ) (page : ℕ) (stop : PagesStop) → page < page_count pages → AreRead pages bytes page words
+    → AddsPage {T = U} pages page bytes words new (Err stop) → AnswersPages pages bytes (Err stop)
+answers_stop U pages bytes words new page (BadPage flaw) there read told = flaw-is pages bytes words page flaw there read told
+answers_stop U pages bytes words new page ReadFault there read told = told
+answers_stop U pages bytes words new page NoMemory there read told = told

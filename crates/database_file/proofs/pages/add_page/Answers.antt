@@ -1,0 +1,61 @@
+use Rattle.std.proofs.Common.{◌≡◌, ◌∙◌, ◌≤◌, ◌++◌, ◌*◌, ℕ, List, Err, length, take, arith, ap}
+use Rattle.std.specs.Bool.{⊤}
+use Rattle.std.proofs.lemmas.List.{length-take, length-take-le}
+use Rattle.hyper_outside.specs.Files.{bytes_from}
+use Rattle.word_pages.specs.declared.load.PageStop.{PageStop}
+use Rattle.word_pages.specs.Pages.{page_size}
+use Rattle.database_file.specs.declared.pages.Pages.{Pages}
+use Rattle.database_file.specs.Pages.{whole_page, words_on}
+use Rattle.database_file.proofs.ManyPages.{adds, bytes_behind, fault_only, stands_behind, stops}
+use Rattle.database_file.proofs.pages.add_page.Goals as goal
+
+-- what was read is no longer than the page
+shorter : (pages : Pages) (k page size n : ℕ) (bytes buf : List ℕ) → k ≤ length bytes → length bytes ≡ length (take size buf) → size ≡ page_size pages.version n → n ≡ words_on pages page → length (take k bytes) ≤ page_size pages.version (words_on pages page)
+shorter pages k page size n bytes buf few same is count = omega (arith, few, same, is, length-take k bytes, length-take size buf, ap (page_size pages.version) count)
+
+pub returns-in_err-load_page-clause-page : goal.returns-in_err-load_page-clause-page
+returns-in_err-load_page-clause-page g c =
+    let pages = c.args.pages.now in
+    let (k, few, read) = c.in_err-load_page.ensures.page in
+    let part : List ℕ = take k c.load_page.new.buf in (
+      part,
+      shorter c.args.pages.now k c.args.page c.page_size-size.result c.words_on-count.result c.load_page.new.buf c.args.buf.now few c.load_page.auto.buf c.page_size-size.ensures c.words_on-count.ensures.words,
+      λ before long.
+          stops ⊤ pages c.args.page _ _ (before ++ part) part c.load_page.new.words c.args.words.now.items c.in_err-load_page.field-0.0 c.from_residual.result
+          (length-take-le c.words_on-count.result c.args.cells.now (omega (arith, c.words_on-count.ensures.words, c.requires.cells)) ∙ c.words_on-count.ensures.words) c.place_of.ensures.place (stands_behind before part _ long)
+          read c.from_residual.ensures.1,
+    )
+
+pub returns-in_err-load_page-clause-told : goal.returns-in_err-load_page-clause-told
+returns-in_err-load_page-clause-told g c tells =
+    let pages = c.args.pages.now in
+    let file = g.F.Files.held c.args.files.now c.args.name.now in
+    stops ⊤ pages c.args.page _ _ (bytes_from pages.at file) (bytes_from c.place_of.result file) c.load_page.new.words c.args.words.now.items c.in_err-load_page.field-0.0 c.from_residual.result
+    (length-take-le c.words_on-count.result c.args.cells.now (omega (arith, c.words_on-count.ensures.words, c.requires.cells)) ∙ c.words_on-count.ensures.words) c.place_of.ensures.place
+    (ap (λ at. bytes_from at file) c.place_of.ensures.place ∙ bytes_behind pages.at (c.args.page * whole_page pages) file)
+    (c.in_err-load_page.ensures.told tells) c.from_residual.ensures.1
+
+pub returns-in_err-load_page-clause-cause : goal.returns-in_err-load_page-clause-cause
+returns-in_err-load_page-clause-cause g c is = c.in_err-load_page.ensures.cause (ap (λ (stop : PageStop). Err stop) (fault_only c.in_err-load_page.field-0.0 c.from_residual.result c.from_residual.ensures.1 is))
+
+pub returns-clause-page : goal.returns-clause-page
+returns-clause-page g c =
+    let pages = c.args.pages.now in
+    let (k, few, read) = c.in_ok-load_page.ensures.page in
+    let part : List ℕ = take k c.load_page.new.buf in (
+      part,
+      shorter c.args.pages.now k c.args.page c.page_size-size.result c.words_on-count.result c.load_page.new.buf c.args.buf.now few c.load_page.auto.buf c.page_size-size.ensures c.words_on-count.ensures.words,
+      λ before long.
+          adds pages c.args.page _ _ (before ++ part) part c.load_page.new.words c.args.words.now.items c.extend_from_slice.new.self.items
+          (length-take-le c.words_on-count.result c.args.cells.now (omega (arith, c.words_on-count.ensures.words, c.requires.cells)) ∙ c.words_on-count.ensures.words) c.place_of.ensures.place (stands_behind before part _ long)
+          read c.in_ok-extend_from_slice.ensures.items,
+    )
+
+pub returns-clause-told : goal.returns-clause-told
+returns-clause-told g c tells =
+    let pages = c.args.pages.now in
+    let file = g.F.Files.held c.args.files.now c.args.name.now in
+    adds pages c.args.page _ _ (bytes_from pages.at file) (bytes_from c.place_of.result file) c.load_page.new.words c.args.words.now.items c.extend_from_slice.new.self.items
+    (length-take-le c.words_on-count.result c.args.cells.now (omega (arith, c.words_on-count.ensures.words, c.requires.cells)) ∙ c.words_on-count.ensures.words) c.place_of.ensures.place
+    (ap (λ at. bytes_from at file) c.place_of.ensures.place ∙ bytes_behind pages.at (c.args.page * whole_page pages) file)
+    (c.in_ok-load_page.ensures.told tells) c.in_ok-extend_from_slice.ensures.items

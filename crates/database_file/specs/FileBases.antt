@@ -1,0 +1,8 @@
+-- What a file of bounds holds.
+use Rattle.interval_words.specs.WordLists.{WordList}
+use Rattle.base_head.specs.Heads.{FileHead}
+
+-- a head and words
+pub record FileBase : Type 0 where
+  pub head : FileHead
+  pub words : WordList

@@ -1,0 +1,11 @@
+-- What pages that could not be read stop.
+use Rattle.base_head.specs.Fronts.{bad_of}
+use Rattle.database_file.specs.declared.pages.PagesStop.{PagesStop}
+use Rattle.database_file.specs.declared.pages.PagesStop.TheVariants as pages
+use Rattle.database_file.specs.declared.stop.LoadStop.{LoadStop}
+use Rattle.database_file.specs.declared.stop.LoadStop.TheVariants.{BadFile as Bad, ReadFault, NoMemory}
+
+abbrev pub loading_stopped : PagesStop → LoadStop
+loading_stopped pages.ReadFault = ReadFault
+loading_stopped (pages.BadPage flaw) = Bad (bad_of flaw)
+loading_stopped pages.NoMemory = NoMemory

@@ -1,0 +1,92 @@
+ghost use Rattle.std.specs.Prelude.{◌≡◌, ◌≤◌, Option, IfOk, IsTrue, Err};
+ghost use Rattle.std.specs.Option.{option_map};
+ghost use Rattle.std.specs.Result.{result_err};
+ghost use Rattle.base_head.specs.Headers.{IsHeader};
+ghost use Rattle.hyper_outside.specs.Causes.{Rose};
+ghost use Rattle.hyper_outside.specs.Files.{SameFiles};
+ghost use Rattle.database_file.specs.declared.stop.LoadStop.TheVariants.{ReadFault};
+ghost use Rattle.database_file.specs.Faults.{AnswersFront, IsFrontOf, Read, ends_before, fault_before_pages, short_fault, whole};
+
+use crate::stop::LoadStop;
+use base_head::{BadFile, FileFault, Head, Header, read_header};
+use hyper_outside::{Files, fill};
+
+/// How many bytes the header has.
+const HEADER: usize = 64;
+
+/// How many bytes the longest front has: a header, 17 pairs of version 1, and a digest.
+const LONGEST_FRONT: usize = 368;
+
+/// What stands in a file before the pages.
+#[derive(Drop)]
+pub(crate) struct Front {
+    pub header: Header,
+    pub head: Head,
+}
+
+/// Tells that a file is too short for a header, or that fewer bytes of it were there.
+fn check_begins(size: u64, bytes: &[u8]) -> Result<(), BadFile>
+    ensures { result_err result ≡ short_fault (record { size = size; bytes = bytes.now }) }
+{
+    if size < HEADER as u64 {
+        return Err(BadFile {
+            fault: FileFault::Short,
+            at: size,
+        });
+    }
+    check_long(HEADER, bytes)
+}
+
+/// Tells that bytes end before this place.
+fn check_long(place: usize, bytes: &[u8]) -> Result<(), BadFile>
+    ensures { result_err result ≡ ends_before place bytes.now }
+{
+    if bytes.len() < place {
+        return Err(BadFile {
+            fault: FileFault::Short,
+            at: bytes.len() as u64,
+        });
+    }
+    Ok(())
+}
+
+/// What stands before the pages of a file that is said to have `size` bytes, where these are its first ones: all, or at least as many as
+/// can stand there. What is wrong first up to there is told.
+fn front_of(size: u64, bytes: &[u8]) -> Result<Front, BadFile>
+    ensures fault { result_err result
+        ≡ fault_before_pages (record { size = size; bytes = bytes.now }) }
+    ensures front { IfOk result (λ front. IsFrontOf
+        (record { size = size; bytes = bytes.now }) front) }
+    ensures valid { IfOk result (λ front. IsHeader front.header) }
+{
+    check_begins(size, bytes)?;
+    let header = read_header(size, bytes)?;
+    check_long(header.front_length() as usize, bytes)?;
+    let head = header.read_starts(bytes)?;
+    Ok(Front { header, head })
+}
+
+/// Reads what stands in a file before the pages: it asks for the size, and reads the first bytes, as many as can stand there. What is
+/// wrong first up to there is told, in the order of the format.
+pub(crate) fn read_front<F: Files>(files: &mut F, name: &str) -> Result<Front, LoadStop>
+    ensures read { (file : Option Read) × AnswersFront file result }
+    ensures told { IsTrue (F.tells files.old)
+        → AnswersFront (option_map whole (F.held files.old name.now)) result }
+    ensures same { IsTrue (F.tells files.old)
+        → SameFiles (F.held files.old) (F.held files.new) }
+    ensures tells { F.tells files.new ≡ F.tells files.old }
+    ensures later { F.read_faults files.old ≤ F.read_faults files.new }
+    ensures cause { result ≡ Err ReadFault
+        → Rose (F.read_faults files.old) (F.read_faults files.new) }
+    ensures write_faults { F.write_faults files.new ≡ F.write_faults files.old }
+    ensures valid { IfOk result (λ front. IsHeader front.header) }
+{
+    let Some(size) = files.size(name)? else {
+        return Err(LoadStop::Missing);
+    };
+    let mut buf = [0; LONGEST_FRONT];
+    let room = size.min(LONGEST_FRONT as u64) as usize;
+    let count = fill(files, name, 0, &mut buf[..room])?;
+    let front = front_of(size, &buf[..count])?;
+    Ok(front)
+}

@@ -1,0 +1,41 @@
+ghost use Rattle.std.specs.Prelude.{◌≡◌, ◌<◌, ◌+◌, ◌*◌, ◌↔◌, ◌++◌, ℕ, List, All, None, ◌≤ℤ◌, drop, length};
+ghost use Rattle.directed_fixed.specs.declared.word.TheConstants.{WORD_OFFSET};
+ghost use Rattle.word_pages.specs.Words.{Fits, word_size};
+ghost use Rattle.word_pages.specs.Flaws.{AreWithin};
+ghost use Rattle.word_pages.specs.Pages.{AreBytes, pages_text};
+ghost use Rattle.interval_words.specs.WordLists.{AreRight, list_of};
+ghost use Rattle.base_head.specs.Fronts.{head_in};
+ghost use Rattle.base_head.specs.Headers.{front_length};
+ghost use Rattle.database_file.specs.declared.pages.Pages.{Pages};
+ghost use Rattle.database_file.specs.Texts.{game_in, words_a_page};
+ghost use Rattle.database_file.specs.Faults.{file_fault, header_of_file, whole};
+ghost use Rattle.database_file.specs.Bases.{words_of_file};
+ghost use Rattle.database_file.specs.Pages.{flaw_in, page_count, words_in};
+
+/// Bytes of the length of all pages have no flaw exactly where they are the pages of the words that they hold, and these lie within
+/// the bound. Words that fit and lie within the bound are read back from their pages, whatever stands behind them. Pages have pairs.
+pub fn right_pages_are_their_words()
+    ensures exactly { (pages : Pages) (half all : ℕ) (bytes : List ℕ) → 0 < half
+        → pages.size ≡ 2 * half → pages.count ≡ 2 * all → AreBytes bytes
+        → length bytes ≡ word_size pages.version * pages.count + 32 * page_count pages
+        → pages.bound ≤ℤ WORD_OFFSET
+        → (flaw_in pages bytes ≡ None)
+        ↔ ((bytes ≡ pages_text pages.version pages.size (words_in pages bytes))
+        × AreWithin pages.bound (words_in pages bytes)) }
+    ensures pages { (pages : Pages) (half : ℕ) (words rest : List ℕ) → 0 < half
+        → pages.size ≡ 2 * half → length words ≡ pages.count
+        → All (Fits pages.version) words → AreWithin pages.bound words
+        → (flaw_in pages (pages_text pages.version pages.size words ++ rest) ≡ None)
+        × (words_in pages (pages_text pages.version pages.size words ++ rest) ≡ words) }
+{}
+
+/// Where nothing is wrong with a file, the pages behind its starts are those of its words, and these are right for the head's game: two
+/// for each state, within the bound, the lower one at most the upper one.
+pub fn right_files_hold_right_words()
+    ensures { (bytes : List ℕ) → AreBytes bytes → file_fault (whole bytes) ≡ None
+        → (drop (front_length (header_of_file bytes)) bytes
+        ≡ pages_text (header_of_file bytes).version
+        (words_a_page (header_of_file bytes).kinds) (words_of_file bytes))
+        × AreRight (list_of (game_in (head_in (header_of_file bytes) bytes))
+        (header_of_file bytes).rounds (words_of_file bytes)) }
+{}

@@ -1,0 +1,120 @@
+ghost use Rattle.std.specs.Prelude.{◌≡◌, ◌≤◌, ◌*◌, Option, IfOk, IsTrue, Err, OnErr, length};
+ghost use Rattle.std.specs.Option.{option_map};
+ghost use Rattle.cube_actions.specs.Stakes.{bound_of};
+ghost use Rattle.hyper_outside.specs.Causes.{Rose};
+ghost use Rattle.hyper_outside.specs.Files.{SameFiles};
+ghost use Rattle.word_pages.specs.Flaws.{AreWithin};
+ghost use Rattle.interval_words.specs.Core.{words_in};
+ghost use Rattle.base_head.specs.Headers.{IsHeader};
+ghost use Rattle.database_file.specs.declared.stop.LoadStop.TheVariants.{ReadFault, NoMemory};
+ghost use Rattle.database_file.specs.Texts.{AreWordsOf, game_in};
+ghost use Rattle.database_file.specs.Faults.{Read, pages_behind, whole};
+ghost use Rattle.database_file.specs.Bases.{AnswersBase, base_with};
+
+use crate::front::{Front, read_front};
+use crate::pages::{Pages, read_pages};
+use crate::stop::LoadStop;
+use base_head::{Head, Header};
+use cube_actions::StakesName;
+use directed_fixed::Fixed;
+use hyper_outside::{Files, NoMemory};
+use interval_words::{LiveIndex, Words};
+use std::alloc::Global;
+use std::marker::Model;
+
+/// How many positions a page has.
+const PAGE_POSITIONS: usize = 1024;
+
+/// What a file of bounds holds: its head, and the words of the head's game after its rounds.
+#[derive(Drop)]
+pub struct Base {
+    head: Head,
+    words: Words,
+}
+
+impl Model for Base {
+    ghost use Rattle.database_file.specs.Texts.{AreWordsOf};
+    ghost use Rattle.database_file.specs.FileBases.{FileBase};
+
+    ghost Value = { FileBase };
+
+    ghost view = { λ a. record { head = a.head; words = a.words } };
+
+    ghost invariant = { λ a. AreWordsOf a.head a.words };
+}
+
+impl Base {
+    /// What the words are of.
+    pub fn head(&self) -> &Head
+        ensures head { result.now ≡ self.now.head }
+        ensures fitting { AreWordsOf self.now.head self.now.words }
+    {
+        &self.head
+    }
+
+    /// The words.
+    pub fn words(&self) -> &Words
+        ensures words { result.now ≡ self.now.words }
+        ensures fitting { AreWordsOf self.now.head self.now.words }
+    {
+        &self.words
+    }
+}
+
+/// How far a word's value may be from 0.
+fn bound_of(name: StakesName) -> Fixed
+    ensures { result ≡ bound_of name }
+{
+    match name {
+        StakesName::Match(_) => Fixed::whole(1),
+        _ => Fixed::whole(3),
+    }
+}
+
+/// The pages of a file with this header.
+pub(crate) fn pages_behind(header: &Header) -> Pages
+    requires { IsHeader header.now }
+    ensures { result ≡ pages_behind header.now }
+{
+    let kinds = usize::from(header.kinds);
+    Pages {
+        version: header.version,
+        bound: bound_of(header.name),
+        at: header.front_length(),
+        size: 2 * kinds * PAGE_POSITIONS,
+        count: 2 * kinds * header.positions as usize,
+    }
+}
+
+/// The base of a head with the words of a list.
+fn base_of(alloc: Global, head: Head, list: Vec<u64>) -> Result<Base, NoMemory>
+    requires long { length list.items ≡ words_in (game_in head) }
+    requires within { AreWithin (bound_of head.name) list.items }
+    ensures { IfOk result (λ base. base ≡ base_with head list.items) }
+{
+    let index = LiveIndex::new(alloc, head.checkers())?;
+    let words = Words::from_list(index, &head.stakes(), head.rounds(), list).unwrap();
+    Ok(Base { head, words })
+}
+
+/// Loads a file of bounds of either version: it asks for the size, and then reads header, starts and pages in order, each page through
+/// one buffer. `Missing` comes exactly where there is no file of this name, and `BadFile` exactly where the bytes that were read aren't a file
+/// of bounds: it tells the first fault in the order of the format, and its place. `ReadFault` comes only where the files' count of reads
+/// rose. No file changes.
+pub fn load_base<F: Files>(alloc: Global, files: &mut F, name: &str) -> Result<Base, LoadStop>
+    ensures read { (file : Option Read) × AnswersBase file result }
+    ensures told { IsTrue (F.tells files.old)
+        → AnswersBase (option_map whole (F.held files.old name.now)) result }
+    ensures same { IsTrue (F.tells files.old)
+        → SameFiles (F.held files.old) (F.held files.new) }
+    ensures tells { F.tells files.new ≡ F.tells files.old }
+    ensures later { F.read_faults files.old ≤ F.read_faults files.new }
+    ensures cause { result ≡ Err ReadFault
+        → Rose (F.read_faults files.old) (F.read_faults files.new) }
+    ensures write_faults { F.write_faults files.new ≡ F.write_faults files.old }
+{
+    let Front { header, head } = read_front(files, name)?;
+    let list = read_pages(alloc, files, name, &pages_behind(&header))?;
+    let base = base_of(alloc, head, list)?;
+    Ok(base)
+}

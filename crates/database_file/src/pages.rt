@@ -1,0 +1,167 @@
+ghost use Rattle.std.specs.Prelude.{◌≡◌, ◌≤◌, ◌<◌, ◌+◌, ◌++◌, ◌*◌, ◌^◌, ℕ, List, IsTrue, Err, length, take, drop};
+ghost use Rattle.hyper_outside.specs.Causes.{Rose};
+ghost use Rattle.hyper_outside.specs.Files.{SameFiles, bytes_from};
+ghost use Rattle.word_pages.specs.Pages.{page_size};
+ghost use Rattle.database_file.specs.declared.pages.PagesStop.TheVariants.{ReadFault, NoMemory};
+ghost use Rattle.database_file.specs.Pages.{AddsPage, AnswersPages, ArePages, page_count, place_of, stopped_by, whole_page, words_on};
+
+use directed_fixed::Fixed;
+use hyper_outside::Files;
+use std::alloc::{AllocError, AllocFailed, Global};
+use word_pages::{Flaw, PageStop, Version, load_page};
+
+/// Pages of words that follow one another in a file.
+#[derive(Clone, Copy)]
+pub struct Pages {
+    pub version: Version,
+    /// The greatest value of a word on both sides of 0.
+    pub bound: Fixed,
+    /// The place of the first page.
+    pub at: u64,
+    /// How many words a page has, but the last one, which may have fewer.
+    pub size: usize,
+    /// How many words all pages have.
+    pub count: usize,
+}
+
+/// Why pages of a file could not be read.
+#[derive(Clone, Copy, Debug, PartialEq, Eq)]
+pub enum PagesStop {
+    /// A call of the files failed.
+    ReadFault,
+    /// A page isn't right.
+    BadPage(Flaw),
+    /// There was no memory.
+    NoMemory,
+}
+
+impl From<PageStop> for PagesStop {
+    ghost from_gives = { λ stop stopped. stopped ≡ stopped_by stop };
+
+    fn from(stop: PageStop) -> Self {
+        match stop {
+            PageStop::ReadFault => PagesStop::ReadFault,
+            PageStop::BadPage(flaw) => PagesStop::BadPage(flaw),
+        }
+    }
+}
+
+impl From<AllocError> for PagesStop {
+    ghost from_gives = { λ _ stop. stop ≡ NoMemory };
+
+    fn from(_error: AllocError) -> Self {
+        PagesStop::NoMemory
+    }
+}
+
+impl<T: Drop> From<AllocFailed<T>> for PagesStop {
+    ghost from_gives = { λ _ stop. stop ≡ NoMemory };
+
+    fn from(_error: AllocFailed<T>) -> Self {
+        PagesStop::NoMemory
+    }
+}
+
+impl Pages {
+    /// How many pages there are.
+    pub fn page_count(&self) -> usize
+        requires { ArePages self.now }
+        ensures { result ≡ page_count self.now }
+    {
+        (self.count + (self.size - 1)) / self.size
+    }
+
+    /// How many words the page with this number has.
+    pub fn words_on(&self, page: usize) -> usize
+        requires pages { ArePages self.now }
+        requires there { page < page_count self.now }
+        ensures words { result ≡ words_on self.now page }
+    {
+        self.size.min(self.count - page * self.size)
+    }
+
+    /// At which place of the file the page with this number begins.
+    pub fn place_of(&self, page: usize) -> u64
+        requires pages { ArePages self.now }
+        requires there { page < page_count self.now }
+        ensures place { result ≡ place_of self.now page }
+    {
+        self.at + (page * self.version.page_size(self.size)) as u64
+    }
+}
+
+/// Reads the page with this number, and adds its words.
+fn add_page<F: Files>(
+    files: &mut F,
+    name: &str,
+    pages: &Pages,
+    page: usize,
+    buf: &mut [u8],
+    cells: &mut [u64],
+    words: &mut Vec<u64>,
+) -> Result<(), PagesStop>
+    requires pages { ArePages pages.now }
+    requires there { page < page_count pages.now }
+    requires bytes { length buf.old ≡ whole_page pages.now }
+    requires cells { length cells.old ≡ pages.now.size }
+    ensures page { (part : List ℕ)
+        × (length part ≤ page_size pages.now.version (words_on pages.now page))
+        × ((before : List ℕ) → length before ≡ page * whole_page pages.now
+        → AddsPage pages.now page (before ++ part) words.old.items words.new.items result) }
+    ensures told { IsTrue (F.tells files.old)
+        → AddsPage pages.now page (bytes_from pages.now.at (F.held files.old name.now))
+        words.old.items words.new.items result }
+    ensures buf { length buf.new ≡ length buf.old }
+    ensures kept { length cells.new ≡ length cells.old }
+    ensures same { IsTrue (F.tells files.old)
+        → SameFiles (F.held files.old) (F.held files.new) }
+    ensures tells { F.tells files.new ≡ F.tells files.old }
+    ensures later { F.read_faults files.old ≤ F.read_faults files.new }
+    ensures cause { result ≡ Err ReadFault
+        → Rose (F.read_faults files.old) (F.read_faults files.new) }
+    ensures write_faults { F.write_faults files.new ≡ F.write_faults files.old }
+{
+    let count = pages.words_on(page);
+    let size = pages.version.page_size(count);
+    let cells = &mut cells[..count];
+    load_page(
+        files,
+        name,
+        pages.place_of(page),
+        pages.version,
+        pages.bound,
+        &mut buf[..size],
+        cells,
+    )?;
+    words.extend_from_slice(cells)?;
+    Ok(())
+}
+
+/// Reads all pages in order, over as many reads as it takes, and answers their words. `BadPage` tells their first flaw. `ReadFault` comes
+/// only where the files' count of reads rose.
+pub fn read_pages<F: Files>(
+    alloc: Global,
+    files: &mut F,
+    name: &str,
+    pages: &Pages,
+) -> Result<Vec<u64>, PagesStop>
+    requires pages { ArePages pages.now }
+    ensures read { (bytes : List ℕ) × AnswersPages pages.now bytes result }
+    ensures told { IsTrue (F.tells files.old)
+        → AnswersPages pages.now (bytes_from pages.now.at (F.held files.old name.now)) result }
+    ensures same { IsTrue (F.tells files.old)
+        → SameFiles (F.held files.old) (F.held files.new) }
+    ensures tells { F.tells files.new ≡ F.tells files.old }
+    ensures later { F.read_faults files.old ≤ F.read_faults files.new }
+    ensures cause { result ≡ Err ReadFault
+        → Rose (F.read_faults files.old) (F.read_faults files.new) }
+    ensures write_faults { F.write_faults files.new ≡ F.write_faults files.old }
+{
+    let mut buf = vec![in alloc; 0u8; pages.version.page_size(pages.size)]?;
+    let mut cells = vec![in alloc; 0u64; pages.size]?;
+    let mut words = Vec::with_capacity(alloc, pages.count)?;
+    'pages: for page in 0..pages.page_count() {
+        add_page(files, name, pages, page, &mut buf, &mut cells, &mut words)?;
+    }
+    Ok(words)
+}
