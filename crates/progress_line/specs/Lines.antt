@@ -1,0 +1,36 @@
+-- The line that tells how far a solve has come.
+use Rattle.std.specs.Prelude.{ℕ, ◌+◌, ◌-◌, ◌*◌, ◌/◌, min, max, List, ◌++◌, codes, decimal}
+use Rattle.progress_line.specs.declared.line.Progress.{Progress}
+
+-- how many blocks there are in all rounds, and how many of them were passed; a block may be passed again by no worker, so there are no more
+abbrev pub whole : Progress → ℕ
+whole progress = max 1 (progress.blocks * progress.rounds)
+
+abbrev pub done : Progress → ℕ
+done progress = min progress.passed (whole progress)
+
+-- the round of the block that is passed next, at most the last
+abbrev pub round_of : Progress → ℕ
+round_of progress = min progress.rounds (done progress / max 1 progress.blocks + 1)
+
+-- how many seconds are left if the rest goes on as what is done
+abbrev pub seconds_left : Progress → ℕ
+seconds_left progress = progress.seconds * (whole progress - done progress) / max 1 (done progress)
+
+-- the share of all blocks that were passed, in percent
+abbrev pub percent_of : Progress → ℕ
+percent_of progress = 100 * done progress / whole progress
+
+-- words and a number
+abbrev pub counted_text : List ℕ → ℕ → List ℕ
+counted_text words number = words ++ decimal number
+
+-- the round, the share of all blocks, and the seconds gone and left
+abbrev pub progress_text : Progress → List ℕ
+progress_text progress =
+    counted_text (codes "round ") (round_of progress)
+    ++ counted_text (codes " of ") progress.rounds
+    ++ counted_text (codes ", ") (percent_of progress)
+    ++ counted_text (codes " %, ") progress.seconds
+    ++ counted_text (codes " s gone, ") (seconds_left progress)
+    ++ codes " s left"
