@@ -1,2 +1,4 @@
 pub mod Reports
+pub mod Games
+pub mod Files
 pub mod Refusals

@@ -5,9 +5,14 @@ use Rattle.hyper_outside.specs.declared.outside.WordsKind.{WordsKind}
 use Rattle.hyper_outside.specs.declared.outside.WordsKind.TheVariants as kinds
 use Rattle.position_rank.specs.declared.text.BadPosition.{BadPosition}
 use Rattle.position_rank.specs.declared.text.BadPosition.TheVariants.{Shape, Place, Count, SharedPoint, Over}
+use Rattle.base_head.specs.declared.fault.BadFile.{BadFile}
+use Rattle.base_head.specs.declared.fault.FileFault.{FileFault}
+use Rattle.base_head.specs.declared.fault.FileFault.TheVariants as faults
+use Rattle.equity_report.specs.declared.text.GameName.{GameName}
 use Rattle.equity_report.specs.declared.refusal.Refusal.{Refusal}
-use Rattle.equity_report.specs.declared.refusal.Refusal.TheVariants.{Words, Position, Write, Memory, Base}
-use Rattle.equity_report.specs.Reports.{line}
+use Rattle.equity_report.specs.declared.refusal.Refusal.TheVariants.{Words, Position, Missing, File, Read, Write, Memory, Base}
+use Rattle.equity_report.specs.Reports.{line, counted_text}
+use Rattle.equity_report.specs.Games.{game_text}
 
 -- what is wrong with the words
 abbrev pub words_text : WordsKind → List ℕ
@@ -24,27 +29,44 @@ position_kind Count = 3
 position_kind SharedPoint = 4
 position_kind Over = 5
 
+-- what is wrong with a file
+abbrev pub file_fault_text : FileFault → List ℕ
+file_fault_text faults.Short = codes "short"
+file_fault_text faults.Long = codes "long"
+file_fault_text faults.Magic = codes "magic"
+file_fault_text faults.Version = codes "version"
+file_fault_text faults.Head = codes "head"
+file_fault_text faults.HeadDigest = codes "head-digest"
+file_fault_text faults.PageDigest = codes "page-digest"
+file_fault_text faults.Word = codes "word"
+file_fault_text faults.Crossed = codes "crossed"
+
 -- the number of a refusal, which is the status too, and what it says
 abbrev pub status_of : Refusal → ℕ
 status_of (Words bad) = 1
 status_of (Position bad) = 2
+status_of (Missing name) = 3
+status_of (File bad) = 4
+status_of Read = 6
 status_of Write = 7
 status_of Memory = 8
 status_of (Base wanted found) = 10
 
 abbrev pub bad_words_text : BadWords → List ℕ
-bad_words_text bad = codes "words " ++ words_text bad.kind ++ codes " " ++ decimal bad.place
+bad_words_text bad = codes "words " ++ counted_text (words_text bad.kind) bad.place
 
--- so many of a thing
-unfoldable pub counted_text : List ℕ → ℕ → List ℕ
-counted_text thing number = thing ++ codes " " ++ decimal number
+abbrev pub bad_file_text : BadFile → List ℕ
+bad_file_text bad = codes "file " ++ counted_text (file_fault_text bad.fault) bad.at
 
-abbrev pub base_text : ℕ → ℕ → List ℕ
-base_text wanted found = codes "base wanted " ++ counted_text (codes "checkers") wanted ++ codes " found " ++ counted_text (codes "checkers") found ++ codes " stakes cubeless"
+abbrev pub base_text : ℕ → GameName → List ℕ
+base_text wanted found = codes "base wanted " ++ counted_text (codes "checkers") wanted ++ codes " found " ++ game_text found
 
 abbrev pub reason_text : Refusal → List ℕ
 reason_text (Words bad) = bad_words_text bad
-reason_text (Position bad) = codes "position " ++ decimal (position_kind bad)
+reason_text (Position bad) = counted_text (codes "position") (position_kind bad)
+reason_text (Missing name) = codes "missing " ++ name.bytes
+reason_text (File bad) = bad_file_text bad
+reason_text Read = codes "read"
 reason_text Write = codes "write"
 reason_text Memory = codes "memory"
 reason_text (Base wanted found) = base_text wanted found

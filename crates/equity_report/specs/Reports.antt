@@ -1,5 +1,6 @@
 -- The texts of reports. Each line ends with a line feed, the byte 10.
 use Rattle.std.specs.Prelude.{ℕ, List, ◌++◌, codes, decimal}
+use Rattle.std.specs.List.{flat_map}
 use Rattle.std.specs.Fmt.{signed_decimal}
 use Rattle.position_rank.specs.Placement.{Placement}
 use Rattle.position_rank.specs.Text.{position_text}
@@ -10,6 +11,10 @@ use Rattle.directed_fixed.specs.Decimal.{millionths_down, millionths_up, million
 abbrev pub line : List ℕ → List ℕ → List ℕ
 line word rest = word ++ codes " " ++ rest ++ codes "\n"
 
+-- a thing and its number
+unfoldable pub counted_text : List ℕ → ℕ → List ℕ
+counted_text thing number = thing ++ codes " " ++ decimal number
+
 -- the lower end in points, rounded down, and the upper end, rounded up
 abbrev pub points_text : Bounds → List ℕ
 points_text pair = millionths_text (millionths_down pair.lower) ++ codes " " ++ millionths_text (millionths_up pair.upper)
@@ -18,7 +23,11 @@ points_text pair = millionths_text (millionths_down pair.lower) ++ codes " " ++ 
 abbrev pub units_text : Bounds → List ℕ
 units_text pair = signed_decimal pair.lower ++ codes " " ++ signed_decimal pair.upper
 
+-- a pair in points and in units
+abbrev pub pair_text : Bounds → List ℕ
+pair_text pair = points_text pair ++ codes " " ++ units_text pair
+
 -- a position's pair after so many rounds of a game without a cube
 abbrev pub bound_text : Placement → ℕ → Bounds → List ℕ
 bound_text p rounds pair =
-    line (codes "position") (position_text p) ++ line (codes "rounds") (decimal rounds) ++ line (codes "alone") (points_text pair ++ codes " " ++ units_text pair)
+    line (codes "position") (position_text p) ++ line (codes "rounds") (decimal rounds) ++ line (codes "alone") (pair_text pair)

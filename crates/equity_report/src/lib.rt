@@ -1,8 +1,12 @@
 //! The exact texts of reports and refusals.
 #![tactic(auto)]
 
+mod files;
 mod refusal;
 mod report;
+mod text;
 
-pub use refusal::{Refusal, write_refusal};
+pub use files::{KindRow, Solved, write_migrated, write_shown, write_solved};
+pub use refusal::{FileName, Refusal, write_refusal};
 pub use report::write_bound;
+pub use text::GameName;

@@ -1,11 +1,15 @@
 ghost use Rattle.std.specs.Prelude.{◌≡◌, ◌≤◌, ◌++◌, ◌+◌, ℕ, codes, decimal, length};
-ghost use Rattle.equity_report.specs.Refusals.{words_text, bad_words_text, base_text, counted_text, position_kind, status_of, reason_text, refusal_text};
+ghost use Rattle.equity_report.specs.Refusals.{words_text, bad_words_text, file_fault_text, bad_file_text, base_text, position_kind, status_of, reason_text, refusal_text};
 ghost use Rattle.hyper_outside.specs.Sink.{Puts};
 
+use crate::text::{GameName, Report, add_counted, add_game, add_number};
 use arrayvec::ArrayString;
+use base_head::{BadFile, FileFault};
 use hyper_outside::{BadWords, Failed, Sink, WordsKind};
-use itoa::Buffer;
 use position_rank::BadPosition;
+
+/// A file's name.
+pub type FileName = ArrayString<255>;
 
 /// Why a run was refused.
 #[derive(Clone, Copy, Debug, PartialEq, Eq)]
@@ -14,16 +18,19 @@ pub enum Refusal {
     Words(BadWords),
     /// The position's text is refused.
     Position(BadPosition),
+    /// There is no file of this name.
+    Missing(FileName),
+    /// The file's bytes aren't a file text.
+    File(BadFile),
+    /// Reading failed.
+    Read,
     /// Writing failed.
     Write,
     /// There was no memory.
     Memory,
-    /// The position wants another number of checkers a side than is found in the words.
-    Base { wanted: u8, found: u8 },
+    /// The position wants another number of checkers a side than has the game of the file, or of the words.
+    Base { wanted: u8, found: GameName },
 }
-
-/// A refusal's line, at most so long.
-type Line = ArrayString<128>;
 
 fn words_text(kind: WordsKind) -> &'static str
     ensures text { result.now ≡ words_text kind }
@@ -37,12 +44,21 @@ fn words_text(kind: WordsKind) -> &'static str
     }
 }
 
-fn add_number(line: &mut Line, number: u32)
-    requires { length line.old.bytes ≤ 100 }
-    ensures bytes { line.new.bytes ≡ line.old.bytes ++ decimal number }
-    ensures length { length line.new.bytes ≤ length line.old.bytes + 10 }
+fn file_fault_text(fault: FileFault) -> &'static str
+    ensures text { result.now ≡ file_fault_text fault }
+    ensures short { length result.now ≤ 11 }
 {
-    line.push_str(Buffer::new().format(number));
+    match fault {
+        FileFault::Short => "short",
+        FileFault::Long => "long",
+        FileFault::Magic => "magic",
+        FileFault::Version => "version",
+        FileFault::Head => "head",
+        FileFault::HeadDigest => "head-digest",
+        FileFault::PageDigest => "page-digest",
+        FileFault::Word => "word",
+        FileFault::Crossed => "crossed",
+    }
 }
 
 impl Refusal {
@@ -54,6 +70,9 @@ impl Refusal {
         match self {
             Refusal::Words(_) => 1,
             Refusal::Position(_) => 2,
+            Refusal::Missing(_) => 3,
+            Refusal::File(_) => 4,
+            Refusal::Read => 6,
             Refusal::Write => 7,
             Refusal::Memory => 8,
             Refusal::Base { .. } => 10,
@@ -68,50 +87,51 @@ fn position_kind(bad: BadPosition) -> u8
     bad as u8
 }
 
-#[tactic(auto, unfolding(crate::specs::Refusals::counted_text))]
-fn add_checkers(line: &mut Line, checkers: u8)
-    requires { length line.old.bytes ≤ 80 }
-    ensures bytes { line.new.bytes ≡ line.old.bytes ++ counted_text (codes "checkers") checkers }
-    ensures length { length line.new.bytes ≤ length line.old.bytes + 19 }
-{
-    line.push_str("checkers ");
-    add_number(line, u32::from(checkers));
-}
-
-fn add_base(line: &mut Line, wanted: u8, found: u8)
-    requires { length line.old.bytes ≤ 20 }
+fn add_base(line: &mut Report, wanted: u8, found: GameName)
+    requires { length line.old.bytes ≤ 40 }
     ensures bytes { line.new.bytes ≡ line.old.bytes ++ base_text wanted found }
-    ensures length { length line.new.bytes ≤ 120 }
+    ensures length { length line.new.bytes ≤ 240 }
 {
     line.push_str("base wanted ");
-    add_checkers(line, wanted);
+    add_counted(line, "checkers", u64::from(wanted));
     line.push_str(" found ");
-    add_checkers(line, found);
-    line.push_str(" stakes cubeless");
+    add_game(line, found);
 }
 
-fn add_words(line: &mut Line, bad: BadWords)
-    requires { length line.old.bytes ≤ 20 }
+fn add_words(line: &mut Report, bad: BadWords)
+    requires { length line.old.bytes ≤ 40 }
     ensures bytes { line.new.bytes ≡ line.old.bytes ++ bad_words_text bad }
     ensures length { length line.new.bytes ≤ 120 }
 {
     line.push_str("words ");
-    line.push_str(words_text(bad.kind));
-    line.push_str(" ");
-    add_number(line, bad.place);
+    add_counted(line, words_text(bad.kind), u64::from(bad.place));
 }
 
-fn add_reason(line: &mut Line, refusal: &Refusal)
-    requires { length line.old.bytes ≤ 20 }
-    ensures bytes { line.new.bytes ≡ line.old.bytes ++ reason_text refusal.now }
+fn add_bad_file(line: &mut Report, bad: BadFile)
+    requires { length line.old.bytes ≤ 40 }
+    ensures bytes { line.new.bytes ≡ line.old.bytes ++ bad_file_text bad }
     ensures length { length line.new.bytes ≤ 120 }
+{
+    line.push_str("file ");
+    add_counted(line, file_fault_text(bad.fault), bad.at);
+}
+
+fn add_reason(line: &mut Report, refusal: &Refusal)
+    requires { length line.old.bytes ≤ 40 }
+    ensures bytes { line.new.bytes ≡ line.old.bytes ++ reason_text refusal.now }
+    ensures length { length line.new.bytes ≤ 400 }
 {
     match refusal {
         Refusal::Words(bad) => add_words(line, *bad),
         Refusal::Position(bad) => {
-            line.push_str("position ");
-            add_number(line, u32::from(position_kind(*bad)));
+            add_counted(line, "position", u64::from(position_kind(*bad)));
         }
+        Refusal::Missing(name) => {
+            line.push_str("missing ");
+            line.push_str(name.as_str());
+        }
+        Refusal::File(bad) => add_bad_file(line, *bad),
+        Refusal::Read => line.push_str("read"),
         Refusal::Write => line.push_str("write"),
         Refusal::Memory => line.push_str("memory"),
         Refusal::Base { wanted, found } => add_base(line, *wanted, *found),
@@ -122,9 +142,9 @@ fn add_reason(line: &mut Line, refusal: &Refusal)
 pub fn write_refusal<O: Sink>(out: &mut O, refusal: &Refusal) -> Result<(), Failed>
     ensures { Puts (O.output out.old) (O.output out.new) (refusal_text refusal.now) result }
 {
-    let mut line = Line::new();
+    let mut line = Report::new();
     line.push_str("refused ");
-    add_number(&mut line, u32::from(refusal.status()));
+    add_number(&mut line, u64::from(refusal.status()));
     line.push_str(" ");
     add_reason(&mut line, refusal);
     line.push_str("\n");

@@ -1,19 +1,14 @@
-ghost use Rattle.std.specs.Prelude.{◌≡◌, ◌≤◌, ◌++◌, ◌+◌, ℕ, codes, decimal, length};
-ghost use Rattle.std.specs.Fmt.{signed_decimal};
+ghost use Rattle.std.specs.Prelude.{◌≡◌, ◌≤◌, ◌++◌, ◌+◌, codes, decimal, length};
 ghost use Rattle.hyper_outside.specs.Sink.{Puts};
 ghost use Rattle.position_rank.specs.Text.{position_text};
-ghost use Rattle.equity_report.specs.Reports.{line, points_text, units_text, bound_text};
+ghost use Rattle.equity_report.specs.Reports.{line, bound_text};
 
-use arrayvec::ArrayString;
-use directed_fixed::{Pair, print_down, print_units, print_up};
+use crate::text::{Report, add_number, add_points, add_units};
+use directed_fixed::Pair;
 use hyper_outside::{Failed, Sink};
-use itoa::Buffer;
 use position_rank::{Position, print_position};
 
-/// A report of three lines, at most so long.
-type Report = ArrayString<256>;
-
-fn add_position(report: &mut Report, position: &Position)
+pub(crate) fn add_position(report: &mut Report, position: &Position)
     requires { length report.old.bytes ≤ 0 }
     ensures bytes { report.new.bytes
         ≡ report.old.bytes ++ line (codes "position") (position_text position.now) }
@@ -27,31 +22,11 @@ fn add_position(report: &mut Report, position: &Position)
 fn add_rounds(report: &mut Report, rounds: u32)
     requires { length report.old.bytes ≤ 42 }
     ensures bytes { report.new.bytes ≡ report.old.bytes ++ line (codes "rounds") (decimal rounds) }
-    ensures length { length report.new.bytes ≤ 60 }
+    ensures length { length report.new.bytes ≤ 70 }
 {
     report.push_str("rounds ");
-    report.push_str(Buffer::new().format(rounds));
+    add_number(report, u64::from(rounds));
     report.push_str("\n");
-}
-
-fn add_points(report: &mut Report, pair: Pair)
-    requires { length report.old.bytes ≤ 66 }
-    ensures bytes { report.new.bytes ≡ report.old.bytes ++ points_text pair }
-    ensures length { length report.new.bytes ≤ 131 }
-{
-    report.push_str(print_down(pair.lower()).as_str());
-    report.push_str(" ");
-    report.push_str(print_up(pair.upper()).as_str());
-}
-
-fn add_units(report: &mut Report, pair: Pair)
-    requires { length report.old.bytes ≤ 132 }
-    ensures bytes { report.new.bytes ≡ report.old.bytes ++ units_text pair }
-    ensures length { length report.new.bytes ≤ 197 }
-{
-    report.push_str(print_units(pair.lower()).as_str());
-    report.push_str(" ");
-    report.push_str(print_units(pair.upper()).as_str());
 }
 
 /// Puts a position's pair after so many rounds of a game without a cube, in three lines: the position, the rounds, and both ends in points,
