@@ -1,0 +1,6 @@
+pub mod Drafts
+pub mod Faults
+pub mod FormWords
+pub mod Forms
+pub mod Lines
+pub mod Turns

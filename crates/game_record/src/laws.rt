@@ -1,0 +1,44 @@
+ghost use Rattle.std.specs.Prelude.{◌≡◌, ℕ, ◌++◌, ◌≤◌, List, [], length};
+ghost use Rattle.game_record.specs.declared.fault.BadRecord.{BadRecord};
+ghost use Rattle.game_record.specs.declared.record.Record.{Record};
+ghost use Rattle.game_record.specs.Lines.{record_lines, IsRecord, IsTextOf};
+ghost use Rattle.game_record.specs.Faults.{IsBad};
+
+use move_rules::texts_tell_plays;
+
+/// A text of a record has no fault.
+pub fn record_texts_have_no_fault()
+    ensures { (text : List ℕ) (rec : Record) (bad : BadRecord)
+        → IsTextOf text rec → IsBad text bad → ⊥ }
+{
+    texts_tell_plays();
+}
+
+/// No text is that of two records.
+pub fn texts_tell_records()
+    ensures { (text : List ℕ) (rec other : Record)
+        → IsTextOf text rec → IsTextOf text other → rec ≡ other }
+{
+    texts_tell_plays();
+}
+
+/// No text of a record begins that of another.
+pub fn no_record_text_begins_another()
+    ensures { (text more : List ℕ) (rec other : Record)
+        → IsTextOf text rec → IsTextOf (text ++ more) other → more ≡ [] }
+{
+    texts_tell_plays();
+}
+
+/// A text has at most one first fault.
+pub fn texts_have_one_first_fault()
+    ensures { (text : List ℕ) (bad other : BadRecord)
+        → IsBad text bad → IsBad text other → bad ≡ other }
+{
+    texts_tell_plays();
+}
+
+/// A record has at most 65,536 lines.
+pub fn records_have_few_lines()
+    ensures { (rec : Record) → IsRecord rec → length (record_lines rec) ≤ 65536 }
+{}

@@ -1,0 +1,31 @@
+//! Recorded games: what was rolled, played and doubled, and the text that tells it.
+#![tactic(auto)]
+
+mod decision;
+mod draft;
+mod examples;
+mod fault;
+mod form;
+mod laws;
+mod line;
+mod player;
+mod print;
+mod read;
+mod read_line;
+mod record;
+mod stage;
+#[cfg(test)]
+mod tests;
+mod words;
+
+pub use decision::{Answer, Choice, Decision, Decisions, Offer};
+pub use examples::{order_examples, shape_examples, wrong_examples};
+pub use fault::{BadRecord, RecordFault, RecordStop};
+pub use laws::{
+    no_record_text_begins_another, record_texts_have_no_fault, records_have_few_lines,
+    texts_have_one_first_fault, texts_tell_records,
+};
+pub use player::Player;
+pub use print::print_record;
+pub use read::read_record;
+pub use record::{Action, Actions, Ending, Game, Games, Record, RecordStakes, What};
