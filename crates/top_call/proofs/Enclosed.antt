@@ -11,7 +11,7 @@ use Rattle.turn_rule.proofs.Enclosing.{rounds-enclose}
 use Rattle.hyper_outside.specs.declared.outside.Failed.{Failed}
 use Rattle.hyper_outside.specs.Sink.{Output, Gains, Puts}
 use Rattle.equity_report.specs.Reports.{bound_text}
-use Rattle.top_call.specs.declared.task.Task.{Task}
+use Rattle.top_call.specs.declared.task.BoundTask.{BoundTask}
 use Rattle.top_call.specs.Runs.{IsTold}
 use Rattle.top_call.specs.Truth.{PutsEnclosingPair}
 
@@ -19,7 +19,7 @@ whole : (old new : Option (List ℕ)) (text : List ℕ) (done : Unit {0}) → Ga
 whole None new text done gains = gains
 whole (Some old) new text done gains = gains
 
-pub report-truth : (old new : Output) (task : Task) (pair : Bounds) → IsPosition task.position → IsLive task.position → pair ≡ pair_of (rounds cubeless task.rounds) task.position 0 → (done : Unit {0}) → Puts {E = Failed} old new (bound_text task.position task.rounds pair) (Ok done) → PutsEnclosingPair old new task
+pub report-truth : (old new : Output) (task : BoundTask) (pair : Bounds) → IsPosition task.position → IsLive task.position → pair ≡ pair_of (rounds cubeless task.rounds) task.position 0 → (done : Unit {0}) → Puts {E = Failed} old new (bound_text task.position task.rounds pair) (Ok done) → PutsEnclosingPair old new task
 report-truth old new task pair position live is done put =
     let state : IsState (game_of (sum task.position.mover) cubeless) task.position 0 = record { position = position; many = refl; live = live; kind = omega arith } in
     record {

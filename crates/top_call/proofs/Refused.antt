@@ -1,7 +1,7 @@
 -- What a refusal that is put says of the one that is due.
 use Rattle.std.proofs.Common.{◌≡◌, inl, inr, ℕ, List, Ok, Err, Result, IfErr, sym, subst, arith}
 use Rattle.equity_report.specs.declared.refusal.Refusal.{Refusal}
-use Rattle.equity_report.specs.declared.refusal.Refusal.TheVariants.{Words, Position, Write, Memory, Base}
+use Rattle.equity_report.specs.declared.refusal.Refusal.TheVariants.{Words, Position, Missing, File, Read, Write, Memory, Base}
 use Rattle.equity_report.specs.Refusals.{status_of, refusal_text}
 use Rattle.top_call.specs.declared.task.Task.{Task}
 use Rattle.top_call.specs.Runs.{IsDue, Ends, IsStatus}
@@ -10,6 +10,9 @@ use Rattle.top_call.specs.Runs.{IsDue, Ends, IsStatus}
 pub memory-text : (W : List ℕ → Type 0) (refusal : Refusal) → status_of refusal ≡ 8 → W (refusal_text refusal) → W (refusal_text Memory)
 memory-text W (Words bad) e w = absurd (omega arith)
 memory-text W (Position bad) e w = absurd (omega arith)
+memory-text W (Missing name) e w = absurd (omega arith)
+memory-text W (File bad) e w = absurd (omega arith)
+memory-text W Read e w = absurd (omega arith)
 memory-text W Write e w = absurd (omega arith)
 memory-text W Memory e w = w
 memory-text W (Base wanted found) e w = absurd (omega arith)
@@ -17,6 +20,9 @@ memory-text W (Base wanted found) e w = absurd (omega arith)
 of_memory : (W : List ℕ → Type 0) (refusal : Refusal) → 8 ≡ status_of refusal → W (refusal_text Memory) → W (refusal_text refusal)
 of_memory W (Words bad) e w = absurd (omega arith)
 of_memory W (Position bad) e w = absurd (omega arith)
+of_memory W (Missing name) e w = absurd (omega arith)
+of_memory W (File bad) e w = absurd (omega arith)
+of_memory W Read e w = absurd (omega arith)
 of_memory W Write e w = absurd (omega arith)
 of_memory W Memory e w = w
 of_memory W (Base wanted found) e w = absurd (omega arith)
@@ -27,6 +33,9 @@ Due W status expected = IfErr expected (λ refusal. status ≡ status_of refusal
 pub due-text : (W : List ℕ → Type 0) (expected : Result Task Refusal) (refusal : Refusal) (status : ℕ) → IsDue expected (Err refusal) → status ≡ status_of refusal → W (refusal_text refusal) → IfErr expected (λ due. status ≡ status_of due → W (refusal_text due))
 due-text W expected (Words bad) status reads is w = subst (Due W status) (sym reads) (λ _. w)
 due-text W expected (Position bad) status reads is w = subst (Due W status) (sym reads) (λ _. w)
+due-text W expected (Missing name) status reads is w = subst (Due W status) (sym reads) (λ _. w)
+due-text W expected (File bad) status reads is w = subst (Due W status) (sym reads) (λ _. w)
+due-text W expected Read status reads is w = subst (Due W status) (sym reads) (λ _. w)
 due-text W expected Write status reads is w = subst (Due W status) (sym reads) (λ _. w)
 due-text W (Ok task) Memory status reads is w = tt
 due-text W (Err due) Memory status reads is w = λ e. of_memory W due (omega (arith, e, is)) w

@@ -1,3 +1,4 @@
 pub mod Tasks
 pub mod Runs
 pub mod Truth
+pub mod Solves

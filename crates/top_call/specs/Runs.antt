@@ -14,8 +14,8 @@ IsDue expected (Ok task) = expected ≡ Ok task
 IsDue expected (Err Memory) = Unit {0}
 IsDue expected (Err refusal) = expected ≡ Err refusal
 
--- Where words are refused, the status is that of the refusal. Where a task is taken, it is 0 if the report was put and that of a failed
--- write if that failed. In both it is that of no memory if there was none.
+-- Where words are refused, the status is that of the refusal. Where a task is taken, it is 0 if its report was put and that of a failed write if
+-- writing failed. In both it is that of no memory if there was none.
 abbrev pub Ends : Result Task Refusal → ℕ → Type 0
 Ends (Ok task) status = (status ≡ 0) ⊎ (status ≡ status_of Write) ⊎ (status ≡ status_of Memory)
 Ends (Err refusal) status = (status ≡ status_of refusal) ⊎ (status ≡ status_of Memory)

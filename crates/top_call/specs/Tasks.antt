@@ -1,40 +1,56 @@
--- What a program's words ask for, and what is reported.
-use Rattle.std.specs.Prelude.{ℕ, ◌==◌, List, String, sum, Result, Ok, Err, if◌then◌else◌}
+-- What a program's words ask for.
+use Rattle.std.specs.Prelude.{ℕ, ◌≡◌, ◌≤◌, ◌==◌, Bool, false, List, String, length, sum, Result, Ok, Err, if◌then◌else◌}
 use Rattle.std.specs.declared.alloc.Global.{Global}
-use Rattle.top_call.specs.declared.task.Task.{Task}
-use Rattle.position_rank.specs.Placement.{Placement}
+use Rattle.position_rank.specs.Placement.{Placement, IsPosition, IsLive}
 use Rattle.position_rank.specs.declared.text.BadPosition.{BadPosition}
 use Rattle.position_rank.specs.Text.{read_position}
 use Rattle.hyper_outside.specs.declared.outside.BadWords.{BadWords}
-use Rattle.hyper_outside.specs.declared.outside.WordsKind.TheVariants.{Command}
-use Rattle.word_forms.specs.Clap.{bytes_of}
-use Rattle.command_line.specs.declared.command.Bound.{Bound as BoundAsked}
-use Rattle.command_line.specs.declared.command.Command.TheVariants.{Bound}
-use Rattle.command_line.specs.Commands.{Asked}
+use Rattle.hyper_outside.specs.declared.outside.WordsKind.TheVariants as kinds
+use Rattle.cube_actions.specs.declared.name.StakesName.TheVariants.{Cubeless}
+use Rattle.command_line.specs.declared.command.Command.{Command}
+use Rattle.command_line.specs.declared.command.Command.TheVariants as commands
+use Rattle.command_line.specs.declared.command.Bound.{Bound as BoundWords}
+use Rattle.command_line.specs.declared.command.Solve.{Solve as SolveTask}
 use Rattle.command_line.specs.Words.{reading}
+use Rattle.command_line.specs.Right.{IsRightSolve}
+use Rattle.word_forms.specs.Clap.{bytes_of}
 use Rattle.cube_actions.specs.Stakes.{cubeless}
 use Rattle.turn_rule.specs.Turn.{rounds}
 use Rattle.turn_rule.specs.States.{pair_of}
+use Rattle.equity_report.specs.Reports.{bound_text}
+use Rattle.equity_report.specs.declared.text.GameName.{GameName}
 use Rattle.equity_report.specs.declared.refusal.Refusal.{Refusal}
 use Rattle.equity_report.specs.declared.refusal.Refusal.TheVariants.{Words, Position, Base}
-use Rattle.equity_report.specs.Reports.{bound_text}
+use Rattle.top_call.specs.declared.task.BoundTask.{BoundTask}
+use Rattle.top_call.specs.declared.task.Task.{Task}
+use Rattle.top_call.specs.declared.task.Task.TheVariants.{Bound, Solve}
+
+-- a game without a cube, by its checkers
+abbrev pub cubeless_game : ℕ → GameName
+cubeless_game checkers = record { checkers = checkers; stakes = Cubeless; match_length = 1 }
 
 -- the position has as many checkers a side as the words ask for
 abbrev pub fitting : ℕ → ℕ → Placement → Result Task Refusal
 fitting checkers rounds p =
-    if sum p.mover == checkers then Ok (record { position = p; rounds = rounds })
-    else Err (Base (sum p.mover) checkers)
+    if sum p.mover == checkers then Ok (Bound (record { position = p; rounds = rounds }))
+    else Err (Base (sum p.mover) (cubeless_game checkers))
 
-abbrev pub with_position : BoundAsked → Result Placement BadPosition → Result Task Refusal
-with_position asked (Ok p) = fitting asked.checkers asked.rounds p
-with_position asked (Err bad) = Err (Position bad)
+abbrev pub with_position : BoundWords → Result Placement BadPosition → Result Task Refusal
+with_position bound (Ok p) = fitting bound.checkers bound.rounds p
+with_position bound (Err bad) = Err (Position bad)
 
-abbrev pub with_words : Result Asked BadWords → Result Task Refusal
-with_words (Ok (Bound asked)) = with_position asked (read_position asked.position)
-with_words (Ok _) = Err (Words (record { kind = Command; place = 0 }))
+-- a command that the program has the words of, and doesn't do yet
+abbrev pub not_done_yet : BadWords
+not_done_yet = record { kind = kinds.Command; place = 0 }
+
+abbrev pub with_words : Result Command BadWords → Result Task Refusal
+with_words (Ok (commands.Bound bound)) = with_position bound (read_position bound.position)
+with_words (Ok (commands.Solve solve)) = Ok (Solve solve)
+with_words (Ok (commands.Show show)) = Err (Words not_done_yet)
+with_words (Ok (commands.Migrate migrate)) = Err (Words not_done_yet)
 with_words (Err bad) = Err (Words bad)
 
--- the words are read first, then the position, and then the numbers of checkers are compared
+-- the words are read first, then a position, and then its number of checkers is compared
 abbrev pub task_of : List (List ℕ) → Result Task Refusal
 task_of words = with_words (reading words)
 
@@ -42,6 +58,27 @@ task_of words = with_words (reading words)
 abbrev pub asked : List (String Global) → Result Task Refusal
 asked words = task_of (bytes_of words)
 
+-- where a position's pair is asked for
+abbrev pub IfBound : Result Task Refusal → (BoundTask → Type 0) → Type 0
+IfBound (Ok (Bound task)) P = P task
+IfBound (Ok (Solve task)) P = Unit {0}
+IfBound (Err refusal) P = Unit {0}
+
+-- where a game is to be solved
+abbrev pub IfSolve : Result Task Refusal → (SolveTask → Type 0) → Type 0
+IfSolve (Ok (Bound task)) P = Unit {0}
+IfSolve (Ok (Solve task)) P = P task
+IfSolve (Err refusal) P = Unit {0}
+
+-- a live position
+pub record IsRightBound (task : BoundTask) : Type 0 where
+  pub position : IsPosition task.position
+  pub live : IsLive task.position
+
 -- the pair of the position after so many rounds of a game without a cube
-abbrev pub report : Task → List ℕ
-report t = bound_text t.position t.rounds (pair_of (rounds cubeless t.rounds) t.position 0)
+abbrev pub bound_report : BoundTask → List ℕ
+bound_report task = bound_text task.position task.rounds (pair_of (rounds cubeless task.rounds) task.position 0)
+
+abbrev pub IsRightTask : Task → Type 0
+IsRightTask (Bound task) = IsRightBound task
+IsRightTask (Solve task) = IsRightSolve task

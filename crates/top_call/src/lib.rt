@@ -1,12 +1,16 @@
 //! The top call: what a run of the program does with its words, and what it ends with.
 #![tactic(auto)]
 
+mod bound;
 mod program;
+mod put;
+mod solve;
 mod task;
 #[cfg(test)]
 mod tests;
 mod top;
 
 pub use program::{refuse_unread, start};
-pub use task::{Task, read_task};
-pub use top::{DONE, run};
+pub use put::DONE;
+pub use task::{BoundTask, Task, read_task};
+pub use top::run;

@@ -3,10 +3,16 @@ ghost use Rattle.equity_report.specs.declared.refusal.Refusal.TheVariants.{Memor
 ghost use Rattle.equity_report.specs.Refusals.{status_of, refusal_text};
 ghost use Rattle.top_call.specs.Runs.{IsStatus, WasPut, no_text};
 
-use crate::top::{refuse, run};
+use crate::put::refuse;
+use crate::top::run;
+use command_line::{Command, read_words};
 use equity_report::Refusal;
-use hyper_outside::{BadWords, MemFiles, OpenGate, RealSink, Sink, WordsKind};
-use std::rt::Env;
+use hyper_outside::{BadWords, RealFiles, RealSink, Sink, WordsKind};
+use position_rank::layout_count;
+use progress_line::ProgressGate;
+use std::alloc::Global;
+use std::io::Eprint;
+use std::rt::{Clock, Env, Files as System};
 use std::thread::Threads;
 use std::{env, io};
 
@@ -43,23 +49,40 @@ pub fn refuse_unread<O: Sink>(out: &mut O, not_text: bool) -> u8
     }
 }
 
-/// Runs the program on its own words, over standard output, files in memory without any file, and a gate that is
-/// always open. Answers the status with which it ends. What its words are no contract can say; `run` and
-/// `refuse_unread` say what is done with them.
-pub fn start<R: Threads + Sync + Env + Print + AllocGlobal>(rt: &R) -> u8
+/// A gate that tells how far a solve has come, where it is to show it and the words ask for one.
+fn gate_of<'a, R: Clock + Eprint>(
+    rt: &'a R,
+    alloc: Global,
+    words: &[String],
+    shows: bool,
+) -> ProgressGate<'a, R> {
+    match read_words(alloc, words) {
+        Ok(Command::Solve(solve)) if shows => {
+            ProgressGate::new(rt, solve.rounds, layout_count(solve.checkers))
+        }
+        _ => ProgressGate::new(rt, 0, 0),
+    }
+}
+
+/// Runs the program on its own words, over standard output and real files, and answers the status with which it ends. Where it is to show it, a
+/// solve tells on standard error how far it has come. What its words are no contract can say; `run` and `refuse_unread` say what is done with
+/// them.
+pub fn start<R: Threads + Sync + Env + Print + Eprint + Clock + System + AllocGlobal>(
+    rt: &R,
+    shows: bool,
+) -> u8
     ensures { IsStatus result }
 {
     let alloc = rt.alloc();
     let mut out = RealSink::new(io::writer(rt));
     match words_of(rt) {
-        Ok(words) => run(
-            rt,
-            alloc,
-            words.as_slice(),
-            &mut MemFiles::new(alloc),
-            &mut out,
-            &OpenGate,
-        ),
+        Ok(words) => {
+            let words = words.as_slice();
+            let gate = gate_of(rt, alloc, words, shows);
+            let status = run(rt, alloc, words, &mut RealFiles::new(rt), &mut out, &gate);
+            gate.end();
+            status
+        }
         Err(error) => refuse_unread(&mut out, error.kind() == io::ErrorKind::InvalidData),
     }
 }

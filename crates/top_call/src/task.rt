@@ -1,32 +1,38 @@
 ghost use Rattle.std.specs.Prelude.{◌≡◌, ℕ, IfOk};
-ghost use Rattle.position_rank.specs.Placement.{IsPosition, IsLive};
 ghost use Rattle.position_rank.specs.Text.{read_position};
-ghost use Rattle.top_call.specs.Tasks.{fitting, with_position, asked};
+ghost use Rattle.top_call.specs.Tasks.{IsRightTask, asked, fitting, with_position};
 ghost use Rattle.top_call.specs.Runs.{IsDue};
 
-use command_line::{Bound, Command, WordsStop, read_words};
-use equity_report::Refusal;
+use command_line::{Bound, Command, Solve, WordsStop, read_words};
+use cube_actions::StakesName;
+use equity_report::{GameName, Refusal};
 use hyper_outside::{BadWords, WordsKind};
 use position_rank::{Position, read_position};
 use std::alloc::Global;
 
 /// A position whose pair is asked for, and after how many rounds.
 #[derive(Clone, Copy, Debug, PartialEq, Eq)]
-pub struct Task {
+pub struct BoundTask {
     pub position: Position,
     pub rounds: u32,
 }
 
-/// Reads the words, then the position, and compares the numbers of checkers. A command that can't be run yet is refused as one that
-/// isn't there.
+/// What the program's words ask for.
+#[derive(Drop)]
+pub enum Task {
+    Bound(BoundTask),
+    Solve(Solve),
+}
+
+/// Reads the words, then a position, and compares its number of checkers with that of the words.
 pub fn read_task(alloc: Global, words: &[String]) -> Result<Task, Refusal>
     ensures due { IsDue (asked words.now) result }
-    ensures position { IfOk result (λ task. IsPosition task.position) }
-    ensures live { IfOk result (λ task. IsLive task.position) }
+    ensures right { IfOk result IsRightTask }
 {
     match read_words(alloc, words) {
-        Ok(Command::Bound(asked)) => read_bound(&asked),
-        Ok(_) => Err(Refusal::Words(BadWords {
+        Ok(Command::Bound(bound)) => bound_task(&bound),
+        Ok(Command::Solve(solve)) => Ok(Task::Solve(solve)),
+        Ok(Command::Show(_) | Command::Migrate(_)) => Err(Refusal::Words(BadWords {
             kind: WordsKind::Command,
             place: 0,
         })),
@@ -35,14 +41,12 @@ pub fn read_task(alloc: Global, words: &[String]) -> Result<Task, Refusal>
     }
 }
 
-/// Reads the position that `bound` names.
-fn read_bound(asked: &Bound) -> Result<Task, Refusal>
-    ensures due { result ≡ with_position asked.now (read_position asked.now.position) }
-    ensures position { IfOk result (λ task. IsPosition task.position) }
-    ensures live { IfOk result (λ task. IsLive task.position) }
+fn bound_task(bound: &Bound) -> Result<Task, Refusal>
+    ensures task { result ≡ with_position bound.now (read_position bound.now.position) }
+    ensures right { IfOk result IsRightTask }
 {
-    match read_position(asked.position.as_str()) {
-        Ok(position) => fitting(asked.checkers, asked.rounds, position),
+    match read_position(bound.position.as_str()) {
+        Ok(position) => fitting(bound.checkers, bound.rounds, position),
         Err(bad) => Err(Refusal::Position(bad)),
     }
 }
@@ -53,11 +57,15 @@ fn fitting(checkers: u8, rounds: u32, position: Position) -> Result<Task, Refusa
 {
     let wanted = position.checkers();
     if wanted == checkers {
-        Ok(Task { position, rounds })
+        Ok(Task::Bound(BoundTask { position, rounds }))
     } else {
         Err(Refusal::Base {
             wanted,
-            found: checkers,
+            found: GameName {
+                checkers,
+                stakes: StakesName::Cubeless,
+                match_length: 1,
+            },
         })
     }
 }

@@ -1,5 +1,5 @@
 use super::*;
-use hyper_outside::{HonestSink, MemFiles, MemSink, OpenGate};
+use hyper_outside::{HonestFiles, HonestSink, MemFiles, MemSink, OpenGate};
 use std::alloc::{AllocError, Global};
 use std::test::Fail;
 
@@ -12,7 +12,7 @@ fn owned(alloc: Global, words: &[&str]) -> Result<Vec<String>, AllocError> {
 }
 
 // The words, the status, and all that is put.
-const ROWS: [(&[&str], u8, &str); 29] = [
+const ROWS: [(&[&str], u8, &str); 34] = [
     (
         &["bound", "1", "1", "24 / 24"],
         0,
@@ -110,6 +110,19 @@ const ROWS: [(&[&str], u8, &str); 29] = [
     ),
     (&["bound", "1", "", "6 / 1"], 1, "refused 1 words word 2\n"),
     (&["bound", "1", "1", "--"], 1, "refused 1 words word 3\n"),
+    (&["solve"], 1, "refused 1 words form 0\n"),
+    (&["solve", "x", "-r", "3"], 1, "refused 1 words word 2\n"),
+    (
+        &["solve", "x", "--rounds", "0"],
+        1,
+        "refused 1 words value 4\n",
+    ),
+    (
+        &["solve", "x", "--workers", "65"],
+        1,
+        "refused 1 words value 5\n",
+    ),
+    (&["show", "x", "6 / 1"], 1, "refused 1 words command 0\n"),
 ];
 
 #[test]
@@ -176,5 +189,83 @@ fn unread_words_are_told_apart(rt: HostRuntime) -> Result<(), Fail> {
     assert_eq!(rt; out.put_bytes(), "".as_bytes());
     assert_eq!(rt; refuse_unread(&mut out, true), 1);
     assert_eq!(rt; out.put_bytes(), "refused 1 words word 0\n".as_bytes());
+    Ok(())
+}
+
+// A game of one checker, and what is said of it. How wide the widest pair is no one reckoned by hand.
+const SOLVE: [&str; 8] = [
+    "solve",
+    "c1",
+    "--checkers=1",
+    "--stakes",
+    "cubeless",
+    "--rounds",
+    "8",
+    "--workers=4",
+];
+
+fn solve_words(alloc: Global) -> Result<Vec<String>, AllocError> {
+    owned(alloc, &SOLVE)
+}
+
+#[test]
+fn a_game_is_solved(rt: HostRuntime) -> Result<(), Fail> {
+    let alloc = rt.alloc();
+    let words = solve_words(alloc)?;
+    let mut files = HonestFiles::with_room(alloc, 1, 10_000)?;
+    let mut out = HonestSink::with_room(alloc, 256)?;
+    assert_eq!(rt;
+        run(
+            &rt,
+            alloc,
+            words.as_slice(),
+            &mut files,
+            &mut out,
+            &OpenGate
+        ),
+        0
+    );
+    let put = out.put_bytes();
+    assert!(rt;
+        put.starts_with(
+            b"solved checkers 1 stakes cubeless rounds 8 workers 4\npositions 601 kinds 1 widest "
+        )
+    );
+    assert!(rt; put.ends_with(b"\nfile c1 bytes 6138\n"));
+    let Some(file) = files.held("c1") else {
+        panic!(rt; "no file");
+    };
+    assert_eq!(rt; file.len(), 6138);
+    assert!(rt; file.starts_with(b"HYPGAMMN\0\0\0\x02\0\0\0\x01"));
+    // The pair of `1 / 1`: every play wins a gammon.
+    assert_eq!(rt; &file[96..106], b"\x12\0\0\0\0\x12\0\0\0\0".as_slice());
+    Ok(())
+}
+
+// The files' call that fails, how many bytes it still adds, and how many the file then has. With the first the file is as it was.
+const STOPS: [(u64, usize, usize); 4] = [(1, 0, 3), (2, 10, 10), (3, 5, 101), (4, 7, 6113)];
+
+#[test]
+fn a_failing_file_is_told(rt: HostRuntime) -> Result<(), Fail> {
+    let alloc = rt.alloc();
+    let words = solve_words(alloc)?;
+    for (call, prefix, length) in STOPS {
+        let mut files = MemFiles::new(alloc);
+        files.with_file("c1", b"old")?;
+        files.room(0, 10_000)?;
+        files.fail_call(call, prefix)?;
+        let mut out = HonestSink::with_room(alloc, 256)?;
+        let status = run(
+            &rt,
+            alloc,
+            words.as_slice(),
+            &mut files,
+            &mut out,
+            &OpenGate,
+        );
+        assert_eq!(rt; status, 7);
+        assert_eq!(rt; out.put_bytes(), "refused 7 write\n".as_bytes());
+        assert_eq!(rt; files.held("c1").map(|file| file.len()), Some(length));
+    }
     Ok(())
 }

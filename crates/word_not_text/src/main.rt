@@ -5,5 +5,5 @@ use std::process::ExitCode;
 use top_call::start;
 
 fn main(rt: HostRuntime) -> ExitCode {
-    ExitCode::from(start(&rt))
+    ExitCode::from(start(&rt, false))
 }

@@ -1,6 +1,6 @@
 use Rattle.std.proofs.Common.{Err, rules}
 use Rattle.top_call.proofs.Enclosed.{report-truth}
-use Rattle.top_call.proofs.top.run_task.Goals as goal
+use Rattle.top_call.proofs.bound.run_bound.Goals as goal
 
 pub returns-in-Err-clause-write : goal.returns-in-Err-clause-write
 returns-in-Err-clause-write g c = λ _.

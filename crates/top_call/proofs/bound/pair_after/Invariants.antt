@@ -1,7 +1,7 @@
 use Rattle.std.proofs.Common.{◌≡◌, sum}
 use Rattle.cube_actions.specs.Stakes.{cubeless}
 use Rattle.plain_table.specs.Rounds.{HasRounds}
-use Rattle.top_call.proofs.top.pair_after.Given as goal
+use Rattle.top_call.proofs.bound.pair_after.Given as goal
 
 abbrev pub invariant-loop-round : goal.invariant-loop-round
 invariant-loop-round l = record {

@@ -4,7 +4,7 @@ use Rattle.turn_rule.specs.Games.{game_of}
 use Rattle.turn_rule.specs.Turn.{rounds}
 use Rattle.turn_rule.specs.States.{IsState, pair_of}
 use Rattle.plain_table.specs.Tables.{words_of}
-use Rattle.top_call.proofs.top.pair_after.Goals as goal
+use Rattle.top_call.proofs.bound.pair_after.Goals as goal
 
 pub returns : goal.returns
 returns c =

@@ -1,0 +1,69 @@
+-- What a game that is solved leaves.
+use Rattle.std.specs.Prelude.{◌≡◌, ◌⊎◌, ℕ, ℤ, List, [], Option, Some, IsTrue, Bool, length}
+use Rattle.position_rank.specs.LiveRanks.{live_positions}
+use Rattle.hyper_outside.specs.Files.{Contents}
+use Rattle.hyper_outside.specs.Sink.{Output}
+use Rattle.cube_actions.specs.Names.{names_of}
+use Rattle.turn_rule.specs.Turn.{rounds}
+use Rattle.turn_rule.specs.States.{AreNoLooser}
+use Rattle.turn_rule.specs.Truth.{AreSound, AreConsistent}
+use Rattle.interval_words.specs.WordLists.{WordList, AreRight, IsWidest, words_in_list}
+use Rattle.word_pages.specs.declared.version.Version.TheVariants.{Two}
+use Rattle.base_head.specs.Heads.{FileHead, no_starts}
+use Rattle.base_head.specs.Headers.{text_length}
+use Rattle.database_file.specs.Texts.{AreWordsOf, file_text}
+use Rattle.database_file.specs.Writing.{HoldsFront}
+use Rattle.command_line.specs.declared.command.Solve.{Solve}
+use Rattle.equity_report.specs.declared.refusal.Refusal.TheVariants.{Write}
+use Rattle.equity_report.specs.Refusals.{refusal_text}
+use Rattle.equity_report.specs.Files.{solved_text}
+use Rattle.top_call.specs.Runs.{IsPut, WasPut, FailedThenPut}
+
+-- the head of the file that is asked for
+abbrev pub head_of : Solve → FileHead
+head_of task = record { checkers = task.checkers; name = task.stakes; rounds = task.rounds; starts = no_starts }
+
+-- Words that solve the game that is asked for: with one number of turns from which on they enclose every state, with no turn over them that is
+-- looser than they are, and at least as tight as so many rounds in which all states are worked out from the round before.
+pub record AreSolved (task : Solve) (words : WordList) : Type 0 where
+  pub fitting : AreWordsOf (head_of task) words
+  pub right : AreRight words
+  pub sound : AreSound words.game (words_in_list words)
+  pub consistent : AreConsistent words.game (words_in_list words)
+  pub tight : AreNoLooser words.game (words_in_list words) (rounds words.game.stakes task.rounds)
+
+-- the file of version 2 that is asked for, with these words
+abbrev pub solved_file : Solve → WordList → List ℕ
+solved_file task words = file_text Two (head_of task) words.list
+
+-- the report on words whose widest pair is so wide
+abbrev pub solved_report : Solve → ℤ → List ℕ
+solved_report task widest =
+    solved_text (record {
+      game = record { checkers = task.checkers; stakes = task.stakes; match_length = 1 };
+      rounds = task.rounds;
+      workers = task.workers;
+      positions = live_positions task.checkers;
+      kinds = length (names_of task.stakes);
+      widest = widest;
+      bytes = text_length Two (head_of task);
+    }) task.file
+
+-- The game was solved: the file, where files tell what they hold, has words that solve it, and the report on them was put.
+pub record HasSolved (task : Solve) (told : Bool) (held : Option (List ℕ)) (old new : Output) : Type 0 where
+  pub words : WordList
+  pub solved : AreSolved task words
+  pub file : IsTrue told → held ≡ Some (solved_file task words)
+  pub widest : ℤ
+  pub is_widest : IsWidest words widest
+  pub report : IsPut old new (solved_report task widest)
+
+-- Writing failed: where files tell what they hold, the file has what it had or a front of the text of words that solve the game, and behind a
+-- front of the report, or of none, the line of the refusal was put.
+pub record HasStopped (task : Solve) (told : Bool) (before held : Option (List ℕ)) (old new : Output) : Type 0 where
+  pub words : WordList
+  pub solved : AreSolved task words
+  pub file : IsTrue told → (held ≡ before) ⊎ HoldsFront [] (solved_file task words) held
+  pub line :
+      WasPut old new (refusal_text Write)
+      ⊎ ((widest : ℤ) × IsWidest words widest × FailedThenPut old new (solved_report task widest) (refusal_text Write))
