@@ -173,7 +173,7 @@ fn tells_the_first_fault_of_the_starts(rt: HostRuntime) {
             74,
         ),
     ];
-    for (words, fault, at) in WRONG_FIELDS {
+    for (words, fault, at) in rows {
         assert_eq!(rt; told_of(match_front(words).as_slice()), Some((fault, at)));
     }
     let mut other = match_front(WORDS);
