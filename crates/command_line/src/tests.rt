@@ -49,7 +49,7 @@ fn words_are_refused_in_order(rt: HostRuntime) -> Result<(), Fail> {
 
 #[test]
 fn words_of_solve_are_refused(rt: HostRuntime) -> Result<(), Fail> {
-    let cases: [(&[&str], WordsKind, u32); 16] = [
+    let cases: [(&[&str], WordsKind, u32); 18] = [
         (&["solve"], WordsKind::Form, 0),
         (&["solve", "x", "-r", "3"], WordsKind::Word, 2),
         (&["solve", "x", "--stakes="], WordsKind::Word, 2),
@@ -78,6 +78,8 @@ fn words_of_solve_are_refused(rt: HostRuntime) -> Result<(), Fail> {
         ),
         (&["solve", "x", "--workers", "65"], WordsKind::Value, 5),
         (&["solve", "x", "--checkers", "007"], WordsKind::Value, 2),
+        (&["solve", "x", "--rounds", " 5"], WordsKind::Value, 4),
+        (&["solve", "x", "--rounds", ""], WordsKind::Word, 3),
     ];
     for (words, kind, place) in cases.iter() {
         let found = refusal(rt.alloc(), words)?;

@@ -2,3 +2,5 @@ pub mod Tasks
 pub mod Runs
 pub mod Truth
 pub mod Solves
+pub mod Loads
+pub mod Migrates

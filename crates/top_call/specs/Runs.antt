@@ -1,12 +1,13 @@
 -- How a run may end.
-use Rattle.std.specs.Prelude.{◌≡◌, ℕ, List, ◌++◌, Option, Some, None, Result, Ok, Err, ◌⊎◌, IsErr}
+use Rattle.std.specs.Prelude.{◌≡◌, ℕ, List, ◌++◌, Option, Some, None, Result, Ok, Err, ◌⊎◌, IsErr, ⊤}
 use Rattle.hyper_outside.specs.declared.outside.Failed.{Failed}
 use Rattle.hyper_outside.specs.declared.outside.WordsKind.TheVariants.{Word}
 use Rattle.hyper_outside.specs.Sink.{Output, Puts}
 use Rattle.equity_report.specs.declared.refusal.Refusal.{Refusal}
-use Rattle.equity_report.specs.declared.refusal.Refusal.TheVariants.{Words, Write, Memory}
+use Rattle.equity_report.specs.declared.refusal.Refusal.TheVariants.{Words, Missing, File, Read, Write, Memory}
 use Rattle.equity_report.specs.Refusals.{status_of}
 use Rattle.top_call.specs.declared.task.Task.{Task}
+use Rattle.top_call.specs.declared.task.Task.TheVariants.{Bound, Solve, Migrate}
 
 -- the task is the one that was asked for, or the refusal the one that is due, unless there was no memory
 abbrev pub IsDue : Result Task Refusal → Result Task Refusal → Type 0
@@ -14,10 +15,31 @@ IsDue expected (Ok task) = expected ≡ Ok task
 IsDue expected (Err Memory) = Unit {0}
 IsDue expected (Err refusal) = expected ≡ Err refusal
 
--- Where words are refused, the status is that of the refusal. Where a task is taken, it is 0 if its report was put and that of a failed write if
--- writing failed. In both it is that of no memory if there was none.
+-- 0 where the report was put, that of a failed write where writing failed, and that of no memory where there was none
+abbrev pub EndsWriting : ℕ → Type 0
+EndsWriting status = (status ≡ 0) ⊎ (status ≡ status_of Write) ⊎ (status ≡ status_of Memory)
+
+-- a refusal of a file that is to be loaded: it isn't there, isn't right, or couldn't be read, or there was no memory for it
+abbrev pub IsOfLoading : Refusal → Type 0
+IsOfLoading (Missing name) = ⊤
+IsOfLoading (File bad) = ⊤
+IsOfLoading Read = ⊤
+IsOfLoading Memory = ⊤
+IsOfLoading _ = ⊥
+
+-- 0 where the report was put, that of a failed write where writing failed, and else that of a file that couldn't be loaded
+abbrev pub EndsLoading : ℕ → Type 0
+EndsLoading status = (status ≡ 0) ⊎ (status ≡ status_of Write) ⊎ ((refusal : Refusal) × IsOfLoading refusal × (status ≡ status_of refusal))
+
+-- how a task may end
+abbrev pub EndsTask : Task → ℕ → Type 0
+EndsTask (Bound task) status = EndsWriting status
+EndsTask (Solve task) status = EndsWriting status
+EndsTask (Migrate task) status = EndsLoading status
+
+-- Where words are refused, the status is that of the refusal, or that of no memory if there was none.
 abbrev pub Ends : Result Task Refusal → ℕ → Type 0
-Ends (Ok task) status = (status ≡ 0) ⊎ (status ≡ status_of Write) ⊎ (status ≡ status_of Memory)
+Ends (Ok task) status = EndsTask task status
 Ends (Err refusal) status = (status ≡ status_of refusal) ⊎ (status ≡ status_of Memory)
 
 -- 0, or the number of some refusal

@@ -11,8 +11,9 @@ use Rattle.command_line.specs.declared.command.Command.{Command}
 use Rattle.command_line.specs.declared.command.Command.TheVariants as commands
 use Rattle.command_line.specs.declared.command.Bound.{Bound as BoundWords}
 use Rattle.command_line.specs.declared.command.Solve.{Solve as SolveTask}
+use Rattle.command_line.specs.declared.command.Migrate.{Migrate as MigrateTask}
 use Rattle.command_line.specs.Words.{reading}
-use Rattle.command_line.specs.Right.{IsRightSolve}
+use Rattle.command_line.specs.Right.{IsRightSolve, IsRightMigrate}
 use Rattle.word_forms.specs.Clap.{bytes_of}
 use Rattle.cube_actions.specs.Stakes.{cubeless}
 use Rattle.turn_rule.specs.Turn.{rounds}
@@ -23,7 +24,7 @@ use Rattle.equity_report.specs.declared.refusal.Refusal.{Refusal}
 use Rattle.equity_report.specs.declared.refusal.Refusal.TheVariants.{Words, Position, Base}
 use Rattle.top_call.specs.declared.task.BoundTask.{BoundTask}
 use Rattle.top_call.specs.declared.task.Task.{Task}
-use Rattle.top_call.specs.declared.task.Task.TheVariants.{Bound, Solve}
+use Rattle.top_call.specs.declared.task.Task.TheVariants.{Bound, Solve, Migrate}
 
 -- a game without a cube, by its checkers
 abbrev pub cubeless_game : ℕ → GameName
@@ -47,7 +48,7 @@ abbrev pub with_words : Result Command BadWords → Result Task Refusal
 with_words (Ok (commands.Bound bound)) = with_position bound (read_position bound.position)
 with_words (Ok (commands.Solve solve)) = Ok (Solve solve)
 with_words (Ok (commands.Show show)) = Err (Words not_done_yet)
-with_words (Ok (commands.Migrate migrate)) = Err (Words not_done_yet)
+with_words (Ok (commands.Migrate migrate)) = Ok (Migrate migrate)
 with_words (Err bad) = Err (Words bad)
 
 -- the words are read first, then a position, and then its number of checkers is compared
@@ -61,14 +62,20 @@ asked words = task_of (bytes_of words)
 -- where a position's pair is asked for
 abbrev pub IfBound : Result Task Refusal → (BoundTask → Type 0) → Type 0
 IfBound (Ok (Bound task)) P = P task
-IfBound (Ok (Solve task)) P = Unit {0}
+IfBound (Ok _) P = Unit {0}
 IfBound (Err refusal) P = Unit {0}
 
 -- where a game is to be solved
 abbrev pub IfSolve : Result Task Refusal → (SolveTask → Type 0) → Type 0
-IfSolve (Ok (Bound task)) P = Unit {0}
 IfSolve (Ok (Solve task)) P = P task
+IfSolve (Ok _) P = Unit {0}
 IfSolve (Err refusal) P = Unit {0}
+
+-- where a file is to be written anew
+abbrev pub IfMigrate : Result Task Refusal → (MigrateTask → Type 0) → Type 0
+IfMigrate (Ok (Migrate task)) P = P task
+IfMigrate (Ok _) P = Unit {0}
+IfMigrate (Err refusal) P = Unit {0}
 
 -- a live position
 pub record IsRightBound (task : BoundTask) : Type 0 where
@@ -82,3 +89,4 @@ bound_report task = bound_text task.position task.rounds (pair_of (rounds cubele
 abbrev pub IsRightTask : Task → Type 0
 IsRightTask (Bound task) = IsRightBound task
 IsRightTask (Solve task) = IsRightSolve task
+IsRightTask (Migrate task) = IsRightMigrate task

@@ -2,6 +2,8 @@
 #![tactic(auto)]
 
 mod bound;
+mod load;
+mod migrate;
 mod program;
 mod put;
 mod solve;

@@ -3,7 +3,7 @@ ghost use Rattle.position_rank.specs.Text.{read_position};
 ghost use Rattle.top_call.specs.Tasks.{IsRightTask, asked, fitting, with_position};
 ghost use Rattle.top_call.specs.Runs.{IsDue};
 
-use command_line::{Bound, Command, Solve, WordsStop, read_words};
+use command_line::{Bound, Command, Migrate, Solve, WordsStop, read_words};
 use cube_actions::StakesName;
 use equity_report::{GameName, Refusal};
 use hyper_outside::{BadWords, WordsKind};
@@ -22,6 +22,7 @@ pub struct BoundTask {
 pub enum Task {
     Bound(BoundTask),
     Solve(Solve),
+    Migrate(Migrate),
 }
 
 /// Reads the words, then a position, and compares its number of checkers with that of the words.
@@ -32,7 +33,8 @@ pub fn read_task(alloc: Global, words: &[String]) -> Result<Task, Refusal>
     match read_words(alloc, words) {
         Ok(Command::Bound(bound)) => bound_task(&bound),
         Ok(Command::Solve(solve)) => Ok(Task::Solve(solve)),
-        Ok(Command::Show(_) | Command::Migrate(_)) => Err(Refusal::Words(BadWords {
+        Ok(Command::Migrate(migrate)) => Ok(Task::Migrate(migrate)),
+        Ok(Command::Show(_)) => Err(Refusal::Words(BadWords {
             kind: WordsKind::Command,
             place: 0,
         })),

@@ -3,6 +3,8 @@ use hyper_outside::{HonestFiles, HonestSink, MemFiles, MemSink, OpenGate};
 use std::alloc::{AllocError, Global};
 use std::test::Fail;
 
+mod files;
+
 fn owned(alloc: Global, words: &[&str]) -> Result<Vec<String>, AllocError> {
     let mut all = Vec::new(alloc);
     for word in words {
@@ -12,7 +14,7 @@ fn owned(alloc: Global, words: &[&str]) -> Result<Vec<String>, AllocError> {
 }
 
 // The words, the status, and all that is put.
-const ROWS: [(&[&str], u8, &str); 34] = [
+const ROWS: [(&[&str], u8, &str); 36] = [
     (
         &["bound", "1", "1", "24 / 24"],
         0,
@@ -123,6 +125,8 @@ const ROWS: [(&[&str], u8, &str); 34] = [
         "refused 1 words value 5\n",
     ),
     (&["show", "x", "6 / 1"], 1, "refused 1 words command 0\n"),
+    (&["migrate", "x", "x"], 1, "refused 1 words value 2\n"),
+    (&["migrate", "x", "y"], 3, "refused 3 missing x\n"),
 ];
 
 #[test]

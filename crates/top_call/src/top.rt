@@ -1,14 +1,17 @@
 ghost use Rattle.std.specs.Prelude.{◌≡◌, ◌≢◌, ◌⊎◌, IfErr, IsTrue};
 ghost use Rattle.hyper_outside.specs.Causes.{Rose};
-ghost use Rattle.hyper_outside.specs.Files.{KeepsOthers};
-ghost use Rattle.equity_report.specs.declared.refusal.Refusal.TheVariants.{Memory, Write};
+ghost use Rattle.hyper_outside.specs.Files.{KeepsOthers, SameFiles};
+ghost use Rattle.equity_report.specs.declared.refusal.Refusal.TheVariants.{Memory, Read, Write};
 ghost use Rattle.equity_report.specs.Refusals.{status_of, refusal_text};
-ghost use Rattle.top_call.specs.Tasks.{IfBound, IfSolve, asked, bound_report};
+ghost use Rattle.top_call.specs.Tasks.{IfBound, IfMigrate, IfSolve, asked, bound_report};
+ghost use Rattle.top_call.specs.Loads.{WasNotLoaded};
+ghost use Rattle.top_call.specs.Migrates.{HasMigrated, HasStoppedMigrating};
 ghost use Rattle.top_call.specs.Runs.{Ends, IsPut, WasPut, FailedThenPut};
 ghost use Rattle.top_call.specs.Truth.{PutsEnclosingPair};
 ghost use Rattle.top_call.specs.Solves.{HasSolved, HasStopped};
 
 use crate::bound::run_bound;
+use crate::migrate::run_migrate;
 use crate::put::refuse;
 use crate::solve::run_solve;
 use crate::task::{Task, read_task};
@@ -68,19 +71,45 @@ pub fn run<R: Threads + Sync, F: Files, O: Sink, G: Gate + Sync>(
         → IfSolve (asked words.now)
         (λ task. KeepsOthers task.file (F.held files.old) (F.held files.new)) }
 
+    // A file that is written anew.
+    ensures migrated { result ≡ 0
+        → IfMigrate (asked words.now)
+        (λ task. HasMigrated task (F.tells files.old)
+        (F.held files.old task.old) (F.held files.new task.new)
+        (O.output out.old) (O.output out.new)) }
+    ensures not_migrated { result ≡ status_of Write
+        → IfMigrate (asked words.now)
+        (λ task. HasStoppedMigrating task (F.tells files.old)
+        (F.held files.old task.old) (F.held files.old task.new) (F.held files.new task.new)
+        (O.output out.old) (O.output out.new)) }
+    ensures old_refused { result ≢ 0 → result ≢ status_of Write
+        → IfMigrate (asked words.now)
+        (λ task. WasNotLoaded task.old (F.tells files.old) (F.held files.old task.old)
+        (O.output out.old) (O.output out.new) result) }
+    ensures other_than_new { IsTrue (F.tells files.old)
+        → IfMigrate (asked words.now)
+        (λ task. KeepsOthers task.new (F.held files.old) (F.held files.new)) }
+
     // What is told of faults, and which files stay.
     ensures cause { result ≡ status_of Write
         → Rose (F.write_faults files.old) (F.write_faults files.new)
         ⊎ Rose (O.output out.old).faults (O.output out.new).faults }
+    ensures read_cause { result ≡ status_of Read
+        → Rose (F.read_faults files.old) (F.read_faults files.new) }
     ensures bound_cause { IfBound (asked words.now)
         (λ task. result ≡ status_of Write
         → Rose (O.output out.old).faults (O.output out.new).faults) }
     ensures bound_files { IfBound (asked words.now) (λ task. files.new ≡ files.old) }
-    ensures files { result ≢ 0 → result ≢ status_of Write → files.new ≡ files.old }
+    ensures solve_files { IfSolve (asked words.now)
+        (λ task. result ≢ 0 → result ≢ status_of Write → files.new ≡ files.old) }
+    ensures refused_files { IfErr (asked words.now) (λ refusal. files.new ≡ files.old) }
+    ensures files { result ≢ 0 → result ≢ status_of Write → IsTrue (F.tells files.old)
+        → SameFiles (F.held files.old) (F.held files.new) }
 {
     match read_task(alloc, words) {
         Ok(Task::Bound(task)) => run_bound(alloc, &task, out),
         Ok(Task::Solve(task)) => run_solve(rt, alloc, &task, files, out, gate),
+        Ok(Task::Migrate(task)) => run_migrate(alloc, &task, files, out),
         Err(refusal) => refuse(out, &refusal),
     }
 }

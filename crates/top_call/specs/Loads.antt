@@ -1,0 +1,44 @@
+-- What is known of a file of bounds that a command reads.
+use Rattle.std.specs.Prelude.{◌≡◌, ℕ, List, Bool, IsTrue, Option, Some, None, ⊤}
+use Rattle.std.specs.Option.{option_map}
+use Rattle.base_head.specs.Heads.{FileHead}
+use Rattle.database_file.specs.declared.stop.LoadStop.{LoadStop}
+use Rattle.database_file.specs.declared.stop.LoadStop.TheVariants as stops
+use Rattle.database_file.specs.Faults.{Read as FileRead, file_fault, whole}
+use Rattle.hyper_outside.specs.Sink.{Output}
+use Rattle.equity_report.specs.declared.text.GameName.{GameName}
+use Rattle.equity_report.specs.declared.refusal.Refusal.{Refusal}
+use Rattle.equity_report.specs.declared.refusal.Refusal.TheVariants.{Missing, File, Read, Memory}
+use Rattle.equity_report.specs.Refusals.{status_of, refusal_text}
+use Rattle.top_call.specs.Runs.{WasPut}
+
+-- the game of a head, as it is told
+abbrev pub game_told : FileHead → GameName
+game_told head = record { checkers = head.checkers; stakes = head.name; match_length = head.starts.match_length }
+
+-- Something is so of the file that was read: of the one that is held, where files tell what they hold, and else of some that could be read.
+abbrev pub OfFile : Bool → Option (List ℕ) → (Option FileRead → Type 0) → Type 0
+OfFile told held P = (file : Option FileRead) × (IsTrue told → file ≡ option_map whole held) × P file
+
+-- the refusal that tells why a file of this name was not loaded
+abbrev pub TellsStop : List ℕ → LoadStop → Refusal → Type 0
+TellsStop name stops.Missing (Missing missing) = missing.bytes ≡ name
+TellsStop name stops.Missing _ = ⊥
+TellsStop name (stops.BadFile bad) refusal = refusal ≡ File bad
+TellsStop name stops.ReadFault refusal = refusal ≡ Read
+TellsStop name stops.NoMemory refusal = refusal ≡ Memory
+
+-- a file of this name is refused: there is none, or this is wrong with it first; a fault of the files or of memory says nothing of it
+abbrev pub RefusesLoading : List ℕ → Refusal → Option FileRead → Type 0
+RefusesLoading name (Missing missing) file = (missing.bytes ≡ name) × (file ≡ None)
+RefusesLoading name (File bad) (Some file) = file_fault file ≡ Some bad
+RefusesLoading name Read file = ⊤
+RefusesLoading name Memory file = ⊤
+RefusesLoading name _ _ = ⊥
+
+-- A file of this name was not loaded: the line of the refusal was put, and the status is its.
+pub record WasNotLoaded (name : List ℕ) (told : Bool) (held : Option (List ℕ)) (old new : Output) (status : ℕ) : Type 0 where
+  pub refusal : Refusal
+  pub cause : OfFile told held (RefusesLoading name refusal)
+  pub line : WasPut old new (refusal_text refusal)
+  pub is_status : status ≡ status_of refusal
