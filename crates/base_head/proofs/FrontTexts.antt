@@ -1,5 +1,5 @@
 -- Nothing is wrong with a front exactly where it is that of a version and a head, which then is read.
-use Rattle.std.proofs.Common.{◌≡◌, ◌∙◌, ℕ, ◌-◌, ◌*◌, ◌≤◌, ◌≤ℤ◌, ◌↔◌, All, nat_lt, Bool, true, false, not, if◌then◌else◌, List, [], ◌∷◌, ◌++◌, length, take, drop, None, Some, Option, length-drop, append_assoc, refl, sym, ap, ap₂, subst, arith}
+use Rattle.std.proofs.Common.{◌≡◌, ◌∙◌, ℕ, ◌-◌, ◌*◌, ◌≤◌, ◌≤ℤ◌, ◌↔◌, All, nat_lt, Bool, true, false, not, if◌then◌else◌, List, [], ◌∷◌, ◌++◌, length, take, drop, None, Some, Option, length-append, length-drop, append_assoc, refl, sym, ap, ap₂, subst, arith}
 use Rattle.std.proofs.Math.Nat.{mul_assoc, mul_left_comm}
 use Rattle.std.proofs.Math.Seq.{take-add}
 use Rattle.std.proofs.lemmas.Bool.Decides.{nat_tests}
@@ -21,15 +21,15 @@ use Rattle.word_pages.specs.Sealed.{is_sealed, sealed}
 use Rattle.word_pages.specs.Words.{Fits, word_size, words_of, words_text}
 use Rattle.word_pages.proofs.Back.{text-words_of, words_of-text}
 use Rattle.word_pages.proofs.PageTexts.{is_sealed-sealed}
-use Rattle.word_pages.proofs.Seals.{is_sealed-exactly}
-use Rattle.word_pages.proofs.Texts.{length-words_of}
+use Rattle.word_pages.proofs.Seals.{is_sealed-exactly, length-sealed}
+use Rattle.word_pages.proofs.Texts.{length-cells, length-words_of}
 use Rattle.word_pages.proofs.Within.{none-within, within-fit, within-none}
 use Rattle.base_head.specs.declared.fault.BadFile.{BadFile}
 use Rattle.base_head.specs.declared.fault.FileFault.TheVariants as faults
 use Rattle.base_head.specs.declared.fields.Fields.{Fields}
 use Rattle.base_head.specs.declared.header.Header.{Header}
 use Rattle.base_head.specs.Faults.{check, first_wrong}
-use Rattle.base_head.specs.Fronts.{bad_of, head_in, pairs_of_words, start_words, starts_fault, starts_length, words_of_pairs}
+use Rattle.base_head.specs.Fronts.{bad_of, front_text, head_in, pairs_of_words, start_words, starts_fault, starts_length, words_of_pairs}
 use Rattle.base_head.specs.FrontTexts.{IsFront, front_fault}
 use Rattle.base_head.specs.Heads.{AreStartsOf, FileHead, HasText, IsHead, no_starts}
 use Rattle.base_head.specs.Headers.{IsHeader, IsLengthOf, digest_place, file_length, front_length, header_of, length_if_match, magic, pair_size, spelled, starts_before, text_length}
@@ -216,6 +216,17 @@ header-valid version head is takes = record {
     before MoneyBeavers starts go = ap (λ (starts : StartPairs). length starts.pairs) go
     before JacobyBeavers starts go = ap (λ (starts : StartPairs). length starts.pairs) go
     before (Match score) starts go = go.held
+
+-- it is as long as its header says
+pub length-front : (version : Version) (head : FileHead) → length (front_text version head) ≡ front_length (header_of version head)
+length-front version head =
+    let h = header_of version head in
+    let words : List ℕ = words_of_pairs head.starts.pairs in
+    let header : length (spelled h) ≡ 64 = refl in
+    let cells : length (words_text version words) ≡ word_size version * (2 * h.starts) = length-cells (word_size version) words ∙ ap (λ (n : ℕ). word_size version * n) (length-words head.starts.pairs) in
+    let both = length-append (spelled h) (words_text version words) in
+    let all = length-sealed (spelled h ++ words_text version words) in
+    omega (arith, header, cells, both, all, starts-size h)
 
 -- what stands behind the header
 behind : Version → FileHead → List ℕ → List ℕ
