@@ -168,6 +168,13 @@ base-of version head words bytes is =
       holds = ap (λ (words : WordList). record { head = head; words = words }) words_are ∙ ap₂ (λ (head : FileHead) (list : List ℕ). base_with head list) (sym head_is) (sym read.1);
     }
 
+-- bytes that are loaded as a base are a text of it
+pub text-loaded : (bytes : List ℕ) (base : FileBase) → AreBytes bytes → IsBaseOf (whole bytes) base → (version : Version) × IsText version base.head base.words bytes
+text-loaded bytes base are is =
+    let text = text-of bytes are is.right in
+    let same : record { head = text.1; words = text.2 } ≡ base = (base-of text.0 text.1 text.2 bytes text.3).holds ∙ sym is.holds in
+    (text.0, subst (λ (base : FileBase). IsText text.0 base.head base.words bytes) same text.3)
+
 -- ---- one text
 
 -- bytes are the text of one version, head and words alone

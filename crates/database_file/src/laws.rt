@@ -11,6 +11,7 @@ ghost use Rattle.base_head.specs.Headers.{front_length};
 ghost use Rattle.database_file.specs.declared.pages.Pages.{Pages};
 ghost use Rattle.database_file.specs.Texts.{IsText, game_in, words_a_page};
 ghost use Rattle.database_file.specs.Faults.{file_fault, header_of_file, whole};
+ghost use Rattle.database_file.specs.FileBases.{FileBase};
 ghost use Rattle.database_file.specs.Bases.{IsBaseOf, words_of_file};
 ghost use Rattle.database_file.specs.Pages.{flaw_in, page_count, words_in};
 
@@ -43,7 +44,8 @@ pub fn right_files_hold_right_words()
 {}
 
 /// Nothing is wrong with bytes exactly where they are the text of a version, a head and words. A file with these bytes then holds this
-/// head and these words. Bytes are the text of at most one version, head and words, and no text is the beginning of a longer one.
+/// head and these words; and bytes that are loaded as a base are a text of its head and words. Bytes are the text of at most one version,
+/// head and words, and no text is the beginning of a longer one.
 pub fn texts_are_read_back()
     ensures exactly { (bytes : List ℕ) → AreBytes bytes
         → (file_fault (whole bytes) ≡ None)
@@ -52,6 +54,9 @@ pub fn texts_are_read_back()
     ensures held { (version : Version) (head : FileHead) (words : WordList) (bytes : List ℕ)
         → IsText version head words bytes
         → IsBaseOf (whole bytes) (record { head = head; words = words }) }
+    ensures loaded { (bytes : List ℕ) (base : FileBase) → AreBytes bytes
+        → IsBaseOf (whole bytes) base
+        → (version : Version) × IsText version base.head base.words bytes }
     ensures one { (version other_version : Version) (head other_head : FileHead)
         (words other_words : WordList) (bytes : List ℕ)
         → IsText version head words bytes → IsText other_version other_head other_words bytes
