@@ -1,7 +1,12 @@
 pub mod Counts
 pub mod Checked
 pub mod FieldChecks
+pub mod FrontTexts
+pub mod HeaderBytes
+pub mod HeaderRead
 pub mod Places
 pub mod RightFields
-pub mod WordPairs
+pub mod Scores
+pub mod StartWords
 pub mod StartsRead
+pub mod WordPairs

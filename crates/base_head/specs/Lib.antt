@@ -1,6 +1,7 @@
 pub mod Examples
 pub mod Faults
+pub mod FrontTexts
 pub mod Fronts
-pub mod Heads
-pub mod Headers
 pub mod HeaderFaults
+pub mod Headers
+pub mod Heads

@@ -15,5 +15,5 @@ pub use fault::{BadFile, FileFault};
 pub use front::put_front;
 pub use head::Head;
 pub use header::Header;
-pub use laws::header_examples;
+pub use laws::{fronts_are_read_back, header_examples};
 pub use reading::read_header;

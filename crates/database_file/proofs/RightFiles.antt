@@ -1,19 +1,18 @@
 -- Files of which nothing is wrong.
-use Rattle.std.proofs.Common.{◌≡◌, ◌∙◌, ℕ, suc, ◌+◌, ◌*◌, ◌-◌, ◌<◌, ◌≤◌, nat_lt, Bool, true, false, List, length, drop, Option, None, Some, length-drop, refl, sym, ap, subst, arith}
+use Rattle.std.proofs.Common.{◌≡◌, ◌∙◌, ℕ, suc, ◌+◌, ◌*◌, ◌-◌, ◌<◌, ◌≤◌, List, length, drop, Option, None, Some, length-drop, refl, sym, ap, subst, arith}
 use Rattle.std.proofs.Math.Nat.{div-eq_of_lt-le, div-mul-le_self, lt-div-mul-add, mul-add, mul-le-mul_left, mul_assoc, mul_left_comm, suc-mul}
-use Rattle.std.proofs.lemmas.Bool.Decides.{nat_tests}
 use Rattle.std.specs.Option.{option_map}
 use Rattle.interval_words.specs.WordLists.{AreRight, list_of}
 use Rattle.word_pages.specs.declared.flaws.Flaw.{Flaw}
 use Rattle.word_pages.specs.Flaws.{AreWithin}
 use Rattle.word_pages.specs.Pages.{AreBytes, pages_in, pages_text}
 use Rattle.word_pages.specs.Words.{word_size}
-use Rattle.base_head.specs.Faults.{first_wrong}
 use Rattle.base_head.specs.Fronts.{bad_of, head_in}
 use Rattle.base_head.specs.Headers.{file_length, front_length}
-use Rattle.base_head.specs.HeaderFaults.{header_fault, length_checks}
+use Rattle.base_head.specs.HeaderFaults.{header_fault}
 use Rattle.base_head.proofs.Checked.{none_or}
 use Rattle.base_head.proofs.FieldChecks.{all-header}
+use Rattle.base_head.proofs.FrontTexts.{length-right}
 use Rattle.database_file.specs.Pages.{flaw_in, page_count}
 use Rattle.database_file.specs.Texts.{game_in, words_a_page}
 use Rattle.database_file.specs.Faults.{file_fault, header_of_file, pages_behind, short_fault, starts_wrong, whole}
@@ -23,7 +22,7 @@ use Rattle.database_file.proofs.FrontBytes.{right-header}
 use Rattle.database_file.proofs.PageLists.{AreBytes-drop, length-words_in, pages-back, words-within}
 
 -- as many pages as the positions take
-pages-same : (m positions : ℕ) → 0 < m → pages_in (m * 1024) (m * positions) ≡ pages_in 1024 positions
+pub pages-same : (m positions : ℕ) → 0 < m → pages_in (m * 1024) (m * positions) ≡ pages_in 1024 positions
 pages-same m positions some =
     let q = pages_in 1024 positions in
     let low = div-mul-le_self (positions + 1023) 1024 in
@@ -40,14 +39,12 @@ pages-same m positions some =
         suc_is : (q : ℕ) → q + 1 ≡ suc q
         suc_is q = omega arith
 
--- the size is that which the header says
-length-right : (size length : ℕ) → first_wrong (length_checks size length) ≡ None → size ≡ length
-length-right size length right = by_order (nat_lt size length) (nat_lt length size) refl refl right
-  where
-    by_order : (short long : Bool) → nat_lt size length ≡ short → nat_lt length size ≡ long → first_wrong (length_checks size length) ≡ None → size ≡ length
-    by_order false false short long right = grind (arith, nat_tests, short, long)
-    by_order true long is_short is_long right = absurd (grind (arith, is_short, right))
-    by_order false true is_short is_long right = absurd (grind (arith, is_short, is_long, right))
+pub words-some : (kinds : ℕ) → 0 < 2 * kinds * 1024 → 0 < 2 * kinds
+words-some kinds some = omega (arith, some)
+
+-- so many bytes do the words take
+pub same-cells : (size kinds positions : ℕ) → size * (2 * kinds * positions) ≡ 2 * size * kinds * positions
+same-cells size kinds positions = sym (mul_assoc size (2 * kinds) positions) ∙ ap (λ n. n * positions) (mul_left_comm size 2 kinds ∙ sym (mul_assoc 2 size kinds))
 
 -- where nothing is wrong, the bytes behind the starts are the pages of the words, which are right
 pub right-file : (bytes : List ℕ) → AreBytes bytes → file_fault (whole bytes) ≡ None
@@ -64,8 +61,8 @@ right-file bytes are right =
     let size = length-right (length bytes) (file_length h) (all-header (length bytes) bytes behind.0).2 in
     let some = (pages-valid h valid).some in
     let two : 2 * h.kinds * h.positions ≡ 2 * (h.kinds * h.positions) = mul_assoc 2 h.kinds h.positions in
-    let many : page_count pages ≡ pages_in 1024 h.positions = pages-same (2 * h.kinds) h.positions (kinds_some h.kinds some) in
-    let cells : word_size h.version * (2 * h.kinds * h.positions) ≡ 2 * word_size h.version * h.kinds * h.positions = same_cells (word_size h.version) h.kinds h.positions in
+    let many : page_count pages ≡ pages_in 1024 h.positions = pages-same (2 * h.kinds) h.positions (words-some h.kinds some) in
+    let cells : word_size h.version * (2 * h.kinds * h.positions) ≡ 2 * word_size h.version * h.kinds * h.positions = same-cells (word_size h.version) h.kinds h.positions in
     let long : length rest ≡ word_size pages.version * pages.count + 32 * page_count pages = length-drop k bytes ∙ omega (arith, size, many, cells) in
     let no_flaw : flaw_in pages rest ≡ None = mapped_none (flaw_in pages rest) (none_or _ _ right).1 in
     let head = head_in h bytes in
@@ -78,9 +75,3 @@ right-file bytes are right =
     mapped_none : (flaw : Option Flaw) → option_map bad_of flaw ≡ None → flaw ≡ None
     mapped_none None none = refl
     mapped_none (Some flaw) none = absurd (grind (arith, none))
-
-    kinds_some : (kinds : ℕ) → 0 < 2 * kinds * 1024 → 0 < 2 * kinds
-    kinds_some kinds some = omega (arith, some)
-
-    same_cells : (size kinds positions : ℕ) → size * (2 * kinds * positions) ≡ 2 * size * kinds * positions
-    same_cells size kinds positions = sym (mul_assoc size (2 * kinds) positions) ∙ ap (λ n. n * positions) (mul_left_comm size 2 kinds ∙ sym (mul_assoc 2 size kinds))

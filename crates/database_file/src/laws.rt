@@ -1,15 +1,18 @@
-ghost use Rattle.std.specs.Prelude.{◌≡◌, ◌<◌, ◌+◌, ◌*◌, ◌↔◌, ◌++◌, ℕ, List, All, None, ◌≤ℤ◌, drop, length};
+ghost use Rattle.std.specs.Prelude.{◌≡◌, ◌<◌, ◌+◌, ◌*◌, ◌↔◌, ◌++◌, [], ℕ, List, All, None, ◌≤ℤ◌, drop, length};
 ghost use Rattle.directed_fixed.specs.declared.word.TheConstants.{WORD_OFFSET};
+ghost use Rattle.word_pages.specs.declared.version.Version.{Version};
 ghost use Rattle.word_pages.specs.Words.{Fits, word_size};
 ghost use Rattle.word_pages.specs.Flaws.{AreWithin};
 ghost use Rattle.word_pages.specs.Pages.{AreBytes, pages_text};
-ghost use Rattle.interval_words.specs.WordLists.{AreRight, list_of};
+ghost use Rattle.interval_words.specs.WordLists.{AreRight, WordList, list_of};
 ghost use Rattle.base_head.specs.Fronts.{head_in};
+ghost use Rattle.base_head.specs.Heads.{FileHead};
 ghost use Rattle.base_head.specs.Headers.{front_length};
 ghost use Rattle.database_file.specs.declared.pages.Pages.{Pages};
-ghost use Rattle.database_file.specs.Texts.{game_in, words_a_page};
+ghost use Rattle.database_file.specs.Texts.{IsText, game_in, words_a_page};
 ghost use Rattle.database_file.specs.Faults.{file_fault, header_of_file, whole};
-ghost use Rattle.database_file.specs.Bases.{words_of_file};
+ghost use Rattle.database_file.specs.FileBases.{FileBase};
+ghost use Rattle.database_file.specs.Bases.{IsBaseOf, words_of_file};
 ghost use Rattle.database_file.specs.Pages.{flaw_in, page_count, words_in};
 
 /// Bytes of the length of all pages have no flaw exactly where they are the pages of the words that they hold, and these lie within
@@ -38,4 +41,28 @@ pub fn right_files_hold_right_words()
         (words_a_page (header_of_file bytes).kinds) (words_of_file bytes))
         × AreRight (list_of (game_in (head_in (header_of_file bytes) bytes))
         (header_of_file bytes).rounds (words_of_file bytes)) }
+{}
+
+/// Nothing is wrong with bytes exactly where they are the text of a version, a head and words. A file with these bytes then holds this
+/// head and these words; and bytes that are loaded as a base are a text of its head and words. Bytes are the text of at most one version,
+/// head and words, and no text is the beginning of a longer one.
+pub fn texts_are_read_back()
+    ensures exactly { (bytes : List ℕ) → AreBytes bytes
+        → (file_fault (whole bytes) ≡ None)
+        ↔ ((version : Version) × (head : FileHead) × (words : WordList)
+        × IsText version head words bytes) }
+    ensures held { (version : Version) (head : FileHead) (words : WordList) (bytes : List ℕ)
+        → IsText version head words bytes
+        → IsBaseOf (whole bytes) (record { head = head; words = words }) }
+    ensures loaded { (bytes : List ℕ) (base : FileBase) → AreBytes bytes
+        → IsBaseOf (whole bytes) base
+        → (version : Version) × IsText version base.head base.words bytes }
+    ensures one { (version other_version : Version) (head other_head : FileHead)
+        (words other_words : WordList) (bytes : List ℕ)
+        → IsText version head words bytes → IsText other_version other_head other_words bytes
+        → (version ≡ other_version) × (head ≡ other_head) × (words ≡ other_words) }
+    ensures end { (version other_version : Version) (head other_head : FileHead)
+        (words other_words : WordList) (bytes rest : List ℕ)
+        → IsText version head words bytes
+        → IsText other_version other_head other_words (bytes ++ rest) → rest ≡ [] }
 {}
