@@ -1,8 +1,11 @@
 pub mod Bases
 pub mod FrontBytes
+pub mod KeptPages
 pub mod Loading
 pub mod ManyPages
 pub mod PageLists
+pub mod PagedLooks
+pub mod PagedWords
 pub mod RightFiles
 pub mod Writing
 mod Fronts

@@ -23,7 +23,7 @@ use Rattle.database_file.proofs.FrontBytes.{right-header}
 use Rattle.database_file.proofs.PageLists.{AreBytes-drop, length-words_in, pages-back, words-within}
 
 -- as many pages as the positions take
-pages-same : (m positions : ℕ) → 0 < m → pages_in (m * 1024) (m * positions) ≡ pages_in 1024 positions
+pub pages-same : (m positions : ℕ) → 0 < m → pages_in (m * 1024) (m * positions) ≡ pages_in 1024 positions
 pages-same m positions some =
     let q = pages_in 1024 positions in
     let low = div-mul-le_self (positions + 1023) 1024 in

@@ -2,13 +2,18 @@
 #![tactic(auto)]
 
 mod front;
+mod kept;
 mod laws;
 mod load;
+mod opening;
+mod paged;
 mod pages;
 mod stop;
 mod write;
 
 pub use load::{Base, load_base};
+pub use opening::open_paged;
+pub use paged::{PagedBase, PagedReader};
 pub use stop::LoadStop;
 pub use write::{LONGEST_PAGE, write_base};
 
