@@ -3,6 +3,7 @@ pub mod FrontBytes
 pub mod KeptPages
 pub mod Loading
 pub mod ManyPages
+pub mod OpenedFiles
 pub mod PageLists
 pub mod PagedLooks
 pub mod PagedWords
