@@ -5,6 +5,7 @@ pub mod Loading
 pub mod ManyPages
 pub mod OpenedFiles
 pub mod PageLists
+pub mod PageWords
 pub mod PagedLooks
 pub mod PagedWords
 pub mod RightFiles

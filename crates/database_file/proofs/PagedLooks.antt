@@ -47,7 +47,7 @@ no-looser Lower a b same = omega (arith, ints, same)
 no-looser Upper a b same = omega (arith, ints, same)
 
 -- what is told of a state on a page without a flaw is its word there
-told-right : (header : Header) (file : Option (List ℕ)) (end : End) (p : Placement) (k : ℕ) → flaw_at header file p ≡ None → told_words header file end p k ≡ word_at header file end p k
+pub told-right : (header : Header) (file : Option (List ℕ)) (end : End) (p : Placement) (k : ℕ) → flaw_at header file p ≡ None → told_words header file end p k ≡ word_at header file end p k
 told-right header file end p k right = ap (λ (flaw : Option Flaw). told_unless flaw (word_at header file end p k) (bound_end (bound_of header.name) end)) right
 
 module _ (old new : PagedFile) (tells now : Bool) (held after : Contents) (kept : new ≡ record old { kept = new.kept }) (same : now ≡ tells) (files : IsTrue tells → SameFiles held after) where
