@@ -80,7 +80,7 @@ names-some JacobyBeavers = omega arith
 names-some (Match score) = omega (arith, length-map (match_kinds score) name_of, kinds-some score)
 
 -- each kind has a name
-kinds-named : (name : StakesName) (starts : StartPairs) → length (names_of name) ≡ length (stakes_named name starts).kinds
+pub kinds-named : (name : StakesName) (starts : StartPairs) → length (names_of name) ≡ length (stakes_named name starts).kinds
 kinds-named Cubeless starts = refl
 kinds-named Money starts = refl
 kinds-named Jacoby starts = refl

@@ -1,9 +1,14 @@
 pub mod Bases
 pub mod FileTexts
 pub mod FrontBytes
+pub mod KeptPages
 pub mod Loading
 pub mod ManyPages
+pub mod OpenedFiles
 pub mod PageLists
+pub mod PageWords
+pub mod PagedLooks
+pub mod PagedWords
 pub mod RightFiles
 pub mod Writing
 mod Fronts

@@ -195,7 +195,7 @@ first-within pages bytes half all (suc n) size count each =
     (first-within pages bytes half all n size count (λ page there. each page (omega (arith, there)))) (each n (omega arith))
 
 -- the words of pages without a flaw lie within the bound
-page-within : (pages : Pages) (bytes : List ℕ) (page : ℕ) → flaw_on pages bytes page ≡ None → AreWithin pages.bound (page_words pages bytes page)
+pub page-within : (pages : Pages) (bytes : List ℕ) (page : ℕ) → flaw_on pages bytes page ≡ None → AreWithin pages.bound (page_words pages bytes page)
 page-within pages bytes page right = none-within pages.version pages.bound (place_of pages page) (page_words pages bytes page) (none_or _ _ (none_or _ _ right).1).1
 
 pub words-within : (pages : Pages) (bytes : List ℕ) (half all : ℕ) → pages.size ≡ 2 * half → pages.count ≡ 2 * all → flaw_in pages bytes ≡ None → AreWithin pages.bound (words_in pages bytes)

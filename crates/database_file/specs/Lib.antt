@@ -1,6 +1,9 @@
 pub mod Bases
 pub mod Faults
 pub mod FileBases
+pub mod Opened
+pub mod Paged
+pub mod PagedFiles
 pub mod Pages
 pub mod Stops
 pub mod Texts

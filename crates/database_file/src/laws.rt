@@ -1,4 +1,4 @@
-ghost use Rattle.std.specs.Prelude.{◌≡◌, ◌<◌, ◌+◌, ◌*◌, ◌↔◌, ◌++◌, [], ℕ, List, All, None, ◌≤ℤ◌, drop, length};
+ghost use Rattle.std.specs.Prelude.{◌≡◌, ◌<◌, ◌+◌, ◌*◌, ◌↔◌, ◌++◌, [], ℕ, List, All, None, ◌≤ℤ◌, drop, length, true, Some, ℤ};
 ghost use Rattle.directed_fixed.specs.declared.word.TheConstants.{WORD_OFFSET};
 ghost use Rattle.word_pages.specs.declared.version.Version.{Version};
 ghost use Rattle.word_pages.specs.Words.{Fits, word_size};
@@ -7,13 +7,22 @@ ghost use Rattle.word_pages.specs.Pages.{AreBytes, pages_text};
 ghost use Rattle.interval_words.specs.WordLists.{AreRight, WordList, list_of};
 ghost use Rattle.base_head.specs.Fronts.{head_in};
 ghost use Rattle.base_head.specs.Heads.{FileHead};
-ghost use Rattle.base_head.specs.Headers.{front_length};
+ghost use Rattle.base_head.specs.Headers.{front_length, IsHeader};
 ghost use Rattle.database_file.specs.declared.pages.Pages.{Pages};
 ghost use Rattle.database_file.specs.Texts.{IsText, game_in, words_a_page};
-ghost use Rattle.database_file.specs.Faults.{file_fault, header_of_file, whole};
+ghost use Rattle.database_file.specs.Faults.{file_fault, header_of_file, whole, pages_behind};
 ghost use Rattle.database_file.specs.FileBases.{FileBase};
 ghost use Rattle.database_file.specs.Bases.{IsBaseOf, words_of_file};
+ghost use Rattle.position_rank.specs.Placement.{Placement};
+ghost use Rattle.directed_fixed.specs.declared.bounds.End.{End};
+ghost use Rattle.hyper_outside.specs.Files.{Contents};
+ghost use Rattle.turn_rule.specs.Looks.{Damage, IsAnswer};
+ghost use Rattle.turn_rule.specs.States.{IsStateOf};
+ghost use Rattle.interval_words.specs.Numbers.{words_of};
+ghost use Rattle.base_head.specs.declared.header.Header.{Header};
 ghost use Rattle.database_file.specs.Pages.{flaw_in, page_count, words_in};
+ghost use Rattle.database_file.specs.Paged.{flaw_at, source_of, word_at, words_of_pages};
+ghost use Rattle.database_file.specs.PagedFiles.{PagedFile};
 
 /// Bytes of the length of all pages have no flaw exactly where they are the pages of the words that they hold, and these lie within
 /// the bound. Words that fit and lie within the bound are read back from their pages, whatever stands behind them. Pages have pairs.
@@ -65,4 +74,21 @@ pub fn texts_are_read_back()
         (words other_words : WordList) (bytes rest : List ℕ)
         → IsText version head words bytes
         → IsText other_version other_head other_words (bytes ++ rest) → rest ≡ [] }
+{}
+
+/// Where files tell their contents, an answer of a look-up in a file is the word of the state on its page, which has no flaw; a damage is
+/// the first flaw of the state's page. The word of a state on its page is its word among those of all pages.
+pub fn look_ups_tell_the_words_of_the_file()
+    ensures exact { (base : PagedFile) (held : Contents) (end : End) (p : Placement) (k : ℕ) (value : ℤ)
+        → IsAnswer end (source_of base true held) (words_of_pages base true held) p k value
+        → (flaw_at base.header (held base.name) p ≡ None)
+        × (value ≡ word_at base.header (held base.name) end p k) }
+    ensures damaged { (base : PagedFile) (held : Contents) (p : Placement) (k : ℕ) (damage : Damage)
+        → (source_of base true held).damage p k ≡ Some damage
+        → flaw_at base.header (held base.name) p
+        ≡ Some (record { fault = damage.fault; at = damage.at }) }
+    ensures among { (header : Header) (bytes : List ℕ) (end : End) (p : Placement) (k : ℕ)
+        → IsHeader header → IsStateOf header.checkers header.kinds p k
+        → word_at header (Some bytes) end p k ≡ words_of header.kinds
+        (words_in (pages_behind header) (drop (front_length header) bytes)) end p k }
 {}

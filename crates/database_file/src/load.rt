@@ -23,7 +23,7 @@ use std::alloc::Global;
 use std::marker::Model;
 
 /// How many positions a page has.
-const PAGE_POSITIONS: usize = 1024;
+pub(crate) const PAGE_POSITIONS: usize = 1024;
 
 /// What a file of bounds holds: its head, and the words of the head's game after its rounds.
 #[derive(Drop)]

@@ -91,7 +91,7 @@ impl Pages {
 }
 
 /// Reads the page with this number, and adds its words.
-fn add_page<F: Files>(
+pub(crate) fn add_page<F: Files>(
     files: &mut F,
     name: &str,
     pages: &Pages,

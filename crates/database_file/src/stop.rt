@@ -1,10 +1,10 @@
 ghost use Rattle.std.specs.Prelude.{◌≡◌};
-ghost use Rattle.database_file.specs.Stops.{loading_stopped};
+ghost use Rattle.database_file.specs.Stops.{loading_stopped, looking_stopped};
 ghost use Rattle.database_file.specs.declared.stop.LoadStop.TheVariants.{BadFile as Bad, ReadFault, NoMemory};
 
 use crate::pages::PagesStop;
 use base_head::BadFile;
-use hyper_outside::{Failed, NoMemory};
+use hyper_outside::{Failed, LookStop, NoMemory};
 
 /// Why a file could not be loaded.
 #[derive(Clone, Copy, Debug, PartialEq, Eq)]
@@ -51,6 +51,21 @@ impl From<PagesStop> for LoadStop {
             PagesStop::ReadFault => LoadStop::ReadFault,
             PagesStop::BadPage(flaw) => LoadStop::BadFile(BadFile::from(flaw)),
             PagesStop::NoMemory => LoadStop::NoMemory,
+        }
+    }
+}
+
+impl From<PagesStop> for LookStop {
+    ghost from_gives = { λ stop given. given ≡ looking_stopped stop };
+
+    fn from(stop: PagesStop) -> Self {
+        match stop {
+            PagesStop::ReadFault => LookStop::ReadFault,
+            PagesStop::BadPage(flaw) => LookStop::BadPage {
+                fault: flaw.fault,
+                at: flaw.at,
+            },
+            PagesStop::NoMemory => LookStop::NoMemory,
         }
     }
 }

@@ -1,0 +1,60 @@
+-- Pages that are kept by their numbers.
+use Rattle.std.proofs.Common.{◌≡◌, ◌∙◌, ℕ, ◌*◌, ◌<◌, ◌≤◌, ◌++◌, Bool, IsTrue, List, [], length, Option, None, Some, Contains, Vec, Global, nat_eq, inl, inr, refl, sym, ap, subst, arith}
+use Rattle.std.specs.Map.{lookup}
+use Rattle.std.proofs.lemmas.Bool.{eqb-true}
+use Rattle.std.proofs.lemmas.List.{length-replicate}
+use Rattle.std.proofs.Math.ListN.{replicate}
+use Rattle.lru.specs.LruCache.{LruCache, lru_cache, promoted, put_entries}
+use Rattle.lru.proofs.CallerLemmas.{Contains-lookup, Contains-promoted, Contains-put_entries}
+use Rattle.hyper_outside.specs.Files.{bytes_from}
+use Rattle.word_pages.specs.Flaws.{AreWithin}
+use Rattle.word_pages.proofs.Texts.{length-words_of}
+use Rattle.database_file.specs.declared.pages.Pages.{Pages}
+use Rattle.database_file.specs.Pages.{flaw_on, page_words, whole_page, words_on}
+use Rattle.database_file.specs.Paged.{AreOfFile, IsPage, IsPageOf, Kept}
+use Rattle.database_file.proofs.PageLists.{page-within}
+
+-- each entry has something
+abbrev pub Each : (ℕ × Vec ℕ Global → Type 0) → Kept → Type 0
+Each P entries = (e : ℕ × Vec ℕ Global) → Contains entries e → P e
+
+module _ (P : ℕ × Vec ℕ Global → Type 0) where
+  -- so has the one that is found
+  pub found : (entries : Kept) (number : ℕ) (v : Vec ℕ Global) → Each P entries → lookup (nat_eq number) entries ≡ Some v → P (number, v)
+  found entries number v each is =
+      let at = Contains-lookup (nat_eq number) entries v is in
+      subst (λ (n : ℕ). P (n, v)) (sym (eqb-true number at.0 at.2)) (each (at.0, v) at.1)
+
+  -- so have all where one was used
+  pub used : (kept after : LruCache ℕ (Vec ℕ Global)) (number : ℕ) → Each P kept.entries → after ≡ lru_cache (promoted (nat_eq number) kept.entries) kept.cap → Each P after.entries
+  used kept after number each is e among =
+      each e (Contains-promoted (nat_eq number) kept.entries e (subst (λ (k : LruCache ℕ (Vec ℕ Global)). Contains k.entries e) is among))
+
+  -- so have all where one more has it
+  pub added : (kept after : LruCache ℕ (Vec ℕ Global)) (number : ℕ) (v : Vec ℕ Global) → Each P kept.entries → P (number, v) → after ≡ lru_cache (put_entries nat_eq kept number v) kept.cap → Each P after.entries
+  added kept after number v each one is e among = elim (Contains-put_entries nat_eq kept number v e (subst (λ (k : LruCache ℕ (Vec ℕ Global)). Contains k.entries e) is among)) [
+    | inl old ↦ each e old
+    | inr new ↦ subst (λ (v : Vec ℕ Global). P (e.0, v)) (sym new.0) (subst (λ (n : ℕ). P (n, v)) (elim new.1 [
+      | inl same ↦ sym same
+      | inr equal ↦ eqb-true number e.0 equal.2
+    ]) one)
+  ]
+
+-- pages stay those of a file that stays
+pub moved : (pages : Pages) (tells now : Bool) (file after : Option (List ℕ)) (kept : Kept) → now ≡ tells → (IsTrue tells → after ≡ file) → AreOfFile pages tells file kept → AreOfFile pages now after kept
+moved pages tells now file after kept same files of told e among =
+    let was = subst IsTrue same told in
+    subst (λ (file : Option (List ℕ)). IsPageOf pages (bytes_from pages.at file) e.0 e.1.items) (sym (files was)) (of was e among)
+
+-- a page that was read is one, whatever stands before it
+pub one-page : (pages : Pages) (page : ℕ) (part old new : List ℕ) → old ≡ []
+    → ((before : List ℕ) → length before ≡ page * whole_page pages → (flaw_on pages (before ++ part) page ≡ None) × (new ≡ old ++ page_words pages (before ++ part) page))
+    → IsPage pages page new
+one-page pages page part old new none read =
+    let before : List ℕ = replicate (page * whole_page pages) 0 in
+    let told = read before (length-replicate (page * whole_page pages) 0) in
+    let is : new ≡ page_words pages (before ++ part) page = told.1 ∙ ap (λ (old : List ℕ). old ++ page_words pages (before ++ part) page) none in
+    record {
+      long = ap (λ (words : List ℕ). length words) is ∙ length-words_of pages.version (words_on pages page) _;
+      within = subst (AreWithin pages.bound) (sym is) (page-within pages (before ++ part) page told.0);
+    }

@@ -1,0 +1,123 @@
+-- What a look-up in a file answers, and what stays.
+use Rattle.std.proofs.Common.{◌≡◌, ◌∙◌, ℕ, ◌≤◌, ℤ, Bool, true, false, IsTrue, List, Option, None, Some, Result, Ok, Err, IfOk, IfErr, IsErrAnd, refl, sym, ap, subst, arith}
+use Rattle.std.specs.Option.{option_map}
+use Rattle.std.proofs.lemmas.Bool.{false≢true}
+use Rattle.std.proofs.lemmas.Int.{ints}
+use Rattle.std.proofs.lemmas.Result.{err_from_is_err_and}
+use Rattle.position_rank.specs.Placement.{Placement}
+use Rattle.directed_fixed.specs.declared.bounds.End.{End}
+use Rattle.directed_fixed.specs.declared.bounds.End.TheVariants.{Lower, Upper}
+use Rattle.directed_fixed.specs.Bounds.{IsNoLooser, IsWithinUnits}
+use Rattle.cube_actions.specs.Stakes.{bound_of}
+use Rattle.hyper_outside.specs.Causes.{Rose}
+use Rattle.hyper_outside.specs.Files.{Contents, SameFiles, bytes_from}
+use Rattle.hyper_outside.specs.declared.outside.LookStop.{LookStop}
+use Rattle.hyper_outside.specs.declared.outside.LookStop.TheVariants.{ReadFault, BadPage, NoMemory}
+use Rattle.turn_rule.specs.Turn.{Words}
+use Rattle.turn_rule.specs.States.{AreNoLooserOf}
+use Rattle.turn_rule.specs.Looks.{Damage, FindsWord, IsAnswer, MayStop}
+use Rattle.word_pages.specs.declared.flaws.Flaw.{Flaw}
+use Rattle.base_head.specs.Heads.{FileHead}
+use Rattle.base_head.specs.declared.header.Header.{Header}
+use Rattle.database_file.specs.declared.kept.Spot.{Spot}
+use Rattle.database_file.specs.declared.pages.Pages.{Pages}
+use Rattle.database_file.specs.declared.pages.PagesStop.{PagesStop}
+use Rattle.database_file.specs.declared.pages.PagesStop.TheVariants as pages
+use Rattle.database_file.specs.Stops.{looking_stopped}
+use Rattle.database_file.specs.Faults.{pages_behind}
+use Rattle.database_file.specs.PagedFiles.{PagedFile}
+use Rattle.database_file.specs.Paged.{AnswersLook, AnswersWord, AreOfFile, Kept, bound_end, damage_of, flaw_at, page_bytes, paged_source, source_of, spot_of, told_files, told_unless, told_words, word_at, words_of_pages}
+
+-- what is told stays where the files stay
+pub same-told : (tells now : Bool) (held after : Contents) → now ≡ tells → (IsTrue tells → SameFiles held after) → told_files now after ≡ told_files tells held
+same-told tells now held after same files = subst (λ (now : Bool). told_files now after ≡ told_files tells held) (sym same) (by_tells tells files)
+  where
+    by_tells : (tells : Bool) → (IsTrue tells → SameFiles held after) → told_files tells after ≡ told_files tells held
+    by_tells true files = λ i name. files refl name i
+    by_tells false files = refl
+
+-- what is told is what the files hold
+told-when : (tells : Bool) (held : Contents) → IsTrue tells → told_files tells held ≡ held
+told-when true held told = refl
+told-when false held told = absurd (false≢true told)
+
+-- a value is no looser than itself
+no-looser : (end : End) (a b : ℤ) → a ≡ b → IsNoLooser end a b
+no-looser Lower a b same = omega (arith, ints, same)
+no-looser Upper a b same = omega (arith, ints, same)
+
+-- what is told of a state on a page without a flaw is its word there
+pub told-right : (header : Header) (file : Option (List ℕ)) (end : End) (p : Placement) (k : ℕ) → flaw_at header file p ≡ None → told_words header file end p k ≡ word_at header file end p k
+told-right header file end p k right = ap (λ (flaw : Option Flaw). told_unless flaw (word_at header file end p k) (bound_end (bound_of header.name) end)) right
+
+module _ (old new : PagedFile) (tells now : Bool) (held after : Contents) (kept : new ≡ record old { kept = new.kept }) (same : now ≡ tells) (files : IsTrue tells → SameFiles held after) where
+  file-same : told_files now after new.name ≡ told_files tells held old.name
+  file-same = λ i. same-told tells now held after same files i (kept i).name
+
+  words-same : words_of_pages new now after ≡ words_of_pages old tells held
+  words-same = λ i. told_words (kept i).header (file-same i)
+
+  pub source-same : source_of new now after ≡ source_of old tells held
+  source-same = λ i. paged_source (kept i).header (same i) (file-same i)
+
+  module _ (end : End) (p : Placement) (k before later : ℕ) where
+    answer : (result : Result ℤ LookStop) → IfOk result (IsWithinUnits (bound_of old.header.name)) → (IsTrue tells → AnswersLook old.header (told_files tells held old.name) end p k result)
+        → IfOk result (IsAnswer end (source_of old tells held) (words_of_pages new now after) p k)
+    answer (Ok value) within answers =
+        let told = λ (told : IsTrue tells).
+        let found = answers told in
+        found.1 ∙ sym (told-right old.header (told_files tells held old.name) end p k found.0) in
+        record {
+          within = within;
+          floor = λ is. no-looser end _ _ (told is);
+          notes = λ is. no-looser end _ _ (ap (λ (words : Words). words end p k) words-same ∙ sym (told is));
+          right = λ is. ap (option_map damage_of) (answers is).0;
+        }
+    answer (Err stop) within answers = tt
+
+    stop : (result : Result ℤ LookStop) → (result ≡ Err ReadFault → Rose before later) → (IsTrue tells → AnswersLook old.header (told_files tells held old.name) end p k result)
+        → IfErr result (MayStop (source_of old tells held) before later (λ damage. (source_of old tells held).damage p k ≡ Some damage))
+    stop (Ok value) cause answers = tt
+    stop (Err ReadFault) cause answers = (refl, cause refl)
+    stop (Err (BadPage fault at)) cause answers = (refl, λ told. ap (option_map damage_of) (answers told))
+    stop (Err NoMemory) cause answers = refl
+
+    pub looked : (result : Result ℤ LookStop) → before ≤ later → (result ≡ Err ReadFault → Rose before later) → IfOk result (IsWithinUnits (bound_of old.header.name))
+        → (IsTrue tells → AnswersLook old.header (held old.name) end p k result)
+        → FindsWord end p k (record { source = source_of old tells held; notes = words_of_pages old tells held; faults = before }) (record { source = source_of new now after; notes = words_of_pages new now after; faults = later }) result
+    looked result rises cause within answers =
+        let told = λ (told : IsTrue tells). subst (λ (files : Contents). AnswersLook old.header (files old.name) end p k result) (sym (told-when tells held told)) (answers told) in
+        record {
+          later = rises;
+          notes = λ is end p k state. no-looser end _ _ (ap (λ (words : Words). words end p k) words-same);
+          answer = answer result within told;
+          stop = stop result cause told;
+        }
+
+-- ---- from pages to the files of their words
+
+pub of-file : (pages others : Pages) (tells : Bool) (file other : Option (List ℕ)) (kept more : Kept) → pages ≡ others → file ≡ other → kept ≡ more → AreOfFile others tells other more → AreOfFile pages tells file kept
+of-file pages others tells file other kept more same-pages same-file same-kept of =
+    subst (λ (pages : Pages). AreOfFile pages tells file kept) (sym same-pages)
+    (subst (λ (file : Option (List ℕ)). AreOfFile others tells file kept) (sym same-file)
+    (subst (AreOfFile others tells other) (sym same-kept) of))
+
+pub moved-answer : (held : Contents) (pages others : Pages) (name other : List ℕ) (spot place : Spot) (result : Result ℤ PagesStop) → pages ≡ others → name ≡ other → spot ≡ place
+    → AnswersWord pages (bytes_from pages.at (held name)) spot result → AnswersWord others (bytes_from others.at (held other)) place result
+moved-answer held pages others name other spot place result same-pages same-name same-spot answers =
+    subst (λ (spot : Spot). AnswersWord others (bytes_from others.at (held other)) spot result) same-spot
+    (subst (λ (name : List ℕ). AnswersWord others (bytes_from others.at (held name)) spot result) same-name
+    (subst (λ (pages : Pages). AnswersWord pages (bytes_from pages.at (held name)) spot result) same-pages answers))
+
+-- what stops at a page stops the look-up
+pub look-stopped : (header : Header) (file : Option (List ℕ)) (end : End) (p : Placement) (k : ℕ) (stop : PagesStop) (result : Result ℤ LookStop)
+    → AnswersWord (pages_behind header) (page_bytes header file) (spot_of header.kinds p k end) (Err stop)
+    → IsErrAnd result (λ given. given ≡ looking_stopped stop) → AnswersLook header file end p k result
+look-stopped header file end p k stop result answers given =
+    let is = err_from_is_err_and result given in
+    subst (AnswersLook header file end p k) (sym (is.1 ∙ ap (λ (stop : LookStop). Err stop) is.2)) (by_stop stop answers)
+  where
+    by_stop : (stop : PagesStop) → AnswersWord (pages_behind header) (page_bytes header file) (spot_of header.kinds p k end) (Err stop) → AnswersLook header file end p k (Err (looking_stopped stop))
+    by_stop pages.ReadFault answers = tt
+    by_stop (pages.BadPage flaw) answers = answers
+    by_stop pages.NoMemory answers = tt

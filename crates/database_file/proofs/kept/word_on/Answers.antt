@@ -1,0 +1,73 @@
+use Rattle.std.proofs.Common.{◌≡◌, ◌∙◌, ℕ, ◌+◌, ◌*◌, ◌<◌, List, Option, Some, Vec, Global, length, slice_index, nat_eq, refl, sym, ap, subst, arith}
+use Rattle.std.specs.Map.{lookup}
+use Rattle.std.specs.Option.{option_copied}
+use Rattle.hyper_outside.specs.Files.{bytes_from}
+use Rattle.word_pages.specs.Flaws.{AreWithin, value_of}
+use Rattle.interval_words.specs.Numbers.{word_of}
+use Rattle.database_file.specs.Paged.{IsPage, IsPageOf}
+use Rattle.database_file.proofs.KeptPages.{added, found, moved, used}
+use Rattle.database_file.proofs.kept.word_on.Goals as goal
+
+pub word_in-requires-clause-state : goal.word_in-requires-clause-state
+word_in-requires-clause-state g c =
+    let pages = c.args.pages.now in
+    let page = found (λ e. IsPage pages e.0 e.1.items) c.args.kept.now.entries c.args.spot.page c.in-Some.words.now c.requires.right (sym c.get.ensures.value ∙ ap option_copied c.in-Some.is) in
+    omega (arith, c.requires.state, page.long, ap (λ (words : List ℕ). length words) c.deref.ensures.value)
+
+pub word_in-requires-clause-within : goal.word_in-requires-clause-within
+word_in-requires-clause-within g c =
+    let pages = c.args.pages.now in
+    let page = found (λ e. IsPage pages e.0 e.1.items) c.args.kept.now.entries c.args.spot.page c.in-Some.words.now c.requires.right (sym c.get.ensures.value ∙ ap option_copied c.in-Some.is) in
+    subst (AreWithin pages.bound) (sym c.deref.ensures.value) page.within
+
+pub returns-in-Some-clause-told : goal.returns-in-Some-clause-told
+returns-in-Some-clause-told g c tells =
+    let pages = c.args.pages.now in
+    let bytes = bytes_from pages.at (g.F.Files.held c.args.files.now c.args.name.now) in
+    let page = found (λ e. IsPageOf pages bytes e.0 e.1.items) c.args.kept.now.entries c.args.spot.page c.in-Some.words.now (c.requires.of_file tells) (sym c.get.ensures.value ∙ ap option_copied c.in-Some.is) in
+    (page.right, c.word_in.ensures.word ∙ ap (λ (words : List ℕ). value_of (slice_index words (word_of c.args.spot.end c.args.spot.state))) (c.deref.ensures.value ∙ page.holds))
+
+pub returns-in-Some-clause-right : goal.returns-in-Some-clause-right
+returns-in-Some-clause-right g c =
+    used (λ e. IsPage c.args.pages.now e.0 e.1.items) c.args.kept.now c.get.follows.lender-at-none c.args.spot.page c.requires.right c.get.follows.holds-at-none
+
+pub returns-in-Some-clause-of_file : goal.returns-in-Some-clause-of_file
+returns-in-Some-clause-of_file g c tells =
+    let pages = c.args.pages.now in
+    let bytes = bytes_from pages.at (g.F.Files.held c.args.files.now c.args.name.now) in
+    used (λ e. IsPageOf pages bytes e.0 e.1.items) c.args.kept.now c.get.follows.lender-at-none c.args.spot.page (c.requires.of_file tells) c.get.follows.holds-at-none
+
+pub returns-in_err-words-clause-right : goal.returns-in_err-words-clause-right
+returns-in_err-words-clause-right g c =
+    used (λ e. IsPage c.args.pages.now e.0 e.1.items) c.args.kept.now c.get.follows.lender-at-none c.args.spot.page c.requires.right c.get.follows.holds-at-none
+
+pub returns-in_err-words-clause-of_file : goal.returns-in_err-words-clause-of_file
+returns-in_err-words-clause-of_file g c =
+    let pages = c.args.pages.now in
+    let held = g.F.Files.held c.args.files.now c.args.name.now in
+    moved pages (g.F.Files.tells c.args.files.now) (g.F.Files.tells c.read_page.new.files) held (g.F.Files.held c.read_page.new.files c.args.name.now) c.get.follows.lender-at-none.entries c.read_page.ensures.tells (λ tells. c.read_page.ensures.same tells c.args.name.now)
+    (λ tells. used (λ e. IsPageOf pages (bytes_from pages.at held) e.0 e.1.items) c.args.kept.now c.get.follows.lender-at-none c.args.spot.page (c.requires.of_file tells) c.get.follows.holds-at-none)
+
+pub returns-in_err-put-clause-right : goal.returns-in_err-put-clause-right
+returns-in_err-put-clause-right g c =
+    rw c.in_err-put.ensures.err (used (λ e. IsPage c.args.pages.now e.0 e.1.items) c.args.kept.now c.get.follows.lender-at-none c.args.spot.page c.requires.right c.get.follows.holds-at-none)
+
+pub returns-in_err-put-clause-of_file : goal.returns-in_err-put-clause-of_file
+returns-in_err-put-clause-of_file g c =
+    let pages = c.args.pages.now in
+    let held = g.F.Files.held c.args.files.now c.args.name.now in
+    rw c.in_err-put.ensures.err (moved pages (g.F.Files.tells c.args.files.now) (g.F.Files.tells c.read_page.new.files) held (g.F.Files.held c.read_page.new.files c.args.name.now) c.get.follows.lender-at-none.entries c.read_page.ensures.tells (λ tells. c.read_page.ensures.same tells c.args.name.now)
+    (λ tells. used (λ e. IsPageOf pages (bytes_from pages.at held) e.0 e.1.items) c.args.kept.now c.get.follows.lender-at-none c.args.spot.page (c.requires.of_file tells) c.get.follows.holds-at-none))
+
+pub returns-clause-right : goal.returns-clause-right
+returns-clause-right g c =
+    let P = λ (e : ℕ × Vec ℕ Global). IsPage c.args.pages.now e.0 e.1.items in
+    added P c.get.follows.lender-at-none c.put.new.self c.args.spot.page c.in_ok-words.words (used P c.args.kept.now c.get.follows.lender-at-none c.args.spot.page c.requires.right c.get.follows.holds-at-none) c.in_ok-words.ensures.right c.in_ok-put.ensures.entries
+
+pub returns-clause-of_file : goal.returns-clause-of_file
+returns-clause-of_file g c =
+    let pages = c.args.pages.now in
+    let held = g.F.Files.held c.args.files.now c.args.name.now in
+    let P = λ (e : ℕ × Vec ℕ Global). IsPageOf pages (bytes_from pages.at held) e.0 e.1.items in
+    moved pages (g.F.Files.tells c.args.files.now) (g.F.Files.tells c.read_page.new.files) held (g.F.Files.held c.read_page.new.files c.args.name.now) c.put.new.self.entries c.read_page.ensures.tells (λ tells. c.read_page.ensures.same tells c.args.name.now)
+    (λ tells. added P c.get.follows.lender-at-none c.put.new.self c.args.spot.page c.in_ok-words.words (used P c.args.kept.now c.get.follows.lender-at-none c.args.spot.page (c.requires.of_file tells) c.get.follows.holds-at-none) (c.in_ok-words.ensures.told tells) c.in_ok-put.ensures.entries)

@@ -1,0 +1,33 @@
+use Rattle.std.proofs.Common.{ap}
+use Rattle.std.specs.Option.{option_map}
+use Rattle.database_file.specs.Faults.{whole}
+use Rattle.database_file.specs.PagedFiles.{PagedFile}
+use Rattle.database_file.proofs.OpenedFiles.{front-fits, front-stopped, opened}
+use Rattle.database_file.proofs.opening.open_paged.Goals as goal
+
+pub returns-in_err-front-clause-read : goal.returns-in_err-front-clause-read
+returns-in_err-front-clause-read g c =
+    let (file, told) = c.in_err-front.ensures.read in
+    (file, front-stopped file c.in_err-front.field-0.0 c.from_residual.result told c.from_residual.ensures.1)
+
+pub returns-in_err-front-clause-told : goal.returns-in_err-front-clause-told
+returns-in_err-front-clause-told g c tells =
+    let file = option_map whole (g.F.Files.held c.args.files.now c.args.name.now) in
+    front-stopped file c.in_err-front.field-0.0 c.from_residual.result (c.in_err-front.ensures.told tells) c.from_residual.ensures.1
+
+pub new-requires-clause-fitting : goal.new-requires-clause-fitting
+new-requires-clause-fitting g c =
+    let (file, told) = c.in_ok-front.ensures.read in
+    front-fits file c.in_ok-front.front told c.in_ok-front.ensures.valid
+
+pub returns-clause-read : goal.returns-clause-read
+returns-clause-read g c =
+    let (file, told) = c.in_ok-front.ensures.read in
+    let is = c.in_ok-base.ensures in
+    (file, opened file c.in_ok-front.front c.in_ok-base.base told (ap (λ (base : PagedFile). base.header) is) (ap (λ (base : PagedFile). base.head) is))
+
+pub returns-clause-told : goal.returns-clause-told
+returns-clause-told g c tells =
+    let file = option_map whole (g.F.Files.held c.args.files.now c.args.name.now) in
+    let is = c.in_ok-base.ensures in
+    opened file c.in_ok-front.front c.in_ok-base.base (c.in_ok-front.ensures.told tells) (ap (λ (base : PagedFile). base.header) is) (ap (λ (base : PagedFile). base.head) is)

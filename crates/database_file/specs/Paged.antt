@@ -1,0 +1,169 @@
+-- Words that are looked up in a file page by page.
+use Rattle.std.specs.Prelude.{◌≡◌, ◌<◌, ℕ, ◌*◌, ◌+◌, ◌/◌, ◌%◌, ℤ, neg_ℤ, Bool, true, false, IsTrue, List, length, slice_index, Contains, Option, None, Some, Result, Ok, Err, Vec, ⊤}
+use Rattle.std.specs.Global.{Global}
+use Rattle.std.specs.Option.{option_map}
+use Rattle.std.specs.Borrow.{GName}
+use Rattle.position_rank.specs.Placement.{Placement}
+use Rattle.position_rank.specs.LiveRanks.{live_rank_of}
+use Rattle.directed_fixed.specs.declared.bounds.End.{End}
+use Rattle.directed_fixed.specs.declared.bounds.End.TheVariants.{Lower, Upper}
+use Rattle.cube_actions.specs.Stakes.{bound_of}
+use Rattle.hyper_outside.specs.Files.{Contents, bytes_from}
+use Rattle.hyper_outside.specs.declared.outside.LookStop.{LookStop}
+use Rattle.hyper_outside.specs.declared.outside.LookStop.TheVariants as looks
+use Rattle.turn_rule.specs.Turn.{Words}
+use Rattle.turn_rule.specs.Looks.{AreStakesOf, Damage, Source}
+use Rattle.word_pages.specs.declared.flaws.Flaw.{Flaw}
+use Rattle.word_pages.specs.Flaws.{AreWithin, value_of}
+use Rattle.interval_words.specs.Numbers.{word_of}
+use Rattle.base_head.specs.Heads.{FileHead, stakes_of}
+use Rattle.base_head.specs.Headers.{IsHeader, front_length}
+use Rattle.base_head.specs.declared.header.Header.{Header}
+use Rattle.database_file.specs.declared.kept.Spot.{Spot}
+use Rattle.database_file.specs.declared.pages.Pages.{Pages}
+use Rattle.database_file.specs.declared.pages.PagesStop.{PagesStop}
+use Rattle.database_file.specs.declared.pages.PagesStop.TheVariants.{BadPage}
+use Rattle.database_file.specs.Pages.{flaw_on, page_count, page_words, words_on}
+use Rattle.database_file.specs.Faults.{pages_behind}
+use Rattle.database_file.specs.PagedFiles.{PagedFile}
+
+-- the page on which the words of a position stand
+abbrev pub page_of : Placement → ℕ
+page_of p = live_rank_of p / 1024
+
+-- the number of a state on its page, in a game of so many kinds
+abbrev pub state_on_page : ℕ → Placement → ℕ → ℕ
+state_on_page kinds p k = live_rank_of p % 1024 * kinds + k
+
+-- the bytes of the pages of a file with this header
+abbrev pub page_bytes : Header → Option (List ℕ) → List ℕ
+page_bytes header file = bytes_from (front_length header) file
+
+-- the first flaw of a position's page
+abbrev pub flaw_at : Header → Option (List ℕ) → Placement → Option Flaw
+flaw_at header file p = flaw_on (pages_behind header) (page_bytes header file) (page_of p)
+
+-- the word of a state that its page has
+abbrev pub word_at : Header → Option (List ℕ) → Words
+word_at header file end p k =
+    value_of (slice_index (page_words (pages_behind header) (page_bytes header file) (page_of p)) (word_of end (state_on_page header.kinds p k)))
+
+-- what the bound alone tells
+abbrev pub bound_end : ℤ → End → ℤ
+bound_end bound Lower = neg_ℤ bound
+bound_end bound Upper = bound
+
+-- what a page without a flaw tells, and otherwise what the bound alone does
+abbrev pub told_unless : Option Flaw → ℤ → ℤ → ℤ
+told_unless None word opening = word
+told_unless (Some flaw) word opening = opening
+
+-- the words of the file on every page that is right, and the opening pair on the others
+abbrev pub told_words : Header → Option (List ℕ) → Words
+told_words header file end p k =
+    told_unless (flaw_at header file p) (word_at header file end p k) (bound_end (bound_of header.name) end)
+
+abbrev pub damage_of : Flaw → Damage
+damage_of flaw = record { fault = flaw.fault; at = flaw.at }
+
+-- Where the words of a file with this header are looked up: a state is damaged where its page has a flaw, by the first one.
+abbrev pub paged_source : Header → Bool → Option (List ℕ) → Source
+paged_source header tells file = record {
+  checkers = header.checkers;
+  kinds = header.kinds;
+  bound = bound_of header.name;
+  sure = false;
+  tells = tells;
+  floor = told_words header file;
+  damage = λ p k. option_map damage_of (flaw_at header file p);
+}
+
+-- words of the head's game are looked up there
+pub record IsSourceOfHead (source : Source) (head : FileHead) : Type 0 where
+  pub checkers : source.checkers ≡ head.checkers
+  pub stakes : AreStakesOf source (stakes_of head)
+
+-- as many words as the page with this number has, in pairs within the bound, the lower word at most the upper one
+pub record IsPage (pages : Pages) (page : ℕ) (words : List ℕ) : Type 0 where
+  pub long : length words ≡ words_on pages page
+  pub within : AreWithin pages.bound words
+
+-- where these are the bytes of the pages, the page has no flaw, and these are its words
+pub record IsPageOf (pages : Pages) (bytes : List ℕ) (page : ℕ) (words : List ℕ) : Type 0 where
+  pub right : flaw_on pages bytes page ≡ None
+  pub holds : words ≡ page_words pages bytes page
+
+-- pages that are kept, each by its number
+abbrev pub Kept : Type 0
+Kept = List (ℕ × Vec ℕ Global)
+
+abbrev pub ArePagesKept : Pages → Kept → Type 0
+ArePagesKept pages kept = (page : ℕ × Vec ℕ Global) → Contains kept page → IsPage pages page.0 page.1.items
+
+-- a header and the head that it begins, an index of the positions of so many checkers, and kept pages
+pub record IsPagedFile (header : Header) (head : FileHead) (index : ℕ) (kept : Kept) : Type 0 where
+  pub valid : IsHeader header
+  pub checkers : head.checkers ≡ header.checkers
+  pub name : head.name ≡ header.name
+  pub rounds : head.rounds ≡ header.rounds
+  pub indexed : index ≡ header.checkers
+  pub right : ArePagesKept (pages_behind header) kept
+
+-- where the file is told, each page that is kept is one of its right pages
+abbrev pub AreOfFile : Pages → Bool → Option (List ℕ) → Kept → Type 0
+AreOfFile pages tells file kept =
+    IsTrue tells → (page : ℕ × Vec ℕ Global) → Contains kept page → IsPageOf pages (bytes_from pages.at file) page.0 page.1.items
+
+-- the file of this name is one whose right pages are kept, where the files tell it
+abbrev pub KeepsPagesOf : PagedFile → Bool → Contents → Type 0
+KeepsPagesOf base tells held = AreOfFile (pages_behind base.header) tells (held base.name) base.kept
+
+-- the bytes under each name, where they are told
+abbrev pub told_files : Bool → Contents → Contents
+told_files true held = held
+told_files false held = λ _. None
+
+-- where its words are looked up
+abbrev pub source_of : PagedFile → Bool → Contents → Source
+source_of base tells held = paged_source base.header tells (told_files tells held base.name)
+
+-- its words, as far as they are told
+abbrev pub words_of_pages : PagedFile → Bool → Contents → Words
+words_of_pages base tells held = told_words base.header (told_files tells held base.name)
+
+-- where these are the bytes of the pages, these are the words of one and it has no flaw, or this is its first flaw; a fault of the files or
+-- of memory says nothing
+abbrev pub AnswersOnePage : Pages → List ℕ → ℕ → Result (Vec ℕ Global) PagesStop → Type 0
+AnswersOnePage pages bytes page (Ok words) = IsPageOf pages bytes page words.items
+AnswersOnePage pages bytes page (Err (BadPage flaw)) = flaw_on pages bytes page ≡ Some flaw
+AnswersOnePage pages bytes page (Err _) = ⊤
+
+-- where these are the bytes of the pages, this is the word of the state on a page without a flaw, or this is the page's first flaw; a fault of
+-- the files or of memory says nothing
+abbrev pub AnswersWord : Pages → List ℕ → Spot → Result ℤ PagesStop → Type 0
+AnswersWord pages bytes spot (Ok word) =
+    (flaw_on pages bytes spot.page ≡ None) × (word ≡ value_of (slice_index (page_words pages bytes spot.page) (word_of spot.end spot.state)))
+AnswersWord pages bytes spot (Err (BadPage flaw)) = flaw_on pages bytes spot.page ≡ Some flaw
+AnswersWord pages bytes spot (Err _) = ⊤
+
+-- where a word of a state stands
+abbrev pub spot_of : ℕ → Placement → ℕ → End → Spot
+spot_of kinds p k end = record { page = page_of p; state = state_on_page kinds p k; end = end }
+
+-- this is the file's word of a state on a page without a flaw, or this is the page's first flaw; a fault of the files or of memory says
+-- nothing
+abbrev pub AnswersLook : Header → Option (List ℕ) → End → Placement → ℕ → Result ℤ LookStop → Type 0
+AnswersLook header file end p k (Ok word) = (flaw_at header file p ≡ None) × (word ≡ word_at header file end p k)
+AnswersLook header file end p k (Err (looks.BadPage fault at)) = flaw_at header file p ≡ Some (record { fault = fault; at = at })
+AnswersLook header file end p k (Err _) = ⊤
+
+-- What no look-up changes: the head, the file's name, how many pages are kept at most, what the files tell, how often a call that writes has
+-- failed, and which files are lent.
+pub record PagedStays : Type 0 where
+  pub head : FileHead
+  pub name : List ℕ
+  pub most : ℕ
+  pub tells : Bool
+  pub files : Contents
+  pub write_faults : ℕ
+  pub lent : GName

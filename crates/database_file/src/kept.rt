@@ -1,0 +1,109 @@
+ghost use Rattle.std.specs.Prelude.{◌≡◌, ◌≤◌, ◌≤ℤ◌, ◌<◌, ◌+◌, ◌*◌, IfOk, IsTrue, Err, length, slice_index};
+ghost use Rattle.directed_fixed.specs.declared.word.TheConstants.{WORD_OFFSET};
+ghost use Rattle.directed_fixed.specs.Bounds.{IsWithinUnits};
+ghost use Rattle.hyper_outside.specs.Causes.{Rose};
+ghost use Rattle.hyper_outside.specs.Files.{SameFiles, bytes_from};
+ghost use Rattle.word_pages.specs.Flaws.{AreWithin, value_of};
+ghost use Rattle.interval_words.specs.Numbers.{word_of};
+ghost use Rattle.database_file.specs.declared.pages.PagesStop.TheVariants.{ReadFault};
+ghost use Rattle.database_file.specs.Pages.{ArePages, page_count, words_on};
+ghost use Rattle.database_file.specs.Paged.{AnswersOnePage, AnswersWord, AreOfFile, ArePagesKept, IsPage};
+
+use crate::pages::{Pages, PagesStop, add_page};
+use directed_fixed::{End, Fixed};
+use hyper_outside::Files;
+use lru::LruCache;
+use std::alloc::Global;
+
+/// Where a word stands.
+#[derive(Clone, Copy)]
+pub(crate) struct Spot {
+    /// The number of its page.
+    pub page: usize,
+    /// The number of its state on the page.
+    pub state: usize,
+    /// Which of the state's two words it is.
+    pub end: End,
+}
+
+/// Reads the page with this number, over as many reads as it takes, and answers its words. `BadPage` tells its first flaw. `ReadFault`
+/// comes only where the files' count of reads rose.
+fn read_page<F: Files>(
+    alloc: Global,
+    files: &mut F,
+    name: &str,
+    pages: &Pages,
+    page: usize,
+) -> Result<Vec<u64>, PagesStop>
+    requires pages { ArePages pages.now }
+    requires there { page < page_count pages.now }
+    ensures right { IfOk result (λ words. IsPage pages.now page words.items) }
+    ensures told { IsTrue (F.tells files.old)
+        → AnswersOnePage pages.now (bytes_from pages.now.at (F.held files.old name.now)) page result }
+    ensures same { IsTrue (F.tells files.old)
+        → SameFiles (F.held files.old) (F.held files.new) }
+    ensures tells { F.tells files.new ≡ F.tells files.old }
+    ensures later { F.read_faults files.old ≤ F.read_faults files.new }
+    ensures cause { result ≡ Err ReadFault
+        → Rose (F.read_faults files.old) (F.read_faults files.new) }
+    ensures write_faults { F.write_faults files.new ≡ F.write_faults files.old }
+{
+    let mut buf = vec![in alloc; 0u8; pages.version.page_size(pages.size)]?;
+    let mut cells = vec![in alloc; 0u64; pages.size]?;
+    let mut words = Vec::with_capacity(alloc, pages.words_on(page))?;
+    add_page(files, name, pages, page, &mut buf, &mut cells, &mut words)?;
+    Ok(words)
+}
+
+/// The word of a state at an end, among the words of its page.
+fn word_in(words: &[u64], state: usize, end: End, bound: Fixed) -> Fixed
+    requires state { 2 * state + 1 < length words.now }
+    requires within { AreWithin bound words.now }
+    requires bound { bound ≤ℤ WORD_OFFSET }
+    ensures word { result ≡ value_of (slice_index words.now (word_of end state)) }
+    ensures within { IsWithinUnits bound result }
+{
+    match end {
+        End::Lower => Fixed::of_word(words[2 * state]),
+        End::Upper => Fixed::of_word(words[2 * state + 1]),
+    }
+}
+
+/// The word at a spot. Its page is read only where it isn't kept; then it is kept from now on, and the one that was used least lately is
+/// given up where there are too many. `BadPage` tells the first flaw of the page, which isn't kept. `ReadFault` comes only where the files'
+/// count of reads rose.
+pub(crate) fn word_on<F: Files>(
+    kept: &mut LruCache<usize, Vec<u64>>,
+    alloc: Global,
+    files: &mut F,
+    name: &str,
+    pages: &Pages,
+    spot: Spot,
+) -> Result<Fixed, PagesStop>
+    requires pages { ArePages pages.now }
+    requires there { spot.page < page_count pages.now }
+    requires state { 2 * spot.state + 1 < words_on pages.now spot.page }
+    requires right { ArePagesKept pages.now kept.old.entries }
+    requires of_file { AreOfFile pages.now (F.tells files.old) (F.held files.old name.now) kept.old.entries }
+    ensures within { IfOk result (IsWithinUnits pages.now.bound) }
+    ensures told { IsTrue (F.tells files.old)
+        → AnswersWord pages.now (bytes_from pages.now.at (F.held files.old name.now)) spot result }
+    ensures right { ArePagesKept pages.now kept.new.entries }
+    ensures of_file { AreOfFile pages.now (F.tells files.new) (F.held files.new name.now) kept.new.entries }
+    ensures most { kept.new.cap ≡ kept.old.cap }
+    ensures same { IsTrue (F.tells files.old)
+        → SameFiles (F.held files.old) (F.held files.new) }
+    ensures tells { F.tells files.new ≡ F.tells files.old }
+    ensures later { F.read_faults files.old ≤ F.read_faults files.new }
+    ensures cause { result ≡ Err ReadFault
+        → Rose (F.read_faults files.old) (F.read_faults files.new) }
+    ensures write_faults { F.write_faults files.new ≡ F.write_faults files.old }
+{
+    if let Some(words) = kept.get(&spot.page) {
+        return Ok(word_in(words, spot.state, spot.end, pages.bound));
+    }
+    let words = read_page(alloc, files, name, pages, spot.page)?;
+    let word = word_in(&words, spot.state, spot.end, pages.bound);
+    kept.put(spot.page, words)?;
+    Ok(word)
+}

@@ -1,0 +1,219 @@
+ghost use Rattle.std.specs.Prelude.{◌≡◌, ◌≤◌, ◌<◌, ◌+◌, ◌*◌, [], IfOk, IsTrue, Err};
+ghost use Rattle.directed_fixed.specs.Bounds.{IsWithinUnits};
+ghost use Rattle.cube_actions.specs.Stakes.{bound_of};
+ghost use Rattle.hyper_outside.specs.Causes.{Rose};
+ghost use Rattle.hyper_outside.specs.Files.{SameFiles};
+ghost use Rattle.hyper_outside.specs.declared.outside.LookStop.TheVariants.{ReadFault};
+ghost use Rattle.turn_rule.specs.Looks.{AreSourceWords};
+ghost use Rattle.turn_rule.specs.States.{IsStateOf};
+ghost use Rattle.base_head.specs.Headers.{IsHeader};
+ghost use Rattle.database_file.specs.Faults.{pages_behind};
+ghost use Rattle.database_file.specs.Pages.{page_count, words_on};
+ghost use Rattle.database_file.specs.Paged.{AnswersLook, IsPagedFile, IsSourceOfHead, KeepsPagesOf, source_of, spot_of, words_of_pages};
+
+use crate::front::Front;
+use crate::kept::{Spot, word_on};
+use crate::load::{PAGE_POSITIONS, pages_behind};
+use base_head::Head;
+use directed_fixed::{End, Fixed};
+use hyper_outside::{Files, LookStop, NoMemory};
+use interval_words::LiveIndex;
+use lru::LruCache;
+use position_rank::Position;
+use std::alloc::Global;
+use std::marker::Model;
+use std::num::NonZeroUsize;
+use turn_rule::Pairs;
+
+/// A file of bounds that was opened: what stands before its pages, and the pages that were used last.
+#[derive(Drop)]
+pub struct PagedBase {
+    alloc: Global,
+    front: Front,
+    index: LiveIndex,
+    name: String,
+    kept: LruCache<usize, Vec<u64>>,
+}
+
+impl Model for PagedBase {
+    ghost use Rattle.std.specs.String.{string_bytes};
+    ghost use Rattle.database_file.specs.Paged.{IsPagedFile};
+    ghost use Rattle.database_file.specs.PagedFiles.{PagedFile};
+
+    ghost Value = { PagedFile };
+
+    ghost view = { λ a. record {
+      header = a.front.header;
+      head = a.front.head;
+      name = string_bytes a.name;
+      most = a.kept.cap;
+      kept = a.kept.entries;
+    } };
+
+    ghost invariant = { λ a. IsPagedFile a.front.header a.front.head a.index a.kept.entries };
+}
+
+impl PagedBase {
+    /// The base of what stands before the pages of a file, of which no page was read yet.
+    pub(crate) fn new(
+        alloc: Global,
+        front: Front,
+        name: &str,
+        pages: usize,
+    ) -> Result<PagedBase, NoMemory>
+        requires some { 1 ≤ pages }
+        requires fitting { IsPagedFile front.header front.head front.header.checkers [] }
+        ensures { IfOk result (λ base. base ≡ record {
+          header = front.header;
+          head = front.head;
+          name = name.now;
+          most = pages;
+          kept = [];
+        }) }
+    {
+        let index = LiveIndex::new(alloc, front.head.checkers())?;
+        let name = String::from_str(alloc, name)?;
+        let kept = LruCache::new(alloc, NonZeroUsize::new(pages).unwrap())?;
+        Ok(PagedBase {
+            alloc,
+            front,
+            index,
+            name,
+            kept,
+        })
+    }
+
+    /// What the words are of.
+    pub fn head(&self) -> &Head
+        ensures { result.now ≡ self.now.head }
+    {
+        &self.front.head
+    }
+
+    /// Looks the words up, one end at a time, in the file that was opened. Where the files tell their contents, they are to tell the file
+    /// of the pages that are kept. The reader isn't sure, and its floor and its notes are the words of the file's right pages, and the
+    /// bound on both sides of 0 on the others. Each page is checked as it is read. When the reader is given up, no file has changed.
+    pub fn reader<'a, F: Files>(&'a mut self, files: &'a mut F) -> PagedReader<'a, F>
+        requires { KeepsPagesOf self.old (F.tells files.old) (F.held files.old) }
+        ensures base { result.base.now ≡ self.old }
+        ensures same_base { result.base.ghost_name ≡ self.entry.ghost_name }
+        ensures files { result.files.now ≡ files.old }
+        ensures same_files { result.files.ghost_name ≡ files.entry.ghost_name }
+        ensures game { IsSourceOfHead
+            (source_of self.old (F.tells files.old) (F.held files.old)) self.old.head }
+    {
+        // A look at the front shows that it goes with the head.
+        let _front = &self.front;
+        PagedReader { base: self, files }
+    }
+
+    /// Where the word of a state at an end stands.
+    fn spot(&self, position: &Position, kind: usize, end: End) -> Spot
+        requires { IsStateOf self.now.header.checkers self.now.header.kinds
+            position.now kind }
+        ensures spot { result ≡ spot_of self.now.header.kinds position.now kind end }
+        ensures there { result.page < page_count (pages_behind self.now.header) }
+        ensures state { 2 * result.state + 1
+            < words_on (pages_behind self.now.header) result.page }
+    {
+        let rank = self.index.rank(position) as usize;
+        let kinds = usize::from(self.front.header.kinds);
+        Spot {
+            page: rank / PAGE_POSITIONS,
+            state: rank % PAGE_POSITIONS * kinds + kind,
+            end,
+        }
+    }
+
+    /// Looks up the word of a state at an end.
+    fn look<F: Files>(
+        &mut self,
+        files: &mut F,
+        position: &Position,
+        kind: usize,
+        end: End,
+    ) -> Result<Fixed, LookStop>
+        requires state { IsStateOf self.old.header.checkers self.old.header.kinds
+            position.now kind }
+        requires of_file { KeepsPagesOf self.old (F.tells files.old) (F.held files.old) }
+        ensures within { IfOk result (IsWithinUnits (bound_of self.old.header.name)) }
+        ensures told { IsTrue (F.tells files.old)
+            → AnswersLook self.old.header (F.held files.old (self.old.name))
+            end position.now kind result }
+        ensures of_file { KeepsPagesOf self.new (F.tells files.new) (F.held files.new) }
+        ensures kept { self.new ≡ record self.old { kept = self.new.kept } }
+        ensures valid { IsHeader self.old.header }
+        ensures same { IsTrue (F.tells files.old)
+            → SameFiles (F.held files.old) (F.held files.new) }
+        ensures tells { F.tells files.new ≡ F.tells files.old }
+        ensures later { F.read_faults files.old ≤ F.read_faults files.new }
+        ensures cause { result ≡ Err ReadFault
+            → Rose (F.read_faults files.old) (F.read_faults files.new) }
+        ensures write_faults { F.write_faults files.new ≡ F.write_faults files.old }
+    {
+        let spot = self.spot(position, kind, end);
+        let pages = pages_behind(&self.front.header);
+        let word = word_on(
+            &mut self.kept,
+            self.alloc,
+            files,
+            self.name.as_str(),
+            &pages,
+            spot,
+        )?;
+        Ok(word)
+    }
+}
+
+/// Words that are looked up in a file page by page.
+#[derive(Drop)]
+pub struct PagedReader<'a, F: Files> {
+    base: &'a mut PagedBase,
+    files: &'a mut F,
+    ghost of_file: { KeepsPagesOf base.now (F.tells files.now) (F.held files.now) },
+    ghost within: { AreSourceWords (source_of base.now (F.tells files.now) (F.held files.now))
+        (words_of_pages base.now (F.tells files.now) (F.held files.now)) },
+}
+
+impl<F: Files> PagedReader<'_, F> {
+    /// What the words are of.
+    pub fn head(&self) -> &Head
+        ensures { result.now ≡ self.now.base.now.head }
+    {
+        self.base.head()
+    }
+}
+
+impl<'a, F: Files> Pairs for PagedReader<'a, F> {
+    ghost use Rattle.database_file.specs.Paged.{PagedStays, source_of, told_files, words_of_pages};
+
+    ghost Stays = { PagedStays };
+
+    ghost stays = { λ r. record {
+      head = r.base.now.head;
+      name = r.base.now.name;
+      most = r.base.now.most;
+      tells = F.tells r.files.now;
+      files = told_files (F.tells r.files.now) (F.held r.files.now);
+      write_faults = F.write_faults r.files.now;
+      lent = r.files.ghost_name;
+    } };
+
+    ghost seen = { λ r. record {
+      source = source_of r.base.now (F.tells r.files.now) (F.held r.files.now);
+      notes = words_of_pages r.base.now (F.tells r.files.now) (F.held r.files.now);
+      faults = F.read_faults r.files.now;
+    } };
+
+    fn lower_of(&mut self, position: &Position, kind: usize) -> Result<Fixed, LookStop> {
+        self.base.look(self.files, position, kind, End::Lower)
+    }
+
+    fn upper_of(&mut self, position: &Position, kind: usize) -> Result<Fixed, LookStop> {
+        self.base.look(self.files, position, kind, End::Upper)
+    }
+
+    ghost floor_within = { λ r _. r.within };
+
+    ghost notes_within = { λ r _. r.within };
+}
