@@ -1,15 +1,14 @@
-ghost use Rattle.std.specs.Prelude.{◌≡◌, ℕ, ◌<◌, ◌≤◌, ◌+◌, ◌*◌, ◌^◌, ◌↔◌, IfOk, IsTrue, length, sum};
+ghost use Rattle.std.specs.Prelude.{◌≡◌, ℕ, ◌<◌, ◌≤◌, ◌+◌, ◌*◌, ◌^◌, IfOk, length, sum};
 ghost use Rattle.position_rank.specs.Ranks.{layouts, square_rank_of};
 ghost use Rattle.position_rank.specs.Placement.{IsPosition, IsLive};
-ghost use Rattle.turn_rule.specs.Layouts.{AreLayouts};
+ghost use Rattle.position_rank.specs.Points.{AreFirstPoints};
 ghost use Rattle.interval_words.specs.LiveIndex.{AreCounted};
 ghost use Rattle.position_rank.specs.LiveRanks.{live_below, live_positions, live_rank_of};
 
 use hyper_outside::NoMemory;
-use position_rank::{Layout, Position};
+use position_rank::{Layout, MoverPoints, OtherPoints, Position, all_other_points, layout_count};
 use std::alloc::Global;
 use std::marker::Model;
-use turn_rule::all_layouts;
 
 /// The live ranks of all live positions of one to three checkers a side, with 4 bytes for each pair
 /// of layouts.
@@ -31,34 +30,26 @@ impl Model for LiveIndex {
     ghost invariant = { λ a. IsLiveIndex a.checkers a.below.items a.live };
 }
 
-/// Whether a position of these layouts is live.
-#[inline]
-fn are_live(mover: &Layout, other: &Layout) -> bool
-    ensures { IsTrue result ↔ IsLive (record { mover = mover.now; other = other.now }) }
+/// Numbers the positions of the mover's layout of this rank, from how many live positions have a
+/// smaller square rank, and tells how many have after them.
+fn number_row(checkers: u8, row: u32, others: &[OtherPoints], below: &mut [u32], live: u32) -> u32
+    requires low { 1 ≤ checkers }
+    requires high { checkers ≤ 3 }
+    requires row { row < layouts checkers }
+    requires others { AreFirstPoints checkers others.now }
+    requires all { length others.now ≡ layouts checkers }
+    requires room { length below.old ≡ layouts checkers * layouts checkers }
+    requires before { AreCounted checkers below.old (row * layouts checkers) }
+    requires live { live ≡ live_below checkers (row * layouts checkers) }
+    ensures counted { AreCounted checkers below.new ((row + 1) * layouts checkers) }
+    ensures live { result ≡ live_below checkers ((row + 1) * layouts checkers) }
 {
-    mover.is_in_play() && other.is_in_play() && mover.is_apart(other)
-}
-
-/// Numbers the positions of one layout of the mover, from how many live positions have a smaller
-/// square rank, and tells how many have after them.
-fn number_row(checkers: u8, layouts: &[Layout], row: usize, below: &mut [u32], live: u32) -> u32
-    requires all { AreLayouts checkers layouts.now }
-    requires few { length layouts.now ≤ 3276 }
-    requires row { row < length layouts.now }
-    requires room { length below.old ≡ length layouts.now * length layouts.now }
-    requires before { AreCounted checkers below.old (row * length layouts.now) }
-    requires live { live ≡ live_below checkers (row * length layouts.now) }
-    requires small { live ≤ row * length layouts.now }
-    ensures counted { AreCounted checkers below.new ((row + 1) * length layouts.now) }
-    ensures live { result ≡ live_below checkers ((row + 1) * length layouts.now) }
-    ensures small { result ≤ (row + 1) * length layouts.now }
-{
-    let mover = &layouts[row];
-    let first = row * layouts.len();
+    let mover = MoverPoints::of(&Layout::unrank(checkers, row));
+    let first = row as usize * others.len();
     let mut live = live;
-    for (rank, other) in layouts.iter().enumerate() {
+    for (rank, other) in others.iter().enumerate() {
         below[first + rank] = live;
-        if are_live(mover, other) {
+        if mover.are_live(*other) {
             live += 1;
         }
     }
@@ -73,11 +64,11 @@ impl LiveIndex {
         requires high { checkers ≤ 3 }
         ensures { IfOk result (λ index. index ≡ checkers) }
     {
-        let layouts = all_layouts(alloc, checkers)?;
-        let mut below = vec![in alloc; 0; layouts.len() * layouts.len()]?;
+        let others = all_other_points(checkers);
+        let mut below = vec![in alloc; 0; others.len() * others.len()]?;
         let mut live = 0;
-        for row in 0..layouts.len() {
-            live = number_row(checkers, &layouts, row, &mut below, live);
+        for row in 0..layout_count(checkers) {
+            live = number_row(checkers, row, &others, &mut below, live);
         }
         Ok(LiveIndex {
             checkers,

@@ -1,9 +1,11 @@
 pub mod PackedCells
+pub mod PointLaws
 pub mod Choose
 pub mod LiveLaws
 pub mod LayoutsFromPlaces
 pub mod PlaceTexts
 pub mod RankLaws
+pub mod RowLaws
 pub mod RisingPlaces
 pub mod SameLayouts
 pub mod StartLive

@@ -156,7 +156,7 @@ pub live_below-none : (checkers : ℕ) → live_below checkers 0 ≡ 0
 unfolding live_below
 live_below-none checkers = refl
 
-live_below-more : (checkers square : ℕ) → live_below checkers (square + 1) ≡ live_below checkers square + one (is_live (placement_at checkers square))
+pub live_below-more : (checkers square : ℕ) → live_below checkers (square + 1) ≡ live_below checkers square + one (is_live (placement_at checkers square))
 unfolding live_below
 live_below-more checkers square = rw add-one (range-more (λ below. is_live (placement_at checkers below)) square 0 square (omega arith))
 
@@ -178,7 +178,7 @@ module _ (checkers square : ℕ) (p : Placement) (is : IsPosition p) (many : sum
 pub live_below-rises : (checkers m n : ℕ) → m ≤ n → live_below checkers m ≤ live_below checkers n
 live_below-rises checkers = rises (live_below checkers) (λ n. rw (← add-one) (omega (arith, live_below-more checkers n)))
 
-live_below-le : (checkers n : ℕ) → live_below checkers n ≤ n
+pub live_below-le : (checkers n : ℕ) → live_below checkers n ≤ n
 live_below-le checkers zero = omega (arith, live_below-none checkers)
 live_below-le checkers (suc n) = rw (← add-one) (omega (arith, live_below-more checkers n, live_below-le checkers n, one-le (is_live (placement_at checkers n))))
 

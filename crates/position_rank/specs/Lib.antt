@@ -1,5 +1,6 @@
 pub mod Placement
 pub mod LiveRanks
+pub mod Points
 pub mod Packed
 pub mod PackedLaws
 pub mod Ranks

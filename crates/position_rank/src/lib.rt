@@ -4,6 +4,7 @@
 mod layout;
 mod live;
 mod place;
+mod points;
 mod position;
 mod rank;
 #[cfg(test)]
@@ -15,6 +16,7 @@ pub use live::{
     live_count, live_rank, live_ranks_tell_positions, live_unrank, squares_hold_their_positions,
 };
 pub use place::{place_name, push_word, read_place};
+pub use points::{MoverPoints, OtherPoints, all_other_points};
 pub use position::Position;
 pub use rank::{layout_count, ranks_tell_layouts, square_ranks_tell_positions};
 pub use text::{

@@ -1,8 +1,11 @@
-ghost use Rattle.std.specs.Prelude.{◌≡◌, ℕ, ◌+◌, ◌-◌, ◌*◌, ◌<◌, ◌≤◌, ◌↔◌, IsTrue, sum};
+ghost use Rattle.std.specs.Prelude.{◌≡◌, ℕ, ◌+◌, ◌-◌, ◌*◌, ◌<◌, ◌≤◌, ◌↔◌, IsTrue, length, sum};
 ghost use Rattle.position_rank.specs.Placement.{Placement, IsPosition, IsLive};
+ghost use Rattle.position_rank.specs.Points.{AreFirstPoints};
 ghost use Rattle.position_rank.specs.Ranks.{layouts, square_rank_of};
 ghost use Rattle.position_rank.specs.LiveRanks.{is_live, placement_at, live_below, live_positions, live_rank_of};
 
+use crate::layout::Layout;
+use crate::points::{MoverPoints, OtherPoints, all_other_points};
 use crate::position::Position;
 use crate::rank::layout_count;
 
@@ -57,13 +60,38 @@ fn count_below(checkers: u8, square: u64) -> u64
     requires square { square ≤ layouts checkers * layouts checkers }
     ensures { result ≡ live_below checkers square }
 {
+    let others = all_other_points(checkers);
+    let layouts = u64::from(layout_count(checkers));
+    let rows = (square / layouts) as u32;
     let mut live = 0;
-    for below in 0..square {
-        if Position::square_unrank(checkers, below).is_live() {
+    for row in 0..rows {
+        live += count_row(checkers, row, &others);
+    }
+    let rest = (square % layouts) as usize;
+    if rest > 0 {
+        live += count_row(checkers, rows, &others[..rest]);
+    }
+    live
+}
+
+/// How many live positions there are of the mover's layout of this rank and of these of the other
+/// side.
+fn count_row(checkers: u8, row: u32, others: &[OtherPoints]) -> u64
+    requires low { 1 ≤ checkers }
+    requires high { checkers ≤ 3 }
+    requires row { row < layouts checkers }
+    requires others { AreFirstPoints checkers others.now }
+    ensures { live_below checkers (row * layouts checkers + length others.now)
+        ≡ live_below checkers (row * layouts checkers) + result }
+{
+    let mover = MoverPoints::of(&Layout::unrank(checkers, row));
+    let mut live: u32 = 0;
+    for other in others {
+        if mover.are_live(*other) {
             live += 1;
         }
     }
-    live
+    u64::from(live)
 }
 
 /// Live positions of as many checkers and of equal live rank are the same.
