@@ -125,8 +125,9 @@ impl PagedBase {
         }
     }
 
-    /// Looks up the word of a state at an end.
-    fn look<F: Files>(
+    /// Looks up the word of a state at an end. Where the files tell their contents, an answer is the word of the file, whose page has no flaw;
+    /// `BadPage` tells the first flaw of that page. `ReadFault` comes only where the files' count of reads rose.
+    pub fn look<F: Files>(
         &mut self,
         files: &mut F,
         position: &Position,
