@@ -218,3 +218,6 @@ impl<'a, F: Files> Pairs for PagedReader<'a, F> {
 
     ghost notes_within = { λ r _. r.within };
 }
+
+#[cfg(test)]
+mod tests;
