@@ -85,8 +85,13 @@ impl PagedBase {
 
     /// What the words are of.
     pub fn head(&self) -> &Head
-        ensures { result.now ≡ self.now.head }
+        ensures head { result.now ≡ self.now.head }
+        ensures valid { IsHeader self.now.header }
+        ensures checkers { self.now.head.checkers ≡ self.now.header.checkers }
+        ensures name { self.now.head.name ≡ self.now.header.name }
     {
+        // What stands before the pages is looked at with what is kept of them.
+        let _kept = &self.kept;
         &self.front.head
     }
 

@@ -1,3 +1,5 @@
 mod Refused
 mod Enclosed
 mod Right
+mod Loaded
+mod LookedUp

@@ -1,4 +1,4 @@
-ghost use Rattle.std.specs.Prelude.{◌≡◌, ◌≢◌, ◌⊎◌, ◌≤◌, IsTrue, IfOk, OnErr, Err, length, sum};
+ghost use Rattle.std.specs.Prelude.{◌≡◌, ◌≢◌, ◌⊎◌, ◌≤◌, IsTrue, IfErr, IfOk, Err, length, sum};
 ghost use Rattle.position_rank.specs.Placement.{IsPosition, IsLive};
 ghost use Rattle.hyper_outside.specs.Causes.{Rose};
 ghost use Rattle.hyper_outside.specs.Files.{SameFiles};
@@ -113,7 +113,7 @@ fn look_refusal(stop: LookStop) -> Refusal
 
 /// What a file says of a position, or what refuses it: there is no such file, something is wrong with it, it is of another number of
 /// checkers, or it couldn't be read.
-fn shown<F: Files>(alloc: Global, task: &ShowTask, files: &mut F) -> Result<Shown, Refusal>
+fn look_up<F: Files>(alloc: Global, task: &ShowTask, files: &mut F) -> Result<Shown, Refusal>
     requires { IsRightShow task.now }
     ensures told { AnswersShow task.now (F.tells files.old)
         (F.held files.old task.now.file) result }
@@ -125,7 +125,7 @@ fn shown<F: Files>(alloc: Global, task: &ShowTask, files: &mut F) -> Result<Show
     ensures cause { result ≡ Err Read
         → Rose (F.read_faults files.old) (F.read_faults files.new) }
     ensures write_faults { F.write_faults files.new ≡ F.write_faults files.old }
-    ensures kinds { OnErr result IsOfShowing }
+    ensures kinds { IfErr result IsOfShowing }
 {
     let name = task.file.as_str();
     let mut base = match open_paged(alloc, files, name, PAGES_KEPT) {
@@ -172,7 +172,7 @@ pub(crate) fn run_show<F: Files, O: Sink>(
     ensures same { IsTrue (F.tells files.old)
         → SameFiles (F.held files.old) (F.held files.new) }
 {
-    let shown = match shown(alloc, task, files) {
+    let shown = match look_up(alloc, task, files) {
         Ok(shown) => shown,
         Err(refusal) => return refuse(out, &refusal),
     };
