@@ -84,12 +84,14 @@ pub(crate) fn word_on<F: Files>(
     requires there { spot.page < page_count pages.now }
     requires state { 2 * spot.state + 1 < words_on pages.now spot.page }
     requires right { ArePagesKept pages.now kept.old.entries }
-    requires of_file { AreOfFile pages.now (F.tells files.old) (F.held files.old name.now) kept.old.entries }
+    requires of_file { AreOfFile pages.now (F.tells files.old) (F.held files.old name.now)
+        kept.old.entries }
     ensures within { IfOk result (IsWithinUnits pages.now.bound) }
     ensures told { IsTrue (F.tells files.old)
         → AnswersWord pages.now (bytes_from pages.now.at (F.held files.old name.now)) spot result }
     ensures right { ArePagesKept pages.now kept.new.entries }
-    ensures of_file { AreOfFile pages.now (F.tells files.new) (F.held files.new name.now) kept.new.entries }
+    ensures of_file { AreOfFile pages.now (F.tells files.new) (F.held files.new name.now)
+        kept.new.entries }
     ensures most { kept.new.cap ≡ kept.old.cap }
     ensures same { IsTrue (F.tells files.old)
         → SameFiles (F.held files.old) (F.held files.new) }

@@ -91,7 +91,10 @@ fn a_file_of_one_page(rt: HostRuntime) -> Result<(), Fail> {
         Ok((-4_294_967_296, 4_294_967_296))
     );
     turn_bit(&rt, rt.alloc(), &mut files, 40)?;
-    assert_eq!(rt; look_up(&rt, rt.alloc(), &mut files, "6 / 1"), bad_digest(6106));
+    assert_eq!(rt;
+        look_up(&rt, rt.alloc(), &mut files, "6 / 1"),
+        bad_digest(6106)
+    );
     Ok(())
 }
 
@@ -103,7 +106,10 @@ fn a_bit_of_the_last_page(rt: HostRuntime) -> Result<(), Fail> {
     let words = zeros(&rt, rt.alloc(), &head)?;
     write_base(&mut files, "base", &head, &words, Version::Two).expect(&rt, "it was not written");
     turn_bit(&rt, rt.alloc(), &mut files, 40)?;
-    assert_eq!(rt; look_up(&rt, rt.alloc(), &mut files, "6 off / 1 off"), Ok((0, 0)));
+    assert_eq!(rt;
+        look_up(&rt, rt.alloc(), &mut files, "6 off / 1 off"),
+        Ok((0, 0))
+    );
     assert_eq!(rt;
         look_up(&rt, rt.alloc(), &mut files, "bar bar / bar bar"),
         bad_digest(3_199_984)
