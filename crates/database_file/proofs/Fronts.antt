@@ -1,9 +1,8 @@
 -- How long a front is.
-use Rattle.std.proofs.Common.{◌≡◌, ◌≤◌, ℕ, ◌*◌, length, arith}
-use Rattle.std.proofs.Math.Nat.{mul-le-mul_left, mul-le-mul_right}
+use Rattle.std.proofs.Common.{◌≤◌, arith}
 use Rattle.base_head.proofs.Counts.{ladder-few}
 use Rattle.base_head.specs.Heads.{FileHead, IsHead}
-use Rattle.base_head.specs.Headers.{front_length, header_of, pair_size}
+use Rattle.base_head.specs.Headers.{front_length, header_of}
 use Rattle.word_pages.specs.declared.version.Version.{Version}
 use Rattle.word_pages.specs.declared.version.Version.TheVariants.{One, Two}
 

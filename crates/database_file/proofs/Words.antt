@@ -1,5 +1,5 @@
 -- What is known of words that are right.
-use Rattle.std.proofs.Common.{◌≡◌, ◌<◌, ℕ, ◌+◌, ◌*◌, ◌≤ℤ◌, List, All, length, sym, subst, arith}
+use Rattle.std.proofs.Common.{◌≤ℤ◌, All, sym, subst, arith}
 use Rattle.directed_fixed.specs.declared.word.TheConstants.{WORD_OFFSET}
 use Rattle.cube_actions.specs.declared.name.StakesName.{StakesName}
 use Rattle.cube_actions.specs.declared.name.StakesName.TheVariants.{Cubeless, Money, Jacoby, MoneyBeavers, JacobyBeavers, Match}

@@ -1,5 +1,5 @@
 -- What is added behind a name's bytes.
-use Rattle.std.proofs.Common.{◌≡◌, ◌∙◌, ◌⊎◌, inl, inr, ℕ, suc, zero, ◌+◌, ◌*◌, ◌-◌, ◌<◌, min, length, arith, List, [], ◌++◌, take, drop, Option, Some, None, Result, Ok, Err, sym, ap, subst, append_assoc, refl}
+use Rattle.std.proofs.Common.{◌≡◌, ◌∙◌, inl, inr, ℕ, suc, zero, ◌+◌, ◌*◌, ◌-◌, ◌<◌, min, length, arith, List, [], ◌++◌, take, drop, Option, Some, Result, Ok, Err, sym, ap, subst, append_assoc, refl}
 use Rattle.std.specs.Prelude.{unwrap_or}
 use Rattle.std.proofs.lemmas.List.{append-nil, drop-drop, length-drop, take_min}
 use Rattle.hyper_outside.specs.Files.{Contents, Appends}

@@ -1,4 +1,5 @@
-ghost use Rattle.std.specs.Prelude.{◌≡◌, ◌≤◌, ◌≤ℤ◌, ◌<◌, ◌+◌, ◌*◌, IfOk, IsTrue, Err, length, slice_index};
+ghost use Rattle.std.specs.Prelude.{◌≡◌, ◌≤◌, ◌≤ℤ◌, ◌<◌, ◌+◌, ◌*◌, IfOk, IsSome, IsTrue, Err, length, nat_eq, slice_index};
+ghost use Rattle.std.specs.Map.{lookup};
 ghost use Rattle.directed_fixed.specs.declared.word.TheConstants.{WORD_OFFSET};
 ghost use Rattle.directed_fixed.specs.Bounds.{IsWithinUnits};
 ghost use Rattle.hyper_outside.specs.Causes.{Rose};
@@ -86,6 +87,7 @@ pub(crate) fn word_on<F: Files>(
     requires right { ArePagesKept pages.now kept.old.entries }
     requires of_file { AreOfFile pages.now (F.tells files.old) (F.held files.old name.now)
         kept.old.entries }
+    ensures unread { IsSome (lookup (nat_eq spot.page) kept.old.entries) → files.new ≡ files.old }
     ensures within { IfOk result (IsWithinUnits pages.now.bound) }
     ensures told { IsTrue (F.tells files.old)
         → AnswersWord pages.now (bytes_from pages.now.at (F.held files.old name.now)) spot result }

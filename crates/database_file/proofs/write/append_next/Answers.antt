@@ -1,4 +1,4 @@
-use Rattle.std.proofs.Common.{◌∙◌, ℕ, ◌+◌, ◌-◌, ◌*◌, min, length, List, take, drop, ap, subst}
+use Rattle.std.proofs.Common.{◌∙◌, ℕ, ◌-◌, ◌*◌, List, take, drop, ap, subst}
 use Rattle.word_pages.specs.Pages.{page_text}
 use Rattle.database_file.specs.Writing.{Grows}
 use Rattle.database_file.proofs.Writing.{grows, part}

@@ -1,4 +1,4 @@
-use Rattle.std.proofs.Common.{◌≡◌, ◌∙◌, ◌<◌, ℕ, ◌*◌, List, ◌++◌, [], All, Some, Ok, Err, IsTrue, inr, length, sym, ap, subst, arith}
+use Rattle.std.proofs.Common.{◌≡◌, ◌∙◌, ◌<◌, ℕ, List, [], All, Some, Ok, Err, IsTrue, inr, length, sym, ap, subst, arith}
 use Rattle.std.proofs.lemmas.Result.{err_from_is_err_and}
 use Rattle.hyper_outside.specs.declared.outside.Failed.{Failed}
 use Rattle.cube_actions.specs.Names.{names_of}
@@ -7,7 +7,6 @@ use Rattle.word_pages.specs.Words.{Fits}
 use Rattle.word_pages.specs.Pages.{pages_text}
 use Rattle.base_head.specs.Fronts.{front_text}
 use Rattle.database_file.specs.Texts.{words_a_page}
-use Rattle.database_file.specs.Writing.{Grows, Writes}
 use Rattle.database_file.proofs.Writing.{grows, whole, stopped_front}
 use Rattle.database_file.proofs.Words.{right-fit}
 use Rattle.database_file.proofs.write.write_base.Goals as goal
