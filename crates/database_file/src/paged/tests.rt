@@ -1,5 +1,6 @@
 ghost use Rattle.std.specs.Prelude.{◌≡◌, IfOk, IsTrue};
 ghost use Rattle.hyper_outside.specs.Files.{SameFiles};
+ghost use Rattle.turn_rule.specs.Looks.{IsSourceState};
 ghost use Rattle.database_file.specs.Texts.{AreWordsOf};
 
 use super::*;
@@ -13,7 +14,17 @@ use std::process::Abort;
 use std::test::Fail;
 use word_pages::Version;
 
-/// Looks up both words of a position in the first kind, where one page is kept.
+/// Looks up both words of a position in the first kind.
+fn pair_of<P: Pairs>(place: &mut P, position: &Position) -> Result<(i64, i64), LookStop>
+    requires { IsSourceState (P.seen place.old).source position.now 0 }
+    ensures { P.stays place.new ≡ P.stays place.old }
+{
+    let lower = place.lower_of(position, 0)?;
+    let upper = place.upper_of(position, 0)?;
+    Ok((lower.units(), upper.units()))
+}
+
+/// The same in a file of which one page is kept.
 fn look_up<F: Files>(
     rt: &impl Abort,
     alloc: Global,
@@ -31,9 +42,7 @@ fn look_up<F: Files>(
     assert!(rt; position.checkers() == base.head().checkers());
     assert!(rt; base.head().kinds() > 0);
     let mut reader = base.reader(files);
-    let lower = reader.lower_of(&position, 0)?;
-    let upper = reader.upper_of(&position, 0)?;
-    Ok((lower.units(), upper.units()))
+    pair_of(&mut reader, &position)
 }
 
 /// Words that are all 0, of a head's game.
@@ -82,7 +91,10 @@ fn a_file_of_one_page(rt: HostRuntime) -> Result<(), Fail> {
         Ok((-4_294_967_296, 4_294_967_296))
     );
     turn_bit(&rt, rt.alloc(), &mut files, 40)?;
-    assert_eq!(rt; look_up(&rt, rt.alloc(), &mut files, "6 / 1"), bad_digest(6106));
+    assert_eq!(rt;
+        look_up(&rt, rt.alloc(), &mut files, "6 / 1"),
+        bad_digest(6106)
+    );
     Ok(())
 }
 
@@ -94,7 +106,10 @@ fn a_bit_of_the_last_page(rt: HostRuntime) -> Result<(), Fail> {
     let words = zeros(&rt, rt.alloc(), &head)?;
     write_base(&mut files, "base", &head, &words, Version::Two).expect(&rt, "it was not written");
     turn_bit(&rt, rt.alloc(), &mut files, 40)?;
-    assert_eq!(rt; look_up(&rt, rt.alloc(), &mut files, "6 off / 1 off"), Ok((0, 0)));
+    assert_eq!(rt;
+        look_up(&rt, rt.alloc(), &mut files, "6 off / 1 off"),
+        Ok((0, 0))
+    );
     assert_eq!(rt;
         look_up(&rt, rt.alloc(), &mut files, "bar bar / bar bar"),
         bad_digest(3_199_984)
