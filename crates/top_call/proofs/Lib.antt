@@ -3,3 +3,4 @@ mod Enclosed
 mod Right
 mod Loaded
 mod LookedUp
+mod ShowLaws

@@ -1,6 +1,7 @@
 -- What is known of a file that was loaded, or wasn't.
 use Rattle.std.proofs.Common.{◌≡◌, ◌≢◌, List, ℕ, Bool, true, false, IsTrue, Option, Some, None, Err, refl, sym, subst}
 use Rattle.std.specs.Option.{option_map}
+use Rattle.std.proofs.lemmas.Bool.{false≢true}
 use Rattle.database_file.specs.declared.stop.LoadStop.{LoadStop}
 use Rattle.database_file.specs.declared.stop.LoadStop.TheVariants as stops
 use Rattle.database_file.specs.Bases.{AnswersBase}
@@ -12,7 +13,7 @@ use Rattle.top_call.specs.Loads.{OfFile, TellsStop, RefusesLoading}
 -- of the file that is held, where files tell what they hold, and else of some file
 pub of-file : (told : Bool) (held : Option (List ℕ)) (P : Option FileRead → Type 0) → (IsTrue told → P (option_map whole held)) → ((file : Option FileRead) × P file) → OfFile told held P
 of-file true held P known some = (option_map whole held, λ _. refl, known tt)
-of-file false held P known some = (some.0, λ no. absurd no, some.1)
+of-file false held P known some = (some.0, λ no. absurd (false≢true no), some.1)
 
 refuses : (name : List ℕ) (file : Option FileRead) (refusal due : Refusal) → refusal ≡ due → RefusesLoading name due file → RefusesLoading name refusal file
 refuses name file refusal due is h = subst (λ (r : Refusal). RefusesLoading name r file) (sym is) h
