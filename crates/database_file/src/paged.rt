@@ -86,7 +86,8 @@ impl PagedBase {
 
     /// What the words are of.
     pub fn head(&self) -> &Head
-        ensures { result.now ≡ self.now.head }
+        ensures head { result.now ≡ self.now.head }
+        ensures valid { IsHeader self.now.header }
     {
         &self.front.head
     }
@@ -220,6 +221,3 @@ impl<'a, F: Files> Pairs for PagedReader<'a, F> {
 
     ghost notes_within = { λ r _. r.within };
 }
-
-#[cfg(test)]
-mod tests;
