@@ -91,8 +91,6 @@ impl PagedBase {
         ensures checkers { self.now.head.checkers ≡ self.now.header.checkers }
         ensures name { self.now.head.name ≡ self.now.header.name }
     {
-        // What stands before the pages is looked at with what is kept of them.
-        let _kept = &self.kept;
         &self.front.head
     }
 
@@ -227,6 +225,3 @@ impl<'a, F: Files> Pairs for PagedReader<'a, F> {
 
     ghost notes_within = { λ r _. r.within };
 }
-
-#[cfg(test)]
-mod tests;

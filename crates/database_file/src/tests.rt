@@ -8,6 +8,8 @@ use sha2::{Digest, Sha256};
 use std::alloc::Global;
 use std::test::Fail;
 
+mod look_ups;
+
 /// How many bytes the file of one checker without a cube has.
 const SIZE: usize = 6138;
 
@@ -17,7 +19,7 @@ fn add(bytes: &[u8], out: &mut ArrayVec<u8, SIZE>) {
 }
 
 /// One checker a side without a cube, after 8 rounds: of each position the word of a point lost and that of a point won.
-pub(crate) fn cubeless_text() -> ArrayVec<u8, SIZE> {
+fn cubeless_text() -> ArrayVec<u8, SIZE> {
     let mut text = ArrayVec::new();
     add(b"HYPGAMMN", &mut text);
     for field in [2u32, 1, 0, 0, 0, 0, 0, 1, 8, 0].iter() {

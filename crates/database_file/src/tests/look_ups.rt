@@ -3,15 +3,17 @@ ghost use Rattle.hyper_outside.specs.Files.{SameFiles};
 ghost use Rattle.turn_rule.specs.Looks.{IsSourceState};
 ghost use Rattle.database_file.specs.Texts.{AreWordsOf};
 
-use super::*;
-use crate::tests::cubeless_text;
+use super::cubeless_text;
 use crate::{open_paged, write_base};
+use base_head::Head;
 use cube_actions::StakesName;
-use hyper_outside::{MemFiles, PageFault};
-use interval_words::Words;
-use position_rank::read_position;
+use hyper_outside::{Files, LookStop, MemFiles, PageFault};
+use interval_words::{LiveIndex, Words};
+use position_rank::{Position, read_position};
+use std::alloc::Global;
 use std::process::Abort;
 use std::test::Fail;
+use turn_rule::Pairs;
 use word_pages::Version;
 
 /// Looks up both words of a position in the first kind.
