@@ -1,10 +1,16 @@
 mod Ascii
+mod Coming
+mod CubeLaws
 mod Cuts
 mod DraftLaws
 mod FormLaws
+mod GoOn
+mod Keeps
 mod LineForms
 mod LineLaws
 mod LineWords
+mod MatchPlaces
+mod Numbers
 mod Printing
 mod ReadingLaws
 mod RecordLaws

@@ -1,6 +1,8 @@
 //! Recorded games: what was rolled, played and doubled, and the text that tells it.
 #![tactic(auto)]
 
+mod acts;
+mod cube;
 mod decision;
 mod draft;
 mod examples;
@@ -8,12 +10,16 @@ mod fault;
 mod form;
 mod laws;
 mod line;
+mod moment;
 mod player;
 mod print;
+mod progress;
 mod read;
 mod read_line;
 mod record;
+mod replaying;
 mod stage;
+mod standing;
 #[cfg(test)]
 mod tests;
 mod words;
@@ -29,3 +35,4 @@ pub use player::Player;
 pub use print::print_record;
 pub use read::read_record;
 pub use record::{Action, Actions, Ending, Game, Games, Record, RecordStakes, What};
+pub use replaying::replay;

@@ -202,3 +202,54 @@ fn lengths_are_told(rt: HostRuntime) {
     bytes[1_048_576] = b'\n';
     is_told(&rt, &bytes[1..], 1, RecordFault::Shape);
 }
+
+fn decisions_of(rt: &(impl AllocGlobal + Abort), text: &[u8]) -> Result<Decisions, RecordStop> {
+    let Ok(read) = read_record(rt.alloc(), text) else {
+        panic!(rt; "it isn't read");
+    };
+    replay(rt.alloc(), &read)
+}
+
+fn is_broken(rt: &(impl AllocGlobal + Abort), text: &[u8], line: u32, fault: RecordFault) {
+    let told = decisions_of(rt, text).err();
+    assert_eq!(rt; told, Some(RecordStop::Bad(BadRecord { line, fault })));
+}
+
+fn count(decisions: &Decisions, player: Player) -> usize {
+    let mut of_player = 0;
+    for i in 0..decisions.len() {
+        if decisions.at(i).player == player {
+            of_player += 1;
+        }
+    }
+    of_player
+}
+
+#[test]
+fn decisions_are_found(rt: HostRuntime) {
+    let one = decisions_of(&rt, ONE_CHECKER.as_bytes());
+    let Ok(one) = one else {
+        panic!(rt; "it breaks a rule");
+    };
+    assert_eq!(rt;
+        (one.len(), count(&one, Player::A), count(&one, Player::B)),
+        (16, 7, 9)
+    );
+    let left = decisions_of(&rt, LEFT.as_bytes());
+    let Ok(left) = left else {
+        panic!(rt; "it breaks a rule");
+    };
+    assert_eq!(rt; left.len(), 13);
+    let beaver = decisions_of(&rt, BEAVER.as_bytes());
+    let Ok(beaver) = beaver else {
+        panic!(rt; "it breaks a rule");
+    };
+    assert_eq!(rt; beaver.len(), 3);
+    is_broken(&rt, MATCH.as_bytes(), 11, RecordFault::IllegalCube);
+    is_broken(
+        &rt,
+        &with_line(&rt, BEAVER, 3, "stakes jacoby"),
+        7,
+        RecordFault::IllegalCube,
+    );
+}
