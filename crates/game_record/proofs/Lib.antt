@@ -11,6 +11,8 @@ mod LineLaws
 mod LineWords
 mod MatchPlaces
 mod Numbers
+mod OneEnd
+mod OneReplay
 mod Printing
 mod ReadingLaws
 mod RecordLaws

@@ -17,6 +17,7 @@ mod progress;
 mod read;
 mod read_line;
 mod record;
+mod replay_laws;
 mod replaying;
 mod stage;
 mod standing;
@@ -35,4 +36,7 @@ pub use player::Player;
 pub use print::print_record;
 pub use read::read_record;
 pub use record::{Action, Actions, Ending, Game, Games, Record, RecordStakes, What};
+pub use replay_laws::{
+    records_have_few_decisions, records_tell_their_decisions, replays_break_no_rule,
+};
 pub use replaying::replay;

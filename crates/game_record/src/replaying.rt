@@ -9,11 +9,24 @@ use crate::decision::Decisions;
 use crate::fault::RecordStop;
 use crate::moment::Moment;
 use crate::record::{Game, Record};
+use crate::replay_laws::replays_break_no_rule;
 use std::alloc::Global;
 
 /// The decisions of a record in the order of its lines, or the first line that breaks a rule and the rule that it breaks. It takes memory for
 /// the list of decisions, and may answer `NoMemory`.
 pub fn replay(alloc: Global, rec: &Record) -> Result<Decisions, RecordStop>
+    requires { IsRecord rec.now }
+    ensures ok { IfOk result (IsReplay rec.now) }
+    ensures err { IfErr result (StopsBy (IsBroken rec.now)) }
+    ensures complete { (told : List Decision)
+        → IsReplay rec.now told → IfErr result (λ stop. stop ≡ RecordStop.NoMemory) }
+{
+    // So a record that breaks no rule is refused for want of memory alone.
+    replays_break_no_rule();
+    replay_games(alloc, rec)
+}
+
+fn replay_games(alloc: Global, rec: &Record) -> Result<Decisions, RecordStop>
     requires { IsRecord rec.now }
     ensures ok { IfOk result (IsReplay rec.now) }
     ensures err { IfErr result (StopsBy (IsBroken rec.now)) }

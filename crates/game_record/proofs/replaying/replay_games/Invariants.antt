@@ -2,7 +2,7 @@ use Rattle.std.proofs.Common.{◌+◌, [], drop}
 use Rattle.game_record.specs.Lines.{games_lines}
 use Rattle.game_record.specs.Replay.{first_moment}
 use Rattle.game_record.proofs.GoOn.{GoesOn}
-use Rattle.game_record.proofs.replaying.replay.Given as goal
+use Rattle.game_record.proofs.replaying.replay_games.Given as goal
 
 abbrev pub invariant-loop-game : goal.invariant-loop-game
 invariant-loop-game l =
