@@ -125,7 +125,7 @@ needs-told MoneyBeavers standing away e fits = tt
 needs-told JacobyBeavers standing away e fits = tt
 
 -- in a game of a match the score is one of it
-has-score : (stakes : RecordStakes) (standing : Standing) → IfMatch stakes (λ length. (1 ≤ length) × (length ≤ 5) × Stands length standing) → IfMatch stakes (λ length. NeedPoints standing) → HasScore stakes standing
+pub has-score : (stakes : RecordStakes) (standing : Standing) → IfMatch stakes (λ length. (1 ≤ length) × (length ≤ 5) × Stands length standing) → IfMatch stakes (λ length. NeedPoints standing) → HasScore stakes standing
 has-score stakes standing stands needed =
     if-match stakes (λ length. ((1 ≤ length) × (length ≤ 5) × Stands length standing) × NeedPoints standing) (λ length. (1 ≤ length) × (length ≤ 5) × IsOfMatch length (score_of standing))
     (λ length h. (h.0.0, h.0.1, h.0.2 h.1.0 h.1.1)) (if-both stakes (λ length. (1 ≤ length) × (length ≤ 5) × Stands length standing) (λ length. NeedPoints standing) stands needed)
@@ -139,7 +139,7 @@ money-known player (Some owner) = elim (same_player owner player) as (λ b. Cont
   | false ↦ (2, omega arith, refl)
 ]
 
-kinds-ready : (stakes : RecordStakes) (standing : Standing) (player : Player) (cube : Cube) → IfMatch stakes (λ length. IsPlace standing cube.turns cube.owner) → Contains (names_of (game_stakes stakes standing)) (kind_of_turn stakes standing player cube)
+pub kinds-ready : (stakes : RecordStakes) (standing : Standing) (player : Player) (cube : Cube) → IfMatch stakes (λ length. IsPlace standing cube.turns cube.owner) → Contains (names_of (game_stakes stakes standing)) (kind_of_turn stakes standing player cube)
 kinds-ready (Match length) standing player cube place = kinds-known standing player cube.turns cube.owner place
 kinds-ready Cubeless standing player cube place = (0, omega arith, refl)
 kinds-ready Money standing player cube place = money-known player cube.owner
@@ -295,7 +295,7 @@ passed-by next x kind games left now new keep to none asked e =
     subst (λ (m : Moment). Keeps x games left m) (sym e)
     (moved next x games left now now.progress keep (not-within x kind _ to none) keep.place (omega arith) (asked-there x kind (goes_on now now.progress) to asked) keep.board)
 
-keep-line : (stage : Stage) (line : Line) (x : Next) (left : ℕ) (now : Moment) (told : List Decision) (new : Moment)
+pub keep-line : (stage : Stage) (line : Line) (x : Next) (left : ℕ) (now : Moment) (told : List Decision) (new : Moment)
     → Keeps stage.next stage.games (left + 1) now → after stage.in_match stage.next (kind_of line) ≡ Some x → Fits stage line → Tells now line told new → Keeps (stage_after stage line x).next (stage_after stage line x).games left new
 keep-line stage TitleLine x left now told new keep comes fits tells = passed-by stage.next x OfTitle stage.games left now new keep (what-comes stage.in_match stage.next OfTitle x comes) (λ w. w) tt tells.1
 keep-line stage (CheckersLine checkers) x left now told new keep comes fits tells = passed-by stage.next x OfCheckers stage.games left now new keep (what-comes stage.in_match stage.next OfCheckers x comes) (λ w. w) tt tells.1

@@ -16,4 +16,6 @@ mod OneReplay
 mod Printing
 mod ReadingLaws
 mod RecordLaws
+mod RightKinds
+mod RightReplay
 mod TextLaws

@@ -8,5 +8,6 @@ pub mod Kinds
 pub mod Lines
 pub mod Ready
 pub mod Replay
+pub mod RightDecisions
 pub mod Standings
 pub mod Turns

@@ -37,6 +37,7 @@ pub use print::print_record;
 pub use read::read_record;
 pub use record::{Action, Actions, Ending, Game, Games, Record, RecordStakes, What};
 pub use replay_laws::{
-    records_have_few_decisions, records_tell_their_decisions, replays_break_no_rule,
+    decisions_are_right, records_have_few_decisions, records_tell_their_decisions,
+    replays_break_no_rule,
 };
 pub use replaying::replay;

@@ -1,6 +1,7 @@
-ghost use Rattle.std.specs.Prelude.{◌≡◌, ◌≤◌, List, length};
+ghost use Rattle.std.specs.Prelude.{◌≡◌, ◌≤◌, List, length, All};
 ghost use Rattle.game_record.specs.Lines.{IsRecord};
 ghost use Rattle.game_record.specs.Replay.{IsBroken, IsReplay};
+ghost use Rattle.game_record.specs.RightDecisions.{IsRightDecision};
 ghost use Rattle.game_record.specs.declared.decision.Decision.{Decision};
 ghost use Rattle.game_record.specs.declared.fault.BadRecord.{BadRecord};
 ghost use Rattle.game_record.specs.declared.record.Record.{Record};
@@ -25,4 +26,10 @@ pub fn replays_break_no_rule()
 pub fn records_have_few_decisions()
     ensures { (rec : Record) (told : List Decision)
         → IsRecord rec → IsReplay rec told → length told ≤ 131072 }
+{}
+
+/// Each decision of a record is one that could be made.
+pub fn decisions_are_right()
+    ensures { (rec : Record) (told : List Decision)
+        → IsRecord rec → IsReplay rec told → All (IsRightDecision rec) told }
 {}

@@ -3,13 +3,14 @@ ghost use Rattle.game_record.specs.Drafts.{StopsBy};
 ghost use Rattle.game_record.specs.Lines.{game_lines, IsRecord};
 ghost use Rattle.game_record.specs.Ready.{AreReady};
 ghost use Rattle.game_record.specs.Replay.{Adds, AllTell, BreaksAt, IsBroken, IsReplay};
+ghost use Rattle.game_record.specs.RightDecisions.{IsRightDecision};
 ghost use Rattle.game_record.specs.declared.decision.Decision.{Decision};
 
 use crate::decision::Decisions;
 use crate::fault::RecordStop;
 use crate::moment::Moment;
 use crate::record::{Game, Record};
-use crate::replay_laws::replays_break_no_rule;
+use crate::replay_laws::{decisions_are_right, records_have_few_decisions, replays_break_no_rule};
 use std::alloc::Global;
 
 /// The decisions of a record in the order of its lines, or the first line that breaks a rule and the rule that it breaks. It takes memory for
@@ -20,9 +21,14 @@ pub fn replay(alloc: Global, rec: &Record) -> Result<Decisions, RecordStop>
     ensures err { IfErr result (StopsBy (IsBroken rec.now)) }
     ensures complete { (told : List Decision)
         → IsReplay rec.now told → IfErr result (λ stop. stop ≡ RecordStop.NoMemory) }
+    ensures right { IfOk result (All (IsRightDecision rec.now)) }
+    ensures few { IfOk result (λ told. length told ≤ 131072) }
 {
     // So a record that breaks no rule is refused for want of memory alone.
     replays_break_no_rule();
+    // What is known of all decisions of a record.
+    decisions_are_right();
+    records_have_few_decisions();
     replay_games(alloc, rec)
 }
 
