@@ -1,5 +1,6 @@
 -- How a match stands, game after game.
 use Rattle.std.specs.Prelude.{◌≤◌, ℕ, ◌-◌, ◌==◌, nat_le, min, max, if◌then◌else◌}
+use Rattle.cube_actions.specs.declared.phase.Phase.{Phase}
 use Rattle.cube_actions.specs.declared.phase.Phase.TheVariants.{Normal, Post}
 use Rattle.cube_actions.specs.declared.side.Side.{Side}
 use Rattle.cube_actions.specs.declared.side.Side.TheVariants.{Near, Far}
@@ -11,6 +12,10 @@ use Rattle.game_record.specs.declared.record.RecordStakes.{RecordStakes}
 use Rattle.game_record.specs.declared.record.RecordStakes.TheVariants.{Match}
 use Rattle.game_record.specs.declared.standing.Standing.{Standing}
 use Rattle.game_record.specs.Turns.{same_player}
+
+-- A and B need so many points
+abbrev pub needing : ℕ → ℕ → Phase → Standing
+needing a b phase = record { a = a; b = b; phase = phase }
 
 -- As the first game begins, both need the length of the match. In a match of one point no game is the Crawford game. For money nothing is
 -- needed.

@@ -26,7 +26,9 @@ mod tests;
 mod words;
 
 pub use decision::{Answer, Choice, Decision, Decisions, Offer};
-pub use examples::{order_examples, shape_examples, wrong_examples};
+pub use examples::{
+    cube_examples, kind_examples, order_examples, shape_examples, standing_examples, wrong_examples,
+};
 pub use fault::{BadRecord, RecordFault, RecordStop};
 pub use laws::{
     no_record_text_begins_another, record_texts_have_no_fault, records_have_few_lines,

@@ -1,4 +1,5 @@
 use super::*;
+use move_rules::BadPlay;
 use std::alloc::AllocGlobal;
 use std::process::Abort;
 
@@ -225,31 +226,109 @@ fn count(decisions: &Decisions, player: Player) -> usize {
     of_player
 }
 
+/// How many decisions a record has, and how many of them are those of A.
+fn has_decisions(rt: &(impl AllocGlobal + Abort), text: &str, all: usize, of_a: usize) {
+    let found = decisions_of(rt, text.as_bytes());
+    let Ok(found) = found else {
+        panic!(rt; "{text} breaks a rule");
+    };
+    assert_eq!(rt; (found.len(), count(&found, Player::A)), (all, of_a));
+}
+
 #[test]
-fn decisions_are_found(rt: HostRuntime) {
-    let one = decisions_of(&rt, ONE_CHECKER.as_bytes());
-    let Ok(one) = one else {
+fn decisions_are_counted(rt: HostRuntime) {
+    has_decisions(&rt, ONE_CHECKER, 16, 7);
+    has_decisions(&rt, LEFT, 13, 7);
+    has_decisions(&rt, BEAVER, 3, 2);
+    has_decisions(&rt, ONE_GAME, 3, 2);
+}
+
+/// The decisions of a double and its take: both are seen by the player who doubled.
+#[test]
+fn decisions_are_those_of_the_lines(rt: HostRuntime) {
+    let found = decisions_of(&rt, ONE_CHECKER.as_bytes());
+    let Ok(found) = found else {
         panic!(rt; "it breaks a rule");
     };
+    let doubled = found.at(11);
     assert_eq!(rt;
-        (one.len(), count(&one, Player::A), count(&one, Player::B)),
-        (16, 7, 9)
+        (doubled.game, doubled.line, doubled.player),
+        (1, 11, Player::A)
     );
-    let left = decisions_of(&rt, LEFT.as_bytes());
-    let Ok(left) = left else {
-        panic!(rt; "it breaks a rule");
-    };
-    assert_eq!(rt; left.len(), 13);
-    let beaver = decisions_of(&rt, BEAVER.as_bytes());
-    let Ok(beaver) = beaver else {
-        panic!(rt; "it breaks a rule");
-    };
-    assert_eq!(rt; beaver.len(), 3);
-    is_broken(&rt, MATCH.as_bytes(), 11, RecordFault::IllegalCube);
-    is_broken(
-        &rt,
-        &with_line(&rt, BEAVER, 3, "stakes jacoby"),
+    assert_eq!(rt; (doubled.kind, doubled.score), (0, None));
+    assert_eq!(rt; doubled.choice, Choice::Offered(Offer::Double));
+    assert_eq!(rt;
+        (doubled.position.mover_at(6), doubled.position.other_at(2)),
+        (1, 1)
+    );
+    let took = found.at(12);
+    assert_eq!(rt; (took.line, took.player, took.kind), (12, Player::B, 0));
+    assert_eq!(rt; took.choice, Choice::Answered(Answer::Take));
+    assert_eq!(rt; took.position, doubled.position);
+    assert_eq!(rt; (found.at(13).line, found.at(13).kind), (13, 2));
+    assert_eq!(rt; found.at(14).choice, Choice::Offered(Offer::NoDouble));
+    assert_eq!(rt; (found.at(14).line, found.at(14).kind), (14, 1));
+}
+
+/// A match of one point that is over, and goes on.
+const OVER: &str = "hypergammon record 1\ncheckers 1\nstakes match 1\ngame 1 away 1 1\n\
+A 65 24/18 18/13\nB 66 24/18 18/12* 12/6 6/off\nend B 3\ngame 2 away 1 1\nA 21 24/22 22/21\n\
+stop\nclose\n";
+
+/// The line of the record of one checker that is changed, what it is changed to, and the rule that it breaks.
+const BREAKS: [(u32, &str, RecordFault); 9] = [
+    (
+        5,
+        "A 31 24/21* 21/20",
+        RecordFault::IllegalPlay(BadPlay::HitMark),
+    ),
+    (
         7,
-        RecordFault::IllegalCube,
-    );
+        "A 63 20/14 14/11",
+        RecordFault::IllegalPlay(BadPlay::HitMark),
+    ),
+    (6, "B 64 24/20", RecordFault::IllegalPlay(BadPlay::TooFew)),
+    (
+        8,
+        "B 61 14/8 8/7",
+        RecordFault::IllegalPlay(BadPlay::NoChecker),
+    ),
+    (14, "B 51 2/off", RecordFault::IllegalPlay(BadPlay::TooFew)),
+    (15, "end B 1", RecordFault::ScoreWrong),
+    (15, "end A 2", RecordFault::ScoreWrong),
+    (15, "A 21 4/2 2/1\nstop", RecordFault::ScoreWrong),
+    (15, "stop", RecordFault::ScoreWrong),
+];
+
+#[test]
+fn broken_rules_are_told(rt: HostRuntime) {
+    for (line, text, fault) in BREAKS {
+        is_broken(&rt, &with_line(&rt, ONE_CHECKER, line, text), line, fault);
+    }
+    let early = with_line(&rt, LEFT, 12, "end A 1");
+    is_broken(&rt, &early, 12, RecordFault::ScoreWrong);
+}
+
+#[test]
+fn broken_rules_of_matches_are_told(rt: HostRuntime) {
+    is_broken(&rt, MATCH.as_bytes(), 11, RecordFault::IllegalCube);
+    is_broken(&rt, OVER.as_bytes(), 8, RecordFault::ScoreWrong);
+    for line in ["game 1 away 1 2", "game 1 away 2 1"] {
+        is_broken(
+            &rt,
+            &with_line(&rt, MATCH, 4, line),
+            4,
+            RecordFault::ScoreWrong,
+        );
+    }
+    let other_way = with_line(&rt, MATCH, 9, "game 2 away 1 2");
+    is_broken(&rt, &other_way, 9, RecordFault::ScoreWrong);
+    let more = with_line(&rt, MATCH, 8, "end B 2");
+    is_broken(&rt, &more, 8, RecordFault::ScoreWrong);
+    let plain = with_line(&rt, BEAVER, 3, "stakes jacoby");
+    is_broken(&rt, &plain, 7, RecordFault::IllegalCube);
+    let cubeless = with_line(&rt, ONE_CHECKER, 3, "stakes cubeless");
+    is_broken(&rt, &cubeless, 11, RecordFault::IllegalCube);
+    let early = with_line(&rt, MATCH, 5, "A double");
+    is_told(&rt, &early, 5, RecordFault::Order);
 }
