@@ -1,5 +1,5 @@
 -- What may come next in a record, read backwards.
-use Rattle.std.proofs.Common.{◌≡◌, Bool, true, false, Option, Some, None, refl, ap, sym, subst, ◌∙◌}
+use Rattle.std.proofs.Common.{◌≡◌, Bool, true, false, Some, refl, ap, sym, subst}
 use Rattle.game_record.specs.declared.player.Player.{Player}
 use Rattle.game_record.specs.declared.player.Player.TheVariants.{A, B}
 use Rattle.game_record.specs.declared.record.What.{What}

@@ -1,5 +1,5 @@
 -- A replay goes on from line to line.
-use Rattle.std.proofs.Common.{◌≡◌, ℕ, ◌+◌, ◌<◌, List, [], ◌∷◌, ◌++◌, length, map, drop, get_or, ◌⊎◌, inl, inr, refl, ap, sym, subst, ◌∙◌, append_assoc, add-one, drop-cons}
+use Rattle.std.proofs.Common.{◌≡◌, ℕ, ◌+◌, ◌<◌, List, [], ◌∷◌, ◌++◌, length, map, drop, get_or, inl, inr, refl, ap, sym, subst, ◌∙◌, append_assoc, add-one, drop-cons}
 use Rattle.std.proofs.lemmas.List.{append-nil}
 use Rattle.game_record.specs.declared.decision.Decision.{Decision}
 use Rattle.game_record.specs.declared.fault.BadRecord.{BadRecord}
@@ -15,8 +15,6 @@ use Rattle.game_record.specs.declared.record.What.{What}
 use Rattle.game_record.specs.declared.record.What.TheVariants.{Rolled, Doubled, Took, Passed, Beavered}
 use Rattle.game_record.specs.declared.fault.RecordStop.{RecordStop}
 use Rattle.game_record.specs.declared.fault.RecordStop.TheVariants.{Bad, NoMemory}
-use Rattle.game_record.specs.declared.record.RecordStakes.{RecordStakes}
-use Rattle.game_record.specs.declared.standing.Standing.{Standing}
 use Rattle.cube_actions.specs.Names.{names_of}
 use Rattle.cube_actions.specs.declared.name.StakesName.{StakesName}
 use Rattle.std.specs.List.{Contains}

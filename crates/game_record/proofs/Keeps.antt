@@ -1,5 +1,5 @@
 -- The lines of a record that was read are ready.
-use Rattle.std.proofs.Common.{◌≡◌, ◌≢◌, ◌≤◌, ◌<◌, ◌+◌, ◌*◌, ◌^◌, ℕ, zero, suc, Bool, true, false, not, ◌&&◌, nat_lt, is_some, cond, List, [], ◌∷◌, ◌++◌, length, sum, get_or, Option, Some, None, Contains, ◌⊎◌, inl, inr, refl, ap, sym, subst, ◌∙◌, arith, add-one}
+use Rattle.std.proofs.Common.{◌≡◌, ◌≤◌, ◌+◌, ◌*◌, ℕ, zero, suc, Bool, true, false, not, ◌&&◌, nat_lt, is_some, cond, List, [], ◌∷◌, ◌++◌, length, sum, get_or, Option, Some, None, Contains, refl, sym, subst, ◌∙◌, arith, add-one}
 use Rattle.std.proofs.lemmas.Bool.Decides.{nat_tests}
 use Rattle.std.proofs.lemmas.Nat.{pow_pos}
 use Rattle.std.specs.Option.{option_map, MatchOption}
@@ -7,10 +7,8 @@ use Rattle.cube_actions.specs.Ladder.{IsOfMatch}
 use Rattle.cube_actions.specs.Names.{money_names, names_of}
 use Rattle.cube_actions.specs.declared.name.KindName.TheVariants.{Mine, Theirs}
 use Rattle.game_payoff.specs.Points.{points}
-use Rattle.game_payoff.specs.declared.payoff.Won.{Won}
 use Rattle.game_payoff.specs.declared.payoff.Won.TheVariants.{Single, Gammon, Backgammon}
-use Rattle.position_rank.specs.Packed.{start_placement}
-use Rattle.position_rank.specs.Placement.{Placement, IsLive, IsPosition, InPlay, above, swap}
+use Rattle.position_rank.specs.Placement.{Placement, IsLive, IsPosition, above}
 use Rattle.position_rank.proofs.StartLive.{start-live, start-position, start-sum}
 use Rattle.roll_table.specs.Rolls.{Dice, IsRoll}
 use Rattle.move_rules.specs.Sequences.{IsLegalEnd}
@@ -25,25 +23,24 @@ use Rattle.game_record.specs.declared.line.LineKind.TheVariants.{OfTitle, OfChec
 use Rattle.game_record.specs.declared.moment.Moment.{Moment}
 use Rattle.game_record.specs.declared.player.Player.{Player}
 use Rattle.game_record.specs.declared.progress.Progress.{Progress}
-use Rattle.game_record.specs.declared.progress.Win.{Win}
 use Rattle.game_record.specs.declared.record.Record.{Record}
 use Rattle.game_record.specs.declared.record.RecordStakes.{RecordStakes}
 use Rattle.game_record.specs.declared.record.RecordStakes.TheVariants.{Cubeless, Money, Jacoby, MoneyBeavers, JacobyBeavers, Match}
 use Rattle.game_record.specs.declared.record.What.{What}
 use Rattle.game_record.specs.declared.record.What.TheVariants.{Rolled, Doubled, Took, Passed, Beavered}
 use Rattle.game_record.specs.declared.stage.Next.{Next}
-use Rattle.game_record.specs.declared.stage.Next.TheVariants.{Title, Checkers, Stakes, FirstGame, FirstRoll, Turn, Answer, Roll, End, NextGame, Close, Nothing}
+use Rattle.game_record.specs.declared.stage.Next.TheVariants.{FirstGame, Answer}
 use Rattle.game_record.specs.declared.stage.Stage.{Stage}
 use Rattle.game_record.specs.declared.standing.Standing.{Standing}
 use Rattle.game_record.specs.Cube.{shows}
-use Rattle.game_record.specs.Games.{after_answer, after_double, after_play, has_beavers, has_right, is_over, may_double, opening}
+use Rattle.game_record.specs.Games.{after_answer, after_double, after_play, has_beavers, has_right, is_over, opening}
 use Rattle.game_record.specs.Kinds.{game_needs, game_stakes, kind_of_turn, money_kind}
-use Rattle.game_record.specs.Lines.{games_lines, record_lines, AreStakes, Fits, FitsNext, Follow, IsRecord, IsWrittenPlay, UpTo}
+use Rattle.game_record.specs.Lines.{games_lines, record_lines, AreStakes, Fits, Follow, IsRecord, IsWrittenPlay, UpTo}
 use Rattle.game_record.specs.Ready.{AreReady, FitsMoment, HasScore, IfMatch, IsReady}
-use Rattle.game_record.specs.Replay.{Acts, Leaves, Tells, after_game, first_moment, goes_on, may_double_now, standing_after}
+use Rattle.game_record.specs.Replay.{Acts, Tells, after_game, first_moment, goes_on, standing_after}
 use Rattle.game_record.specs.Standings.{first_standing, score_of, IsInRange}
 use Rattle.game_record.specs.Turns.{after, first_stage, is_match, kind_of, kind_of_deed, other_player, same_player, stage_after, IsWithin}
-use Rattle.game_record.proofs.Coming.{acts-within, coming, end-within, pass-asked, take-asked, what-comes}
+use Rattle.game_record.proofs.Coming.{acts-within, coming, end-within, take-asked, what-comes}
 use Rattle.game_record.proofs.GoOn.{ready-front}
 use Rattle.game_record.proofs.MatchPlaces.{both, few-turns, first-stands, kinds-known, other-other, taken-place, won-in-range, won-stands, IsPlace, Stands}
 use Rattle.game_record.proofs.TextLaws.{most-lines}

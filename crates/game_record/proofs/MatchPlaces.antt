@@ -1,5 +1,5 @@
 -- In a match the score stays one of it, and the cube where it has a kind.
-use Rattle.std.proofs.Common.{◌≡◌, ◌≤◌, ◌<◌, ◌+◌, ◌-◌, ◌*◌, ◌^◌, ℕ, zero, suc, Bool, true, false, not, ◌&&◌, ◌||◌, cond, nat_le, nat_lt, min, max, List, [], ◌∷◌, map, Option, Some, None, ◌⊎◌, inl, inr, refl, ap, sym, subst, ◌∙◌, arith}
+use Rattle.std.proofs.Common.{◌≡◌, ◌≤◌, ◌<◌, ◌+◌, ◌-◌, ◌^◌, ℕ, zero, suc, Bool, true, false, not, ◌&&◌, ◌||◌, cond, nat_le, nat_lt, min, max, List, [], ◌∷◌, map, Option, Some, None, ◌⊎◌, inl, inr, refl, ap, subst, ◌∙◌, arith}
 use Rattle.std.proofs.lemmas.Bool.{cases_lt}
 use Rattle.std.proofs.lemmas.Bool.Decides.{nat_tests}
 use Rattle.std.specs.Prelude.{◌==◌}
@@ -23,9 +23,8 @@ use Rattle.game_record.specs.declared.player.Player.{Player}
 use Rattle.game_record.specs.declared.player.Player.TheVariants.{A, B}
 use Rattle.game_record.specs.declared.record.RecordStakes.TheVariants.{Match}
 use Rattle.game_record.specs.declared.standing.Standing.{Standing}
-use Rattle.game_record.specs.Cube.{is_free_to, shows, turned}
+use Rattle.game_record.specs.Cube.{is_free_to, shows}
 use Rattle.game_record.specs.Games.{has_right}
-use Rattle.game_record.specs.Kinds.{kind_of_turn}
 use Rattle.game_record.specs.Standings.{after_win, first_standing, needs, score_of, side_of, IsInRange}
 use Rattle.game_record.specs.Turns.{other_player, same_player}
 

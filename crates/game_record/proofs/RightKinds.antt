@@ -1,21 +1,20 @@
 -- The kind of a decision is one of its stakes, with the rights of its turn.
-use Rattle.std.proofs.Common.{◌≡◌, ◌≤◌, ◌<◌, ◌+◌, ◌^◌, ℕ, zero, suc, Bool, true, false, not, ◌&&◌, cond, nat_lt, nat_le, List, [], ◌∷◌, length, map, get_or, Option, Some, None, IsSome, IfSome, Contains, ◌⊎◌, inl, inr, refl, ap, sym, subst, ◌∙◌, arith}
+use Rattle.std.proofs.Common.{◌≡◌, ◌≤◌, ◌<◌, ℕ, Bool, true, false, not, ◌&&◌, cond, nat_lt, nat_le, List, [], ◌∷◌, length, map, get_or, Option, Some, None, IsSome, IfSome, Contains, refl, sym, subst, ◌∙◌, arith}
 use Rattle.std.proofs.lemmas.List.{get_or-map, length-map}
 use Rattle.std.proofs.lemmas.List.Sums.{passes_at_first}
 use Rattle.std.specs.List.{position_or_len}
-use Rattle.std.specs.Option.{is_some, option_map}
+use Rattle.std.specs.Option.{option_map}
 use Rattle.directed_fixed.specs.Bounds.{Bounds}
 use Rattle.cube_actions.specs.declared.kind.Double.{Double}
 use Rattle.cube_actions.specs.declared.kind.Kind.{Kind}
 use Rattle.cube_actions.specs.declared.kind.Taken.{Taken}
 use Rattle.cube_actions.specs.declared.name.KindName.{KindName}
-use Rattle.cube_actions.specs.declared.name.KindName.TheVariants.{Alone, Centred, Mine, Theirs, InMatch}
+use Rattle.cube_actions.specs.declared.name.KindName.TheVariants.{InMatch}
 use Rattle.cube_actions.specs.declared.name.StakesName.{StakesName}
 use Rattle.cube_actions.specs.declared.name.StakesName.TheVariants.{Cubeless as NoCube, Money as ForMoney, Jacoby as ByJacoby, MoneyBeavers as WithBeavers, JacobyBeavers as ByJacobyWithBeavers, Match as OfMatch}
-use Rattle.cube_actions.specs.declared.side.Side.{Side}
 use Rattle.cube_actions.specs.declared.side.Side.TheVariants.{Near, Far}
-use Rattle.cube_actions.specs.MatchKinds.{match_kinds, may_double as may_double_by, may_turn, same_side}
-use Rattle.cube_actions.specs.Matches.{match_kind, right_to_double, terms_of}
+use Rattle.cube_actions.specs.MatchKinds.{match_kinds, may_turn, same_side}
+use Rattle.cube_actions.specs.Matches.{match_kind, terms_of}
 use Rattle.cube_actions.specs.Money.{cube_kinds}
 use Rattle.cube_actions.specs.Names.{money_names, name_of, names_of, same_name}
 use Rattle.cube_actions.specs.Scores.{MatchScore, is_crawford, needs as side_needs}
@@ -27,13 +26,13 @@ use Rattle.game_record.specs.declared.player.Player.TheVariants.{A, B}
 use Rattle.game_record.specs.declared.record.RecordStakes.{RecordStakes}
 use Rattle.game_record.specs.declared.record.RecordStakes.TheVariants.{Cubeless, Money, Jacoby, MoneyBeavers, JacobyBeavers, Match}
 use Rattle.game_record.specs.declared.standing.Standing.{Standing}
-use Rattle.game_record.specs.Cube.{is_free_to, shows}
+use Rattle.game_record.specs.Cube.{is_free_to}
 use Rattle.game_record.specs.Games.{has_beavers, has_right}
 use Rattle.game_record.specs.Kinds.{game_stakes, kind_number, kind_of_turn, money_kind}
 use Rattle.game_record.specs.RightDecisions.{terms_for}
-use Rattle.game_record.specs.Standings.{needs, near_player, score_of, side_of}
+use Rattle.game_record.specs.Standings.{score_of, side_of}
 use Rattle.game_record.specs.Turns.{same_player}
-use Rattle.game_record.proofs.MatchPlaces.{both, side-needs}
+use Rattle.game_record.proofs.MatchPlaces.{side-needs}
 use Rattle.game_record.proofs.Numbers.{found-below, same_name-refl, same_name-true}
 
 -- ---- the number is in range

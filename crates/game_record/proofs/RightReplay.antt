@@ -1,7 +1,6 @@
 -- Each decision of a replay is right.
-use Rattle.std.proofs.Common.{◌≡◌, ◌≤◌, ◌<◌, ◌+◌, ℕ, Bool, true, false, not, ◌&&◌, cond, List, [], ◌∷◌, ◌++◌, length, Option, Some, None, All, Contains, IsSome, ◌⊎◌, inl, inr, refl, ap, sym, subst, ◌∙◌, arith, add-one}
+use Rattle.std.proofs.Common.{◌≡◌, ◌<◌, ◌+◌, ℕ, Bool, true, false, not, ◌&&◌, cond, List, [], ◌∷◌, ◌++◌, length, Some, All, IsSome, refl, ap, sym, subst, ◌∙◌, add-one}
 use Rattle.std.proofs.lemmas.List.Elements.{All-append, All-cons, All-nil}
-use Rattle.position_rank.specs.Placement.{Placement, IsLive}
 use Rattle.game_record.specs.declared.decision.Answer.{Answer}
 use Rattle.game_record.specs.declared.decision.Answer.TheVariants.{Take, Pass, Beaver}
 use Rattle.game_record.specs.declared.decision.Choice.{Choice}
@@ -23,7 +22,7 @@ use Rattle.game_record.specs.declared.stage.Stage.{Stage}
 use Rattle.game_record.specs.declared.standing.Standing.{Standing}
 use Rattle.cube_actions.specs.Stakes.{kind_at}
 use Rattle.cube_actions.specs.Starts.{StartPairs}
-use Rattle.game_record.specs.Games.{has_beavers, has_right, is_over}
+use Rattle.game_record.specs.Games.{has_right, is_over}
 use Rattle.game_record.specs.Kinds.{game_score, game_stakes, kind_number, kind_of_turn, stakes_at}
 use Rattle.game_record.specs.Lines.{games_lines, Fits, Follow, IsRecord, IsWrittenPlay}
 use Rattle.game_record.specs.Ready.{HasScore}
@@ -31,7 +30,7 @@ use Rattle.game_record.specs.Replay.{Acts, AllTell, IsReplay, Tells, decided, fi
 use Rattle.game_record.specs.RightDecisions.{terms_for, IsRightAnswer, IsRightChoice, IsRightDecision, IsScoreIn}
 use Rattle.game_record.specs.Turns.{after, kind_of, kind_of_deed, other_player, stage_after}
 use Rattle.game_record.proofs.Coming.{acts-within, pass-asked, take-asked}
-use Rattle.game_record.proofs.Keeps.{Asked, Begins, Keeps, has-score, keep-line, kinds-ready, record-begins}
+use Rattle.game_record.proofs.Keeps.{Asked, Keeps, has-score, keep-line, kinds-ready, record-begins}
 use Rattle.game_record.proofs.MatchPlaces.{both}
 use Rattle.game_record.proofs.RightKinds.{kind-beavers, kind-right, number-below}
 

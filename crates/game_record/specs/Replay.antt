@@ -1,5 +1,5 @@
 -- How a record is replayed, line by line: the decisions that its lines tell, and the first line that breaks a rule.
-use Rattle.std.specs.Prelude.{◌≡◌, ◌≢◌, ◌⊎◌, ℕ, ◌+◌, ◌*◌, Bool, true, false, List, [], ◌∷◌, ◌++◌, Option, Some, None, if◌then◌else◌}
+use Rattle.std.specs.Prelude.{◌≡◌, ◌≢◌, ◌⊎◌, ℕ, ◌+◌, ◌*◌, Bool, true, false, List, [], ◌∷◌, ◌++◌, Some, if◌then◌else◌}
 use Rattle.move_rules.specs.Sequences.{IsLegal}
 use Rattle.move_rules.specs.Written.{IsWritten, IsWrittenFault}
 use Rattle.move_rules.specs.declared.applied.BadPlay.{BadPlay}

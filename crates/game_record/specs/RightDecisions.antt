@@ -1,5 +1,5 @@
 -- What each decision of a replay can be relied on for.
-use Rattle.std.specs.Prelude.{◌≡◌, ◌<◌, ◌≤◌, List, length, sum, Option, Some, None, IsSome, IfSome}
+use Rattle.std.specs.Prelude.{◌≡◌, ◌<◌, ◌≤◌, length, sum, Option, Some, None, IsSome, IfSome}
 use Rattle.cube_actions.specs.Ladder.{IsOfMatch}
 use Rattle.cube_actions.specs.Matches.{terms_of}
 use Rattle.cube_actions.specs.Money.{jacoby, jacoby_beavers, money, money_beavers}

@@ -220,7 +220,7 @@ fn count(decisions: &Decisions, player: Player) -> usize {
     let mut of_player = 0;
     for i in 0..decisions.len() {
         if decisions.at(i).player == player {
-            of_player += 1;
+            of_player = usize::wrapping_add(of_player, 1);
         }
     }
     of_player
@@ -243,31 +243,48 @@ fn decisions_are_counted(rt: HostRuntime) {
     has_decisions(&rt, ONE_GAME, 3, 2);
 }
 
-/// The decisions of a double and its take: both are seen by the player who doubled.
+/// What was chosen in a line of the first game, by whom and in which kind of state.
+fn is_told_in(
+    rt: &impl Abort,
+    found: &Decisions,
+    at: usize,
+    line: u32,
+    player: Player,
+    kind: usize,
+    choice: Choice,
+) {
+    assert!(rt; at < found.len(), "it is missing");
+    let told = found.at(at);
+    assert_eq!(rt;
+        (told.game, told.line, told.player, told.kind),
+        (1, line, player, kind)
+    );
+    assert_eq!(rt; (told.choice, told.score), (choice, None));
+}
+
+/// Whose turn it is has a checker on his point 6, and the other on his point 2.
+fn is_at_6_and_2(rt: &impl Abort, found: &Decisions, at: usize) {
+    assert!(rt; at < found.len(), "it is missing");
+    let position = found.at(at).position;
+    assert_eq!(rt; (position.mover_at(6), position.other_at(2)), (1, 1));
+}
+
+/// A double and its answer are seen by the player who doubled.
 #[test]
 fn decisions_are_those_of_the_lines(rt: HostRuntime) {
+    use Player::{A, B};
     let found = decisions_of(&rt, ONE_CHECKER.as_bytes());
     let Ok(found) = found else {
         panic!(rt; "it breaks a rule");
     };
-    let doubled = found.at(11);
-    assert_eq!(rt;
-        (doubled.game, doubled.line, doubled.player),
-        (1, 11, Player::A)
-    );
-    assert_eq!(rt; (doubled.kind, doubled.score), (0, None));
-    assert_eq!(rt; doubled.choice, Choice::Offered(Offer::Double));
-    assert_eq!(rt;
-        (doubled.position.mover_at(6), doubled.position.other_at(2)),
-        (1, 1)
-    );
-    let took = found.at(12);
-    assert_eq!(rt; (took.line, took.player, took.kind), (12, Player::B, 0));
-    assert_eq!(rt; took.choice, Choice::Answered(Answer::Take));
-    assert_eq!(rt; took.position, doubled.position);
-    assert_eq!(rt; (found.at(13).line, found.at(13).kind), (13, 2));
-    assert_eq!(rt; found.at(14).choice, Choice::Offered(Offer::NoDouble));
-    assert_eq!(rt; (found.at(14).line, found.at(14).kind), (14, 1));
+    let doubled = Choice::Offered(Offer::Double);
+    is_told_in(&rt, &found, 11, 11, A, 0, doubled);
+    is_at_6_and_2(&rt, &found, 11);
+    let took = Choice::Answered(Answer::Take);
+    is_told_in(&rt, &found, 12, 12, B, 0, took);
+    is_at_6_and_2(&rt, &found, 12);
+    let undoubled = Choice::Offered(Offer::NoDouble);
+    is_told_in(&rt, &found, 14, 14, B, 1, undoubled);
 }
 
 /// A match of one point that is over, and goes on.

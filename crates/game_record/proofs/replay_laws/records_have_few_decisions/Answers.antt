@@ -1,4 +1,4 @@
-use Rattle.std.proofs.Common.{◌+◌, ◌++◌, ◌∷◌, [], arith, length-append}
+use Rattle.std.proofs.Common.{◌∷◌, [], arith, length-append}
 use Rattle.game_record.specs.declared.line.Line.TheVariants.{Closed}
 use Rattle.game_record.specs.Lines.{games_lines, record_lines}
 use Rattle.game_record.specs.Replay.{first_moment}

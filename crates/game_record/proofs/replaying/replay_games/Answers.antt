@@ -1,12 +1,9 @@
-use Rattle.std.proofs.Common.{◌≡◌, ◌+◌, ℕ, [], ◌∷◌, ◌++◌, drop, List, refl, ap, sym, subst, ◌∙◌, arith, inl}
-use Rattle.std.proofs.lemmas.List.{append-nil, drop_all}
+use Rattle.std.proofs.Common.{◌≡◌, ◌+◌, ℕ, [], drop, ap, sym, arith}
+use Rattle.std.proofs.lemmas.List.{drop_all}
 use Rattle.std.proofs.lemmas.Result.{err_from_is_err_and}
-use Rattle.game_record.specs.declared.moment.Moment.{Moment}
-use Rattle.game_record.specs.declared.record.Game.{Game}
 use Rattle.game_record.specs.Lines.{game_lines, games_lines}
-use Rattle.game_record.specs.Ready.{AreReady}
 use Rattle.game_record.specs.Replay.{first_moment}
-use Rattle.game_record.proofs.GoOn.{GoesOn, game-counts, next-item, on-begins, on-ends, on-lines, on-same, ready-front, stops-among}
+use Rattle.game_record.proofs.GoOn.{game-counts, next-item, on-begins, on-ends, on-lines, on-same, ready-front, stops-among}
 use Rattle.game_record.proofs.Keeps.{ready-record}
 use Rattle.game_record.proofs.replaying.replay_games.Goals as goal
 

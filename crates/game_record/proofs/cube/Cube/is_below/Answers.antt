@@ -1,5 +1,5 @@
 use Rattle.game_record.proofs.CubeLaws.{not-below}
-use Rattle.std.proofs.Common.{◌≡◌, ◌<◌, refl, sym, ◌∙◌, arith}
+use Rattle.std.proofs.Common.{sym, ◌∙◌}
 use Rattle.std.proofs.lemmas.Bool.{lt-leb}
 use Rattle.game_record.proofs.cube.Cube.is_below.Goals as goal
 

@@ -1,5 +1,4 @@
-use Rattle.std.proofs.Common.{◌≡◌, Some, ap, ◌∙◌}
-use Rattle.std.specs.List.{slice_get}
+use Rattle.std.proofs.Common.{◌≡◌, ap, ◌∙◌}
 use Rattle.cube_actions.specs.Names.{names_of}
 use Rattle.game_record.specs.Kinds.{game_stakes, kind_number}
 use Rattle.game_record.proofs.Numbers.{number-is}

@@ -1,9 +1,8 @@
-use Rattle.std.proofs.Common.{rules, ◌≡◌, ◌+◌, [], ◌∷◌, ◌++◌, drop, map, ap, sym, subst, ◌∙◌, arith, inl}
+use Rattle.std.proofs.Common.{[], ◌∷◌, ◌++◌, map, ap, sym, arith, inl}
 use Rattle.std.proofs.lemmas.List.{append-nil, drop_all}
 use Rattle.std.proofs.lemmas.Result.{err_from_is_err_and}
 use Rattle.game_record.specs.declared.line.Line.TheVariants.{Acted}
 use Rattle.game_record.specs.Lines.{ending_line}
-use Rattle.game_record.specs.Ready.{HasScore}
 use Rattle.game_record.proofs.GoOn.{act-keeps, acts-left, can-tell, next-item, on-ends, on-line, on-same, stops-here}
 use Rattle.game_record.proofs.moment.Moment.play.Goals as goal
 

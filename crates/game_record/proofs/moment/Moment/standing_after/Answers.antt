@@ -1,4 +1,4 @@
-use Rattle.std.proofs.Common.{◌≡◌, ◌≤◌, ◌<◌, ◌^◌, ◌*◌, ℕ, subst, arith}
+use Rattle.std.proofs.Common.{◌≤◌, ◌<◌, ◌*◌, subst, arith}
 use Rattle.game_record.specs.Ready.{IfMatch}
 use Rattle.game_record.proofs.CubeLaws.{at-most-8, few-points}
 use Rattle.game_record.proofs.moment.Moment.standing_after.Goals as goal
