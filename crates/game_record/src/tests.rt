@@ -292,6 +292,11 @@ const OVER: &str = "hypergammon record 1\ncheckers 1\nstakes match 1\ngame 1 awa
 A 65 24/18 18/13\nB 66 24/18 18/12* 12/6 6/off\nend B 3\ngame 2 away 1 1\nA 21 24/22 22/21\n\
 stop\nclose\n";
 
+/// A game of two checkers in whose last turn one die alone can be played, and the lower one is.
+const LOWER_DIE: &str = "hypergammon record 1\ncheckers 2\nstakes money\ngame 1\n\
+A 65 24/19 23/17\nB 61 24/18 23/22\nA 66 19/13 17/11 13/7* 7/1\nB 52 bar/20 22/20\n\
+A 42 11/9\nstop\nclose\n";
+
 /// The line of the record of one checker that is changed, what it is changed to, and the rule that it breaks.
 const BREAKS: [(u32, &str, RecordFault); 9] = [
     (
@@ -322,6 +327,8 @@ fn broken_rules_are_told(rt: HostRuntime) {
     for (line, text, fault) in BREAKS {
         is_broken(&rt, &with_line(&rt, ONE_CHECKER, line, text), line, fault);
     }
+    let lower = RecordFault::IllegalPlay(BadPlay::HigherDie);
+    is_broken(&rt, LOWER_DIE.as_bytes(), 9, lower);
     let early = with_line(&rt, LEFT, 12, "end A 1");
     is_broken(&rt, &early, 12, RecordFault::ScoreWrong);
 }
