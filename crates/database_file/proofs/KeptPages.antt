@@ -1,5 +1,5 @@
 -- Pages that are kept by their numbers.
-use Rattle.std.proofs.Common.{◌≡◌, ◌∙◌, ℕ, ◌*◌, ◌<◌, ◌≤◌, ◌++◌, Bool, IsTrue, List, [], length, Option, None, Some, Contains, Vec, Global, nat_eq, inl, inr, refl, sym, ap, subst, arith}
+use Rattle.std.proofs.Common.{◌≡◌, ◌∙◌, ℕ, ◌*◌, ◌++◌, Bool, IsTrue, List, [], length, Option, None, Some, Contains, Vec, Global, nat_eq, inl, inr, sym, ap, subst}
 use Rattle.std.specs.Map.{lookup}
 use Rattle.std.proofs.lemmas.Bool.{eqb-true}
 use Rattle.std.proofs.lemmas.List.{length-replicate}

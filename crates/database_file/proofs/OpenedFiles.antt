@@ -1,13 +1,14 @@
 -- What is answered of a file that is opened.
-use Rattle.std.proofs.Common.{◌≡◌, ◌∙◌, Option, None, Some, Result, Ok, Err, IsErrAnd, [], refl, sym, ap, subst}
+use Rattle.std.proofs.Common.{◌≡◌, ◌∙◌, Option, None, Some, Result, Ok, Err, IsErrAnd, [], Bool, Contains, refl, sym, ap, subst}
 use Rattle.lru.proofs.Splits.{Contains-nil}
+use Rattle.hyper_outside.specs.Files.{Contents}
 use Rattle.base_head.specs.Headers.{IsHeader}
 use Rattle.database_file.specs.declared.front.Front.{Front}
 use Rattle.database_file.specs.declared.stop.LoadStop.{LoadStop}
 use Rattle.database_file.specs.declared.stop.LoadStop.TheVariants.{BadFile as Bad, Missing, NoMemory, ReadFault}
 use Rattle.database_file.specs.Faults.{AnswersFront, Read}
 use Rattle.database_file.specs.Opened.{AnswersPaged}
-use Rattle.database_file.specs.Paged.{IsPagedFile}
+use Rattle.database_file.specs.Paged.{IsPagedFile, Kept, KeepsPagesOf}
 use Rattle.database_file.specs.PagedFiles.{PagedFile}
 
 -- a front of which no page was read goes with its head
@@ -37,11 +38,9 @@ front-stopped file stop (Err given) told same = subst (λ (stop : LoadStop). Ans
     by_file (Some file) (Bad bad) told = told
     by_file (Some file) NoMemory told = tt
 
--- so does the want of memory
-pub memory-stopped : (file : Option Read) (front : Front) (result : Result PagedFile LoadStop) → AnswersFront file (Ok front) → IsErrAnd result (λ given. given ≡ NoMemory) → AnswersPaged file result
-memory-stopped None front result told given = absurd told
-memory-stopped (Some file) front (Ok base) told wrong = absurd wrong
-memory-stopped (Some file) front (Err given) told same = subst (λ (stop : LoadStop). AnswersPaged (Some file) (Err stop)) (sym same) tt
+-- where no page is kept, each that is is one of the file
+pub none-of-file : (base : PagedFile) (tells : Bool) (held : Contents) → base.kept ≡ [] → KeepsPagesOf base tells held
+none-of-file base tells held none told page among = absurd (Contains-nil page (subst (λ (kept : Kept). Contains kept page) none among))
 
 pub opened : (file : Option Read) (front : Front) (base : PagedFile) → AnswersFront file (Ok front) → base.header ≡ front.header → base.head ≡ front.head → AnswersPaged file (Ok base)
 opened None front base told header head = absurd told

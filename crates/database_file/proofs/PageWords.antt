@@ -1,5 +1,5 @@
 -- The word of a state among those of all pages.
-use Rattle.std.proofs.Common.{◌≡◌, ◌∙◌, ℕ, ◌+◌, ◌*◌, ◌/◌, ◌%◌, ◌-◌, ◌<◌, ◌≤◌, ℤ, ◌≤ℤ◌, Bool, true, List, drop, take, length, slice_index, Option, None, Some, refl, sym, ap, ap₂, subst, arith}
+use Rattle.std.proofs.Common.{◌≡◌, ◌∙◌, ℕ, ◌+◌, ◌*◌, ◌/◌, ◌%◌, ◌<◌, ℤ, true, List, drop, slice_index, Option, None, Some, refl, sym, ap, arith}
 use Rattle.std.proofs.Math.Nat.{div-add-mod, mul-add, mul_assoc, mul_comm, mul_left_comm}
 use Rattle.std.proofs.lemmas.Int.{ints}
 use Rattle.std.proofs.lemmas.List.{get_or-drop, get_or-take}

@@ -14,10 +14,8 @@ use Rattle.hyper_outside.specs.Files.{Contents, SameFiles, bytes_from}
 use Rattle.hyper_outside.specs.declared.outside.LookStop.{LookStop}
 use Rattle.hyper_outside.specs.declared.outside.LookStop.TheVariants.{ReadFault, BadPage, NoMemory}
 use Rattle.turn_rule.specs.Turn.{Words}
-use Rattle.turn_rule.specs.States.{AreNoLooserOf}
-use Rattle.turn_rule.specs.Looks.{Damage, FindsWord, IsAnswer, MayStop}
+use Rattle.turn_rule.specs.Looks.{FindsWord, IsAnswer, MayStop}
 use Rattle.word_pages.specs.declared.flaws.Flaw.{Flaw}
-use Rattle.base_head.specs.Heads.{FileHead}
 use Rattle.base_head.specs.declared.header.Header.{Header}
 use Rattle.database_file.specs.declared.kept.Spot.{Spot}
 use Rattle.database_file.specs.declared.pages.Pages.{Pages}

@@ -1,5 +1,5 @@
 -- The words of pages, where they are looked up by states.
-use Rattle.std.proofs.Common.{◌≡◌, ◌∙◌, ℕ, zero, suc, ◌+◌, ◌*◌, ◌-◌, ◌/◌, ◌%◌, ◌<◌, ◌≤◌, ℤ, pos, neg_ℤ, ◌≤ℤ◌, min, sum, Bool, List, length, drop, Option, None, Some, refl, sym, ap, subst, arith}
+use Rattle.std.proofs.Common.{◌≡◌, ◌∙◌, ℕ, suc, ◌+◌, ◌*◌, ◌-◌, ◌/◌, ◌%◌, ◌<◌, ◌≤◌, min, sum, Bool, List, length, drop, Option, None, Some, refl, sym, ap, subst, arith}
 use Rattle.std.proofs.Math.Nat.{div-add-mod, le-div_iff_mul-le, mod-lt, mul-add, mul-le-mul_left, mul-le-mul_right, mul_assoc, mul_comm, mul_left_comm, suc-mul}
 use Rattle.std.proofs.lemmas.Int.{ints}
 use Rattle.position_rank.specs.Placement.{Placement}

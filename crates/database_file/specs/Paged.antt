@@ -1,5 +1,5 @@
 -- Words that are looked up in a file page by page.
-use Rattle.std.specs.Prelude.{◌≡◌, ◌<◌, ℕ, ◌*◌, ◌+◌, ◌/◌, ◌%◌, ℤ, neg_ℤ, Bool, true, false, IsTrue, List, length, slice_index, Contains, Option, None, Some, Result, Ok, Err, Vec, ⊤}
+use Rattle.std.specs.Prelude.{◌≡◌, ℕ, ◌*◌, ◌+◌, ◌/◌, ◌%◌, ℤ, neg_ℤ, Bool, true, false, IsTrue, List, length, slice_index, Contains, Option, None, Some, Result, Ok, Err, Vec, ⊤}
 use Rattle.std.specs.Global.{Global}
 use Rattle.std.specs.Option.{option_map}
 use Rattle.std.specs.Borrow.{GName}
@@ -23,7 +23,7 @@ use Rattle.database_file.specs.declared.kept.Spot.{Spot}
 use Rattle.database_file.specs.declared.pages.Pages.{Pages}
 use Rattle.database_file.specs.declared.pages.PagesStop.{PagesStop}
 use Rattle.database_file.specs.declared.pages.PagesStop.TheVariants.{BadPage}
-use Rattle.database_file.specs.Pages.{flaw_on, page_count, page_words, words_on}
+use Rattle.database_file.specs.Pages.{flaw_on, page_words, words_on}
 use Rattle.database_file.specs.Faults.{pages_behind}
 use Rattle.database_file.specs.PagedFiles.{PagedFile}
 

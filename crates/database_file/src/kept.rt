@@ -1,4 +1,5 @@
-ghost use Rattle.std.specs.Prelude.{◌≡◌, ◌≤◌, ◌≤ℤ◌, ◌<◌, ◌+◌, ◌*◌, IfOk, IsTrue, Err, length, slice_index};
+ghost use Rattle.std.specs.Prelude.{◌≡◌, ◌≤◌, ◌≤ℤ◌, ◌<◌, ◌+◌, ◌*◌, IfOk, IsSome, IsTrue, Err, length, nat_eq, slice_index};
+ghost use Rattle.std.specs.Map.{lookup};
 ghost use Rattle.directed_fixed.specs.declared.word.TheConstants.{WORD_OFFSET};
 ghost use Rattle.directed_fixed.specs.Bounds.{IsWithinUnits};
 ghost use Rattle.hyper_outside.specs.Causes.{Rose};
@@ -84,12 +85,15 @@ pub(crate) fn word_on<F: Files>(
     requires there { spot.page < page_count pages.now }
     requires state { 2 * spot.state + 1 < words_on pages.now spot.page }
     requires right { ArePagesKept pages.now kept.old.entries }
-    requires of_file { AreOfFile pages.now (F.tells files.old) (F.held files.old name.now) kept.old.entries }
+    requires of_file { AreOfFile pages.now (F.tells files.old) (F.held files.old name.now)
+        kept.old.entries }
+    ensures unread { IsSome (lookup (nat_eq spot.page) kept.old.entries) → files.new ≡ files.old }
     ensures within { IfOk result (IsWithinUnits pages.now.bound) }
     ensures told { IsTrue (F.tells files.old)
         → AnswersWord pages.now (bytes_from pages.now.at (F.held files.old name.now)) spot result }
     ensures right { ArePagesKept pages.now kept.new.entries }
-    ensures of_file { AreOfFile pages.now (F.tells files.new) (F.held files.new name.now) kept.new.entries }
+    ensures of_file { AreOfFile pages.now (F.tells files.new) (F.held files.new name.now)
+        kept.new.entries }
     ensures most { kept.new.cap ≡ kept.old.cap }
     ensures same { IsTrue (F.tells files.old)
         → SameFiles (F.held files.old) (F.held files.new) }

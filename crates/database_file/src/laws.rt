@@ -79,7 +79,8 @@ pub fn texts_are_read_back()
 /// Where files tell their contents, an answer of a look-up in a file is the word of the state on its page, which has no flaw; a damage is
 /// the first flaw of the state's page. The word of a state on its page is its word among those of all pages.
 pub fn look_ups_tell_the_words_of_the_file()
-    ensures exact { (base : PagedFile) (held : Contents) (end : End) (p : Placement) (k : ℕ) (value : ℤ)
+    ensures exact { (base : PagedFile) (held : Contents) (end : End) (p : Placement) (k : ℕ)
+        (value : ℤ)
         → IsAnswer end (source_of base true held) (words_of_pages base true held) p k value
         → (flaw_at base.header (held base.name) p ≡ None)
         × (value ≡ word_at base.header (held base.name) end p k) }

@@ -5,6 +5,7 @@ ghost use Rattle.hyper_outside.specs.Files.{SameFiles};
 ghost use Rattle.database_file.specs.declared.stop.LoadStop.TheVariants.{ReadFault};
 ghost use Rattle.database_file.specs.Faults.{Read, whole};
 ghost use Rattle.database_file.specs.Opened.{AnswersPaged};
+ghost use Rattle.database_file.specs.Paged.{KeepsPagesOf};
 
 use crate::front::read_front;
 use crate::paged::PagedBase;
@@ -35,6 +36,8 @@ pub fn open_paged<F: Files>(
     ensures write_faults { F.write_faults files.new ≡ F.write_faults files.old }
     ensures name { IfOk result (λ base. base.name ≡ name.now) }
     ensures none { IfOk result (λ base. base.kept ≡ []) }
+    ensures of_file { IfOk result (λ base.
+        KeepsPagesOf base (F.tells files.new) (F.held files.new)) }
     ensures most { IfOk result (λ base. base.most ≡ pages) }
 {
     let front = read_front(files, name)?;

@@ -1,4 +1,5 @@
-ghost use Rattle.std.specs.Prelude.{◌≡◌, ◌≤◌, ◌<◌, ◌+◌, ◌*◌, [], IfOk, IsTrue, Err};
+ghost use Rattle.std.specs.Prelude.{◌≡◌, ◌≤◌, ◌<◌, ◌+◌, ◌*◌, [], IfOk, IsSome, IsTrue, Err, nat_eq};
+ghost use Rattle.std.specs.Map.{lookup};
 ghost use Rattle.directed_fixed.specs.Bounds.{IsWithinUnits};
 ghost use Rattle.cube_actions.specs.Stakes.{bound_of};
 ghost use Rattle.hyper_outside.specs.Causes.{Rose};
@@ -9,7 +10,7 @@ ghost use Rattle.turn_rule.specs.States.{IsStateOf};
 ghost use Rattle.base_head.specs.Headers.{IsHeader};
 ghost use Rattle.database_file.specs.Faults.{pages_behind};
 ghost use Rattle.database_file.specs.Pages.{page_count, words_on};
-ghost use Rattle.database_file.specs.Paged.{AnswersLook, IsPagedFile, IsSourceOfHead, KeepsPagesOf, source_of, spot_of, words_of_pages};
+ghost use Rattle.database_file.specs.Paged.{AnswersLook, IsPagedFile, IsSourceOfHead, KeepsPagesOf, page_of, source_of, spot_of, words_of_pages};
 
 use crate::front::Front;
 use crate::kept::{Spot, word_on};
@@ -85,7 +86,10 @@ impl PagedBase {
 
     /// What the words are of.
     pub fn head(&self) -> &Head
-        ensures { result.now ≡ self.now.head }
+        ensures head { result.now ≡ self.now.head }
+        ensures valid { IsHeader self.now.header }
+        ensures checkers { self.now.head.checkers ≡ self.now.header.checkers }
+        ensures name { self.now.head.name ≡ self.now.header.name }
     {
         &self.front.head
     }
@@ -125,8 +129,10 @@ impl PagedBase {
         }
     }
 
-    /// Looks up the word of a state at an end.
-    fn look<F: Files>(
+    /// Looks up the word of a state at an end. Where the files tell their contents, an answer is the word of the file, whose page has no flaw;
+    /// `BadPage` tells the first flaw of that page. `ReadFault` comes only where the files' count of reads rose, and no call of them is made
+    /// where the page is kept.
+    pub fn look<F: Files>(
         &mut self,
         files: &mut F,
         position: &Position,
@@ -136,9 +142,11 @@ impl PagedBase {
         requires state { IsStateOf self.old.header.checkers self.old.header.kinds
             position.now kind }
         requires of_file { KeepsPagesOf self.old (F.tells files.old) (F.held files.old) }
+        ensures unread { IsSome (lookup (nat_eq (page_of position.now)) self.old.kept)
+            → files.new ≡ files.old }
         ensures within { IfOk result (IsWithinUnits (bound_of self.old.header.name)) }
         ensures told { IsTrue (F.tells files.old)
-            → AnswersLook self.old.header (F.held files.old (self.old.name))
+            → AnswersLook self.old.header (F.held files.old self.old.name)
             end position.now kind result }
         ensures of_file { KeepsPagesOf self.new (F.tells files.new) (F.held files.new) }
         ensures kept { self.new ≡ record self.old { kept = self.new.kept } }

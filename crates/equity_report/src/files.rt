@@ -27,7 +27,7 @@ pub struct Solved {
 }
 
 /// A kind of state with a position's pair in it.
-#[derive(Clone, Copy, Debug, PartialEq, Eq)]
+#[derive(Clone, Copy, Debug, Default, PartialEq, Eq)]
 pub struct KindRow {
     pub kind: KindName,
     pub pair: Pair,

@@ -1,6 +1,13 @@
+pub mod Cube
 pub mod Drafts
 pub mod Faults
 pub mod FormWords
 pub mod Forms
+pub mod Games
+pub mod Kinds
 pub mod Lines
+pub mod Ready
+pub mod Replay
+pub mod RightDecisions
+pub mod Standings
 pub mod Turns

@@ -6,6 +6,16 @@ ghost use Rattle.game_record.specs.declared.stage.Next.TheVariants.{Title, First
 ghost use Rattle.game_record.specs.Turns.{after, first_stage};
 ghost use Rattle.game_record.specs.Forms.{form_of, TitleForm, StakesForm, MatchForm, AwayForm, RollForm, EndForm};
 ghost use Rattle.game_record.specs.Faults.{IsLineFault};
+ghost use Rattle.cube_actions.specs.declared.name.KindName.TheVariants.{Mine, Theirs, InMatch};
+ghost use Rattle.cube_actions.specs.declared.phase.Phase.TheVariants.{Normal, Crawford, Post};
+ghost use Rattle.cube_actions.specs.declared.side.Side.TheVariants.{Near, Far};
+ghost use Rattle.game_payoff.specs.declared.payoff.Won.TheVariants.{Gammon};
+ghost use Rattle.game_record.specs.declared.decision.Answer.TheVariants.{Take, Pass, Beaver};
+ghost use Rattle.game_record.specs.declared.record.RecordStakes.TheVariants.{Money, Jacoby, Match};
+ghost use Rattle.game_record.specs.Cube.{centred, shows, turned};
+ghost use Rattle.game_record.specs.Games.{after_answer, counted, has_right, may_double, opening};
+ghost use Rattle.game_record.specs.Kinds.{kind_of_turn};
+ghost use Rattle.game_record.specs.Standings.{after_win, first_standing, score_of, side_of, needing};
 
 /// The forms of lines.
 pub fn shape_examples()
@@ -48,4 +58,43 @@ pub fn order_examples()
 pub fn wrong_examples()
     ensures shape { IsLineFault first_stage (codes "checkers") Shape }
     ensures order { IsLineFault first_stage (codes "checkers 7") Order }
+{}
+
+/// How the score of a match moves, and who is near.
+pub fn standing_examples()
+    ensures begins { first_standing (Match 2) ≡ needing 2 2 Normal }
+    ensures one_point { first_standing (Match 1) ≡ needing 1 1 Post }
+    ensures crawford { after_win (needing 2 2 Normal) B 1 ≡ needing 2 1 Crawford }
+    ensures not_yet { after_win (needing 3 2 Normal) A 1 ≡ needing 2 2 Normal }
+    ensures post { after_win (needing 2 1 Crawford) A 1 ≡ needing 1 1 Post }
+    ensures over { after_win (needing 2 2 Normal) A 4 ≡ needing 0 2 Normal }
+    ensures equal { side_of (needing 2 2 Normal) A ≡ Near }
+    ensures behind { side_of (needing 2 1 Crawford) A ≡ Far }
+    ensures score { score_of (needing 2 1 Crawford)
+        ≡ record { near = 1; far = 2; phase = Crawford } }
+{}
+
+/// What a win counts, and where the cube is after a double.
+pub fn cube_examples()
+    ensures centred_gammon { counted Jacoby centred Gammon ≡ 1 }
+    ensures owned_gammon { counted Jacoby (turned centred 1 A) Gammon ≡ 2 }
+    ensures money_gammon { counted Money centred Gammon ≡ 2 }
+    ensures taken { (after_answer B Take (opening 1)).cube ≡ record { turns = 1; owner = Some B } }
+    ensures beavered { shows ((after_answer B Beaver (opening 1)).cube) ≡ 4 }
+    ensures passed { (after_answer B Pass (opening 1)).won
+        ≡ Some (record { winner = A; points = 1 }) }
+    ensures pass_leaves_the_cube { (after_answer B Pass (opening 1)).cube ≡ centred }
+    ensures first_turn { may_double Money (needing 0 0 Normal) A (opening 1) ≡ false }
+    ensures crawford { has_right (Match 2) (needing 2 1 Crawford) A centred ≡ false }
+    ensures enough { has_right (Match 2) (needing 2 2 Normal) A (turned centred 1 A) ≡ false }
+    ensures theirs { has_right Jacoby (needing 0 0 Normal) A (turned centred 1 B) ≡ false }
+{}
+
+/// Numbers of kinds, as each player sees them.
+pub fn kind_examples()
+    ensures mine { kind_of_turn Jacoby (needing 0 0 Normal) A (turned centred 1 A) ≡ Mine }
+    ensures theirs { kind_of_turn Jacoby (needing 0 0 Normal) A (turned centred 1 B) ≡ Theirs }
+    ensures near { kind_of_turn (Match 2) (needing 2 2 Normal) A (turned centred 1 B)
+        ≡ InMatch Near 2 (Some Far) }
+    ensures far { kind_of_turn (Match 2) (needing 2 2 Normal) B centred ≡ InMatch Far 1 None }
 {}

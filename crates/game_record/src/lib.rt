@@ -1,6 +1,8 @@
 //! Recorded games: what was rolled, played and doubled, and the text that tells it.
 #![tactic(auto)]
 
+mod acts;
+mod cube;
 mod decision;
 mod draft;
 mod examples;
@@ -8,18 +10,25 @@ mod fault;
 mod form;
 mod laws;
 mod line;
+mod moment;
 mod player;
 mod print;
+mod progress;
 mod read;
 mod read_line;
 mod record;
+mod replay_laws;
+mod replaying;
 mod stage;
+mod standing;
 #[cfg(test)]
 mod tests;
 mod words;
 
 pub use decision::{Answer, Choice, Decision, Decisions, Offer};
-pub use examples::{order_examples, shape_examples, wrong_examples};
+pub use examples::{
+    cube_examples, kind_examples, order_examples, shape_examples, standing_examples, wrong_examples,
+};
 pub use fault::{BadRecord, RecordFault, RecordStop};
 pub use laws::{
     no_record_text_begins_another, record_texts_have_no_fault, records_have_few_lines,
@@ -29,3 +38,8 @@ pub use player::Player;
 pub use print::print_record;
 pub use read::read_record;
 pub use record::{Action, Actions, Ending, Game, Games, Record, RecordStakes, What};
+pub use replay_laws::{
+    decisions_are_right, records_have_few_decisions, records_tell_their_decisions,
+    replays_break_no_rule,
+};
+pub use replaying::replay;

@@ -1,4 +1,5 @@
 ghost use Rattle.std.specs.Prelude.{◌≡◌, ◌<◌, ◌++◌, List, [], ◌∷◌, length, OnOk, OnErr, slice_get, Some};
+ghost use Rattle.game_record.specs.Games.{has_beavers, has_jacoby_rule};
 ghost use Rattle.game_record.specs.Turns.{is_match};
 
 use crate::player::Player;
@@ -35,6 +36,23 @@ impl RecordStakes {
         ensures { result ≡ is_match self }
     {
         matches!(self, RecordStakes::Match(_))
+    }
+
+    /// A game with the cube centred counts once.
+    pub(crate) fn has_jacoby_rule(self) -> bool
+        ensures { result ≡ has_jacoby_rule self }
+    {
+        matches!(self, RecordStakes::Jacoby | RecordStakes::JacobyBeavers)
+    }
+
+    /// Who is doubled may turn the cube once more.
+    pub(crate) fn has_beavers(self) -> bool
+        ensures { result ≡ has_beavers self }
+    {
+        matches!(
+            self,
+            RecordStakes::MoneyBeavers | RecordStakes::JacobyBeavers
+        )
     }
 }
 

@@ -1,4 +1,5 @@
 use super::*;
+use move_rules::BadPlay;
 use std::alloc::AllocGlobal;
 use std::process::Abort;
 
@@ -201,4 +202,157 @@ fn lengths_are_told(rt: HostRuntime) {
     is_told(&rt, &bytes[1..], 1, RecordFault::Unended);
     bytes[1_048_576] = b'\n';
     is_told(&rt, &bytes[1..], 1, RecordFault::Shape);
+}
+
+fn decisions_of(rt: &(impl AllocGlobal + Abort), text: &[u8]) -> Result<Decisions, RecordStop> {
+    let Ok(read) = read_record(rt.alloc(), text) else {
+        panic!(rt; "it isn't read");
+    };
+    replay(rt.alloc(), &read)
+}
+
+fn is_broken(rt: &(impl AllocGlobal + Abort), text: &[u8], line: u32, fault: RecordFault) {
+    let told = decisions_of(rt, text).err();
+    assert_eq!(rt; told, Some(RecordStop::Bad(BadRecord { line, fault })));
+}
+
+fn count(decisions: &Decisions, player: Player) -> usize {
+    let mut of_player = 0;
+    for i in 0..decisions.len() {
+        if decisions.at(i).player == player {
+            of_player = usize::wrapping_add(of_player, 1);
+        }
+    }
+    of_player
+}
+
+/// How many decisions a record has, and how many of them are those of A.
+fn has_decisions(rt: &(impl AllocGlobal + Abort), text: &str, all: usize, of_a: usize) {
+    let found = decisions_of(rt, text.as_bytes());
+    let Ok(found) = found else {
+        panic!(rt; "{text} breaks a rule");
+    };
+    assert_eq!(rt; (found.len(), count(&found, Player::A)), (all, of_a));
+}
+
+#[test]
+fn decisions_are_counted(rt: HostRuntime) {
+    has_decisions(&rt, ONE_CHECKER, 16, 7);
+    has_decisions(&rt, LEFT, 13, 7);
+    has_decisions(&rt, BEAVER, 3, 2);
+    has_decisions(&rt, ONE_GAME, 3, 2);
+}
+
+/// What was chosen in a line of the first game, by whom and in which kind of state.
+fn is_told_in(
+    rt: &impl Abort,
+    found: &Decisions,
+    at: usize,
+    line: u32,
+    player: Player,
+    kind: usize,
+    choice: Choice,
+) {
+    assert!(rt; at < found.len(), "it is missing");
+    let told = found.at(at);
+    assert_eq!(rt;
+        (told.game, told.line, told.player, told.kind),
+        (1, line, player, kind)
+    );
+    assert_eq!(rt; (told.choice, told.score), (choice, None));
+}
+
+/// Whose turn it is has a checker on his point 6, and the other on his point 2.
+fn is_at_6_and_2(rt: &impl Abort, found: &Decisions, at: usize) {
+    assert!(rt; at < found.len(), "it is missing");
+    let position = found.at(at).position;
+    assert_eq!(rt; (position.mover_at(6), position.other_at(2)), (1, 1));
+}
+
+/// A double and its answer are seen by the player who doubled.
+#[test]
+fn decisions_are_those_of_the_lines(rt: HostRuntime) {
+    use Player::{A, B};
+    let found = decisions_of(&rt, ONE_CHECKER.as_bytes());
+    let Ok(found) = found else {
+        panic!(rt; "it breaks a rule");
+    };
+    let doubled = Choice::Offered(Offer::Double);
+    is_told_in(&rt, &found, 11, 11, A, 0, doubled);
+    is_at_6_and_2(&rt, &found, 11);
+    let took = Choice::Answered(Answer::Take);
+    is_told_in(&rt, &found, 12, 12, B, 0, took);
+    is_at_6_and_2(&rt, &found, 12);
+    let undoubled = Choice::Offered(Offer::NoDouble);
+    is_told_in(&rt, &found, 14, 14, B, 1, undoubled);
+}
+
+/// A match of one point that is over, and goes on.
+const OVER: &str = "hypergammon record 1\ncheckers 1\nstakes match 1\ngame 1 away 1 1\n\
+A 65 24/18 18/13\nB 66 24/18 18/12* 12/6 6/off\nend B 3\ngame 2 away 1 1\nA 21 24/22 22/21\n\
+stop\nclose\n";
+
+/// A game of two checkers in whose last turn one die alone can be played, and the lower one is.
+const LOWER_DIE: &str = "hypergammon record 1\ncheckers 2\nstakes money\ngame 1\n\
+A 65 24/19 23/17\nB 61 24/18 23/22\nA 66 19/13 17/11 13/7* 7/1\nB 52 bar/20 22/20\n\
+A 42 11/9\nstop\nclose\n";
+
+/// The line of the record of one checker that is changed, what it is changed to, and the rule that it breaks.
+const BREAKS: [(u32, &str, RecordFault); 9] = [
+    (
+        5,
+        "A 31 24/21* 21/20",
+        RecordFault::IllegalPlay(BadPlay::HitMark),
+    ),
+    (
+        7,
+        "A 63 20/14 14/11",
+        RecordFault::IllegalPlay(BadPlay::HitMark),
+    ),
+    (6, "B 64 24/20", RecordFault::IllegalPlay(BadPlay::TooFew)),
+    (
+        8,
+        "B 61 14/8 8/7",
+        RecordFault::IllegalPlay(BadPlay::NoChecker),
+    ),
+    (14, "B 51 2/off", RecordFault::IllegalPlay(BadPlay::TooFew)),
+    (15, "end B 1", RecordFault::ScoreWrong),
+    (15, "end A 2", RecordFault::ScoreWrong),
+    (15, "A 21 4/2 2/1\nstop", RecordFault::ScoreWrong),
+    (15, "stop", RecordFault::ScoreWrong),
+];
+
+#[test]
+fn broken_rules_are_told(rt: HostRuntime) {
+    for (line, text, fault) in BREAKS {
+        is_broken(&rt, &with_line(&rt, ONE_CHECKER, line, text), line, fault);
+    }
+    let lower = RecordFault::IllegalPlay(BadPlay::HigherDie);
+    is_broken(&rt, LOWER_DIE.as_bytes(), 9, lower);
+    let early = with_line(&rt, LEFT, 12, "end A 1");
+    is_broken(&rt, &early, 12, RecordFault::ScoreWrong);
+}
+
+#[test]
+fn broken_rules_of_matches_are_told(rt: HostRuntime) {
+    is_broken(&rt, MATCH.as_bytes(), 11, RecordFault::IllegalCube);
+    is_broken(&rt, OVER.as_bytes(), 8, RecordFault::ScoreWrong);
+    for line in ["game 1 away 1 2", "game 1 away 2 1"] {
+        is_broken(
+            &rt,
+            &with_line(&rt, MATCH, 4, line),
+            4,
+            RecordFault::ScoreWrong,
+        );
+    }
+    let other_way = with_line(&rt, MATCH, 9, "game 2 away 1 2");
+    is_broken(&rt, &other_way, 9, RecordFault::ScoreWrong);
+    let more = with_line(&rt, MATCH, 8, "end B 2");
+    is_broken(&rt, &more, 8, RecordFault::ScoreWrong);
+    let plain = with_line(&rt, BEAVER, 3, "stakes jacoby");
+    is_broken(&rt, &plain, 7, RecordFault::IllegalCube);
+    let cubeless = with_line(&rt, ONE_CHECKER, 3, "stakes cubeless");
+    is_broken(&rt, &cubeless, 11, RecordFault::IllegalCube);
+    let early = with_line(&rt, MATCH, 5, "A double");
+    is_told(&rt, &early, 5, RecordFault::Order);
 }

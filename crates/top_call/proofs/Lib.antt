@@ -1,3 +1,6 @@
 mod Refused
 mod Enclosed
 mod Right
+mod Loaded
+mod LookedUp
+mod ShowLaws

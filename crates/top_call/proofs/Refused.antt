@@ -4,7 +4,8 @@ use Rattle.equity_report.specs.declared.refusal.Refusal.{Refusal}
 use Rattle.equity_report.specs.declared.refusal.Refusal.TheVariants.{Words, Position, Missing, File, Read, Write, Memory, Base}
 use Rattle.equity_report.specs.Refusals.{status_of, refusal_text}
 use Rattle.top_call.specs.declared.task.Task.{Task}
-use Rattle.top_call.specs.Runs.{IsDue, Ends, IsStatus}
+use Rattle.top_call.specs.declared.task.Task.TheVariants.{Bound, Solve, Show, Migrate}
+use Rattle.top_call.specs.Runs.{IsDue, Ends, EndsTask, EndsWriting, EndsLoading, EndsShowing, IsStatus}
 
 -- status 8 is that of want of memory alone
 pub memory-text : (W : List ℕ → Type 0) (refusal : Refusal) → status_of refusal ≡ 8 → W (refusal_text refusal) → W (refusal_text Memory)
@@ -41,10 +42,29 @@ due-text W (Ok task) Memory status reads is w = tt
 due-text W (Err due) Memory status reads is w = λ e. of_memory W due (omega (arith, e, is)) w
 due-text W expected (Base wanted found) status reads is w = subst (Due W status) (sym reads) (λ _. w)
 
+writing-status : (status : ℕ) → EndsWriting status → IsStatus status
+writing-status status (inl done) = inl done
+writing-status status (inr (inl write)) = inr (Write, write)
+writing-status status (inr (inr memory)) = inr (Memory, memory)
+
+loading-status : (status : ℕ) → EndsLoading status → IsStatus status
+loading-status status (inl done) = inl done
+loading-status status (inr (inl write)) = inr (Write, write)
+loading-status status (inr (inr (refusal, of, is))) = inr (refusal, is)
+
+showing-status : (status : ℕ) → EndsShowing status → IsStatus status
+showing-status status (inl done) = inl done
+showing-status status (inr (inl write)) = inr (Write, write)
+showing-status status (inr (inr (refusal, of, is))) = inr (refusal, is)
+
+task-status : (task : Task) (status : ℕ) → EndsTask task status → IsStatus status
+task-status (Bound task) status ends = writing-status status ends
+task-status (Solve task) status ends = writing-status status ends
+task-status (Show task) status ends = showing-status status ends
+task-status (Migrate task) status ends = loading-status status ends
+
 -- however a run ends, its status is 0 or that of a refusal
 pub ends-status : (expected : Result Task Refusal) (status : ℕ) → Ends expected status → IsStatus status
-ends-status (Ok task) status (inl done) = inl done
-ends-status (Ok task) status (inr (inl write)) = inr (Write, write)
-ends-status (Ok task) status (inr (inr memory)) = inr (Memory, memory)
+ends-status (Ok task) status ends = task-status task status ends
 ends-status (Err refusal) status (inl is) = inr (refusal, is)
 ends-status (Err refusal) status (inr memory) = inr (Memory, memory)

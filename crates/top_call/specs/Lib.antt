@@ -4,3 +4,4 @@ pub mod Truth
 pub mod Solves
 pub mod Loads
 pub mod Migrates
+pub mod Shows

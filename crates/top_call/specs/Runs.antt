@@ -4,10 +4,10 @@ use Rattle.hyper_outside.specs.declared.outside.Failed.{Failed}
 use Rattle.hyper_outside.specs.declared.outside.WordsKind.TheVariants.{Word}
 use Rattle.hyper_outside.specs.Sink.{Output, Puts}
 use Rattle.equity_report.specs.declared.refusal.Refusal.{Refusal}
-use Rattle.equity_report.specs.declared.refusal.Refusal.TheVariants.{Words, Missing, File, Read, Write, Memory}
+use Rattle.equity_report.specs.declared.refusal.Refusal.TheVariants.{Words, Missing, File, Read, Write, Memory, Base}
 use Rattle.equity_report.specs.Refusals.{status_of}
 use Rattle.top_call.specs.declared.task.Task.{Task}
-use Rattle.top_call.specs.declared.task.Task.TheVariants.{Bound, Solve, Migrate}
+use Rattle.top_call.specs.declared.task.Task.TheVariants.{Bound, Solve, Show, Migrate}
 
 -- the task is the one that was asked for, or the refusal the one that is due, unless there was no memory
 abbrev pub IsDue : Result Task Refusal → Result Task Refusal → Type 0
@@ -31,10 +31,20 @@ IsOfLoading _ = ⊥
 abbrev pub EndsLoading : ℕ → Type 0
 EndsLoading status = (status ≡ 0) ⊎ (status ≡ status_of Write) ⊎ ((refusal : Refusal) × IsOfLoading refusal × (status ≡ status_of refusal))
 
+-- a refusal of a file in which a position is to be looked up: one of loading, or the file is of another game
+abbrev pub IsOfShowing : Refusal → Type 0
+IsOfShowing (Base wanted found) = ⊤
+IsOfShowing refusal = IsOfLoading refusal
+
+-- 0 where the report was put, that of a failed write where putting failed, and else that of a position that couldn't be looked up
+abbrev pub EndsShowing : ℕ → Type 0
+EndsShowing status = (status ≡ 0) ⊎ (status ≡ status_of Write) ⊎ ((refusal : Refusal) × IsOfShowing refusal × (status ≡ status_of refusal))
+
 -- how a task may end
 abbrev pub EndsTask : Task → ℕ → Type 0
 EndsTask (Bound task) status = EndsWriting status
 EndsTask (Solve task) status = EndsWriting status
+EndsTask (Show task) status = EndsShowing status
 EndsTask (Migrate task) status = EndsLoading status
 
 -- Where words are refused, the status is that of the refusal, or that of no memory if there was none.

@@ -5,7 +5,6 @@ use Rattle.position_rank.specs.Placement.{Placement, IsPosition, IsLive}
 use Rattle.position_rank.specs.declared.text.BadPosition.{BadPosition}
 use Rattle.position_rank.specs.Text.{read_position}
 use Rattle.hyper_outside.specs.declared.outside.BadWords.{BadWords}
-use Rattle.hyper_outside.specs.declared.outside.WordsKind.TheVariants as kinds
 use Rattle.cube_actions.specs.declared.name.StakesName.TheVariants.{Cubeless}
 use Rattle.command_line.specs.declared.command.Command.{Command}
 use Rattle.command_line.specs.declared.command.Command.TheVariants as commands
@@ -13,7 +12,8 @@ use Rattle.command_line.specs.declared.command.Bound.{Bound as BoundWords}
 use Rattle.command_line.specs.declared.command.Solve.{Solve as SolveTask}
 use Rattle.command_line.specs.declared.command.Migrate.{Migrate as MigrateTask}
 use Rattle.command_line.specs.Words.{reading}
-use Rattle.command_line.specs.Right.{IsRightSolve, IsRightMigrate}
+use Rattle.command_line.specs.declared.command.Show.{Show as ShowWords}
+use Rattle.command_line.specs.Right.{IsName, IsRightSolve, IsRightMigrate}
 use Rattle.word_forms.specs.Clap.{bytes_of}
 use Rattle.cube_actions.specs.Stakes.{cubeless}
 use Rattle.turn_rule.specs.Turn.{rounds}
@@ -23,8 +23,9 @@ use Rattle.equity_report.specs.declared.text.GameName.{GameName}
 use Rattle.equity_report.specs.declared.refusal.Refusal.{Refusal}
 use Rattle.equity_report.specs.declared.refusal.Refusal.TheVariants.{Words, Position, Base}
 use Rattle.top_call.specs.declared.task.BoundTask.{BoundTask}
+use Rattle.top_call.specs.declared.task.ShowTask.{ShowTask}
 use Rattle.top_call.specs.declared.task.Task.{Task}
-use Rattle.top_call.specs.declared.task.Task.TheVariants.{Bound, Solve, Migrate}
+use Rattle.top_call.specs.declared.task.Task.TheVariants.{Bound, Solve, Show, Migrate}
 
 -- a game without a cube, by its checkers
 abbrev pub cubeless_game : ℕ → GameName
@@ -40,14 +41,15 @@ abbrev pub with_position : BoundWords → Result Placement BadPosition → Resul
 with_position bound (Ok p) = fitting bound.checkers bound.rounds p
 with_position bound (Err bad) = Err (Position bad)
 
--- a command that the program has the words of, and doesn't do yet
-abbrev pub not_done_yet : BadWords
-not_done_yet = record { kind = kinds.Command; place = 0 }
+-- a position that is to be looked up
+abbrev pub with_shown : ShowWords → Result Placement BadPosition → Result Task Refusal
+with_shown show (Ok p) = Ok (Show (record { file = show.file; position = p }))
+with_shown show (Err bad) = Err (Position bad)
 
 abbrev pub with_words : Result Command BadWords → Result Task Refusal
 with_words (Ok (commands.Bound bound)) = with_position bound (read_position bound.position)
 with_words (Ok (commands.Solve solve)) = Ok (Solve solve)
-with_words (Ok (commands.Show show)) = Err (Words not_done_yet)
+with_words (Ok (commands.Show show)) = with_shown show (read_position show.position)
 with_words (Ok (commands.Migrate migrate)) = Ok (Migrate migrate)
 with_words (Err bad) = Err (Words bad)
 
@@ -71,6 +73,12 @@ IfSolve (Ok (Solve task)) P = P task
 IfSolve (Ok _) P = Unit {0}
 IfSolve (Err refusal) P = Unit {0}
 
+-- where a position is to be looked up
+abbrev pub IfShow : Result Task Refusal → (ShowTask → Type 0) → Type 0
+IfShow (Ok (Show task)) P = P task
+IfShow (Ok _) P = Unit {0}
+IfShow (Err refusal) P = Unit {0}
+
 -- where a file is to be written anew
 abbrev pub IfMigrate : Result Task Refusal → (MigrateTask → Type 0) → Type 0
 IfMigrate (Ok (Migrate task)) P = P task
@@ -82,6 +90,12 @@ pub record IsRightBound (task : BoundTask) : Type 0 where
   pub position : IsPosition task.position
   pub live : IsLive task.position
 
+-- a file's name and a live position
+pub record IsRightShow (task : ShowTask) : Type 0 where
+  pub file : IsName task.file
+  pub position : IsPosition task.position
+  pub live : IsLive task.position
+
 -- the pair of the position after so many rounds of a game without a cube
 abbrev pub bound_report : BoundTask → List ℕ
 bound_report task = bound_text task.position task.rounds (pair_of (rounds cubeless task.rounds) task.position 0)
@@ -89,4 +103,5 @@ bound_report task = bound_text task.position task.rounds (pair_of (rounds cubele
 abbrev pub IsRightTask : Task → Type 0
 IsRightTask (Bound task) = IsRightBound task
 IsRightTask (Solve task) = IsRightSolve task
+IsRightTask (Show task) = IsRightShow task
 IsRightTask (Migrate task) = IsRightMigrate task

@@ -6,6 +6,7 @@ mod load;
 mod migrate;
 mod program;
 mod put;
+mod show;
 mod solve;
 mod task;
 #[cfg(test)]
@@ -14,5 +15,6 @@ mod top;
 
 pub use program::{refuse_unread, start};
 pub use put::DONE;
-pub use task::{BoundTask, Task, read_task};
+pub use show::{Rows, Shown};
+pub use task::{BoundTask, ShowTask, Task, read_task};
 pub use top::run;

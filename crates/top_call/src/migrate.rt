@@ -1,6 +1,7 @@
 ghost use Rattle.std.specs.Prelude.{◌≡◌, ◌≢◌, ◌⊎◌, IsTrue};
 ghost use Rattle.hyper_outside.specs.Causes.{Rose};
 ghost use Rattle.hyper_outside.specs.Files.{KeepsOthers, SameFiles};
+ghost use Rattle.hyper_outside.specs.Sink.{Puts};
 ghost use Rattle.equity_report.specs.declared.refusal.Refusal.TheVariants.{Read, Write};
 ghost use Rattle.equity_report.specs.Refusals.{status_of, refusal_text};
 ghost use Rattle.command_line.specs.Right.{IsRightMigrate};
@@ -18,7 +19,23 @@ use hyper_outside::{Failed, Files, Sink};
 use std::alloc::Global;
 use word_pages::Version;
 
-/// Puts the report on a file with this head, or a refusal where that fails.
+/// Puts the report on a file with this head.
+fn report<O: Sink>(task: &Migrate, head: &Head, out: &mut O) -> Result<(), Failed>
+    requires { IsRightMigrate task.now }
+    ensures { Puts (O.output out.old) (O.output out.new)
+        (migrated_report task.now head.now) result }
+{
+    let bytes = Header::of(head, Version::Two).file_length();
+    write_migrated(
+        out,
+        game_told(head),
+        head.rounds(),
+        task.new.as_str(),
+        bytes,
+    )
+}
+
+/// Puts the report, or a refusal where that fails.
 fn tell<O: Sink>(task: &Migrate, head: &Head, out: &mut O) -> u8
     requires { IsRightMigrate task.now }
     ensures ends { (result ≡ 0) ⊎ (result ≡ status_of Write) }
@@ -29,14 +46,7 @@ fn tell<O: Sink>(task: &Migrate, head: &Head, out: &mut O) -> u8
     ensures cause { result ≡ status_of Write
         → Rose (O.output out.old).faults (O.output out.new).faults }
 {
-    let bytes = Header::of(head, Version::Two).file_length();
-    match write_migrated(
-        out,
-        game_told(head),
-        head.rounds(),
-        task.new.as_str(),
-        bytes,
-    ) {
+    match report(task, head, out) {
         Ok(()) => DONE,
         Err(Failed) => refuse(out, &Refusal::Write),
     }

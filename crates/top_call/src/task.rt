@@ -1,12 +1,12 @@
 ghost use Rattle.std.specs.Prelude.{◌≡◌, ℕ, IfOk};
 ghost use Rattle.position_rank.specs.Text.{read_position};
-ghost use Rattle.top_call.specs.Tasks.{IsRightTask, asked, fitting, with_position};
+ghost use Rattle.command_line.specs.Right.{IsRightShow};
+ghost use Rattle.top_call.specs.Tasks.{IsRightTask, asked, fitting, with_position, with_shown};
 ghost use Rattle.top_call.specs.Runs.{IsDue};
 
-use command_line::{Bound, Command, Migrate, Solve, WordsStop, read_words};
+use command_line::{Bound, Command, Migrate, Show, Solve, Text, WordsStop, read_words};
 use cube_actions::StakesName;
 use equity_report::{GameName, Refusal};
-use hyper_outside::{BadWords, WordsKind};
 use position_rank::{Position, read_position};
 use std::alloc::Global;
 
@@ -17,11 +17,20 @@ pub struct BoundTask {
     pub rounds: u32,
 }
 
+/// A position whose pairs are to be looked up in a file.
+#[derive(Drop)]
+pub struct ShowTask {
+    /// The file's name, 1 to 255 bytes.
+    pub file: Text,
+    pub position: Position,
+}
+
 /// What the program's words ask for.
 #[derive(Drop)]
 pub enum Task {
     Bound(BoundTask),
     Solve(Solve),
+    Show(ShowTask),
     Migrate(Migrate),
 }
 
@@ -34,10 +43,7 @@ pub fn read_task(alloc: Global, words: &[String]) -> Result<Task, Refusal>
         Ok(Command::Bound(bound)) => bound_task(&bound),
         Ok(Command::Solve(solve)) => Ok(Task::Solve(solve)),
         Ok(Command::Migrate(migrate)) => Ok(Task::Migrate(migrate)),
-        Ok(Command::Show(_)) => Err(Refusal::Words(BadWords {
-            kind: WordsKind::Command,
-            place: 0,
-        })),
+        Ok(Command::Show(show)) => show_task(show),
         Err(WordsStop::Bad(bad)) => Err(Refusal::Words(bad)),
         Err(WordsStop::NoMemory) => Err(Refusal::Memory),
     }
@@ -49,6 +55,18 @@ fn bound_task(bound: &Bound) -> Result<Task, Refusal>
 {
     match read_position(bound.position.as_str()) {
         Ok(position) => fitting(bound.checkers, bound.rounds, position),
+        Err(bad) => Err(Refusal::Position(bad)),
+    }
+}
+
+fn show_task(show: Show) -> Result<Task, Refusal>
+    requires { IsRightShow show }
+    ensures task { result ≡ with_shown show (read_position show.position) }
+    ensures right { IfOk result IsRightTask }
+{
+    let Show { file, position } = show;
+    match read_position(position.as_str()) {
+        Ok(position) => Ok(Task::Show(ShowTask { file, position })),
         Err(bad) => Err(Refusal::Position(bad)),
     }
 }

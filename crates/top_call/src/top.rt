@@ -3,9 +3,10 @@ ghost use Rattle.hyper_outside.specs.Causes.{Rose};
 ghost use Rattle.hyper_outside.specs.Files.{KeepsOthers, SameFiles};
 ghost use Rattle.equity_report.specs.declared.refusal.Refusal.TheVariants.{Memory, Read, Write};
 ghost use Rattle.equity_report.specs.Refusals.{status_of, refusal_text};
-ghost use Rattle.top_call.specs.Tasks.{IfBound, IfMigrate, IfSolve, asked, bound_report};
+ghost use Rattle.top_call.specs.Tasks.{IfBound, IfMigrate, IfShow, IfSolve, asked, bound_report};
 ghost use Rattle.top_call.specs.Loads.{WasNotLoaded};
 ghost use Rattle.top_call.specs.Migrates.{HasMigrated, HasStoppedMigrating};
+ghost use Rattle.top_call.specs.Shows.{HasShown, WasNotShown};
 ghost use Rattle.top_call.specs.Runs.{Ends, IsPut, WasPut, FailedThenPut};
 ghost use Rattle.top_call.specs.Truth.{PutsEnclosingPair};
 ghost use Rattle.top_call.specs.Solves.{HasSolved, HasStopped};
@@ -13,6 +14,7 @@ ghost use Rattle.top_call.specs.Solves.{HasSolved, HasStopped};
 use crate::bound::run_bound;
 use crate::migrate::run_migrate;
 use crate::put::refuse;
+use crate::show::run_show;
 use crate::solve::run_solve;
 use crate::task::{Task, read_task};
 use hyper_outside::{Files, Gate, Sink};
@@ -71,6 +73,26 @@ pub fn run<R: Threads + Sync, F: Files, O: Sink, G: Gate + Sync>(
         → IfSolve (asked words.now)
         (λ task. KeepsOthers task.file (F.held files.old) (F.held files.new)) }
 
+    // A position's pairs in a file.
+    ensures shown { result ≡ 0
+        → IfShow (asked words.now)
+        (λ task. HasShown task (F.tells files.old) (F.held files.old task.file)
+        (λ text. IsPut (O.output out.old) (O.output out.new) text)) }
+    ensures not_put { result ≡ status_of Write
+        → IfShow (asked words.now)
+        (λ task. HasShown task (F.tells files.old) (F.held files.old task.file)
+        (λ text. FailedThenPut (O.output out.old) (O.output out.new) text (refusal_text Write))) }
+    ensures not_shown { result ≢ 0 → result ≢ status_of Write
+        → IfShow (asked words.now)
+        (λ task. WasNotShown task (F.tells files.old) (F.held files.old task.file)
+        (O.output out.old) (O.output out.new) result) }
+    ensures show_cause { IfShow (asked words.now)
+        (λ task. result ≡ status_of Write
+        → Rose (O.output out.old).faults (O.output out.new).faults) }
+    ensures show_files { IsTrue (F.tells files.old)
+        → IfShow (asked words.now)
+        (λ task. SameFiles (F.held files.old) (F.held files.new)) }
+
     // A file that is written anew.
     ensures migrated { result ≡ 0
         → IfMigrate (asked words.now)
@@ -109,6 +131,7 @@ pub fn run<R: Threads + Sync, F: Files, O: Sink, G: Gate + Sync>(
     match read_task(alloc, words) {
         Ok(Task::Bound(task)) => run_bound(alloc, &task, out),
         Ok(Task::Solve(task)) => run_solve(rt, alloc, &task, files, out, gate),
+        Ok(Task::Show(task)) => run_show(alloc, &task, files, out),
         Ok(Task::Migrate(task)) => run_migrate(alloc, &task, files, out),
         Err(refusal) => refuse(out, &refusal),
     }

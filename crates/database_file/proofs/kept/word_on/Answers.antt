@@ -1,5 +1,4 @@
-use Rattle.std.proofs.Common.{◌≡◌, ◌∙◌, ℕ, ◌+◌, ◌*◌, ◌<◌, List, Option, Some, Vec, Global, length, slice_index, nat_eq, refl, sym, ap, subst, arith}
-use Rattle.std.specs.Map.{lookup}
+use Rattle.std.proofs.Common.{◌∙◌, ℕ, List, Vec, Global, length, slice_index, sym, ap, subst, arith}
 use Rattle.std.specs.Option.{option_copied}
 use Rattle.hyper_outside.specs.Files.{bytes_from}
 use Rattle.word_pages.specs.Flaws.{AreWithin, value_of}

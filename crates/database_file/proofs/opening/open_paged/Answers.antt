@@ -2,7 +2,7 @@ use Rattle.std.proofs.Common.{ap}
 use Rattle.std.specs.Option.{option_map}
 use Rattle.database_file.specs.Faults.{whole}
 use Rattle.database_file.specs.PagedFiles.{PagedFile}
-use Rattle.database_file.proofs.OpenedFiles.{front-fits, front-stopped, opened}
+use Rattle.database_file.proofs.OpenedFiles.{front-fits, front-stopped, none-of-file, opened}
 use Rattle.database_file.proofs.opening.open_paged.Goals as goal
 
 pub returns-in_err-front-clause-read : goal.returns-in_err-front-clause-read
@@ -31,3 +31,8 @@ returns-clause-told g c tells =
     let file = option_map whole (g.F.Files.held c.args.files.now c.args.name.now) in
     let is = c.in_ok-base.ensures in
     opened file c.in_ok-front.front c.in_ok-base.base (c.in_ok-front.ensures.told tells) (ap (λ (base : PagedFile). base.header) is) (ap (λ (base : PagedFile). base.head) is)
+
+pub returns-clause-of_file : goal.returns-clause-of_file
+returns-clause-of_file g c =
+    let files = c.read_front.new.files in
+    none-of-file c.in_ok-base.base (g.F.Files.tells files) (g.F.Files.held files) (ap (λ (base : PagedFile). base.kept) c.in_ok-base.ensures)

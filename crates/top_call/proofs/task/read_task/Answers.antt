@@ -6,3 +6,9 @@ use Rattle.top_call.proofs.task.read_task.Goals as goal
 
 pub returns-in-Ok-Solve-clause-right : goal.returns-in-Ok-Solve-clause-right
 returns-in-Ok-Solve-clause-right c = subst IsRightCommand c.in-Ok-Solve.field-0-is (command-right (bytes_of c.args.words.now) c.in-Ok-Solve.field-0 c.in-Ok-Solve.ensures)
+
+pub show_task-requires : goal.show_task-requires
+show_task-requires c = subst IsRightCommand c.in-Ok-Show.field-0-is (command-right (bytes_of c.args.words.now) c.in-Ok-Show.field-0 c.in-Ok-Show.ensures)
+
+pub returns-in-Ok-Migrate-clause-right : goal.returns-in-Ok-Migrate-clause-right
+returns-in-Ok-Migrate-clause-right c = subst IsRightCommand c.in-Ok-Migrate.field-0-is (command-right (bytes_of c.args.words.now) c.in-Ok-Migrate.field-0 c.in-Ok-Migrate.ensures)

@@ -1,7 +1,8 @@
-use Rattle.std.proofs.Common.{List, ℕ, sym, ◌∙◌}
+use Rattle.std.proofs.Common.{List, ℕ, sym, ◌∙◌, arith}
 use Rattle.top_call.specs.Tasks.{asked}
 use Rattle.top_call.specs.Runs.{WasPut}
 use Rattle.top_call.proofs.Refused.{due-text, memory-text}
+use Rattle.top_call.proofs.Loaded.{unread}
 use Rattle.top_call.proofs.top.run.Goals as goal
 
 pub returns-in-Err-clause-refusal : goal.returns-in-Err-clause-refusal
@@ -13,3 +14,20 @@ pub returns-in-Err-clause-memory : goal.returns-in-Err-clause-memory
 returns-in-Err-clause-memory g c =
     let put = λ (text : List ℕ). WasPut (g.O.Sink.output c.args.out.now) (g.O.Sink.output c.refuse.new.out) text in
     λ e. memory-text put c.in-Err.refusal (sym c.refuse.ensures.status ∙ e) c.refuse.ensures.told
+
+pub returns-in-Err-clause-old_refused : goal.returns-in-Err-clause-old_refused
+returns-in-Err-clause-old_refused g c = λ done write.
+    unread (g.F.Files.tells c.args.files.now) (g.F.Files.held c.args.files.now) (g.O.Sink.output c.args.out.now) (g.O.Sink.output c.refuse.new.out) c.refuse.result
+    (asked c.args.words.now) c.in-Err.refusal c.in-Err.ensures.due c.refuse.ensures.status c.refuse.ensures.told
+
+pub returns-in-Ok-Show-clause-memory : goal.returns-in-Ok-Show-clause-memory
+returns-in-Ok-Show-clause-memory g c = λ e.
+    let put = λ (text : List ℕ). WasPut (g.O.Sink.output c.args.out.now) (g.O.Sink.output c.run_show.new.out) text in
+    let not_shown = c.run_show.ensures.refused (λ done. absurd (omega (arith, done, e))) (λ write. absurd (omega (arith, write, e))) in
+    memory-text put not_shown.refusal (sym not_shown.is_status ∙ e) not_shown.line
+
+pub returns-in-Ok-Migrate-clause-memory : goal.returns-in-Ok-Migrate-clause-memory
+returns-in-Ok-Migrate-clause-memory g c = λ e.
+    let put = λ (text : List ℕ). WasPut (g.O.Sink.output c.args.out.now) (g.O.Sink.output c.run_migrate.new.out) text in
+    let not_loaded = c.run_migrate.ensures.refused (λ done. absurd (omega (arith, done, e))) (λ write. absurd (omega (arith, write, e))) in
+    memory-text put not_loaded.refusal (sym not_loaded.is_status ∙ e) not_loaded.line

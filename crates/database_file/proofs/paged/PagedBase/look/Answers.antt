@@ -1,5 +1,4 @@
-use Rattle.std.proofs.Common.{◌∙◌, List, Ok, Err, refl, sym, ap, subst}
-use Rattle.base_head.specs.Headers.{IsHeader}
+use Rattle.std.proofs.Common.{◌∙◌, Ok, Err, refl, sym, ap, subst}
 use Rattle.database_file.specs.Faults.{pages_behind}
 use Rattle.database_file.specs.Pages.{ArePages}
 use Rattle.database_file.specs.Paged.{ArePagesKept, spot_of}

@@ -1,4 +1,4 @@
-use Rattle.std.proofs.Common.{◌∙◌, ℕ, ◌+◌, ◌*◌, ◌/◌, ◌%◌, ◌<◌, sym, ap, subst}
+use Rattle.std.proofs.Common.{◌∙◌, ◌+◌, ◌*◌, ◌/◌, ◌%◌, ◌<◌, sym, ap, subst}
 use Rattle.position_rank.specs.LiveRanks.{live_rank_of}
 use Rattle.base_head.specs.Headers.{IsHeader}
 use Rattle.database_file.specs.Faults.{pages_behind}

@@ -1,0 +1,77 @@
+-- A game in progress.
+use Rattle.std.specs.Prelude.{ℕ, Bool, true, false, not, ◌&&◌, is_some, is_none, nat_lt, Some, None, if◌then◌else◌}
+use Rattle.std.specs.Option.{option_map}
+use Rattle.cube_actions.specs.Scores.{is_crawford}
+use Rattle.game_payoff.specs.Points.{points}
+use Rattle.game_payoff.specs.declared.payoff.Won.{Won}
+use Rattle.game_payoff.specs.declared.payoff.Won.TheVariants.{Single, Gammon, Backgammon}
+use Rattle.position_rank.specs.Packed.{start_placement}
+use Rattle.position_rank.specs.Placement.{Placement, swap}
+use Rattle.game_record.specs.declared.cube.Cube.{Cube}
+use Rattle.game_record.specs.declared.decision.Answer.{Answer}
+use Rattle.game_record.specs.declared.decision.Answer.TheVariants.{Take, Pass, Beaver}
+use Rattle.game_record.specs.declared.player.Player.{Player}
+use Rattle.game_record.specs.declared.progress.Progress.{Progress}
+use Rattle.game_record.specs.declared.record.RecordStakes.{RecordStakes}
+use Rattle.game_record.specs.declared.record.RecordStakes.TheVariants.{Cubeless, Jacoby, MoneyBeavers, JacobyBeavers, Match}
+use Rattle.game_record.specs.declared.standing.Standing.{Standing}
+use Rattle.game_record.specs.Cube.{centred, is_free_to, shows, turned}
+use Rattle.game_record.specs.Standings.{needs}
+use Rattle.game_record.specs.Turns.{other_player}
+
+-- the board is set up, and the cube is centred
+abbrev pub opening : ℕ → Progress
+opening checkers = record { position = start_placement checkers; cube = centred; opened = false; doubled = false; won = None }
+
+-- a play or a pass has ended the game
+abbrev pub is_over : Progress → Bool
+is_over game = is_some game.won
+
+abbrev pub has_jacoby_rule : RecordStakes → Bool
+has_jacoby_rule Jacoby = true
+has_jacoby_rule JacobyBeavers = true
+has_jacoby_rule _ = false
+
+abbrev pub has_beavers : RecordStakes → Bool
+has_beavers MoneyBeavers = true
+has_beavers JacobyBeavers = true
+has_beavers _ = false
+
+abbrev pub worth : Won → ℕ
+worth Single = 1
+worth Gammon = 2
+worth Backgammon = 3
+
+-- by the Jacoby rule a gammon and a backgammon count once while the cube is centred
+abbrev pub counted : RecordStakes → Cube → Won → ℕ
+counted stakes cube won = if has_jacoby_rule stakes && is_none cube.owner then 1 else worth won
+
+-- A player's play leaves this. If he has borne off his last checker, he has won. Else it is the other's turn.
+abbrev pub after_play : RecordStakes → Player → Placement → Progress → Progress
+after_play stakes player end game = record {
+  position = swap end;
+  cube = game.cube;
+  opened = true;
+  doubled = false;
+  won = option_map (λ won. record { winner = player; points = counted stakes game.cube won }) (points end);
+}
+
+abbrev pub after_double : Progress → Progress
+after_double game = record game { doubled = true }
+
+-- Who takes owns the cube at twice what it showed, and who beavers at four times. Who passes has lost one point, at what the cube showed.
+abbrev pub after_answer : Player → Answer → Progress → Progress
+after_answer player Take game = record game { cube = turned game.cube 1 player }
+after_answer player Beaver game = record game { cube = turned game.cube 2 player }
+after_answer player Pass game = record game { won = Some (record { winner = other_player player; points = 1 }) }
+
+-- The right to double: the cube is centred or the player's own. In a match it isn't the Crawford game either, and he needs more points than
+-- the cube shows.
+abbrev pub has_right : RecordStakes → Standing → Player → Cube → Bool
+has_right Cubeless standing player cube = false
+has_right (Match length) standing player cube = not (is_crawford standing.phase) && is_free_to player cube.owner && nat_lt (shows cube) (needs standing player)
+has_right _ standing player cube = is_free_to player cube.owner
+
+-- a player may double after the game's first play, once in a turn, where he has the right
+abbrev pub may_double : RecordStakes → Standing → Player → Progress → Bool
+may_double stakes standing player game = game.opened && not game.doubled && has_right stakes standing player game.cube

@@ -1,0 +1,112 @@
+-- What is shown of a file, and what refuses it.
+use Rattle.std.proofs.Common.{◌≡◌, ◌≢◌, ◌∙◌, ◌<◌, ◌+◌, ℕ, zero, suc, List, [], ◌∷◌, IsTrue, sum, length, drop, Option, Some, None, Ok, Err, Result, inl, inr, refl, sym, ap, subst, arith}
+use Rattle.std.specs.Option.{option_map}
+use Rattle.position_rank.specs.Placement.{Placement, IsPosition, IsLive}
+use Rattle.directed_fixed.specs.declared.bounds.End.{End}
+use Rattle.directed_fixed.specs.declared.bounds.End.TheVariants.{Lower, Upper}
+use Rattle.cube_actions.specs.declared.name.KindName.{KindName}
+use Rattle.cube_actions.specs.declared.name.StakesName.{StakesName}
+use Rattle.cube_actions.specs.Names.{names_of}
+use Rattle.hyper_outside.specs.Files.{Contents}
+use Rattle.hyper_outside.specs.declared.outside.LookStop.{LookStop}
+use Rattle.hyper_outside.specs.declared.outside.LookStop.TheVariants as looks
+use Rattle.turn_rule.specs.States.{IsStateOf, pair_of}
+use Rattle.turn_rule.specs.Turn.{Words}
+use Rattle.word_pages.specs.declared.flaws.Flaw.{Flaw}
+use Rattle.base_head.specs.Fronts.{bad_of}
+use Rattle.base_head.specs.Headers.{IsHeader, front_length}
+use Rattle.base_head.specs.declared.header.Header.{Header}
+use Rattle.database_file.specs.declared.stop.LoadStop.{LoadStop}
+use Rattle.database_file.specs.declared.stop.LoadStop.TheVariants as stops
+use Rattle.database_file.specs.Faults.{header_of_file, pages_behind, whole}
+use Rattle.database_file.specs.Pages.{words_in}
+use Rattle.interval_words.specs.Numbers.{words_of}
+use Rattle.database_file.specs.Opened.{AnswersPaged}
+use Rattle.database_file.specs.Paged.{flaw_at, word_at}
+use Rattle.database_file.specs.PagedFiles.{PagedFile}
+use Rattle.database_file.proofs.PageWords.{word-among}
+use Rattle.equity_report.specs.declared.files.KindRow.{KindRow}
+use Rattle.equity_report.specs.declared.text.GameName.{GameName}
+use Rattle.equity_report.specs.declared.refusal.Refusal.{Refusal}
+use Rattle.equity_report.specs.declared.refusal.Refusal.TheVariants.{Words as BadWords, Position, Missing, File, Read, Write, Memory, Base}
+use Rattle.top_call.specs.declared.task.ShowTask.{ShowTask}
+use Rattle.top_call.specs.Loads.{TellsStop, game_told}
+use Rattle.top_call.specs.Shows.{AnswersRows, IsShown, RefusesShowing, look_refusal, rows_from, words_in_file}
+
+refuses : (task : ShowTask) (held : Option (List ℕ)) (refusal due : Refusal) → refusal ≡ due → RefusesShowing task due held → RefusesShowing task refusal held
+refuses task held refusal due is h = subst (λ (r : Refusal). RefusesShowing task r held) (sym is) h
+
+missing-told : (task : ShowTask) (refusal : Refusal) → TellsStop task.file stops.Missing refusal → RefusesShowing task refusal None
+missing-told task (BadWords bad) t = absurd t
+missing-told task (Position bad) t = absurd t
+missing-told task (Missing missing) t = (t, refl)
+missing-told task (File bad) t = absurd t
+missing-told task Read t = absurd t
+missing-told task Write t = absurd t
+missing-told task Memory t = absurd t
+missing-told task (Base wanted found) t = absurd t
+
+pub not-opened : (task : ShowTask) (held : Option (List ℕ)) (stop : LoadStop) (refusal : Refusal) → AnswersPaged (option_map whole held) (Err stop) → TellsStop task.file stop refusal → RefusesShowing task refusal held
+not-opened task None stops.Missing refusal a t = missing-told task refusal t
+not-opened task None (stops.BadFile bad) refusal a t = absurd a
+not-opened task None stops.ReadFault refusal a t = refuses task None refusal Read t tt
+not-opened task None stops.NoMemory refusal a t = absurd a
+not-opened task (Some bytes) stops.Missing refusal a t = absurd a
+not-opened task (Some bytes) (stops.BadFile bad) refusal a t = refuses task (Some bytes) refusal (File bad) t (inl a)
+not-opened task (Some bytes) stops.ReadFault refusal a t = refuses task (Some bytes) refusal Read t tt
+not-opened task (Some bytes) stops.NoMemory refusal a t = refuses task (Some bytes) refusal Memory t tt
+
+pub other-game : (task : ShowTask) (held : Option (List ℕ)) (base : PagedFile) (wanted : ℕ) (found : GameName) → AnswersPaged (option_map whole held) (Ok base)
+    → wanted ≡ sum task.position.mover → found ≡ game_told base.head → wanted ≢ found.checkers → RefusesShowing task (Base wanted found) held
+other-game task None base wanted found a is game apart = absurd a
+other-game task (Some bytes) base wanted found a is game apart =
+    let told : found ≡ game_told (Rattle.base_head.specs.Fronts.head_in (header_of_file bytes) bytes) = game ∙ rw a.head refl in
+    record {
+      front = a.right;
+      other = λ same. apart (is ∙ sym same ∙ sym (ap (λ (g : GameName). g.checkers) told));
+      line = rw (is, told) refl;
+    }
+
+rows-same : (u v : Words) (p : Placement) (k : ℕ) (names : List KindName) → ((end : End) (j : ℕ) → j < length names + k → u end p j ≡ v end p j) → rows_from u p k names ≡ rows_from v p k names
+rows-same u v p k [] same = refl
+rows-same u v p k (name ∷ names) same =
+    let lower = same Lower k (omega arith) in
+    let upper = same Upper k (omega arith) in
+    rw (lower, upper, rows-same u v p (suc k) names (λ end j h. same end j (omega (arith, h)))) refl
+
+pub shown-told : (task : ShowTask) (held : Option (List ℕ)) (base : PagedFile) (rows : Rattle.arrayvec.specs.ArrayVec.ArrayVec KindRow) → AnswersPaged (option_map whole held) (Ok base)
+    → IsHeader base.header → base.head.checkers ≡ base.header.checkers → base.head.name ≡ base.header.name
+    → IsPosition task.position → IsLive task.position → sum task.position.mover ≡ base.head.checkers
+    → AnswersRows base.header held task.position (Ok rows) → IsShown held task.position base.head rows.items
+shown-told task None base rows a valid many name position live fits told = absurd a
+shown-told task (Some bytes) base rows a valid many name position live fits told =
+    let header = a.header in
+    let p = task.position in
+    let among : (end : End) (j : ℕ) → j < length (names_of base.header.name) + 0 → word_at base.header (Some bytes) end p j ≡ words_in_file bytes end p j =
+        λ end j inside. word-among base.header bytes end p j valid (record { position = position; many = fits ∙ many; live = live; kind = omega (arith, inside, valid.kinds) }) ∙ ap (λ (h : Header). words_of h.kinds (words_in (pages_behind h) (drop (front_length h) bytes)) end p j) header in
+    record {
+      right = record { front = a.right; page = subst (λ (h : Header). flaw_at h (Some bytes) p ≡ None) header told.0 };
+      head_is = a.head;
+      checkers = sym fits;
+      pairs = told.1 ∙ rows-same (word_at base.header (Some bytes)) (words_in_file bytes) p 0 (names_of base.header.name) among ∙ ap (λ (n : StakesName). rows_from (words_in_file bytes) p 0 (names_of n)) (sym name);
+    }
+
+abbrev refused : Option Flaw → Option Refusal
+refused flaw = option_map (λ f. File (bad_of f)) flaw
+
+pub not-found : (task : ShowTask) (held : Option (List ℕ)) (base : PagedFile) (stop : LookStop) → AnswersPaged (option_map whole held) (Ok base)
+    → sum task.position.mover ≡ base.head.checkers
+    → AnswersRows base.header held task.position (Err stop) → RefusesShowing task (look_refusal stop) held
+not-found task held base looks.ReadFault a fits told = tt
+not-found task held base looks.NoMemory a fits told = tt
+not-found task None base (looks.BadPage fault at) a fits told = absurd a
+not-found task (Some bytes) base (looks.BadPage fault at) a fits told = inr (record {
+  front = a.right;
+  checkers = sym (fits ∙ ap (λ (h : Rattle.base_head.specs.Heads.FileHead). h.checkers) a.head);
+  page = subst (λ (h : Header). refused (flaw_at h (Some bytes) task.position) ≡ Some (File (bad_of (record { fault = fault; at = at })))) a.header (ap (λ (flaw : Option Flaw). refused flaw) told);
+})
+
+-- the file of this name, as it was before
+pub same-file : (header : Header) (held after : Contents) (name other : List ℕ) (p : Placement) (result : Result (Rattle.arrayvec.specs.ArrayVec.ArrayVec KindRow) LookStop) → other ≡ name → after name ≡ held name → AnswersRows header (after other) p result → AnswersRows header (held name) p result
+same-file header held after name other p result is same told =
+    subst (λ (file : Option (List ℕ)). AnswersRows header file p result) same (subst (λ (n : List ℕ). AnswersRows header (after n) p result) is told)

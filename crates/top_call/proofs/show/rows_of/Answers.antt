@@ -1,0 +1,67 @@
+use Rattle.std.proofs.Common.{◌≡◌, ◌∙◌, ◌<◌, ◌≤◌, ◌+◌, ◌++◌, ℕ, suc, List, [], ◌∷◌, IsTrue, length, take, refl, sym, subst, ap, add-one, arith}
+use Rattle.std.proofs.lemmas.List.{take_all, length-append}
+use Rattle.cube_actions.specs.Names.{names_of}
+use Rattle.cube_actions.specs.declared.name.StakesName.{StakesName}
+use Rattle.cube_actions.specs.declared.name.KindName.{KindName}
+use Rattle.cube_actions.specs.Stakes.{Terms}
+use Rattle.turn_rule.specs.States.{pair_of}
+use Rattle.database_file.specs.Paged.{word_at}
+use Rattle.database_file.specs.PagedFiles.{PagedFile}
+use Rattle.equity_report.specs.declared.files.KindRow.{KindRow}
+use Rattle.top_call.specs.Shows.{rows_from}
+use Rattle.top_call.proofs.LookedUp.{length-rows, name-of-stakes, one-row-more}
+use Rattle.top_call.proofs.show.rows_of.Goals as goal
+
+pub pair_of-requires-clause-state : goal.pair_of-requires-clause-state
+pair_of-requires-clause-state g c =
+    let base = c.args.base.now in
+    let header = ap (λ (b : PagedFile). b.header) c.kinds.invariant.base in
+    let name : c.stakes-stakes.result.name ≡ base.header.name = ap (λ (s : Terms). s.name) c.stakes-stakes.ensures.stakes ∙ rw (c.head.ensures.head) (name-of-stakes base.head.name base.head.starts ∙ c.head.ensures.name) in
+    let many : length (names_of c.stakes-stakes.result.name) ≡ base.header.kinds = rw name (sym c.head.ensures.valid.kinds) in
+    rw header (record {
+      position = c.requires.position;
+      many = c.requires.checkers;
+      live = c.requires.live;
+      kind = omega (arith, c.kinds-test.true, c.kinds.auto.number-end, c.kinds-number-end.ensures.named, many);
+    })
+
+pub kinds-preserved : goal.kinds-preserved
+kinds-preserved g c =
+    let base = c.args.base.now in
+    let file = g.F.Files.held c.args.files.now base.name in
+    let u = word_at base.header file in
+    let p = c.args.position.now in
+    let number = c.kinds.number in
+    let tells = λ (told : IsTrue (g.F.Files.tells c.args.files.now)). subst IsTrue (sym c.kinds.invariant.tells) told in
+    let header = ap (λ (b : PagedFile). b.header) c.kinds.invariant.base in
+    let name = ap (λ (b : PagedFile). b.name) c.kinds.invariant.base in
+    let stakes : c.stakes-stakes.result.name ≡ base.header.name = ap (λ (s : Terms). s.name) c.stakes-stakes.ensures.stakes ∙ rw (c.head.ensures.head) (name-of-stakes base.head.name base.head.starts ∙ c.head.ensures.name) in
+    let answered = λ (told : IsTrue (g.F.Files.tells c.args.files.now)). rw (header, name, c.kinds.invariant.same told base.name) at c.in_ok-pair.ensures.told (tells told) in
+    let none : number + 0 ≡ number = omega arith in
+    record {
+      long = ap (λ (rows : List KindRow). length rows) c.push.ensures.items ∙ length-append c.kinds.rows.items _ ∙ ap (λ (n : ℕ). n + 1) c.kinds.invariant.long;
+      rows = λ told.
+          let names = names_of base.header.name in
+          let kind = c.kind_name.result in
+          let added = subst (λ (n : ℕ). take number (rows_from u p 0 names) ++ record { kind = kind; pair = pair_of u p n } ∷ [] ≡ take (suc number) (rows_from u p 0 names)) none (one-row-more u p 0 number names kind (rw stakes at c.kind_name.ensures)) in
+          c.push.ensures.items ∙ rw (c.kinds.invariant.rows told, (answered told).1, add-one number) added;
+      right = λ told some. (answered told).0;
+      base = c.in_ok-pair.ensures.kept ∙ ap (λ (b : PagedFile). record b { kept = c.pair_of.new.base.kept }) c.kinds.invariant.base;
+      stakes = c.kinds.invariant.stakes;
+      of_file = c.in_ok-pair.ensures.of_file;
+      same = λ told name. c.in_ok-pair.ensures.same (tells told) name ∙ c.kinds.invariant.same told name;
+      tells = c.in_ok-pair.ensures.tells ∙ c.kinds.invariant.tells;
+      later = omega (arith, c.kinds.invariant.later, c.in_ok-pair.ensures.later);
+      write_faults = c.in_ok-pair.ensures.write_faults ∙ c.kinds.invariant.write_faults;
+    }
+
+pub returns-clause-told : goal.returns-clause-told
+returns-clause-told g c told =
+    let base = c.args.base.now in
+    let names = names_of base.header.name in
+    let all = rows_from (word_at base.header (g.F.Files.held c.args.files.now base.name)) c.args.position.now 0 names in
+    let stakes : c.stakes-stakes.result.name ≡ base.header.name = ap (λ (s : Terms). s.name) c.stakes-stakes.ensures.stakes ∙ rw (c.head.ensures.head) (name-of-stakes base.head.name base.head.starts ∙ c.head.ensures.name) in
+    let many : length (names_of c.stakes-stakes.result.name) ≡ length names = rw stakes refl in
+    let done : length names ≤ c.kinds.number = omega (arith, c.kinds-test.false, c.kinds-number-end.ensures.named, many) in
+    let some : 0 < c.kinds.number = omega (arith, c.kinds-test.false, c.kinds-number-end.ensures.kinds, c.kinds-number-end.ensures.valid.some) in
+    (c.kinds.invariant.right told some, c.kinds.invariant.rows told ∙ take_all c.kinds.number all (omega (arith, done, length-rows (word_at base.header (g.F.Files.held c.args.files.now base.name)) c.args.position.now 0 names)))
