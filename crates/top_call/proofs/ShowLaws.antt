@@ -83,7 +83,7 @@ shown-told task (Some bytes) base rows a valid many name position live fits told
     let header = a.header in
     let p = task.position in
     let among : (end : End) (j : ℕ) → j < length (names_of base.header.name) + 0 → word_at base.header (Some bytes) end p j ≡ words_in_file bytes end p j =
-        λ end j inside. word-among base.header bytes end p j valid (record { position = position; many = fits ∙ many; live = live; kind = omega (arith, inside, valid.kinds) }) ∙ ap (λ (h : Header). words_of h.kinds (words_in (pages_behind h) (drop (front_length h) bytes)) end p j) header in
+    λ end j inside. word-among base.header bytes end p j valid (record { position = position; many = fits ∙ many; live = live; kind = omega (arith, inside, valid.kinds) }) ∙ ap (λ (h : Header). words_of h.kinds (words_in (pages_behind h) (drop (front_length h) bytes)) end p j) header in
     record {
       right = record { front = a.right; page = subst (λ (h : Header). flaw_at h (Some bytes) p ≡ None) header told.0 };
       head_is = a.head;

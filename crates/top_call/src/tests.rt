@@ -4,6 +4,8 @@ use std::alloc::{AllocError, Global};
 use std::test::Fail;
 
 mod files;
+mod meeting;
+mod shows;
 
 fn owned(alloc: Global, words: &[&str]) -> Result<Vec<String>, AllocError> {
     let mut all = Vec::new(alloc);
@@ -124,7 +126,7 @@ const ROWS: [(&[&str], u8, &str); 36] = [
         1,
         "refused 1 words value 5\n",
     ),
-    (&["show", "x", "6 / 1"], 1, "refused 1 words command 0\n"),
+    (&["show", "x", "6 / 1"], 3, "refused 3 missing x\n"),
     (&["migrate", "x", "x"], 1, "refused 1 words value 2\n"),
     (&["migrate", "x", "y"], 3, "refused 3 missing x\n"),
 ];

@@ -20,11 +20,13 @@ pub returns-in-Ok-rows_of-clause-told : goal.returns-in-Ok-rows_of-clause-told
 returns-in-Ok-rows_of-clause-told g c =
     let base = c.in-Ok.base in
     let game : c.game_told-game.result ≡ game_told base.head = c.game_told-game.ensures ∙ ap (λ (h : FileHead). game_told h) c.head.ensures.head in
-    let fits : sum c.args.task.now.position.mover ≡ base.head.checkers = sym c.checkers-wanted.ensures.checkers ∙ c.if-wanted-game.false ∙ ap (λ (n : GameName). n.checkers) game in
-    (base.head, record { game = game; rounds = c.rounds-rounds.ensures.rounds ∙ ap (λ (h : FileHead). h.rounds) c.head-2.ensures.head },
-    λ told. shown-told c.args.task.now (g.F.Files.held c.args.files.now c.args.task.now.file) base c.in-Ok-rows_of.rows
-        (rw (c.as_str-name.ensures) at c.in-Ok.ensures.told told) c.head.ensures.valid c.head.ensures.checkers c.head.ensures.name c.requires.position c.requires.live fits
-        (rw (c.in-Ok.ensures.name, c.as_str-name.ensures, c.in-Ok.ensures.same told c.args.task.now.file) at c.in-Ok-rows_of.ensures.told (subst IsTrue (sym c.in-Ok.ensures.tells) told)))
+    let fits : sum c.args.task.now.position.mover ≡ base.head.checkers = sym c.checkers-wanted.ensures.checkers ∙ c.if-wanted-game.false ∙ ap (λ (n : GameName). n.checkers) game in (
+      base.head,
+      record { game = game; rounds = c.rounds-rounds.ensures.rounds ∙ ap (λ (h : FileHead). h.rounds) c.head-2.ensures.head },
+      λ told. shown-told c.args.task.now (g.F.Files.held c.args.files.now c.args.task.now.file) base c.in-Ok-rows_of.rows
+          (rw (c.as_str-name.ensures) at c.in-Ok.ensures.told told) c.head.ensures.valid c.head.ensures.checkers c.head.ensures.name c.requires.position c.requires.live fits
+          (rw (c.in-Ok.ensures.name, c.as_str-name.ensures, c.in-Ok.ensures.same told c.args.task.now.file) at c.in-Ok-rows_of.ensures.told (subst IsTrue (sym c.in-Ok.ensures.tells) told)),
+    )
 
 pub returns-clause-told : goal.returns-clause-told
 returns-clause-told g c told =
