@@ -44,7 +44,7 @@ once : (x : ℤ) → pos 1 *ℤ x ≡ x
 once x = omega (arith, ints)
 
 -- what is left of a list without one was in it
-kept : (end q : Placement) (ends : List Placement) → Among q (all_but end ends) → Among q ends
+pub kept : (end q : Placement) (ends : List Placement) → Among q (all_but end ends) → Among q ends
 kept end q [] m = m
 kept end q (r ∷ ends) m = by_same (same_position r end) (kept end q ends) m where
   by_same : (same : Bool) → (Among q (all_but end ends) → Among q ends) → Among q (if same then all_but end ends else r ∷ all_but end ends) → Among q (r ∷ ends)

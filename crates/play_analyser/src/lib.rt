@@ -3,4 +3,4 @@
 
 mod laws;
 
-pub use laws::losses_enclose_regrets;
+pub use laws::{losses_enclose_regrets, tighter_words_give_tighter_losses};
