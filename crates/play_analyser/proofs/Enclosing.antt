@@ -1,13 +1,11 @@
 -- What a choice loses over words encloses what it loses exactly.
-use Rattle.std.proofs.Common.{◌≡◌, ◌<◌, ℕ, zero, suc, ℤ, pos, neg_ℤ, ◌*ℤ◌, ◌*◌, ◌^◌, List, [], ◌∷◌, map, Bool, true, false, Option, Some, None, IfSome, inl, inr, refl, sym, subst, ap, ◌∙◌, if◌then◌else◌, arith}
+use Rattle.std.proofs.Common.{◌≡◌, ◌<◌, ℕ, suc, ℤ, pos, neg_ℤ, ◌*ℤ◌, ◌*◌, ◌^◌, List, [], ◌∷◌, map, Bool, true, false, Option, Some, None, IfSome, inl, inr, refl, subst, if◌then◌else◌, arith}
 use Rattle.std.specs.Bool.{⊤}
 use Rattle.std.proofs.lemmas.Int.{ints}
-use Rattle.std.proofs.Math.Nat.{pow-succ'}
 use Rattle.position_rank.specs.Placement.{Placement, swap}
 use Rattle.roll_table.specs.Rolls.{Dice, IsRoll}
 use Rattle.move_rules.specs.Ends.{legal_ends}
 use Rattle.move_rules.specs.Listing.{Among}
-use Rattle.move_rules.specs.Sequences.{IsLegalEnd}
 use Rattle.move_rules.proofs.Members.{Among-Contains, Contains-Among}
 use Rattle.move_rules.proofs.EndsExact.{legal_ends-complete}
 use Rattle.game_payoff.specs.declared.payoff.Won.{Won}
@@ -35,8 +33,8 @@ use Rattle.game_record.specs.declared.decision.Offer.{Offer}
 use Rattle.game_record.specs.declared.decision.Offer.TheVariants.{NoDouble, Double as Doubled}
 use Rattle.game_record.specs.declared.decision.Answer.{Answer}
 use Rattle.game_record.specs.declared.decision.Answer.TheVariants.{Take, Pass, Beaver}
-use Rattle.play_analyser.specs.Losses.{Options, loss, regret}
-use Rattle.play_analyser.specs.Choices.{IsChoice, IfDouble, HasAnswer, all_but, same_position, offer_options, answer_options, play_options}
+use Rattle.play_analyser.specs.Losses.{Options}
+use Rattle.play_analyser.specs.Choices.{IsChoice, IfDouble, HasAnswer, all_but, same_position, answer_options}
 use Rattle.play_analyser.specs.Regrets.{play_pair, taken_pair, double_pair, taken_worth, loss_of, regret_of, cube_loss, cube_regret, offer_pairs, offer_worths, answer_pairs, answer_worths, counted_over}
 use Rattle.play_analyser.proofs.Ahead.{AllEnclose, OptionsEnclose, loss-encloses, map-encloses}
 
@@ -71,6 +69,7 @@ module _ (game : Game) (right : IsGame game) (scoring : Scoring) (within : IsSco
     later : (end : End) → points q ≡ None → IsBoundOf (other end) (u (other end) (swap q) (kind_at game.stakes k).next) (exact game.stakes scoring turns (swap q) (kind_at game.stakes k).next) after
     later Lower on = (encloses _ _ (follow-state game right.stakes p k state _ _ (may-follow game.stakes p k roll q is_roll m on))).upper
     later Upper on = (encloses _ _ (follow-state game right.stakes p k state _ _ (may-follow game.stakes p k roll q is_roll m on))).lower
+
     by_points : (o : Option Won) → points q ≡ o → IsBoundOf end (if_won o (λ won. at end (win (kind_at game.stakes k) won)) (neg_ℤ (u (other end) (swap q) (kind_at game.stakes k).next))) (if_won o (λ won. pos (36 ^ turns) *ℤ scoring.win k won) (neg_ℤ (exact game.stakes scoring turns (swap q) (kind_at game.stakes k).next))) after
     by_points None on = bound-neg end _ _ after (later end on)
     by_points (Some won) over = bound-over end (36 ^ turns) _ _ scoring.scale (bound-at end _ _ scoring.scale (within.wins k won state.kind))

@@ -1,3 +1,9 @@
 pub mod Ahead
 pub mod Enclosing
 pub mod Tighter
+mod LossLemmas
+mod PairLists
+mod OtherPlays
+mod LossPairs
+mod PlayLosses
+mod CubeLosses

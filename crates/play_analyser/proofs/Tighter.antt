@@ -1,7 +1,6 @@
 -- Tighter words and tighter stakes give tighter losses.
-use Rattle.std.proofs.Common.{◌≡◌, ℕ, ℤ, pos, neg_ℤ, ◌+ℤ◌, ◌≤ℤ◌, List, [], ◌∷◌, map, Option, Some, None, inl, inr, refl, subst, arith}
+use Rattle.std.proofs.Common.{◌≡◌, ℕ, ℤ, neg_ℤ, ◌+ℤ◌, ◌≤ℤ◌, List, [], ◌∷◌, map, Option, Some, None, inl, inr, refl, subst, arith}
 use Rattle.std.specs.Bool.{⊤}
-use Rattle.std.proofs.lemmas.Int.{ints}
 use Rattle.position_rank.specs.Placement.{Placement, swap}
 use Rattle.roll_table.specs.Rolls.{Dice, IsRoll}
 use Rattle.move_rules.specs.Ends.{legal_ends}
@@ -14,11 +13,10 @@ use Rattle.directed_fixed.specs.declared.bounds.End.{End}
 use Rattle.directed_fixed.specs.declared.bounds.End.TheVariants.{Lower, Upper}
 use Rattle.directed_fixed.specs.Bounds.{Bounds, IsNoLooser, AreNoLooserPairs, other, at, at_zero, negated}
 use Rattle.cube_actions.specs.declared.kind.Double.{Double}
-use Rattle.cube_actions.specs.declared.kind.Kind.{Kind}
 use Rattle.cube_actions.specs.declared.kind.Taken.{Taken}
 use Rattle.cube_actions.specs.Stakes.{Terms, kind_at}
 use Rattle.turn_rule.specs.declared.game.Game.{Game}
-use Rattle.turn_rule.specs.Games.{IsGame, kinds_of}
+use Rattle.turn_rule.specs.Games.{IsGame}
 use Rattle.turn_rule.specs.Turn.{Words, win, if_won, worth, roll_value, least, doubled}
 use Rattle.turn_rule.specs.States.{IsState, AreNoLooser}
 use Rattle.turn_rule.specs.Truth.{AreNoLooserDoubles, IsNoLooserDouble, IsNoLooserKind, AreNoLooserStakes}
@@ -35,20 +33,21 @@ use Rattle.game_record.specs.declared.decision.Offer.TheVariants.{NoDouble, Doub
 use Rattle.game_record.specs.declared.decision.Answer.{Answer}
 use Rattle.game_record.specs.declared.decision.Answer.TheVariants.{Take, Pass, Beaver}
 use Rattle.play_analyser.specs.Losses.{Options, ahead, loss, lower_ends, upper_ends}
-use Rattle.play_analyser.specs.Choices.{IsChoice, all_but, offer_options, answer_options}
+use Rattle.play_analyser.specs.Choices.{IsChoice, all_but, answer_options}
 use Rattle.play_analyser.specs.Regrets.{play_pair, taken_pair, double_pair, loss_of, cube_loss, offer_pairs, answer_pairs}
 use Rattle.play_analyser.proofs.Enclosing.{kept}
 
 -- each pair is at least as tight as its fellow
-abbrev AllTighter : List Bounds → List Bounds → Type 0
+abbrev pub AllTighter : List Bounds → List Bounds → Type 0
 AllTighter [] [] = ⊤
 AllTighter [] (d ∷ ds) = ⊥
 AllTighter (c ∷ cs) [] = ⊥
 AllTighter (c ∷ cs) (d ∷ ds) = AreNoLooserPairs c d × AllTighter cs ds
 
-record OptionsTighter (c d : Options Bounds) : Type 0 where
-  chosen : AreNoLooserPairs c.chosen d.chosen
-  others : AllTighter c.others d.others
+-- and so are what could be chosen
+pub record OptionsTighter (c d : Options Bounds) : Type 0 where
+  pub chosen : AreNoLooserPairs c.chosen d.chosen
+  pub others : AllTighter c.others d.others
 
 tight-plus : (end : End) (a b c d : ℤ) → IsNoLooser end a c → IsNoLooser end b d → IsNoLooser end (a +ℤ b) (c +ℤ d)
 tight-plus Lower a b c d h k = add_mono _ _ _ _ h k
@@ -70,17 +69,17 @@ upper-ahead (c ∷ cs) (d ∷ ds) a b all h =
     tight-max Upper (c.upper +ℤ neg_ℤ a) (ahead (upper_ends cs) a) (d.upper +ℤ neg_ℤ b) (ahead (upper_ends ds) b)
     (tight-plus Upper c.upper (neg_ℤ a) d.upper (neg_ℤ b) all.0.upper (tight-neg Upper a b h)) (upper-ahead cs ds a b all.1 h)
 
-loss-tighter : (c d : Options Bounds) → OptionsTighter c d → AreNoLooserPairs (loss c) (loss d)
+pub loss-tighter : (c d : Options Bounds) → OptionsTighter c d → AreNoLooserPairs (loss c) (loss d)
 loss-tighter c d h = record {
   lower = lower-ahead c.others d.others c.chosen.upper d.chosen.upper h.others h.chosen.upper;
   upper = upper-ahead c.others d.others c.chosen.lower d.chosen.lower h.others h.chosen.lower;
 }
 
-map-tighter : {X : Type 0} (f g : X → Bounds) (xs : List X) → ((x : X) → Among x xs → AreNoLooserPairs (f x) (g x)) → AllTighter (map f xs) (map g xs)
+pub map-tighter : {X : Type 0} (f g : X → Bounds) (xs : List X) → ((x : X) → Among x xs → AreNoLooserPairs (f x) (g x)) → AllTighter (map f xs) (map g xs)
 map-tighter f g [] h = tt
 map-tighter f g (x ∷ xs) h = (h x (inl refl), map-tighter f g xs (λ y m. h y (inr m)))
 
-negated-tighter : (c d : Bounds) → AreNoLooserPairs c d → AreNoLooserPairs (negated c) (negated d)
+pub negated-tighter : (c d : Bounds) → AreNoLooserPairs c d → AreNoLooserPairs (negated c) (negated d)
 negated-tighter c d h = record { lower = tight-neg Lower c.upper d.upper h.upper; upper = tight-neg Upper c.lower d.lower h.lower }
 
 module _ (game : Game) (right : IsGame game) (b : Terms) (stakes : AreNoLooserStakes game.stakes b) (u v : Words) (words : AreNoLooser game u v) (p : Placement) (k : ℕ) (state : IsState game p k) where

@@ -1,5 +1,5 @@
 -- What a player can choose, and what he chose.
-use Rattle.std.specs.Prelude.{◌≡◌, ◌≤◌, ℕ, List, [], ◌∷◌, length, map, nat_eq, Bool, ◌&&◌, Option, Some, None, if◌then◌else◌, ⊤}
+use Rattle.std.specs.Prelude.{◌≤◌, ℕ, List, [], ◌∷◌, length, map, nat_eq, Bool, ◌&&◌, Option, Some, None, if◌then◌else◌, ⊤}
 use Rattle.std.specs.Cmp.Lexicographic.{pointwise}
 use Rattle.position_rank.specs.Placement.{Placement}
 use Rattle.roll_table.specs.Rolls.{IsRoll}
@@ -54,3 +54,9 @@ abbrev pub IsChoice : Terms → Placement → ℕ → Choice → Type 0
 IsChoice stakes p k (Played roll end) = IsRoll roll × IsLegalEnd p roll end
 IsChoice stakes p k (Offered offer) = IfDouble (kind_at stakes k).double (λ double. ⊤)
 IsChoice stakes p k (Answered answer) = IfDouble (kind_at stakes k).double (λ double. HasAnswer double answer)
+
+-- with so many answers that play on, there is this answer
+abbrev pub IsAmongAnswers : ℕ → Answer → Type 0
+IsAmongAnswers count Take = 1 ≤ count
+IsAmongAnswers count Pass = ⊤
+IsAmongAnswers count Beaver = 2 ≤ count

@@ -1,3 +1,4 @@
 pub mod Losses
 pub mod Choices
 pub mod Regrets
+pub mod Sought

@@ -2,6 +2,7 @@
 use Rattle.std.specs.Prelude.{ℤ, pos, ◌-ℤ◌, List, [], ◌∷◌, map}
 use Rattle.std.specs.Int.{int_max}
 use Rattle.directed_fixed.specs.Bounds.{Bounds}
+use Rattle.turn_rule.specs.Turn.{least}
 
 -- what could be chosen: the one that was, and the others
 pub record Options (X : Type 0) : Type 0 where
@@ -29,4 +30,11 @@ abbrev pub loss : Options Bounds → Bounds
 loss options = record {
   lower = ahead (lower_ends options.others) options.chosen.upper;
   upper = ahead (upper_ends options.others) options.chosen.lower;
+}
+
+-- at each end the least of a pair and of some others
+abbrev pub least_pair : Bounds → List Bounds → Bounds
+least_pair pair others = record {
+  lower = least pair.lower (lower_ends others);
+  upper = least pair.upper (upper_ends others);
 }

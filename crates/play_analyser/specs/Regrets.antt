@@ -1,6 +1,6 @@
 -- What a choice loses exactly, and between which ends that lies over words. What an answer loses is counted for the side that was doubled, all
 -- else for the side to move.
-use Rattle.std.specs.Prelude.{ℕ, suc, ◌*◌, ◌^◌, ℤ, pos, neg_ℤ, ◌*ℤ◌, List, map, Option, Some, None}
+use Rattle.std.specs.Prelude.{ℕ, suc, ◌*◌, ◌^◌, ℤ, pos, neg_ℤ, ◌*ℤ◌, map, Option, Some, None}
 use Rattle.position_rank.specs.Placement.{Placement}
 use Rattle.move_rules.specs.Ends.{legal_ends}
 use Rattle.directed_fixed.specs.declared.bounds.End.TheVariants.{Lower, Upper}
@@ -9,7 +9,7 @@ use Rattle.cube_actions.specs.declared.kind.Double.{Double}
 use Rattle.cube_actions.specs.declared.kind.Kind.{Kind}
 use Rattle.cube_actions.specs.declared.kind.Taken.{Taken}
 use Rattle.cube_actions.specs.Stakes.{Terms, kind_at}
-use Rattle.turn_rule.specs.Exact.{Scoring, Values, exact, left_with, rolled, after_double}
+use Rattle.turn_rule.specs.Exact.{Scoring, exact, left_with, rolled, after_double}
 use Rattle.turn_rule.specs.Looks.{roll_pair}
 use Rattle.turn_rule.specs.Turn.{Words, worth, doubled}
 use Rattle.game_record.specs.declared.decision.Choice.{Choice}
