@@ -304,3 +304,6 @@ pub answer-count : (s : Source) (stakes : Terms) (p : Placement) (w : Words) (do
 answer-count s stakes p w double found Take are has = let many = pairs-length s (of_answer stakes p) double.answers.items w found are in omega (arith, many, has)
 answer-count s stakes p w double found Pass are has = tt
 answer-count s stakes p w double found Beaver are has = let many = pairs-length s (of_answer stakes p) double.answers.items w found are in omega (arith, many, has)
+
+pub least-near : (pass : Bounds) (taken : List Bounds) → IsNear pass → All IsNear taken → IsNear (least_pair pass taken)
+least-near pass taken h all = least-within (pos (2 ^ 55)) pass taken h (at_member IsNear taken all)

@@ -2,3 +2,4 @@ pub mod Losses
 pub mod Choices
 pub mod Regrets
 pub mod Sought
+pub mod Advice

@@ -1,11 +1,13 @@
 //! What plays and cube actions lose, bounded from the words of a game.
 #![tactic(auto)]
 
+mod advice;
 mod among;
 mod answers;
 mod laws;
 mod losses;
 mod play_pairs;
 
+pub use advice::{CubeAction, CubeAdvice, cube_advice};
 pub use laws::{losses_enclose_regrets, tighter_words_give_tighter_losses};
 pub use losses::loss;
