@@ -7,3 +7,4 @@ mod OtherPlays
 mod LossPairs
 mod PlayLosses
 mod CubeLosses
+mod RowLemmas

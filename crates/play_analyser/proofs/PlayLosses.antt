@@ -129,6 +129,15 @@ module _ (s : Source) (stakes : Terms) (valid : IsValid stakes) (fits : AreStake
   pub source-near : (pair : Bounds) → IsWithin (pos 4 *ℤ s.bound) pair → IsNear pair
   source-near pair h = near-four s.bound pair source-small h
 
+  once : s.bound ≤ℤ (pos 4 *ℤ s.bound)
+  once = let z = source-positive in omega (arith, ints)
+
+  pub near-play : (q : Placement) (w : Words) (pair : Bounds) → IsPairFor (of_play (kind_at stakes k) q) s w pair → IsNear pair
+  near-play q w pair is = source-near pair (pair-within s (of_play (kind_at stakes k) q) w pair (pos 4 *ℤ s.bound) once is)
+
+  pub near-plays : (qs : List Placement) (w : Words) (pairs : List Bounds) → ArePairsFor (of_play (kind_at stakes k)) qs s w pairs → All IsNear pairs
+  near-plays qs w pairs rest = all-of IsNear pairs (λ pair m. source-near pair (pairs-within s (of_play (kind_at stakes k)) w (pos 4 *ℤ s.bound) qs (λ q n. once) pairs rest pair m))
+
   module _ (roll : Dice) (end : Placement) (others : List Placement) (are : AreOthers p roll end others) where
     abbrev over : Words → Options Bounds
     over u = record { chosen = play_pair (kind_at stakes k) u end; others = map (play_pair (kind_at stakes k) u) others }
@@ -145,15 +154,6 @@ module _ (s : Source) (stakes : Terms) (valid : IsValid stakes) (fits : AreStake
         both_ends (loss (over u)) _ _
         (same-ahead (play_pair kind u) (λ (pair : Bounds). pair.lower) (play_pair kind u end).upper others (all_but end (legal_ends p roll)) there back)
         (same-ahead (play_pair kind u) (λ (pair : Bounds). pair.upper) (play_pair kind u end).lower others (all_but end (legal_ends p roll)) there back)
-
-    once : s.bound ≤ℤ (pos 4 *ℤ s.bound)
-    once = let z = source-positive in omega (arith, ints)
-
-    pub near-play : (q : Placement) (w : Words) (pair : Bounds) → IsPairFor (of_play (kind_at stakes k) q) s w pair → IsNear pair
-    near-play q w pair is = source-near pair (pair-within s (of_play (kind_at stakes k) q) w pair (pos 4 *ℤ s.bound) once is)
-
-    pub near-plays : (qs : List Placement) (w : Words) (pairs : List Bounds) → ArePairsFor (of_play (kind_at stakes k)) qs s w pairs → All IsNear pairs
-    near-plays qs w pairs rest = all-of IsNear pairs (λ pair m. source-near pair (pairs-within s (of_play (kind_at stakes k)) w (pos 4 *ℤ s.bound) qs (λ q n. once) pairs rest pair m))
 
     -- a state that the chosen play leaves, or another
     pub chosen-follows : IsLegalEnd p roll end → 0 < length others → AreAmong (IsLeft (kind_at stakes k).next end) (MayFollowPlay stakes p k roll end)

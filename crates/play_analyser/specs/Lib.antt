@@ -3,3 +3,4 @@ pub mod Choices
 pub mod Regrets
 pub mod Sought
 pub mod Advice
+pub mod Rankings

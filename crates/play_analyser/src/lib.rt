@@ -7,7 +7,9 @@ mod answers;
 mod laws;
 mod losses;
 mod play_pairs;
+mod ranking;
 
 pub use advice::{CubeAction, CubeAdvice, cube_advice};
 pub use laws::{losses_enclose_regrets, tighter_words_give_tighter_losses};
 pub use losses::loss;
+pub use ranking::{PlayRow, Ranking, rank_plays};

@@ -57,15 +57,13 @@ returns-in_err-found-clause-looked g c =
 pub loss_among-requires-clause-chosen : goal.loss_among-requires-clause-chosen
 loss_among-requires-clause-chosen g c =
     let s = (g.P.Pairs.seen c.args.pairs.now).source in
-    let are = others-are c.args.position.now c.args.roll c.args.end.now c.other_ends-others.result.items c.other_ends-others.ensures in
-    near-play s c.args.stakes.now c.kind-kind.ensures.valid c.requires.stakes c.args.position.now c.args.number c.requires.state c.args.roll c.args.end.now c.other_ends-others.result.items are c.args.end.now _ c.in_ok-chosen.chosen
+    near-play s c.args.stakes.now c.kind-kind.ensures.valid c.requires.stakes c.args.position.now c.args.number c.requires.state c.args.end.now _ c.in_ok-chosen.chosen
     (rw c.kind-kind.ensures.kind at c.in_ok-chosen.ensures.looked).answer
 
 pub loss_among-requires-clause-others : goal.loss_among-requires-clause-others
 loss_among-requires-clause-others g c =
     let s = (g.P.Pairs.seen c.args.pairs.now).source in
-    let are = others-are c.args.position.now c.args.roll c.args.end.now c.other_ends-others.result.items c.other_ends-others.ensures in
-    rw c.as_slice-2.ensures.value (near-plays s c.args.stakes.now c.kind-kind.ensures.valid c.requires.stakes c.args.position.now c.args.number c.requires.state c.args.roll c.args.end.now c.other_ends-others.result.items are c.other_ends-others.result.items _ c.in_ok-found.found.items
+    rw c.as_slice-2.ensures.value (near-plays s c.args.stakes.now c.kind-kind.ensures.valid c.requires.stakes c.args.position.now c.args.number c.requires.state c.other_ends-others.result.items _ c.in_ok-found.found.items
     (rw (c.in_ok-chosen.ensures.source, c.kind-kind.ensures.kind, c.as_slice.ensures.value) at c.in_ok-found.ensures.looked).answer)
 
 pub returns-clause-looked : goal.returns-clause-looked
