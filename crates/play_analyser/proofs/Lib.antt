@@ -8,3 +8,5 @@ mod LossPairs
 mod PlayLosses
 mod CubeLosses
 mod RowLemmas
+mod OneList
+mod AdvisedLosses

@@ -4,3 +4,4 @@ pub mod Regrets
 pub mod Sought
 pub mod Advice
 pub mod Rankings
+pub mod Advised

@@ -5,11 +5,16 @@ mod advice;
 mod among;
 mod answers;
 mod laws;
+mod look_laws;
 mod losses;
 mod play_pairs;
 mod ranking;
 
 pub use advice::{CubeAction, CubeAdvice, cube_advice};
 pub use laws::{losses_enclose_regrets, tighter_words_give_tighter_losses};
+pub use look_laws::{
+    advised_choices_lose_at_most_their_bounds, looked_losses_enclose_regrets,
+    one_list_gives_the_loss, one_list_gives_the_play, sure_sources_advise,
+};
 pub use losses::loss;
 pub use ranking::{PlayRow, Ranking, rank_plays};
