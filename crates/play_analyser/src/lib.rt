@@ -9,6 +9,8 @@ mod look_laws;
 mod losses;
 mod play_pairs;
 mod ranking;
+#[cfg(test)]
+mod tests;
 
 pub use advice::{CubeAction, CubeAdvice, cube_advice};
 pub use laws::{losses_enclose_regrets, tighter_words_give_tighter_losses};
