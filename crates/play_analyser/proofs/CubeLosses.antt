@@ -176,6 +176,36 @@ negated-same : (g : Taken → Bounds) (answers : List Taken) → map negated (ma
 negated-same g [] = refl
 negated-same g (taken ∷ answers) = ap (λ (pairs : List Bounds). negated (g taken) ∷ pairs) (negated-same g answers)
 
+-- the answers over words
+abbrev pub taken_over : Terms → Placement → Double → Words → List Bounds
+taken_over stakes p double u = map (λ (taken : Taken). taken_pair stakes u p taken) double.answers.items
+
+abbrev pub answers_over : Terms → Placement → Double → Answer → Words → Options Bounds
+answers_over stakes p double answer u = answer_options (negated double.pass) (map negated (taken_over stakes p double u)) answer
+
+abbrev pub offers_over : Terms → Placement → ℕ → Double → Offer → Words → Options Bounds
+offers_over stakes p k double offer u = offer_options (roll_pair stakes u p k 1) (least_pair double.pass (taken_over stakes p double u)) offer
+
+pub same-pair : (pair : Bounds) → AreNoLooserPairs pair pair
+same-pair pair = record { lower = le_refl _; upper = le_refl _ }
+
+module _ (stakes : Terms) (p : Placement) (k : ℕ) (double : Double) (is : (kind_at stakes k).double ≡ Some double) where
+  doubled-same : (u : Words) → least_pair double.pass (taken_over stakes p double u) ≡ double_pair stakes u p double
+  doubled-same u =
+      both_ends (least_pair double.pass (taken_over stakes p double u)) _ _
+      (least-same (λ (pair : Bounds). pair.lower) (λ (taken : Taken). taken_pair stakes u p taken) double.pass.lower double.answers.items)
+      (least-same (λ (pair : Bounds). pair.upper) (λ (taken : Taken). taken_pair stakes u p taken) double.pass.upper double.answers.items)
+
+  pub answers-same : (answer : Answer) (u : Words) → loss (answers_over stakes p double answer u) ≡ loss_of stakes u p k (Answered answer)
+  answers-same answer u =
+      ap (λ (pairs : List Bounds). loss (answer_options (negated double.pass) pairs answer)) (negated-same (λ (taken : Taken). taken_pair stakes u p taken) double.answers.items)
+      ∙ ap (λ (o : Option Double). cube_loss o (λ (d : Double). answer_pairs stakes u p d answer)) (sym is)
+
+  pub offers-same : (offer : Offer) (u : Words) → loss (offers_over stakes p k double offer u) ≡ loss_of stakes u p k (Offered offer)
+  offers-same offer u =
+      ap (λ (doubling : Bounds). loss (offer_options (roll_pair stakes u p k 1) doubling offer)) (doubled-same u)
+      ∙ ap (λ (o : Option Double). cube_loss o (λ (d : Double). offer_pairs stakes u p k d offer)) (sym is)
+
 same_some : {X : Type 0} (o : Option X) (x y : X) → o ≡ Some x → o ≡ Some y → x ≡ y
 same_some o x y h k = cc
 
@@ -221,39 +251,18 @@ module _ (s : Source) (stakes : Terms) (valid : IsValid stakes) (fits : AreStake
         pairs-right s (of_answer stakes p) w tells double.answers.items found are may.taken
         (Contains-Among may.taken double.answers.items (subst (λ (d : Double). Contains d.answers.items may.taken) (same_some _ _ _ may.right is) may.answer)) q j may.after
 
-    abbrev taken_over : Words → List Bounds
-    taken_over u = map (λ (taken : Taken). taken_pair stakes u p taken) double.answers.items
-
-    doubled-same : (u : Words) → least_pair double.pass (taken_over u) ≡ double_pair stakes u p double
-    doubled-same u =
-        both_ends (least_pair double.pass (taken_over u)) _ _
-        (least-same (λ (pair : Bounds). pair.lower) (λ (taken : Taken). taken_pair stakes u p taken) double.pass.lower double.answers.items)
-        (least-same (λ (pair : Bounds). pair.upper) (λ (taken : Taken). taken_pair stakes u p taken) double.pass.upper double.answers.items)
-
-    same-pass : AreNoLooserPairs double.pass double.pass
-    same-pass = record { lower = le_refl _; upper = le_refl _ }
-
-    floor-taken : IsTrue s.tells → AllTighter found (taken_over s.floor)
+    floor-taken : IsTrue s.tells → AllTighter found (taken_over stakes p double s.floor)
     floor-taken tells = pairs-floor s (of_answer stakes p) w tells double.answers.items found are
 
-    notes-taken : IsTrue s.tells → AllTighter (taken_over w) found
+    notes-taken : IsTrue s.tells → AllTighter (taken_over stakes p double w) found
     notes-taken tells = pairs-notes s (of_answer stakes p) w tells double.answers.items found are
-
-    -- an answer
-    abbrev answers_over : Answer → Words → Options Bounds
-    answers_over answer u = answer_options (negated double.pass) (map negated (taken_over u)) answer
-
-    answers-same : (answer : Answer) (u : Words) → loss (answers_over answer u) ≡ loss_of stakes u p k (Answered answer)
-    answers-same answer u =
-        ap (λ (pairs : List Bounds). loss (answer_options (negated double.pass) pairs answer)) (negated-same (λ (taken : Taken). taken_pair stakes u p taken) double.answers.items)
-        ∙ ap (λ (o : Option Double). cube_loss o (λ (d : Double). answer_pairs stakes u p d answer)) (sym is)
 
     pub answer-loss : (answer : Answer) → IsPairFor (of_loss stakes p k (Answered answer)) s w (loss (answer_options (negated double.pass) (map negated found) answer))
     answer-loss answer =
-        loss-pair s w (MayFollowDouble stakes p k) (answers_over answer) (λ u. loss_of stakes u p k (Answered answer)) (answers-same answer) positive (answer_options (negated double.pass) (map negated found) answer)
+        loss-pair s w (MayFollowDouble stakes p k) (answers_over stakes p double answer) (λ u. loss_of stakes u p k (Answered answer)) (answers-same stakes p k double is answer) positive (answer_options (negated double.pass) (map negated found) answer)
         (answers-within (pos 4 *ℤ s.bound) (negated double.pass) (map negated found) answer (negated-within (pos 4 *ℤ s.bound) double.pass pass-within) (all-negated-within (pos 4 *ℤ s.bound) found taken-within))
-        (λ tells. answers-tighter (negated double.pass) (negated double.pass) (map negated found) (map negated (taken_over s.floor)) answer (negated-tighter double.pass double.pass same-pass) (all-negated-tighter found (taken_over s.floor) (floor-taken tells)))
-        (λ tells. answers-tighter (negated double.pass) (negated double.pass) (map negated (taken_over w)) (map negated found) answer (negated-tighter double.pass double.pass same-pass) (all-negated-tighter (taken_over w) found (notes-taken tells)))
+        (λ tells. answers-tighter (negated double.pass) (negated double.pass) (map negated found) (map negated (taken_over stakes p double s.floor)) answer (negated-tighter double.pass double.pass (same-pair double.pass)) (all-negated-tighter found (taken_over stakes p double s.floor) (floor-taken tells)))
+        (λ tells. answers-tighter (negated double.pass) (negated double.pass) (map negated (taken_over stakes p double w)) (map negated found) answer (negated-tighter double.pass double.pass (same-pair double.pass)) (all-negated-tighter (taken_over stakes p double w) found (notes-taken tells)))
         doubled-right
 
     -- an offer
@@ -261,20 +270,12 @@ module _ (s : Source) (stakes : Terms) (valid : IsValid stakes) (fits : AreStake
       pub rolling-within : IsWithin (pos 4 *ℤ s.bound) rolling
       rolling-within = pair-within s (of_roll stakes p k 1) w rolling (pos 4 *ℤ s.bound) (factor-limit 1 s.bound positive (inl refl)) roll
 
-      abbrev offers_over : Offer → Words → Options Bounds
-      offers_over offer u = offer_options (roll_pair stakes u p k 1) (least_pair double.pass (taken_over u)) offer
-
-      offers-same : (offer : Offer) (u : Words) → loss (offers_over offer u) ≡ loss_of stakes u p k (Offered offer)
-      offers-same offer u =
-          ap (λ (doubling : Bounds). loss (offer_options (roll_pair stakes u p k 1) doubling offer)) (doubled-same u)
-          ∙ ap (λ (o : Option Double). cube_loss o (λ (d : Double). offer_pairs stakes u p k d offer)) (sym is)
-
       pub offer-loss : (offer : Offer) → IsPairFor (of_loss stakes p k (Offered offer)) s w (loss (offer_options rolling (least_pair double.pass found) offer))
       offer-loss offer =
-          loss-pair s w (MayFollowTurn stakes p k) (offers_over offer) (λ u. loss_of stakes u p k (Offered offer)) (offers-same offer) positive (offer_options rolling (least_pair double.pass found) offer)
+          loss-pair s w (MayFollowTurn stakes p k) (offers_over stakes p k double offer) (λ u. loss_of stakes u p k (Offered offer)) (offers-same stakes p k double is offer) positive (offer_options rolling (least_pair double.pass found) offer)
           (offers-within (pos 4 *ℤ s.bound) rolling (least_pair double.pass found) offer rolling-within doubled-within)
-          (λ tells. offers-tighter rolling (least_pair double.pass found) _ _ offer (pair-floor s (of_roll stakes p k 1) w rolling roll tells) (least-tighter double.pass double.pass found (taken_over s.floor) same-pass (floor-taken tells)))
-          (λ tells. offers-tighter _ _ rolling (least_pair double.pass found) offer (pair-notes s (of_roll stakes p k 1) w rolling roll tells) (least-tighter double.pass double.pass (taken_over w) found same-pass (notes-taken tells)))
+          (λ tells. offers-tighter rolling (least_pair double.pass found) _ _ offer (pair-floor s (of_roll stakes p k 1) w rolling roll tells) (least-tighter double.pass double.pass found (taken_over stakes p double s.floor) (same-pair double.pass) (floor-taken tells)))
+          (λ tells. offers-tighter _ _ rolling (least_pair double.pass found) offer (pair-notes s (of_roll stakes p k 1) w rolling roll tells) (least-tighter double.pass double.pass (taken_over stakes p double w) found (same-pair double.pass) (notes-taken tells)))
           (λ tells q j may. elim may [ inl after ↦ roll.right tells q j after | inr after ↦ doubled-right tells q j after ])
 
   pub answers-follow : AreAmong (SomeStates (of_answer stakes p) double.answers.items) (MayFollowDouble stakes p k)

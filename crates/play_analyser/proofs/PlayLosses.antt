@@ -106,6 +106,24 @@ some-first : (xs : List Placement) → 0 < length xs → (q : Placement) × Amon
 some-first [] h = absurd (omega arith)
 some-first (x ∷ xs) h = (x, inl refl)
 
+-- the play and the others over words
+abbrev pub plays_over : Terms → ℕ → Placement → List Placement → Words → Options Bounds
+plays_over stakes k end others u = record { chosen = play_pair (kind_at stakes k) u end; others = map (play_pair (kind_at stakes k) u) others }
+
+module _ (stakes : Terms) (p : Placement) (k : ℕ) (roll : Dice) (end : Placement) (others : List Placement) (are : AreOthers p roll end others) where
+  there : (q : Placement) → Among q others → Among q (all_but end (legal_ends p roll))
+  there q m = let legal = are.legal q m in in-left end (legal_ends p roll) q (Contains-Among q (legal_ends p roll) (legal_ends-complete p roll q legal.0)) legal.1
+
+  back : (q : Placement) → Among q (all_but end (legal_ends p roll)) → Among q others
+  back q m = let left = left-in end (legal_ends p roll) q m in are.all q (legal_ends-sound p roll q (Among-Contains q (legal_ends p roll) left.0)) left.1
+
+  pub same-loss : (u : Words) → loss (plays_over stakes k end others u) ≡ loss_of stakes u p k (Played roll end)
+  same-loss u =
+      let kind = kind_at stakes k in
+      both_ends (loss (plays_over stakes k end others u)) _ _
+      (same-ahead (play_pair kind u) (λ (pair : Bounds). pair.lower) (play_pair kind u end).upper others (all_but end (legal_ends p roll)) there back)
+      (same-ahead (play_pair kind u) (λ (pair : Bounds). pair.upper) (play_pair kind u end).lower others (all_but end (legal_ends p roll)) there back)
+
 module _ (s : Source) (stakes : Terms) (valid : IsValid stakes) (fits : AreStakesOf s stakes) (p : Placement) (k : ℕ) (state : IsStateOf s.checkers s.kinds p k) where
   state-fits : IsState (game_of s.checkers stakes) p k
   state-fits = subst (λ (n : ℕ). IsStateOf s.checkers n p k) fits.kinds state
@@ -139,22 +157,6 @@ module _ (s : Source) (stakes : Terms) (valid : IsValid stakes) (fits : AreStake
   near-plays qs w pairs rest = all-of IsNear pairs (λ pair m. source-near pair (pairs-within s (of_play (kind_at stakes k)) w (pos 4 *ℤ s.bound) qs (λ q n. once) pairs rest pair m))
 
   module _ (roll : Dice) (end : Placement) (others : List Placement) (are : AreOthers p roll end others) where
-    abbrev over : Words → Options Bounds
-    over u = record { chosen = play_pair (kind_at stakes k) u end; others = map (play_pair (kind_at stakes k) u) others }
-
-    there : (q : Placement) → Among q others → Among q (all_but end (legal_ends p roll))
-    there q m = let legal = are.legal q m in in-left end (legal_ends p roll) q (Contains-Among q (legal_ends p roll) (legal_ends-complete p roll q legal.0)) legal.1
-
-    back : (q : Placement) → Among q (all_but end (legal_ends p roll)) → Among q others
-    back q m = let left = left-in end (legal_ends p roll) q m in are.all q (legal_ends-sound p roll q (Among-Contains q (legal_ends p roll) left.0)) left.1
-
-    pub same-loss : (u : Words) → loss (over u) ≡ loss_of stakes u p k (Played roll end)
-    same-loss u =
-        let kind = kind_at stakes k in
-        both_ends (loss (over u)) _ _
-        (same-ahead (play_pair kind u) (λ (pair : Bounds). pair.lower) (play_pair kind u end).upper others (all_but end (legal_ends p roll)) there back)
-        (same-ahead (play_pair kind u) (λ (pair : Bounds). pair.upper) (play_pair kind u end).lower others (all_but end (legal_ends p roll)) there back)
-
     -- a state that the chosen play leaves, or another
     pub chosen-follows : IsLegalEnd p roll end → 0 < length others → AreAmong (IsLeft (kind_at stakes k).next end) (MayFollowPlay stakes p k roll end)
     chosen-follows legal some q j left =
@@ -174,7 +176,7 @@ module _ (s : Source) (stakes : Terms) (valid : IsValid stakes) (fits : AreStake
       pub play-loss : IsPairFor (of_loss stakes p k (Played roll end)) s w (loss (record { chosen = chosen; others = pairs }))
       play-loss =
           let kind = kind_at stakes k in
-          loss-pair s w (MayFollowPlay stakes p k roll end) over (λ u. loss_of stakes u p k (Played roll end)) same-loss source-positive (record { chosen = chosen; others = pairs })
+          loss-pair s w (MayFollowPlay stakes p k roll end) (plays_over stakes k end others) (λ u. loss_of stakes u p k (Played roll end)) (same-loss stakes p k roll end others are) source-positive (record { chosen = chosen; others = pairs })
           (record { chosen = pair-within s (of_play kind end) w chosen (pos 4 *ℤ s.bound) once one; others = pairs-within s (of_play kind) w (pos 4 *ℤ s.bound) others (λ q m. once) pairs rest })
           (λ tells. record { chosen = pair-floor s (of_play kind end) w chosen one tells; others = pairs-floor s (of_play kind) w tells others pairs rest })
           (λ tells. record { chosen = pair-notes s (of_play kind end) w chosen one tells; others = pairs-notes s (of_play kind) w tells others pairs rest })
@@ -197,7 +199,7 @@ module _ (s : Source) (stakes : Terms) (valid : IsValid stakes) (fits : AreStake
     -- the one play that a roll allows
     pub lone-play : (w : Words) → IsPairFor (of_loss stakes p k (Played roll end)) s w at_zero
     lone-play w =
-        let zero_is = λ (u : Words). same-loss roll end [] are u in
+        let zero_is = λ (u : Words). same-loss stakes p k roll end [] are u in
         record {
           in_order = le_refl _;
           lower = zero-units;

@@ -4,9 +4,10 @@ use Rattle.std.specs.Option.{option_to_list}
 use Rattle.position_rank.specs.Placement.{Placement}
 use Rattle.directed_fixed.specs.Bounds.{Bounds, negated}
 use Rattle.cube_actions.specs.declared.kind.Double.{Double as DoubleOf}
+use Rattle.cube_actions.specs.declared.kind.Taken.{Taken}
 use Rattle.cube_actions.specs.Stakes.{Terms, kind_at}
 use Rattle.turn_rule.specs.Turn.{Words}
-use Rattle.turn_rule.specs.Looks.{Source, IsRollPair}
+use Rattle.turn_rule.specs.Looks.{Source, IsRollPair, roll_pair}
 use Rattle.game_record.specs.declared.decision.Offer.{Offer}
 use Rattle.game_record.specs.declared.decision.Offer.TheVariants.{NoDouble, Double}
 use Rattle.game_record.specs.declared.decision.Answer.{Answer}
@@ -15,6 +16,7 @@ use Rattle.play_analyser.specs.declared.advice.CubeAction.{CubeAction}
 use Rattle.play_analyser.specs.declared.advice.CubeAdvice.{CubeAdvice}
 use Rattle.play_analyser.specs.Losses.{Options, loss, least_pair}
 use Rattle.play_analyser.specs.Choices.{offer_options, answer_options}
+use Rattle.play_analyser.specs.Regrets.{taken_pair}
 use Rattle.play_analyser.specs.Sought.{ArePairsFor, of_answer}
 
 -- to double where that is sure to give more than not doubling is sure to give, and not to double where it isn't
@@ -54,9 +56,9 @@ pub record IsAction (rolling : Bounds) (action : CubeAction) : Type 0 where
   pub answer : IsBestAnswer action.pass (taken_of action) action.answer
   pub answer_bound : action.answer_bound ≡ (loss (advised_answer action)).upper
 
--- advice on this double, from a source's words
-pub record IsActionFor (stakes : Terms) (p : Placement) (source : Source) (noted : Words) (rolling : Bounds) (double : DoubleOf) (action : CubeAction) : Type 0 where
-  pub taken : ArePairsFor (of_answer stakes p) double.answers.items source noted (taken_of action)
+-- advice on this double, by such pairs of the answers that play on
+pub record IsActionBy (taken_are : List Taken → List Bounds → Type 0) (rolling : Bounds) (double : DoubleOf) (action : CubeAction) : Type 0 where
+  pub taken : taken_are double.answers.items (taken_of action)
   pub pass : action.pass ≡ double.pass
   pub advised : IsAction rolling action
 
@@ -67,9 +69,21 @@ IsAdviceOn None (Some action) advises = ⊥
 IsAdviceOn (Some double) None advises = ⊥
 IsAdviceOn (Some double) (Some action) advises = advises double action
 
--- what is told to a player before he rolls, from a source's words
-pub record IsCubeAdvice (stakes : Terms) (p : Placement) (k : ℕ) (source : Source) (noted : Words) (advice : CubeAdvice) : Type 0 where
-  pub no_double : IsRollPair stakes p k 1 source noted advice.no_double
+-- what is told to a player before he rolls, by such pairs of rolling and of the answers that play on
+pub record IsAdvisedBy (rolling_is : Bounds → Type 0) (taken_are : List Taken → List Bounds → Type 0) (stakes : Terms) (k : ℕ) (advice : CubeAdvice) : Type 0 where
+  pub no_double : rolling_is advice.no_double
   pub action :
       IsAdviceOn (kind_at stakes k).double advice.action
-      (λ double action. IsActionFor stakes p source noted advice.no_double double action)
+      (λ double action. IsActionBy taken_are advice.no_double double action)
+
+-- by pairs from a source's words
+abbrev pub IsCubeAdvice : Terms → Placement → ℕ → Source → Words → CubeAdvice → Type 0
+IsCubeAdvice stakes p k source noted =
+    IsAdvisedBy (IsRollPair stakes p k 1 source noted)
+    (λ answers pairs. ArePairsFor (of_answer stakes p) answers source noted pairs) stakes k
+
+-- by what rolling and the answers give over words
+abbrev pub IsCubeAdviceOver : Terms → Words → Placement → ℕ → CubeAdvice → Type 0
+IsCubeAdviceOver stakes u p k =
+    IsAdvisedBy (λ pair. pair ≡ roll_pair stakes u p k 1)
+    (λ answers pairs. pairs ≡ map (λ (taken : Taken). taken_pair stakes u p taken) answers) stakes k

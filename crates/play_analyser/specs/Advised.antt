@@ -1,12 +1,11 @@
 -- What is advised loses at most what it is said to.
-use Rattle.std.specs.Prelude.{◌≡◌, ℕ, ℤ, IsTrue, Option, Some, None, List, [], ◌∷◌, ⊤}
+use Rattle.std.specs.Prelude.{ℕ, ℤ, Option, Some, None, List, [], ◌∷◌, ⊤}
 use Rattle.position_rank.specs.Placement.{Placement}
 use Rattle.roll_table.specs.Rolls.{Dice}
 use Rattle.directed_fixed.specs.declared.bounds.End.TheVariants.{Upper}
 use Rattle.turn_rule.specs.declared.game.Game.{Game}
 use Rattle.turn_rule.specs.Games.{IsGame}
 use Rattle.turn_rule.specs.Turn.{Words}
-use Rattle.turn_rule.specs.Looks.{Source, AreStakesOf}
 use Rattle.turn_rule.specs.Exact.{Scoring}
 use Rattle.turn_rule.specs.Truth.{IsBoundOf, IsScoring, AreEnclosing}
 use Rattle.game_record.specs.declared.decision.Choice.{Choice}
@@ -15,18 +14,11 @@ use Rattle.play_analyser.specs.declared.advice.CubeAction.{CubeAction}
 use Rattle.play_analyser.specs.declared.ranking.PlayRow.{PlayRow}
 use Rattle.play_analyser.specs.Regrets.{regret_of, counted_over}
 
--- a source of a game's words that tells them
-pub record IsSourceOf (game : Game) (source : Source) : Type 0 where
-  pub checkers : source.checkers ≡ game.checkers
-  pub stakes : AreStakesOf source game.stakes
-  pub tells : IsTrue source.tells
-
--- a game, a source of its words, and words that no answer of it is tighter than and that enclose every state where so many turns follow
-pub record AreTrueWords (game : Game) (scoring : Scoring) (turns : ℕ) (source : Source) (noted : Words) : Type 0 where
+-- words that enclose every state of a game in which so many turns follow
+pub record AreTrueWords (game : Game) (scoring : Scoring) (turns : ℕ) (u : Words) : Type 0 where
   pub right : IsGame game
   pub within : IsScoring game scoring
-  pub looked : IsSourceOf game source
-  pub words : AreEnclosing game scoring turns noted
+  pub words : AreEnclosing game scoring turns u
 
 -- a choice loses at most so much, where so many turns follow it
 abbrev pub LosesAtMost : Game → Scoring → ℕ → Placement → ℕ → Choice → ℤ → Type 0

@@ -15,8 +15,9 @@ mod tests;
 pub use advice::{CubeAction, CubeAdvice, cube_advice};
 pub use laws::{losses_enclose_regrets, tighter_words_give_tighter_losses};
 pub use look_laws::{
-    advised_choices_lose_at_most_their_bounds, looked_losses_enclose_regrets,
-    one_list_gives_the_loss, one_list_gives_the_play, sure_sources_advise,
+    advised_actions_lose_at_most_their_bounds, best_plays_lose_at_most_their_bounds,
+    looked_losses_enclose_regrets, one_list_gives_the_advice, one_list_gives_the_loss,
+    one_list_gives_the_play, one_list_gives_the_ranking, sure_sources_advise,
 };
 pub use losses::loss;
 pub use ranking::{PlayRow, Ranking, rank_plays};

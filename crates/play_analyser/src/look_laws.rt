@@ -26,10 +26,10 @@ ghost use Rattle.turn_rule.specs.Looks.{
 ghost use Rattle.game_record.specs.declared.decision.Choice.{Choice};
 ghost use Rattle.play_analyser.specs.declared.advice.CubeAdvice.{CubeAdvice};
 ghost use Rattle.play_analyser.specs.declared.ranking.Ranking.{Ranking};
-ghost use Rattle.play_analyser.specs.Advice.{IsCubeAdvice};
+ghost use Rattle.play_analyser.specs.Advice.{IsCubeAdvice, IsCubeAdviceOver};
 ghost use Rattle.play_analyser.specs.Advised.{ActionLosesAtMost, AreTrueWords, FirstLosesAtMost};
 ghost use Rattle.play_analyser.specs.Choices.{IsChoice};
-ghost use Rattle.play_analyser.specs.Rankings.{IsRanking, MayFollowRoll};
+ghost use Rattle.play_analyser.specs.Rankings.{IsRanking, IsRankingOver, MayFollowRoll};
 ghost use Rattle.play_analyser.specs.Regrets.{counted_over, loss_of, play_pair, regret_of};
 ghost use Rattle.play_analyser.specs.Sought.{MayFollowChoice, of_loss};
 
@@ -52,6 +52,26 @@ pub fn one_list_gives_the_loss()
         → IsPairFor (of_loss stakes p k choice) source u pair → pair ≡ loss_of stakes u p k choice }
 {}
 
+/// Where a source's floor and its notes are the same words on the states that may follow, a ranking
+/// is that over these words.
+pub fn one_list_gives_the_ranking()
+    ensures { (source : Source) (u : Words) (stakes : Terms) (p : Placement) (k : ℕ) (roll : Dice)
+        (ranking : Ranking)
+        → IsTrue source.tells
+        → ((end : End) → AgreeOn (MayFollowRoll stakes p k roll) end source.floor u)
+        → IsRanking stakes p k roll source u ranking → IsRankingOver stakes u p k roll ranking }
+{}
+
+/// Where a source's floor and its notes are the same words on the states that may follow, advice is
+/// that over these words.
+pub fn one_list_gives_the_advice()
+    ensures { (source : Source) (u : Words) (stakes : Terms) (p : Placement) (k : ℕ)
+        (advice : CubeAdvice)
+        → IsTrue source.tells
+        → ((end : End) → AgreeOn (MayFollowTurn stakes p k) end source.floor u)
+        → IsCubeAdvice stakes p k source u advice → IsCubeAdviceOver stakes u p k advice }
+{}
+
 /// Over a sure source each call is answered.
 pub fn sure_sources_advise()
     ensures loss { (old new : Seen) (stakes : Terms) (p : Placement) (k : ℕ) (choice : Choice)
@@ -70,30 +90,48 @@ pub fn sure_sources_advise()
         (IsCubeAdvice stakes p k old.source new.notes) result → IsOk result }
 {}
 
-/// Where words enclose every state, the loss of a choice that was looked up in them encloses what
-/// the choice loses exactly, a turn before.
+/// Where words enclose every state, the loss of a choice that was looked up in a source with these
+/// words noted encloses what the choice loses exactly, a turn before.
 pub fn looked_losses_enclose_regrets()
-    ensures { (game : Game) (scoring : Scoring) (turns : ℕ) (source : Source) (u : Words)
-        → AreTrueWords game scoring turns source u
+    ensures { (game : Game) (scoring : Scoring) (turns : ℕ) (u : Words)
+        → AreTrueWords game scoring turns u
         → (p : Placement) (k : ℕ) → IsState game p k
         → (choice : Choice) → IsChoice game.stakes p k choice
-        → (pair : Bounds) → IsPairFor (of_loss game.stakes p k choice) source u pair
+        → (source : Source) (pair : Bounds)
+        → IsTrue source.tells → IsPairFor (of_loss game.stakes p k choice) source u pair
         → Encloses pair (regret_of game.stakes scoring turns p k choice)
         (counted_over scoring turns choice) }
 {}
 
-/// Where words enclose every state, the best play of a ranking that was looked up in them, and the
-/// offer and the answer of such advice, lose at most their bounds.
-pub fn advised_choices_lose_at_most_their_bounds()
-    ensures play { (game : Game) (scoring : Scoring) (turns : ℕ) (source : Source) (u : Words)
-        → AreTrueWords game scoring turns source u
+/// Where words enclose every state, the best play of a ranking over them loses at most its bound, a
+/// turn before, and so it does where the ranking was looked up in a source with these words noted.
+pub fn best_plays_lose_at_most_their_bounds()
+    ensures over { (game : Game) (scoring : Scoring) (turns : ℕ) (u : Words)
+        → AreTrueWords game scoring turns u
         → (p : Placement) (k : ℕ) → IsState game p k
         → (roll : Dice) → IsRoll roll
-        → (ranking : Ranking) → IsRanking game.stakes p k roll source u ranking
+        → (ranking : Ranking) → IsRankingOver game.stakes u p k roll ranking
         → FirstLosesAtMost game scoring turns p k roll ranking.rows.items ranking.loss_bound }
-    ensures cube { (game : Game) (scoring : Scoring) (turns : ℕ) (source : Source) (u : Words)
-        → AreTrueWords game scoring turns source u
+    ensures looked { (game : Game) (scoring : Scoring) (turns : ℕ) (u : Words)
+        → AreTrueWords game scoring turns u
         → (p : Placement) (k : ℕ) → IsState game p k
-        → (advice : CubeAdvice) → IsCubeAdvice game.stakes p k source u advice
+        → (roll : Dice) → IsRoll roll
+        → (source : Source) (ranking : Ranking)
+        → IsTrue source.tells → IsRanking game.stakes p k roll source u ranking
+        → FirstLosesAtMost game scoring turns p k roll ranking.rows.items ranking.loss_bound }
+{}
+
+/// So do the offer and the answer that are advised.
+pub fn advised_actions_lose_at_most_their_bounds()
+    ensures over { (game : Game) (scoring : Scoring) (turns : ℕ) (u : Words)
+        → AreTrueWords game scoring turns u
+        → (p : Placement) (k : ℕ) → IsState game p k
+        → (advice : CubeAdvice) → IsCubeAdviceOver game.stakes u p k advice
+        → ActionLosesAtMost game scoring turns p k advice.action }
+    ensures looked { (game : Game) (scoring : Scoring) (turns : ℕ) (u : Words)
+        → AreTrueWords game scoring turns u
+        → (p : Placement) (k : ℕ) → IsState game p k
+        → (source : Source) (advice : CubeAdvice)
+        → IsTrue source.tells → IsCubeAdvice game.stakes p k source u advice
         → ActionLosesAtMost game scoring turns p k advice.action }
 {}

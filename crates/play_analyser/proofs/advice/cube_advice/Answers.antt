@@ -5,7 +5,7 @@ use Rattle.cube_actions.specs.declared.kind.Double.{Double}
 use Rattle.cube_actions.specs.Stakes.{kind_at}
 use Rattle.turn_rule.specs.Looks.{of_roll}
 use Rattle.turn_rule.proofs.Found.{damage-among, then-err, then-ok}
-use Rattle.play_analyser.specs.Advice.{IsActionFor, IsAdviceOn, taken_of}
+use Rattle.play_analyser.specs.Advice.{IsActionBy, IsAdviceOn, taken_of}
 use Rattle.play_analyser.specs.Sought.{ArePairsFor, of_answer}
 use Rattle.play_analyser.proofs.PairLists.{pair-later, pairs-length}
 use Rattle.play_analyser.proofs.CubeLosses.{answers-follow-turn, each-state, right-double, roll-tightens, taken-near}
@@ -50,7 +50,7 @@ returns-in_ok-taken-in-Some-clause-looked g c =
     (rw (c.in_ok-no_double.ensures.source, c.of-ends.ensures) at c.in_ok-taken-in-Some.ensures.looked)
     (λ tighter one are. record {
       no_double = pair-later s (of_roll stakes p k 1) (roll-tightens s stakes c.kind.ensures.valid c.requires.stakes p (each-state s stakes c.kind.ensures.valid c.requires.stakes p k c.requires.state double some) k 1 c.requires.state.kind) _ last tighter rolling one;
-      action = subst (λ (o : Option Double). IsAdviceOn o (Some action) (λ d a. IsActionFor stakes p s last rolling d a)) (sym some)
+      action = subst (λ (o : Option Double). IsAdviceOn o (Some action) (λ d a. IsActionBy (λ answers pairs. ArePairsFor (of_answer stakes p) answers s last pairs) rolling d a)) (sym some)
           (record {
             taken = subst (λ (pairs : List Bounds). ArePairsFor (of_answer stakes p) double.answers.items s last pairs) (sym taken_is) are;
             pass = c.action_of-action.ensures.pass;
