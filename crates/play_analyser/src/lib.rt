@@ -4,6 +4,7 @@
 mod advice;
 mod among;
 mod answers;
+mod examples;
 mod laws;
 mod look_laws;
 mod losses;
@@ -13,6 +14,7 @@ mod ranking;
 mod tests;
 
 pub use advice::{CubeAction, CubeAdvice, cube_advice};
+pub use examples::{advice_examples, loss_examples};
 pub use laws::{losses_enclose_regrets, tighter_words_give_tighter_losses};
 pub use look_laws::{
     advised_actions_lose_at_most_their_bounds, best_plays_lose_at_most_their_bounds,
