@@ -1,0 +1,12 @@
+pub mod Ahead
+pub mod Enclosing
+pub mod Tighter
+mod LossLemmas
+mod PairLists
+mod OtherPlays
+mod LossPairs
+mod PlayLosses
+mod CubeLosses
+mod RowLemmas
+mod OneList
+mod AdvisedLosses

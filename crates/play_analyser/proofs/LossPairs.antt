@@ -1,0 +1,139 @@
+-- The loss of a choice over looked up pairs.
+use Rattle.std.proofs.Common.{◌≡◌, ℕ, ℤ, pos, neg_ℤ, ◌+ℤ◌, ◌-ℤ◌, ◌*ℤ◌, ◌≤ℤ◌, List, [], ◌∷◌, map, None, IsTrue, inl, inr, refl, subst, sym, arith}
+use Rattle.std.specs.Int.{int_max}
+use Rattle.std.proofs.lemmas.Int.{ints, clamps}
+use Rattle.position_rank.specs.Placement.{Placement}
+use Rattle.move_rules.specs.Listing.{Among}
+use Rattle.directed_fixed.specs.declared.bounds.End.{End}
+use Rattle.directed_fixed.specs.declared.bounds.End.TheVariants.{Lower, Upper}
+use Rattle.directed_fixed.specs.Bounds.{Bounds, IsWithin, IsWithinUnits, AreNoLooserPairs, at, negated}
+use Rattle.turn_rule.specs.Turn.{Words}
+use Rattle.turn_rule.specs.Looks.{Source, Sought, States, IsPairOf, IsPairFor}
+use Rattle.play_analyser.specs.Losses.{Options, ahead, loss, lower_ends, upper_ends}
+use Rattle.play_analyser.specs.Sought.{ArePairsFor}
+use Rattle.play_analyser.proofs.Tighter.{AllTighter, OptionsTighter, loss-tighter, negated-tighter}
+
+-- ---- how large a loss is
+
+pub record OptionsWithin (bound : ℤ) (options : Options Bounds) : Type 0 where
+  pub chosen : IsWithin bound options.chosen
+  pub others : (pair : Bounds) → Among pair options.others → IsWithin bound pair
+
+most_of : (v m rest bound : ℤ) → v ≤ℤ bound → neg_ℤ bound ≤ℤ m → rest ≤ℤ (bound +ℤ bound) → int_max (v -ℤ m) rest ≤ℤ (bound +ℤ bound)
+most_of v m rest bound h k l = omega (arith, ints, clamps)
+
+later-positive : (v rest : ℤ) → pos 0 ≤ℤ rest → pos 0 ≤ℤ int_max v rest
+later-positive v rest h = omega (arith, ints, clamps)
+
+both-order : (a b m n x y : ℤ) → a ≤ℤ b → n ≤ℤ m → x ≤ℤ y → int_max (a -ℤ m) x ≤ℤ int_max (b -ℤ n) y
+both-order a b m n x y h k l = omega (arith, ints, clamps)
+
+ahead-positive : (values : List ℤ) (mine : ℤ) → pos 0 ≤ℤ ahead values mine
+ahead-positive [] mine = omega (arith, ints)
+ahead-positive (value ∷ values) mine = later-positive (value -ℤ mine) (ahead values mine) (ahead-positive values mine)
+
+ahead-most : (bound mine : ℤ) → pos 0 ≤ℤ bound → neg_ℤ bound ≤ℤ mine → (pairs : List Bounds) → ((pair : Bounds) → Among pair pairs → IsWithin bound pair) → ahead (upper_ends pairs) mine ≤ℤ (bound +ℤ bound)
+ahead-most bound mine z h [] within = omega (arith, ints)
+ahead-most bound mine z h (pair ∷ pairs) within = most_of pair.upper mine (ahead (upper_ends pairs) mine) bound (within pair (inl refl)).to h (ahead-most bound mine z h pairs (λ q m. within q (inr m)))
+
+ahead-order : (m n : ℤ) → n ≤ℤ m → (pairs : List Bounds) → ((pair : Bounds) → Among pair pairs → pair.lower ≤ℤ pair.upper) → ahead (lower_ends pairs) m ≤ℤ ahead (upper_ends pairs) n
+ahead-order m n h [] order = omega (arith, ints)
+ahead-order m n h (pair ∷ pairs) order = both-order pair.lower pair.upper m n (ahead (lower_ends pairs) m) (ahead (upper_ends pairs) n) (order pair (inl refl)) h (ahead-order m n h pairs (λ q k. order q (inr k)))
+
+pub loss-positive : (options : Options Bounds) → pos 0 ≤ℤ (loss options).lower
+loss-positive options = ahead-positive (lower_ends options.others) options.chosen.upper
+
+twice : (bound x : ℤ) → x ≤ℤ ((pos 4 *ℤ bound) +ℤ (pos 4 *ℤ bound)) → x ≤ℤ (pos 8 *ℤ bound)
+twice bound x h = omega (arith, ints)
+
+from_zero : (bound x : ℤ) → pos 0 ≤ℤ bound → pos 0 ≤ℤ x → neg_ℤ (pos 8 *ℤ bound) ≤ℤ x
+from_zero bound x h k = omega (arith, ints)
+
+four : (bound : ℤ) → pos 0 ≤ℤ bound → pos 0 ≤ℤ (pos 4 *ℤ bound)
+four bound h = omega (arith, ints)
+
+between : (a b c : ℤ) → a ≤ℤ b → b ≤ℤ c → a ≤ℤ c
+between a b c h k = omega (arith, ints)
+
+pub loss-within : (bound : ℤ) → pos 0 ≤ℤ bound → (options : Options Bounds) → OptionsWithin (pos 4 *ℤ bound) options → IsWithin (pos 8 *ℤ bound) (loss options)
+loss-within bound z options within = record {
+  from = from_zero bound _ z (loss-positive options);
+  in_order = ahead-order options.chosen.upper options.chosen.lower within.chosen.in_order options.others (λ pair m. (within.others pair m).in_order);
+  to = twice bound _ (ahead-most (pos 4 *ℤ bound) options.chosen.lower (four bound z) within.chosen.from options.others within.others);
+}
+
+-- ---- a loss over pairs at hand
+
+pub units-of : (bound : ℤ) (pair : Bounds) → IsWithin bound pair → IsWithinUnits bound pair.lower × IsWithinUnits bound pair.upper
+units-of bound pair h = (record { from = h.from; to = between _ _ _ h.in_order h.to }, record { from = between _ _ _ h.from h.in_order; to = h.to })
+
+pub loss-pair : (s : Source) (w : Words) (states : States) (over : Words → Options Bounds) (value : Words → Bounds) → ((u : Words) → loss (over u) ≡ value u) → pos 0 ≤ℤ s.bound → (options : Options Bounds) → OptionsWithin (pos 4 *ℤ s.bound) options
+    → (IsTrue s.tells → OptionsTighter options (over s.floor)) → (IsTrue s.tells → OptionsTighter (over w) options) → (IsTrue s.tells → (p : Placement) (k : ℕ) → states p k → s.damage p k ≡ None)
+    → IsPairOf s w states (pos 8 *ℤ s.bound) (λ (end : End) (u : Words). at end (value u)) (loss options)
+loss-pair s w states over value same z options within floor notes right =
+    let inside = loss-within s.bound z options within in
+    let units = units-of (pos 8 *ℤ s.bound) (loss options) inside in
+    let upon : IsTrue s.tells → AreNoLooserPairs (loss options) (value s.floor) = λ tells. subst (AreNoLooserPairs (loss options)) (same s.floor) (loss-tighter options (over s.floor) (floor tells)) in
+    let under : IsTrue s.tells → AreNoLooserPairs (value w) (loss options) = λ tells. subst (λ (b : Bounds). AreNoLooserPairs b (loss options)) (same w) (loss-tighter (over w) options (notes tells)) in
+    record {
+      in_order = inside.in_order;
+      lower = units.0;
+      upper = units.1;
+      lower_floor = λ tells. (upon tells).lower;
+      upper_floor = λ tells. (upon tells).upper;
+      lower_notes = λ tells. (under tells).lower;
+      upper_notes = λ tells. (under tells).upper;
+      right = right;
+    }
+
+-- ---- pairs at hand
+
+-- what is sought, at both ends
+abbrev pub pair_over : Sought → Words → Bounds
+pair_over sought u = record { lower = sought.value Lower u; upper = sought.value Upper u }
+
+pub pair-floor : (s : Source) (sought : Sought) (w : Words) (pair : Bounds) → IsPairFor sought s w pair → IsTrue s.tells → AreNoLooserPairs pair (pair_over sought s.floor)
+pair-floor s sought w pair is tells = record { lower = is.lower_floor tells; upper = is.upper_floor tells }
+
+pub pair-notes : (s : Source) (sought : Sought) (w : Words) (pair : Bounds) → IsPairFor sought s w pair → IsTrue s.tells → AreNoLooserPairs (pair_over sought w) pair
+pair-notes s sought w pair is tells = record { lower = is.lower_notes tells; upper = is.upper_notes tells }
+
+pub pair-within : (s : Source) (sought : Sought) (w : Words) (pair : Bounds) (bound : ℤ) → sought.limit s.bound ≤ℤ bound → IsPairFor sought s w pair → IsWithin bound pair
+pair-within s sought w pair bound h is = let low = is.lower.from in let high = is.upper.to in record { from = omega (arith, ints); in_order = is.in_order; to = omega (arith, ints) }
+
+module _ {X : Type 0} (s : Source) (sought : X → Sought) (w : Words) where
+  pub pairs-floor : IsTrue s.tells → (xs : List X) (pairs : List Bounds) → ArePairsFor sought xs s w pairs → AllTighter pairs (map (λ (x : X). pair_over (sought x) s.floor) xs)
+  pairs-floor tells [] [] are = tt
+  pairs-floor tells [] (pair ∷ pairs) are = absurd are
+  pairs-floor tells (x ∷ xs) [] are = absurd are
+  pairs-floor tells (x ∷ xs) (pair ∷ pairs) are = (pair-floor s (sought x) w pair are.0 tells, pairs-floor tells xs pairs are.1)
+
+  pub pairs-notes : IsTrue s.tells → (xs : List X) (pairs : List Bounds) → ArePairsFor sought xs s w pairs → AllTighter (map (λ (x : X). pair_over (sought x) w) xs) pairs
+  pairs-notes tells [] [] are = tt
+  pairs-notes tells [] (pair ∷ pairs) are = absurd are
+  pairs-notes tells (x ∷ xs) [] are = absurd are
+  pairs-notes tells (x ∷ xs) (pair ∷ pairs) are = (pair-notes s (sought x) w pair are.0 tells, pairs-notes tells xs pairs are.1)
+
+  pub pairs-within : (bound : ℤ) (xs : List X) → ((x : X) → Among x xs → (sought x).limit s.bound ≤ℤ bound) → (pairs : List Bounds) → ArePairsFor sought xs s w pairs → (pair : Bounds) → Among pair pairs → IsWithin bound pair
+  pairs-within bound [] limit [] are pair m = absurd m
+  pairs-within bound [] limit (first ∷ pairs) are pair m = absurd are
+  pairs-within bound (x ∷ xs) limit [] are pair m = absurd are
+  pairs-within bound (x ∷ xs) limit (first ∷ pairs) are pair (inl is) = subst (IsWithin bound) (sym is) (pair-within s (sought x) w first bound (limit x (inl refl)) are.0)
+  pairs-within bound (x ∷ xs) limit (first ∷ pairs) are pair (inr m) = pairs-within bound xs (λ y n. limit y (inr n)) pairs are.1 pair m
+
+  pub pairs-right : IsTrue s.tells → (xs : List X) (pairs : List Bounds) → ArePairsFor sought xs s w pairs → (x : X) → Among x xs → (p : Placement) (k : ℕ) → (sought x).states p k → s.damage p k ≡ None
+  pairs-right tells [] pairs are x m p k may = absurd m
+  pairs-right tells (y ∷ xs) [] are x m p k may = absurd are
+  pairs-right tells (y ∷ xs) (pair ∷ pairs) are x (inl is) p k may = are.0.right tells p k (subst (λ (z : X). (sought z).states p k) is may)
+  pairs-right tells (y ∷ xs) (pair ∷ pairs) are x (inr m) p k may = pairs-right tells xs pairs are.1 x m p k may
+
+-- ---- for the other side
+
+pub all-negated-tighter : (cs ds : List Bounds) → AllTighter cs ds → AllTighter (map negated cs) (map negated ds)
+all-negated-tighter [] [] all = tt
+all-negated-tighter [] (d ∷ ds) all = absurd all
+all-negated-tighter (c ∷ cs) [] all = absurd all
+all-negated-tighter (c ∷ cs) (d ∷ ds) all = (negated-tighter c d all.0, all-negated-tighter cs ds all.1)
+
+pub negated-within : (bound : ℤ) (pair : Bounds) → IsWithin bound pair → IsWithin bound (negated pair)
+negated-within bound pair h = let low = h.from in let middle = h.in_order in let high = h.to in record { from = omega (arith, ints); in_order = omega (arith, ints); to = omega (arith, ints) }

@@ -1,0 +1,25 @@
+//! What plays and cube actions lose, bounded from the words of a game.
+#![tactic(auto)]
+
+mod advice;
+mod among;
+mod answers;
+mod examples;
+mod laws;
+mod look_laws;
+mod losses;
+mod play_pairs;
+mod ranking;
+#[cfg(test)]
+mod tests;
+
+pub use advice::{CubeAction, CubeAdvice, cube_advice};
+pub use examples::{advice_examples, loss_examples};
+pub use laws::{losses_enclose_regrets, tighter_words_give_tighter_losses};
+pub use look_laws::{
+    advised_actions_lose_at_most_their_bounds, best_plays_lose_at_most_their_bounds,
+    looked_losses_enclose_regrets, one_list_gives_the_advice, one_list_gives_the_loss,
+    one_list_gives_the_play, one_list_gives_the_ranking, sure_sources_advise,
+};
+pub use losses::loss;
+pub use ranking::{PlayRow, Ranking, rank_plays};
