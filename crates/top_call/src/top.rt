@@ -26,12 +26,15 @@ use std::thread::Threads;
 /// At status 0 the report was put. Of `bound` it is of a pair that encloses what the position is worth exactly in every game of at least as many
 /// turns as there were rounds, however its unfinished end is scored. After `solve` the file holds, for each state, a pair at least as tight as the asked
 /// number of rounds and, in every game of enough turns, however its unfinished end is scored, enclosing what the state is worth exactly, for every
-/// number of workers and every gate; no other file changed.
+/// number of workers and every gate; no other file changed. Of `show` it is of the position's pairs in the file, whose header and page are right.
+/// After `migrate` the new file holds the old one's head and words, all of which were right.
 ///
-/// Else the line of one refusal was put, or a front of it where that failed: 1 comes where the words are outside their form, 2 where a position's
-/// text is, 10 where a position has another number of checkers per side than the words ask for, each only where the ones before don't come; 7
-/// only where writing a file or the output failed; 8 where there was no memory. At 7 a front of the report may stand before the line, and the file in
-/// work holds what it held or a front of its text. At all others no file changed.
+/// Else the line of one refusal was put, or a front of it where that failed, each only where the ones before don't come: 1 comes where the words are
+/// outside their form; 2 where a position's text is; 10 where `bound` asks for another number of checkers than its position has; 3 where a file that
+/// is to be read isn't there; 4 where it isn't a file of bounds, of `show` up to its pages; 10 where `show` is asked for a position of another number
+/// of checkers; 4 where the page of the position isn't right. 6 comes only where reading a file failed, 7 only where writing a file or the output
+/// failed, 8 where there was no memory. At 7 a front of the report may stand before the line, and the file in work holds what it held or a front of
+/// its text. At all others no file changed.
 pub fn run<R: Threads + Sync, F: Files, O: Sink, G: Gate + Sync>(
     rt: &R,
     alloc: Global,
