@@ -103,26 +103,24 @@ fn a_damaged_file_is_refused(rt: HostRuntime) -> Result<(), Fail> {
     Ok(())
 }
 
-// Of each call that fails, from the first on: the status, and how many bytes the new file then has. Size, front and page are read; then
-// the file is begun, and front, page and digest are appended.
-const FAULTS: [(u8, Option<usize>); 8] = [
-    (6, None),
-    (6, None),
-    (6, None),
-    (7, None),
-    (7, Some(7)),
-    (7, Some(103)),
-    (7, Some(6113)),
-    (0, Some(6138)),
+// The call that fails, the status, and how many bytes the new file then has. Size, front and page are read; then the file is begun, and
+// front, page and digest are appended.
+const FAULTS: [(u64, u8, Option<usize>); 8] = [
+    (1, 6, None),
+    (2, 6, None),
+    (3, 6, None),
+    (4, 7, None),
+    (5, 7, Some(7)),
+    (6, 7, Some(103)),
+    (7, 7, Some(6113)),
+    (8, 0, Some(6138)),
 ];
 
 #[test]
 fn a_failing_call_is_told(rt: HostRuntime) -> Result<(), Fail> {
     let alloc = rt.alloc();
     let old = cubeless_text(alloc, 1)?;
-    let mut call = 0;
-    for (answer, length) in FAULTS {
-        call += 1;
+    for (call, answer, length) in FAULTS {
         let mut files = MemFiles::new(alloc);
         files.with_file("old", &old)?;
         files.room(1, 10_000)?;
