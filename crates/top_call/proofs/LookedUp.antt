@@ -1,5 +1,5 @@
 -- A position's pairs from a file.
-use Rattle.std.proofs.Common.{◌≡◌, ◌∙◌, ◌<◌, ◌≤◌, ◌+◌, ℕ, zero, suc, ℤ, ◌≤ℤ◌, List, [], ◌∷◌, ◌++◌, length, take, Option, Some, None, refl, sym, ap, subst, arith}
+use Rattle.std.proofs.Common.{◌≡◌, ◌∙◌, ◌+◌, ℕ, zero, suc, ℤ, ◌≤ℤ◌, List, [], ◌∷◌, ◌++◌, length, take, Option, Some, None, refl, sym, ap, subst, arith}
 use Rattle.std.specs.Int.{int_max, int_min}
 use Rattle.std.proofs.lemmas.Int.{ints, clamps}
 use Rattle.std.proofs.lemmas.Option.{none-some}
@@ -10,7 +10,6 @@ use Rattle.directed_fixed.specs.Bounds.{Bounds}
 use Rattle.cube_actions.specs.declared.name.KindName.{KindName}
 use Rattle.cube_actions.specs.declared.name.StakesName.{StakesName}
 use Rattle.cube_actions.specs.declared.name.StakesName.TheVariants.{Cubeless, Money, Jacoby, MoneyBeavers, JacobyBeavers, Match}
-use Rattle.cube_actions.specs.Stakes.{bound_of}
 use Rattle.cube_actions.specs.Starts.{StartPairs}
 use Rattle.turn_rule.specs.Turn.{Words}
 use Rattle.base_head.specs.Heads.{stakes_named}
@@ -19,7 +18,7 @@ use Rattle.top_call.specs.Shows.{rows_from}
 use Rattle.turn_rule.specs.States.{IsStateOf, pair_of}
 use Rattle.base_head.specs.Headers.{IsHeader}
 use Rattle.base_head.specs.declared.header.Header.{Header}
-use Rattle.database_file.specs.Paged.{flaw_at, told_words, word_at}
+use Rattle.database_file.specs.Paged.{flaw_at, word_at}
 use Rattle.database_file.proofs.PagedLooks.{told-right}
 use Rattle.database_file.proofs.PagedWords.{told-within}
 

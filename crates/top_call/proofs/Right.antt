@@ -1,5 +1,5 @@
 -- What is known of a command that was read.
-use Rattle.std.proofs.Common.{◌≡◌, ◌≢◌, Bool, false, List, Result, Ok, Err, refl, subst}
+use Rattle.std.proofs.Common.{◌≡◌, ◌≢◌, false, List, Result, Ok, refl, subst}
 use Rattle.std.specs.Prelude.{IfOk}
 use Rattle.hyper_outside.specs.declared.outside.BadWords.{BadWords}
 use Rattle.cube_actions.specs.Scores.{MatchScore}

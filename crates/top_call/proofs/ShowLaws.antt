@@ -1,5 +1,5 @@
 -- What is shown of a file, and what refuses it.
-use Rattle.std.proofs.Common.{◌≡◌, ◌≢◌, ◌∙◌, ◌<◌, ◌+◌, ℕ, zero, suc, List, [], ◌∷◌, IsTrue, sum, length, drop, Option, Some, None, Ok, Err, Result, inl, inr, refl, sym, ap, subst, arith}
+use Rattle.std.proofs.Common.{◌≡◌, ◌≢◌, ◌∙◌, ◌<◌, ◌+◌, ℕ, suc, List, [], ◌∷◌, sum, length, drop, Option, Some, None, Ok, Err, Result, inl, inr, refl, sym, ap, subst, arith}
 use Rattle.std.specs.Option.{option_map}
 use Rattle.position_rank.specs.Placement.{Placement, IsPosition, IsLive}
 use Rattle.directed_fixed.specs.declared.bounds.End.{End}
@@ -10,7 +10,6 @@ use Rattle.cube_actions.specs.Names.{names_of}
 use Rattle.hyper_outside.specs.Files.{Contents}
 use Rattle.hyper_outside.specs.declared.outside.LookStop.{LookStop}
 use Rattle.hyper_outside.specs.declared.outside.LookStop.TheVariants as looks
-use Rattle.turn_rule.specs.States.{IsStateOf, pair_of}
 use Rattle.turn_rule.specs.Turn.{Words}
 use Rattle.word_pages.specs.declared.flaws.Flaw.{Flaw}
 use Rattle.base_head.specs.Fronts.{bad_of}

@@ -1,7 +1,6 @@
 -- What a game that is solved leaves.
 use Rattle.std.specs.Prelude.{◌≡◌, ◌⊎◌, ℕ, ℤ, List, [], Option, Some, IsTrue, Bool, length}
 use Rattle.position_rank.specs.LiveRanks.{live_positions}
-use Rattle.hyper_outside.specs.Files.{Contents}
 use Rattle.hyper_outside.specs.Sink.{Output}
 use Rattle.cube_actions.specs.Names.{names_of}
 use Rattle.turn_rule.specs.Turn.{rounds}

@@ -1,5 +1,5 @@
 -- What a program's words ask for.
-use Rattle.std.specs.Prelude.{ℕ, ◌≡◌, ◌≤◌, ◌==◌, Bool, false, List, String, length, sum, Result, Ok, Err, if◌then◌else◌}
+use Rattle.std.specs.Prelude.{ℕ, ◌==◌, List, String, sum, Result, Ok, Err, if◌then◌else◌}
 use Rattle.std.specs.declared.alloc.Global.{Global}
 use Rattle.position_rank.specs.Placement.{Placement, IsPosition, IsLive}
 use Rattle.position_rank.specs.declared.text.BadPosition.{BadPosition}

@@ -1,7 +1,6 @@
 use Rattle.std.proofs.Common.{◌≡◌, ◌⊎◌, List, ℕ, [], Option, Some, IsTrue, Ok, inl, inr, sym, subst}
 use Rattle.std.proofs.lemmas.List.{append-nil}
 use Rattle.database_file.specs.Bases.{AnswersBase}
-use Rattle.database_file.specs.FileBases.{FileBase}
 use Rattle.database_file.specs.Writing.{HoldsFront}
 use Rattle.top_call.specs.Loads.{RefusesLoading}
 use Rattle.top_call.specs.Migrates.{latest_file}

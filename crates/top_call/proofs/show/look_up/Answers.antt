@@ -1,4 +1,4 @@
-use Rattle.std.proofs.Common.{◌≡◌, ◌∙◌, ℕ, IsTrue, Err, sum, sym, subst, ap}
+use Rattle.std.proofs.Common.{◌≡◌, ◌∙◌, IsTrue, Err, sum, sym, subst, ap}
 use Rattle.base_head.specs.Heads.{FileHead}
 use Rattle.equity_report.specs.declared.text.GameName.{GameName}
 use Rattle.top_call.specs.Loads.{game_told}

@@ -1,5 +1,4 @@
-use Rattle.std.proofs.Common.{◌≡◌, ◌∙◌, IsTrue, sym, subst, ap}
-use Rattle.base_head.specs.declared.header.Header.{Header}
+use Rattle.std.proofs.Common.{IsTrue, sym, subst, ap}
 use Rattle.database_file.specs.PagedFiles.{PagedFile}
 use Rattle.top_call.proofs.LookedUp.{min-max, pair-told}
 use Rattle.top_call.proofs.show.pair_of.Goals as goal

@@ -1,8 +1,6 @@
 use Rattle.std.proofs.Common.{◌≡◌, ◌∙◌, ◌<◌, ◌≤◌, ◌+◌, ◌++◌, ℕ, suc, List, [], ◌∷◌, IsTrue, length, take, refl, sym, subst, ap, add-one, arith}
 use Rattle.std.proofs.lemmas.List.{take_all, length-append}
 use Rattle.cube_actions.specs.Names.{names_of}
-use Rattle.cube_actions.specs.declared.name.StakesName.{StakesName}
-use Rattle.cube_actions.specs.declared.name.KindName.{KindName}
 use Rattle.cube_actions.specs.Stakes.{Terms}
 use Rattle.turn_rule.specs.States.{pair_of}
 use Rattle.database_file.specs.Paged.{word_at}

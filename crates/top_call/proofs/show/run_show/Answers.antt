@@ -1,4 +1,4 @@
-use Rattle.std.proofs.Common.{Err, rules, sym}
+use Rattle.std.proofs.Common.{Err, rules}
 use Rattle.top_call.proofs.show.run_show.Goals as goal
 
 pub returns-in-Err-write_shown-clause-stopped : goal.returns-in-Err-write_shown-clause-stopped

@@ -1,4 +1,4 @@
-use Rattle.std.proofs.Common.{◌≡◌, ◌∙◌, List, ℕ, [], Option, Some, IsTrue, inl, inr, sym}
+use Rattle.std.proofs.Common.{◌≡◌, List, ℕ, [], Option, Some, inl, inr, sym}
 use Rattle.std.proofs.lemmas.List.{append-nil}
 use Rattle.database_file.specs.Writing.{HoldsFront}
 use Rattle.top_call.specs.Solves.{solved_file}
