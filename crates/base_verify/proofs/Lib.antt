@@ -1,0 +1,5 @@
+mod Found
+mod Orders
+mod Parts
+mod Shares
+mod Whole
