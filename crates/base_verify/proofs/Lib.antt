@@ -1,3 +1,4 @@
+mod Answered
 mod Found
 mod Orders
 mod Parts

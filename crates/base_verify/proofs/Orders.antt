@@ -1,5 +1,5 @@
 -- The order of the words.
-use Rattle.std.proofs.Common.{◌≡◌, ◌≤◌, ◌<◌, ◌+◌, ◌*◌, ◌⊎◌, ℕ, arith, inl, inr, refl, sym}
+use Rattle.std.proofs.Common.{◌≡◌, ◌≤◌, ◌<◌, ◌+◌, ◌*◌, ℕ, arith, inl, inr, refl, sym}
 use Rattle.std.proofs.lemmas.Bool.{cases_order}
 use Rattle.std.proofs.Math.Nat.{add-mul, mul-le-mul_right}
 use Rattle.position_rank.specs.Placement.{Placement}

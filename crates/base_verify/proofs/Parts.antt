@@ -1,5 +1,5 @@
 -- What is told of the words between two places.
-use Rattle.std.proofs.Common.{◌≡◌, ◌≤◌, ◌<◌, ◌+◌, ◌*◌, ◌∙◌, ℕ, zero, suc, Option, Some, None, List, [], ◌∷◌, length, get_or, arith, inl, inr, refl, sym, subst}
+use Rattle.std.proofs.Common.{◌≡◌, ◌≤◌, ◌<◌, ◌+◌, ◌*◌, ℕ, Option, Some, None, arith, inl, inr, refl, sym, subst}
 use Rattle.std.proofs.lemmas.Bool.{cases_lt}
 use Rattle.std.proofs.Math.Nat.{add-mul, mul-le-mul_right}
 use Rattle.position_rank.specs.Placement.{Placement}
@@ -13,7 +13,7 @@ use Rattle.interval_words.specs.WordLists.{WordList}
 use Rattle.interval_words.proofs.Places.{state-same}
 use Rattle.base_verify.specs.declared.finding.Finding.{Finding}
 use Rattle.base_verify.specs.Findings.{Holds, HoldBetween, place_of, place_of_finding}
-use Rattle.base_verify.specs.Checks.{TellsState, IsFindingOf, TellsBetween, IsFirstBetween, place_at}
+use Rattle.base_verify.specs.Checks.{IsFindingOf, TellsBetween, IsFirstBetween, place_at}
 
 add-mul-one : (n k : ℕ) → (n + 1) * k ≡ n * k + k
 add-mul-one n k = omega (arith, add-mul n 1 k)

@@ -7,7 +7,7 @@ use Rattle.interval_words.specs.WordLists.{WordList}
 use Rattle.base_verify.specs.declared.finding.Finding.{Finding}
 use Rattle.base_verify.specs.Findings.{HoldBetween}
 use Rattle.base_verify.specs.Checks.{AreParts, IsFirstBetween, TellsBetween, place_at, start_of}
-use Rattle.base_verify.proofs.Parts.{found-before, hold-more, hold-none, places-rise, tells-after}
+use Rattle.base_verify.proofs.Parts.{found-before, hold-none, places-rise, tells-after}
 
 share-rise : (count parts a b : ℕ) → 0 < parts → a ≤ b → count * a / parts ≤ count * b / parts
 share-rise count parts a b some le =

@@ -1,5 +1,5 @@
 -- What is told of all words.
-use Rattle.std.proofs.Common.{◌≡◌, ◌≤◌, ◌<◌, ◌*◌, ◌∙◌, ℕ, ℤ, ap, arith, inl, inr, sym, subst}
+use Rattle.std.proofs.Common.{◌≡◌, ◌<◌, ◌*◌, ◌∙◌, ℕ, ℤ, arith, inl, inr, sym, subst}
 use Rattle.std.proofs.lemmas.Bool.{cases_order}
 use Rattle.std.proofs.lemmas.Int.{ints}
 use Rattle.position_rank.specs.Placement.{Placement}
@@ -12,7 +12,7 @@ use Rattle.turn_rule.specs.Turn.{Words}
 use Rattle.turn_rule.specs.Truth.{AreConsistent}
 use Rattle.interval_words.specs.Numbers.{state_of, states_in, word_of}
 use Rattle.interval_words.specs.WordLists.{WordList, words_in_list}
-use Rattle.interval_words.proofs.Places.{state-in, state-same, word-in, word-same}
+use Rattle.interval_words.proofs.Places.{state-in, state-same, word-same}
 use Rattle.base_verify.specs.declared.finding.Finding.{Finding}
 use Rattle.base_verify.specs.Findings.{Holds, HoldBetween, IsFinding, IsFirstFinding, IsLooser, place_of, place_of_finding, turn_over}
 use Rattle.base_verify.specs.Checks.{IsFirstBetween, place_at}

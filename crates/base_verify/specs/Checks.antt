@@ -5,7 +5,6 @@ use Rattle.position_rank.specs.LiveRanks.{live_positions}
 use Rattle.directed_fixed.specs.declared.bounds.End.{End}
 use Rattle.directed_fixed.specs.declared.bounds.End.TheVariants.{Lower, Upper}
 use Rattle.turn_rule.specs.Games.{kinds_of}
-use Rattle.turn_rule.specs.States.{IsState}
 use Rattle.interval_words.specs.Numbers.{word_of}
 use Rattle.interval_words.specs.WordLists.{WordList}
 use Rattle.base_verify.specs.declared.finding.Finding.{Finding}

@@ -1,11 +1,13 @@
-ghost use Rattle.std.specs.Prelude.{◌≡◌, ◌<◌, ◌↔◌, ℕ};
+ghost use Rattle.std.specs.Prelude.{◌≡◌, ◌<◌, ◌↔◌, ◌⊎◌, ℕ, Result, Err, IsOk};
 ghost use Rattle.position_rank.specs.Placement.{Placement};
 ghost use Rattle.directed_fixed.specs.declared.bounds.End.{End};
 ghost use Rattle.turn_rule.specs.States.{IsState};
 ghost use Rattle.turn_rule.specs.Truth.{AreConsistent};
 ghost use Rattle.interval_words.specs.WordLists.{WordList, words_in_list};
 ghost use Rattle.base_verify.specs.declared.finding.Finding.{Finding};
-ghost use Rattle.base_verify.specs.Findings.{IsFinding, IsFirstFinding, place_of, ComesBefore};
+ghost use Rattle.base_verify.specs.declared.finding.VerifyStop.{VerifyStop};
+ghost use Rattle.base_verify.specs.declared.finding.VerifyStop.TheVariants.{NoMemory};
+ghost use Rattle.base_verify.specs.Findings.{IsFinding, IsFirstFinding, TellsConsistency, place_of, ComesBefore};
 
 /// Words with a finding aren't consistent.
 pub fn findings_tell_inconsistency()
@@ -26,4 +28,15 @@ pub fn words_are_ordered()
     ensures { (words : WordList) (side other : End) (p q : Placement) (k j : ℕ)
         → IsState words.game p k → IsState words.game q j
         → (place_of words side p k < place_of words other q j) ↔ ComesBefore side p k other q j }
+{}
+
+/// Whatever is answered of the same words is the same, but for a lack of memory; of consistent words
+/// it is a yes.
+pub fn answers_agree()
+    ensures same { (words : WordList) (one other : Result (Unit {0}) VerifyStop)
+        → TellsConsistency words one → TellsConsistency words other
+        → (one ≡ other) ⊎ (one ≡ Err NoMemory) ⊎ (other ≡ Err NoMemory) }
+    ensures yes { (words : WordList) (answer : Result (Unit {0}) VerifyStop)
+        → AreConsistent words.game (words_in_list words) → TellsConsistency words answer
+        → IsOk answer ⊎ (answer ≡ Err NoMemory) }
 {}

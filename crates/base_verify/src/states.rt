@@ -88,9 +88,10 @@ pub(crate) fn part_finding(words: &Words, from: u64, to: u64) -> Option<Finding>
     ensures { TellsBetween words.now (place_at words.now from) (place_at words.now to) result }
 {
     let mut list = PlayList::new();
+    let mut ends = RollEnds::of(&Position::start(words.checkers()), &mut list);
     for rank in from..to {
         let position = words.index().unrank(rank);
-        let ends = RollEnds::of(&position, &mut list);
+        ends.fill(&position, &mut list);
         if let Some(finding) = position_finding(words, &ends) {
             return Some(finding);
         }

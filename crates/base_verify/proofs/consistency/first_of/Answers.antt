@@ -1,4 +1,4 @@
-use Rattle.std.proofs.Common.{◌≡◌, ◌∙◌, Some, None, length, sym, arith}
+use Rattle.std.proofs.Common.{◌∙◌, None, sym, arith}
 use Rattle.std.proofs.lemmas.List.{get_or_default}
 use Rattle.base_verify.proofs.Shares.{all-parts, none-yet, part-found}
 use Rattle.base_verify.proofs.consistency.first_of.Goals as goal

@@ -1,9 +1,7 @@
-use Rattle.std.proofs.Common.{◌≡◌, ◌<◌, ◌∙◌, ℕ, List, Option, Some, None, sym, subst, arith}
+use Rattle.std.proofs.Common.{◌<◌, sym, subst, arith}
 use Rattle.std.proofs.lemmas.Result.{err_from_is_err_and}
 use Rattle.position_rank.specs.LiveRanks.{live_positions}
-use Rattle.interval_words.specs.WordLists.{WordList}
-use Rattle.base_verify.specs.declared.finding.Finding.{Finding}
-use Rattle.base_verify.specs.Checks.{AreParts, TellsAll, place_at}
+use Rattle.base_verify.specs.Checks.{AreParts, place_at}
 use Rattle.base_verify.proofs.Whole.{all-hold, first-of-all}
 use Rattle.base_verify.proofs.consistency.verify_words.Goals as goal
 
