@@ -1,4 +1,6 @@
 mod Answered
+mod ColumnLemmas
+mod ColumnShares
 mod Found
 mod Orders
 mod Parts

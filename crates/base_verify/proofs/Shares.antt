@@ -9,13 +9,13 @@ use Rattle.base_verify.specs.Findings.{HoldBetween}
 use Rattle.base_verify.specs.Checks.{AreParts, IsFirstBetween, TellsBetween, place_at, start_of}
 use Rattle.base_verify.proofs.Parts.{found-before, hold-none, places-rise, tells-after}
 
-share-rise : (count parts a b : ℕ) → 0 < parts → a ≤ b → count * a / parts ≤ count * b / parts
+pub share-rise : (count parts a b : ℕ) → 0 < parts → a ≤ b → count * a / parts ≤ count * b / parts
 share-rise count parts a b some le =
     let down : count * a / parts * parts ≤ count * a = div-mul-le_self (count * a) parts in
     let up : count * a ≤ count * b = mul-le-mul_left count le in
     le-div (count * a / parts) (count * b) parts some (omega (arith, down, up))
 
-no-share : (count parts : ℕ) → count * 0 / parts ≡ 0
+pub no-share : (count parts : ℕ) → count * 0 / parts ≡ 0
 no-share count parts =
     let small : count * 0 / parts ≤ 0 = div-le_of_le-mul parts (omega arith) in
     omega (arith, small)

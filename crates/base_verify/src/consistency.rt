@@ -1,17 +1,22 @@
-ghost use Rattle.std.specs.Prelude.{◌≡◌, ◌<◌, ◌≤◌, ◌*◌, ◌/◌, ◌^◌, ℕ, IfOk, OnOk};
+ghost use Rattle.std.specs.Prelude.{◌≡◌, ◌<◌, ◌≤◌, ◌*◌, ◌/◌, ◌^◌, ℕ, IfOk, IsTrue, OnOk};
 ghost use Rattle.interval_words.specs.WordLists.{WordList};
 ghost use Rattle.base_verify.specs.Findings.{AlwaysEnclose, TellsConsistency};
+ghost use Rattle.position_rank.specs.Ranks.{layouts};
 ghost use Rattle.base_verify.specs.Checks.{AreParts, TellsAll};
+ghost use Rattle.base_verify.specs.Columns.{AreColumnParts, ColumnsHold};
 
+use crate::columns::{all_hold, columns_hold};
 use crate::finding::{Finding, VerifyStop};
 use crate::states::part_finding;
 use database_file::Base;
+use hyper_outside::NoMemory;
 use interval_words::{Words, consistent_lists_enclose};
+use position_rank::layout_count;
 use std::alloc::{AllocError, Global};
 use std::thread;
 use std::thread::Threads;
 
-/// The first live rank of a part, where so many parts share all positions.
+/// Where a part begins, where so many parts share a count.
 fn part_start(count: u64, parts: usize, number: usize) -> u64
     requires count { count < 2 ^ 32 }
     requires some { 0 < parts }
@@ -21,6 +26,48 @@ fn part_start(count: u64, parts: usize, number: usize) -> u64
     ensures inside { result ≤ count }
 {
     count * number as u64 / parts as u64
+}
+
+/// Whether the words of each of so many parts of the columns hold, each part in a thread of its own
+/// where one can be started, else in turn. The turns of a column are worked out together, which is
+/// much faster than to look at each position alone.
+fn check_in_parts<R: Threads + Sync>(
+    rt: &R,
+    alloc: Global,
+    words: &Words,
+    parts: usize,
+) -> Result<Vec<Result<bool, NoMemory>>, AllocError>
+    requires some { 0 < parts }
+    requires few { parts ≤ 64 }
+    ensures { IfOk result (λ told. AreColumnParts words.now parts told.items) }
+{
+    let count = u64::from(layout_count(words.checkers()));
+    thread::map_indices(
+        rt,
+        alloc,
+        parts,
+        &|number| {
+            let from = part_start(count, parts, number) as usize;
+            let to = part_start(count, parts, number + 1) as usize;
+            columns_hold(alloc, words, from, to)
+        },
+    )
+}
+
+/// Whether all words hold, by so many parts.
+fn words_hold<R: Threads + Sync>(
+    rt: &R,
+    alloc: Global,
+    words: &Words,
+    parts: usize,
+) -> Result<bool, NoMemory>
+    requires some { 0 < parts }
+    requires few { parts ≤ 64 }
+    ensures { IfOk result (λ held. IsTrue held
+        → ColumnsHold words.now 0 (layouts words.now.game.checkers)) }
+{
+    let told = check_in_parts(rt, alloc, words, parts)?;
+    all_hold(&told)
 }
 
 /// The first finding of each of so many parts, looked for in a thread of its own where one can be
@@ -71,7 +118,11 @@ fn verify_words<R: Threads + Sync>(
     requires workers { (1 ≤ workers) × (workers ≤ 64) }
     ensures { TellsConsistency words.now result }
 {
-    let told = find_in_parts(rt, alloc, words, workers as usize)?;
+    let parts = workers as usize;
+    if words_hold(rt, alloc, words, parts)? {
+        return Ok(());
+    }
+    let told = find_in_parts(rt, alloc, words, parts)?;
     match first_of(&told) {
         Some(finding) => Err(VerifyStop::Inconsistent(finding)),
         None => Ok(()),

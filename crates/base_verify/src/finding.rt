@@ -1,7 +1,8 @@
 ghost use Rattle.std.specs.Prelude.{◌≡◌};
-ghost use Rattle.base_verify.specs.declared.finding.VerifyStop.TheVariants.{NoMemory};
+ghost use Rattle.base_verify.specs.declared.finding.VerifyStop.TheVariants.{NoMemory as NoRoom};
 
 use directed_fixed::{End, Fixed};
+use hyper_outside::NoMemory;
 use position_rank::Position;
 use std::alloc::AllocError;
 
@@ -30,9 +31,17 @@ pub enum VerifyStop {
 }
 
 impl From<AllocError> for VerifyStop {
-    ghost from_gives = { λ _ stop. stop ≡ NoMemory };
+    ghost from_gives = { λ _ stop. stop ≡ NoRoom };
 
     fn from(_error: AllocError) -> Self {
+        VerifyStop::NoMemory
+    }
+}
+
+impl From<NoMemory> for VerifyStop {
+    ghost from_gives = { λ _ stop. stop ≡ NoRoom };
+
+    fn from(_no_memory: NoMemory) -> Self {
         VerifyStop::NoMemory
     }
 }

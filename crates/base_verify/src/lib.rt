@@ -1,6 +1,7 @@
 //! Whether the words of a file of bounds are consistent.
 #![tactic(auto)]
 
+mod columns;
 mod consistency;
 mod finding;
 mod laws;
