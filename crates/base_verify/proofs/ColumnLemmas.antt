@@ -1,5 +1,5 @@
 -- A column whose words hold.
-use Rattle.std.proofs.Common.{◌≡◌, ◌∙◌, ◌+◌, ◌*◌, ◌<◌, ◌≤◌, ℕ, ℤ, List, length, sum, get_or, arith, ap, refl, sym, subst, inl, inr}
+use Rattle.std.proofs.Common.{◌≡◌, ◌∙◌, ◌+◌, ◌*◌, ◌<◌, ℕ, ℤ, List, length, sum, get_or, arith, ap, refl, sym, subst, inl, inr}
 use Rattle.std.proofs.lemmas.Bool.{cases_lt}
 use Rattle.position_rank.specs.Placement.{Placement, IsLayout, IsLive}
 use Rattle.position_rank.specs.Ranks.{rank_of, layouts}
@@ -8,15 +8,15 @@ use Rattle.directed_fixed.specs.declared.bounds.End.{End}
 use Rattle.cube_actions.specs.Stakes.{nothing}
 use Rattle.turn_rule.specs.Games.{kinds_of}
 use Rattle.turn_rule.specs.Turn.{Words, turn}
-use Rattle.turn_rule.specs.States.{IsState, pair_of}
+use Rattle.turn_rule.specs.States.{IsState}
 use Rattle.turn_rule.specs.Looks.{IsTurnPair, MayFollowTurn}
 use Rattle.turn_rule.proofs.Sure.{exact-pair}
 use Rattle.column_sums.specs.Leaps.{layout_at}
 use Rattle.column_turns.specs.Columns.{ColumnPairs}
-use Rattle.column_turns.specs.Turns.{AreLiveMovers, AreTurnsOf, mover_at, place_in}
+use Rattle.column_turns.specs.Turns.{AreLiveMovers, AreTurnsOf}
 use Rattle.interval_words.specs.WordLists.{WordList, words_in_list, source_of}
-use Rattle.base_verify.specs.Findings.{Holds, turn_over}
-use Rattle.base_verify.specs.Columns.{ColumnsHold, HasRoomFor, IsTurned, PositionHolds, pair_in, position_in}
+use Rattle.base_verify.specs.Findings.{Holds}
+use Rattle.base_verify.specs.Columns.{ColumnsHold, HasRoomFor, IsTurned, PositionHolds, position_in}
 
 module _ (words : WordList) (column : ColumnPairs) (rank : ℕ) (room : HasRoomFor words column) (inside : rank < layouts words.game.checkers) (other_is : column.other ≡ layout_at column.layouts rank) (movers : AreLiveMovers column.layouts column.other column.movers) where
   here : rank < length column.layouts

@@ -1,7 +1,7 @@
 -- The parts of the columns, each of neighbouring ones.
-use Rattle.std.proofs.Common.{◌≡◌, ◌≤◌, ◌<◌, ◌+◌, ◌*◌, ◌/◌, ◌∙◌, ℕ, Bool, true, false, IsTrue, Result, Ok, IfOk, List, length, sum, get_or, arith, ap, refl, sym, subst}
+use Rattle.std.proofs.Common.{◌≡◌, ◌<◌, ◌+◌, ◌*◌, ◌/◌, ◌∙◌, ℕ, Bool, true, false, IsTrue, Result, Ok, IfOk, List, length, sum, get_or, arith, ap, refl, sym, subst}
 use Rattle.std.proofs.Math.Nat.{mul-div_cancel}
-use Rattle.position_rank.specs.Ranks.{layouts, rank_of}
+use Rattle.position_rank.specs.Ranks.{layouts}
 use Rattle.position_rank.proofs.RankLaws.{rank-below}
 use Rattle.hyper_outside.specs.declared.outside.NoMemory.{NoMemory}
 use Rattle.turn_rule.specs.Truth.{AreConsistent}

@@ -134,7 +134,7 @@ fn verify_words<R: Threads + Sync>(
 /// than the turn over the file's words, and tells the first such word by rising live rank of its
 /// position, then by kind, the lower word before the upper one, with both values; so it is the same
 /// for each number of workers. Consistent words enclose every state. It asks for memory for the
-/// workers alone, and may answer `NoMemory`.
+/// workers' columns alone, and may answer `NoMemory`. A no takes longer than a yes.
 pub fn verify<R: Threads + Sync>(
     rt: &R,
     alloc: Global,

@@ -1,4 +1,4 @@
-use Rattle.std.proofs.Common.{length, arith}
+use Rattle.std.proofs.Common.{arith}
 use Rattle.base_verify.proofs.ColumnShares.{all-column-parts, no-column-yet}
 use Rattle.base_verify.proofs.columns.all_hold.Goals as goal
 

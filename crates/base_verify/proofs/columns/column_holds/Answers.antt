@@ -1,8 +1,7 @@
-use Rattle.std.proofs.Common.{◌≡◌, ◌<◌, ◌∙◌, length, ap, arith}
-use Rattle.turn_rule.specs.Looks.{Source}
+use Rattle.std.proofs.Common.{◌≡◌, ◌∙◌, arith}
 use Rattle.column_sums.specs.Leaps.{layout_at}
 use Rattle.base_verify.specs.Columns.{HasRoomFor}
-use Rattle.base_verify.proofs.ColumnLemmas.{column-held, column-turned}
+use Rattle.base_verify.proofs.ColumnLemmas.{column-held}
 use Rattle.base_verify.proofs.columns.column_holds.Goals as goal
 
 pub returns-clause-held : goal.returns-clause-held
