@@ -1,0 +1,151 @@
+ghost use Rattle.std.specs.Prelude.{◌≡◌, ◌<◌, ◌≤◌, ◌*◌, ◌/◌, ◌^◌, ℕ, IfOk, IsTrue, OnOk};
+ghost use Rattle.interval_words.specs.WordLists.{WordList};
+ghost use Rattle.base_verify.specs.Findings.{AlwaysEnclose, TellsConsistency};
+ghost use Rattle.position_rank.specs.Ranks.{layouts};
+ghost use Rattle.base_verify.specs.Checks.{AreParts, TellsAll};
+ghost use Rattle.base_verify.specs.Columns.{AreColumnParts, ColumnsHold};
+
+use crate::columns::{all_hold, columns_hold};
+use crate::finding::{Finding, VerifyStop};
+use crate::states::part_finding;
+use database_file::Base;
+use hyper_outside::NoMemory;
+use interval_words::{Words, consistent_lists_enclose};
+use position_rank::layout_count;
+use std::alloc::{AllocError, Global};
+use std::thread;
+use std::thread::Threads;
+
+/// Where a part begins, where so many parts share a count.
+fn part_start(count: u64, parts: usize, number: usize) -> u64
+    requires count { count < 2 ^ 32 }
+    requires some { 0 < parts }
+    requires few { parts ≤ 64 }
+    requires number { number ≤ parts }
+    ensures start { result ≡ count * number / parts }
+    ensures inside { result ≤ count }
+{
+    count * number as u64 / parts as u64
+}
+
+/// Whether the words of each of so many parts of the columns hold, each part in a thread of its own
+/// where one can be started, else in turn. The turns of a column are worked out together, which is
+/// much faster than to look at each position alone.
+fn check_in_parts<R: Threads + Sync>(
+    rt: &R,
+    alloc: Global,
+    words: &Words,
+    parts: usize,
+) -> Result<Vec<Result<bool, NoMemory>>, AllocError>
+    requires some { 0 < parts }
+    requires few { parts ≤ 64 }
+    ensures { IfOk result (λ told. AreColumnParts words.now parts told.items) }
+{
+    let count = u64::from(layout_count(words.checkers()));
+    thread::map_indices(
+        rt,
+        alloc,
+        parts,
+        &|number| {
+            let from = part_start(count, parts, number) as usize;
+            let to = part_start(count, parts, number + 1) as usize;
+            columns_hold(alloc, words, from, to)
+        },
+    )
+}
+
+/// Whether all words hold, by so many parts.
+fn words_hold<R: Threads + Sync>(
+    rt: &R,
+    alloc: Global,
+    words: &Words,
+    parts: usize,
+) -> Result<bool, NoMemory>
+    requires some { 0 < parts }
+    requires few { parts ≤ 64 }
+    ensures { IfOk result (λ held. IsTrue held
+        → ColumnsHold words.now 0 (layouts words.now.game.checkers)) }
+{
+    let told = check_in_parts(rt, alloc, words, parts)?;
+    all_hold(&told)
+}
+
+/// The first finding of each of so many parts, looked for in a thread of its own where one can be
+/// started, else in turn.
+fn find_in_parts<R: Threads + Sync>(
+    rt: &R,
+    alloc: Global,
+    words: &Words,
+    parts: usize,
+) -> Result<Vec<Option<Finding>>, AllocError>
+    requires some { 0 < parts }
+    requires few { parts ≤ 64 }
+    ensures { IfOk result (λ told. AreParts words.now parts told.items) }
+{
+    let count = words.index().count();
+    thread::map_indices(
+        rt,
+        alloc,
+        parts,
+        &|number| {
+            let from = part_start(count, parts, number);
+            let to = part_start(count, parts, number + 1);
+            part_finding(words, from, to)
+        },
+    )
+}
+
+/// The finding of the first part that has one.
+fn first_of(told: &[Option<Finding>]) -> Option<Finding>
+    ensures { (words : WordList) (parts : ℕ) → 0 < parts → AreParts words parts told.now
+        → TellsAll words result }
+{
+    for part in told {
+        if let Some(finding) = part {
+            return Some(*finding);
+        }
+    }
+    None
+}
+
+/// Whether the words of a list are consistent, as `verify` tells it of a file.
+fn verify_words<R: Threads + Sync>(
+    rt: &R,
+    alloc: Global,
+    words: &Words,
+    workers: u32,
+) -> Result<(), VerifyStop>
+    requires workers { (1 ≤ workers) × (workers ≤ 64) }
+    ensures { TellsConsistency words.now result }
+{
+    let parts = workers as usize;
+    if words_hold(rt, alloc, words, parts)? {
+        return Ok(());
+    }
+    let told = find_in_parts(rt, alloc, words, parts)?;
+    match first_of(&told) {
+        Some(finding) => Err(VerifyStop::Inconsistent(finding)),
+        None => Ok(()),
+    }
+}
+
+/// Whether the words of a loaded file are consistent, by 1 to 64 workers, each in a thread of its
+/// own where one can be started, else in turn. `Inconsistent` comes exactly where a word is tighter
+/// than the turn over the file's words, and tells the first such word by rising live rank of its
+/// position, then by kind, the lower word before the upper one, with both values; so it is the same
+/// for each number of workers. Consistent words enclose every state. It asks for memory for the
+/// workers' columns alone, and may answer `NoMemory`. A no takes longer than a yes.
+pub fn verify<R: Threads + Sync>(
+    rt: &R,
+    alloc: Global,
+    base: &Base,
+    workers: u32,
+) -> Result<(), VerifyStop>
+    requires workers { (1 ≤ workers) × (workers ≤ 64) }
+    ensures told { TellsConsistency base.now.words result }
+    ensures enclosing { OnOk result (AlwaysEnclose base.now.words) }
+{
+    base.words().right();
+    consistent_lists_enclose();
+    verify_words(rt, alloc, base.words(), workers)
+}
