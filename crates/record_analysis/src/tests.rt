@@ -1,4 +1,4 @@
-ghost use Rattle.std.specs.Prelude.{◌≡◌, ◌≤◌, All, Err};
+ghost use Rattle.std.specs.Prelude.{◌≡◌, ◌≤◌, All, Err, false};
 ghost use Rattle.directed_fixed.specs.Bounds.{IsWithinUnits};
 ghost use Rattle.cube_actions.specs.Money.{jacoby};
 ghost use Rattle.cube_actions.specs.Stakes.{point_units};
@@ -28,11 +28,15 @@ fn decisions(rt: &(impl AllocGlobal + Abort)) -> Analysis
     ensures { All (λ judged. CanBeJudged untold_cube jacoby judged.decision) result }
 {
     right_decisions_can_be_judged();
+    // The stakes are valid.
+    let _ = Stakes::jacoby().bound();
     let Ok(rec) = read_record(rt.alloc(), RECORD.as_bytes()) else {
         panic!(rt; "it isn't read");
     };
     assert!(rt; rec.checkers == 1);
-    assert!(rt; matches!(rec.stakes, RecordStakes::Jacoby));
+    let RecordStakes::Jacoby = rec.stakes else {
+        panic!(rt; "it is played for something else");
+    };
     let Ok(decisions) = replay(rt.alloc(), &rec) else {
         panic!(rt; "it breaks a rule");
     };
@@ -84,7 +88,7 @@ fn what(choice: &Choice) -> &'static str {
     }
 }
 
-/// The line, the player and what each decision of the record is, and the points that it loses. Of the
+/// The line, the player and what each decision of the record is, and the units that it loses. Of the
 /// 36 ways of two dice 27 bear off from 6: doubled, that is 2 points for the side that doubled,
 /// where a pass gives it 1.
 const ROWS: [(u32, Player, &str, i64); 16] = [
@@ -100,7 +104,7 @@ const ROWS: [(u32, Player, &str, i64); 16] = [
     (10, Player::B, "offer", 0),
     (10, Player::B, "play", 0),
     (11, Player::A, "offer", 0),
-    (12, Player::B, "answer", 1),
+    (12, Player::B, "answer", ONE),
     (13, Player::A, "play", 0),
     (14, Player::B, "offer", 0),
     (14, Player::B, "play", 0),
@@ -112,13 +116,13 @@ fn judges_each_decision_of_a_record(rt: HostRuntime) {
     assert_eq!(rt; analysis.len(), ROWS.len());
     let judging = analysis.judge(&Stakes::jacoby(), None, &mut NextWins);
     assert!(rt; judging.is_ok());
-    for (judged, (line, player, name, points)) in analysis.as_slice().iter().zip(ROWS) {
+    for (judged, (line, player, name, lost)) in analysis.as_slice().iter().zip(ROWS) {
         assert_eq!(rt; judged.decision.game, 1);
         assert_eq!(rt; judged.decision.line, line);
         assert_eq!(rt; judged.decision.player, player);
         assert_eq!(rt; what(&judged.decision.choice), name);
         let loss = judged.loss.expect(&rt, "it isn't judged");
-        assert_eq!(rt; units(loss), (points * ONE, points * ONE));
+        assert_eq!(rt; units(loss), (lost, lost));
     }
 }
 
