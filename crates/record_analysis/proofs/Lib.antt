@@ -1,0 +1,3 @@
+pub mod Judgings
+pub mod Sums
+pub mod Analysed

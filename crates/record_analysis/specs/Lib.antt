@@ -1,0 +1,4 @@
+pub mod Analyses
+pub mod Judging
+pub mod Totals
+pub mod Truth

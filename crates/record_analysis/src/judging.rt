@@ -1,0 +1,120 @@
+ghost use Rattle.std.specs.Prelude.{◌≡◌, ◌↔◌, All, IfOk, IsTrue, OnErr};
+ghost use Rattle.cube_actions.specs.Stakes.{IsValid};
+ghost use Rattle.turn_rule.specs.Looks.{AreStakesOf, HasDamage, LooksUp};
+ghost use Rattle.record_analysis.specs.Analyses.{IsSmall};
+ghost use Rattle.record_analysis.specs.Judging.{
+  CanBeJudged,
+  IsAt,
+  Judges,
+  JudgesAll,
+  JudgesSome,
+  MayFollowOne,
+  MayFollowSome,
+};
+
+use crate::analysis::{Analysis, Judged};
+use cube_actions::{Score, Stakes};
+use game_record::Decision;
+use hyper_outside::LookStop;
+use play_analyser::loss;
+use turn_rule::Pairs;
+
+/// Whether a decision was made in a game with this score, which outside a match is none.
+fn is_at(judged: &Judged, score: Option<Score>) -> bool
+    ensures { IsTrue result ↔ IsAt score judged.now }
+{
+    judged.decision.score == score
+}
+
+/// A decision with what it loses, if it was made in a game with this score, and else as it was.
+fn judged_by<P: Pairs>(
+    judged: &Judged,
+    stakes: &Stakes,
+    score: Option<Score>,
+    pairs: &mut P,
+) -> Result<Judged, LookStop>
+    requires stakes { AreStakesOf (P.seen pairs.old).source stakes.now }
+    requires valid { IsValid stakes.now }
+    requires can { IsAt score judged.now
+        → CanBeJudged (P.seen pairs.old).source stakes.now judged.now.decision }
+    requires small { IsSmall judged.now }
+    ensures looked { LooksUp (P.seen pairs.old) (P.seen pairs.new)
+        (HasDamage (P.seen pairs.old).source (MayFollowOne score stakes.now judged.now))
+        (Judges score stakes.now (P.seen pairs.old).source (P.seen pairs.new).notes judged.now)
+        result }
+    ensures small { IfOk result IsSmall }
+    ensures source { (P.seen pairs.new).source ≡ (P.seen pairs.old).source }
+    ensures stays { P.stays pairs.new ≡ P.stays pairs.old }
+{
+    if !is_at(judged, score) {
+        return Ok(*judged);
+    }
+    let decision = judged.decision;
+    let Decision { kind, choice, .. } = decision;
+    let pair = loss(stakes, &decision.position, kind, &choice, pairs)?;
+    Ok(Judged {
+        decision,
+        loss: Some(pair),
+    })
+}
+
+/// Sets what each decision loses that was made in a game with this score.
+fn judge_list<P: Pairs>(
+    list: &mut [Judged],
+    stakes: &Stakes,
+    score: Option<Score>,
+    pairs: &mut P,
+) -> Result<(), LookStop>
+    requires stakes { AreStakesOf (P.seen pairs.old).source stakes.now }
+    requires valid { IsValid stakes.now }
+    requires can { All (λ judged. IsAt score judged
+        → CanBeJudged (P.seen pairs.old).source stakes.now judged.decision) list.old }
+    requires small { All IsSmall list.old }
+    ensures looked { LooksUp (P.seen pairs.old) (P.seen pairs.new)
+        (HasDamage (P.seen pairs.old).source (MayFollowSome score stakes.now list.old))
+        (λ _. JudgesAll score stakes.now (P.seen pairs.old).source (P.seen pairs.new).notes
+        list.old list.new) result }
+    ensures stopped { OnErr result (JudgesSome score stakes.now
+        (P.seen pairs.old).source (P.seen pairs.new).notes list.old list.new) }
+    ensures small { All IsSmall list.new }
+    ensures source { (P.seen pairs.new).source ≡ (P.seen pairs.old).source }
+    ensures stays { P.stays pairs.new ≡ P.stays pairs.old }
+{
+    for i in 0..list.len() {
+        list[i] = judged_by(&list[i], stakes, score, pairs)?;
+    }
+    Ok(())
+}
+
+impl Analysis {
+    /// Sets what each decision loses that was made in a game with this score, by the words of a game
+    /// with these stakes; outside a match there is no score. The decisions stay, and so does what
+    /// others lose. After a stop those before the one at which it stopped are set, and all else is as
+    /// it was.
+    ///
+    /// It stops where a look-up does: `ReadFault` where a call of the outside failed, `BadPage` where
+    /// the words of a state that may follow can't be had, `NoMemory` where there was no memory. Over
+    /// pairs that are sure it answers, and takes no memory.
+    pub fn judge<P: Pairs>(
+        &mut self,
+        stakes: &Stakes,
+        score: Option<Score>,
+        pairs: &mut P,
+    ) -> Result<(), LookStop>
+        requires stakes { AreStakesOf (P.seen pairs.old).source stakes.now }
+        requires can { All (λ judged. IsAt score judged
+            → CanBeJudged (P.seen pairs.old).source stakes.now judged.decision) self.old }
+        ensures looked { LooksUp (P.seen pairs.old) (P.seen pairs.new)
+            (HasDamage (P.seen pairs.old).source (MayFollowSome score stakes.now self.old))
+            (λ _. JudgesAll score stakes.now (P.seen pairs.old).source (P.seen pairs.new).notes
+            self.old self.new) result }
+        ensures stopped { OnErr result (JudgesSome score stakes.now
+            (P.seen pairs.old).source (P.seen pairs.new).notes self.old self.new) }
+        ensures source { (P.seen pairs.new).source ≡ (P.seen pairs.old).source }
+        ensures stays { P.stays pairs.new ≡ P.stays pairs.old }
+    {
+        // The stakes are valid.
+        let _ = stakes.bound();
+        judge_list(self.list.as_mut_slice(), stakes, score, pairs)
+    }
+}
