@@ -1,0 +1,3 @@
+mod Games
+mod Playing
+mod Turning
