@@ -1,3 +1,4 @@
 mod Games
 mod Playing
+mod Replays
 mod Turning

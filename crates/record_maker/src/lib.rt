@@ -5,6 +5,7 @@ mod choice;
 mod dice;
 mod draw;
 mod due;
+mod laws;
 mod maker;
 mod making;
 mod size;
@@ -13,3 +14,4 @@ mod state;
 mod tests;
 
 pub use draw::make_record;
+pub use laws::made_records_break_no_rule;
