@@ -1,15 +1,16 @@
 -- How the code that makes a record keeps where it is.
-use Rattle.std.specs.Prelude.{◌≡◌, ◌≤◌, ℕ, ◌+◌, ◌*◌, Bool, not, ◌&&◌, Option, Some, None}
+use Rattle.std.specs.Prelude.{◌≡◌, ◌≤◌, ℕ, ◌+◌, ◌*◌, nat_lt, Bool, not, ◌&&◌, Option, Some, None}
 use Rattle.game_record.specs.declared.progress.Win.{Win}
 use Rattle.game_record.specs.declared.record.Action.{Action}
 use Rattle.game_record.specs.declared.record.Ending.{Ending}
+use Rattle.game_record.specs.declared.record.Record.{Record}
 use Rattle.game_record.specs.declared.record.Ending.TheVariants.{Ended, Stopped}
 use Rattle.game_record.specs.Games.{is_over}
 use Rattle.record_maker.specs.declared.due.Due.{Due}
 use Rattle.record_maker.specs.declared.due.Due.TheVariants.{Start, Turn, Answer, Roll, Nothing}
 use Rattle.record_maker.specs.declared.state.Maker.{Maker}
 use Rattle.record_maker.specs.declared.size.Size.{Size}
-use Rattle.record_maker.specs.Making.{IsDone, Moment, Sheet, action_text, due_after, is_turn}
+use Rattle.record_maker.specs.Making.{IsDone, IsMade, Moment, Sheet, action_text, due_after, is_turn}
 use Rattle.record_maker.specs.Sizes.{is_full, with_line}
 
 -- where the code is in a game, as this is due
@@ -44,3 +45,12 @@ goes_on now = not (is_over now.game) && not (is_turn now.due && is_full now.size
 abbrev pub ending_of : Option Win → Ending
 ending_of (Some win) = Ended win.winner win.points
 ending_of None = Stopped
+
+-- fewer games were made than are wanted, and there isn't too much text
+abbrev pub makes_another : ℕ → ℕ → Size → Bool
+makes_another made wanted size = nat_lt made wanted && not (is_full size)
+
+-- the record of a number and a count of games, with room for its close
+pub record IsDrawn (number count : ℕ) (rec : Record) : Type 0 where
+  pub made : IsMade number count rec
+  pub room : HasRoom 3 made.end.size

@@ -1,7 +1,11 @@
-ghost use Rattle.std.specs.Prelude.{◌≤◌, IfOk};
+ghost use Rattle.std.specs.Prelude.{◌≡◌, ◌≤◌, List, IfOk};
+ghost use Rattle.game_record.specs.Lines.{IsRecord};
+ghost use Rattle.game_record.specs.Replay.{IsReplay};
+ghost use Rattle.game_record.specs.declared.decision.Decision.{Decision};
+ghost use Rattle.record_maker.specs.Makers.{IsDrawn, makes_another};
 ghost use Rattle.record_maker.specs.Making.{IsMade};
 
-use crate::state::Maker;
+use crate::laws::made_records_break_no_rule;use crate::state::Maker;
 use game_record::{Games, Record, RecordStakes};
 use hyper_outside::NoMemory;
 use std::alloc::Global;
@@ -13,11 +17,24 @@ pub fn make_record(alloc: Global, number: u64, games: u32) -> Result<Record, NoM
     requires from { 1 ≤ games }
     requires to { games ≤ 1000 }
     ensures made { IfOk result (IsMade number games) }
+    // So `print_record` prints it, and `read_record` reads what is printed.
+    ensures valid { IfOk result IsRecord }
+    // So `replay` finds no fault in it.
+    ensures replays { IfOk result (λ rec. (told : List Decision) × IsReplay rec told) }
+{
+    made_records_break_no_rule();
+    draw_record(alloc, number, games)
+}
+
+fn draw_record(alloc: Global, number: u64, games: u32) -> Result<Record, NoMemory>
+    requires from { 1 ≤ games }
+    requires to { games ≤ 1000 }
+    ensures { IfOk result (IsDrawn number games) }
 {
     let mut maker = Maker::first(number);
     let mut made = Games::new(alloc);
     let mut count = 0;
-    while count < games && !maker.size.is_full() {
+    'making: while maker.makes_another(count, games) {
         let game = maker.make_game(alloc, count)?;
         made.push(game)?;
         count += 1;
@@ -27,4 +44,13 @@ pub fn make_record(alloc: Global, number: u64, games: u32) -> Result<Record, NoM
         stakes: RecordStakes::Jacoby,
         games: made,
     })
+}
+
+impl Maker {
+    /// Whether another game is made, where so many were made and so many are wanted.
+    fn makes_another(&self, made: u32, wanted: u32) -> bool
+        ensures { result ≡ makes_another made wanted self.now.size }
+    {
+        made < wanted && !self.size.is_full()
+    }
 }
