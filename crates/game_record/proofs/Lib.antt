@@ -6,7 +6,7 @@ mod DraftLaws
 mod FormLaws
 mod GoOn
 mod Keeps
-mod LineForms
+pub mod LineForms
 mod LineLaws
 mod LineWords
 mod MatchPlaces

@@ -5,11 +5,11 @@ use crate::player::Player;
 
 /// The doubling cube.
 #[derive(Clone, Copy, Debug, PartialEq, Eq)]
-pub(crate) struct Cube {
+pub struct Cube {
     /// How often it was turned: it shows 1, 2, 4 and so on.
-    pub(crate) turns: u32,
+    pub turns: u32,
     /// Whose it is. `None` where it is centred.
-    pub(crate) owner: Option<Player>,
+    pub owner: Option<Player>,
 }
 
 impl Cube {

@@ -25,6 +25,7 @@ mod standing;
 mod tests;
 mod words;
 
+pub use cube::Cube;
 pub use decision::{Answer, Choice, Decision, Decisions, Offer};
 pub use examples::{
     cube_examples, kind_examples, order_examples, shape_examples, standing_examples, wrong_examples,
@@ -34,8 +35,11 @@ pub use laws::{
     no_record_text_begins_another, record_texts_have_no_fault, records_have_few_lines,
     texts_have_one_first_fault, texts_tell_records,
 };
+pub use line::{Line, LineKind};
+pub use moment::Moment;
 pub use player::Player;
 pub use print::print_record;
+pub use progress::{Progress, Win};
 pub use read::read_record;
 pub use record::{Action, Actions, Ending, Game, Games, Record, RecordStakes, What};
 pub use replay_laws::{
@@ -43,3 +47,5 @@ pub use replay_laws::{
     replays_break_no_rule,
 };
 pub use replaying::replay;
+pub use stage::{Next, Stage};
+pub use standing::Standing;

@@ -3,7 +3,7 @@ use crate::record::{Action, RecordStakes};
 
 /// What a line of a record says.
 #[derive(Drop)]
-pub(crate) enum Line {
+pub enum Line {
     Title,
     Checkers(u8),
     Stakes(RecordStakes),
@@ -16,7 +16,7 @@ pub(crate) enum Line {
 
 /// What of a line decides whether it may come somewhere, and what may come after it.
 #[derive(Clone, Copy, Debug, PartialEq, Eq)]
-pub(crate) enum LineKind {
+pub enum LineKind {
     OfTitle,
     OfCheckers,
     OfStakes,

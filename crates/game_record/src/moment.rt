@@ -23,16 +23,16 @@ use hyper_outside::NoMemory;
 
 /// A moment of a replay, before one of the record's lines.
 #[derive(Clone, Copy, Debug, PartialEq, Eq)]
-pub(crate) struct Moment {
-    pub(crate) checkers: u8,
-    pub(crate) stakes: RecordStakes,
+pub struct Moment {
+    pub checkers: u8,
+    pub stakes: RecordStakes,
     /// In a match, as the game began.
-    pub(crate) standing: Standing,
+    pub standing: Standing,
     /// How many games have begun: the number of the last of them.
-    pub(crate) game: u32,
+    pub game: u32,
     /// The number of the line.
-    pub(crate) line: u32,
-    pub(crate) progress: Progress,
+    pub line: u32,
+    pub progress: Progress,
 }
 
 impl Moment {

@@ -14,28 +14,28 @@ use position_rank::Position;
 
 /// Who has won a game, and how many points, of 1 to 3, in units of what the cube shows.
 #[derive(Clone, Copy, Debug, PartialEq, Eq)]
-pub(crate) struct Win {
-    pub(crate) winner: Player,
-    pub(crate) points: u8,
+pub struct Win {
+    pub winner: Player,
+    pub points: u8,
 }
 
 /// How far a game has come.
 #[derive(Clone, Copy, Debug, PartialEq, Eq)]
-pub(crate) struct Progress {
+pub struct Progress {
     /// Seen by the player whose turn it is.
-    pub(crate) position: Position,
-    pub(crate) cube: Cube,
+    pub position: Position,
+    pub cube: Cube,
     /// The first play was made.
-    pub(crate) opened: bool,
+    pub opened: bool,
     /// Somebody has doubled in this turn.
-    pub(crate) doubled: bool,
+    pub doubled: bool,
     /// `None` while the game goes on.
-    pub(crate) won: Option<Win>,
+    pub won: Option<Win>,
 }
 
 impl Progress {
     /// The board is set up for 1 to 3 checkers a side.
-    pub(crate) fn opening(checkers: u8) -> Progress
+    pub fn opening(checkers: u8) -> Progress
         requires low { 1 ≤ checkers }
         requires high { checkers ≤ 3 }
         ensures { result ≡ opening checkers }
@@ -49,19 +49,14 @@ impl Progress {
         }
     }
 
-    pub(crate) fn is_over(&self) -> bool
+    pub fn is_over(&self) -> bool
         ensures { result ≡ is_over self.now }
     {
         self.won.is_some()
     }
 
     /// After a player's play that leaves this position, seen by him.
-    pub(crate) fn after_play(
-        &self,
-        stakes: RecordStakes,
-        player: Player,
-        end: &Position,
-    ) -> Progress
+    pub fn after_play(&self, stakes: RecordStakes, player: Player, end: &Position) -> Progress
         ensures { result ≡ after_play stakes player end.now self.now }
     {
         let won = match points(end) {
@@ -81,7 +76,7 @@ impl Progress {
     }
 
     /// After a double.
-    pub(crate) fn after_double(&self) -> Progress
+    pub fn after_double(&self) -> Progress
         ensures { result ≡ after_double self.now }
     {
         Progress {
@@ -94,7 +89,7 @@ impl Progress {
     }
 
     /// After a player who was doubled has answered.
-    pub(crate) fn after_answer(&self, player: Player, answer: Answer) -> Progress
+    pub fn after_answer(&self, player: Player, answer: Answer) -> Progress
         requires { self.now.cube.turns + 2 < 2 ^ 32 }
         ensures { result ≡ after_answer player answer self.now }
     {
@@ -113,12 +108,7 @@ impl Progress {
     }
 
     /// Whether a player may double now, if it is his turn.
-    pub(crate) fn may_double(
-        &self,
-        stakes: RecordStakes,
-        standing: Standing,
-        player: Player,
-    ) -> bool
+    pub fn may_double(&self, stakes: RecordStakes, standing: Standing, player: Player) -> bool
         requires { IsInRange standing }
         ensures { result ≡ may_double stakes standing player self.now }
     {

@@ -6,7 +6,7 @@ use crate::player::Player;
 
 /// What may come next in a record.
 #[derive(Clone, Copy, Debug, PartialEq, Eq)]
-pub(crate) enum Next {
+pub enum Next {
     Title,
     Checkers,
     Stakes,
@@ -31,12 +31,12 @@ pub(crate) enum Next {
 
 /// How far a record has come.
 #[derive(Clone, Copy, Debug, PartialEq, Eq)]
-pub(crate) struct Stage {
-    pub(crate) next: Next,
+pub struct Stage {
+    pub next: Next,
     /// Its stakes are a match.
-    pub(crate) in_match: bool,
+    pub in_match: bool,
     /// How many games have begun.
-    pub(crate) games: u32,
+    pub games: u32,
 }
 
 /// What may come after a line of this kind, where it may come itself.

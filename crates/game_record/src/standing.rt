@@ -9,17 +9,17 @@ use cube_actions::{Phase, Score, Side};
 
 /// How a match stands.
 #[derive(Clone, Copy, Debug, PartialEq, Eq)]
-pub(crate) struct Standing {
+pub struct Standing {
     /// How many points A still needs: 0 where A has won the match, and for money.
-    pub(crate) a: u8,
+    pub a: u8,
     /// How many B needs.
-    pub(crate) b: u8,
-    pub(crate) phase: Phase,
+    pub b: u8,
+    pub phase: Phase,
 }
 
 impl Standing {
     /// As the first game begins.
-    pub(crate) fn first(stakes: RecordStakes) -> Standing
+    pub fn first(stakes: RecordStakes) -> Standing
         ensures { result ≡ first_standing stakes }
     {
         match stakes {

@@ -1,0 +1,6 @@
+mod Follows
+mod Games
+mod Measures
+mod Playing
+mod Replays
+mod Turning

@@ -1,0 +1,4 @@
+pub mod Draws
+pub mod Makers
+pub mod Making
+pub mod Sizes

@@ -1,0 +1,15 @@
+ghost use Rattle.std.specs.Prelude.{ℕ, List};
+ghost use Rattle.game_record.specs.Replay.{IsReplay};
+ghost use Rattle.game_record.specs.declared.decision.Decision.{Decision};
+ghost use Rattle.game_record.specs.declared.record.Record.{Record};
+ghost use Rattle.record_maker.specs.Making.{IsMade};
+
+use move_rules::printed_plays_are_taken;
+
+/// A record that is made breaks no rule of the game.
+pub fn made_records_break_no_rule()
+    ensures { (number count : ℕ) (rec : Record) → IsMade number count rec
+        → (told : List Decision) × IsReplay rec told }
+{
+    printed_plays_are_taken();
+}
