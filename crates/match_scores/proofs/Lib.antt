@@ -1,0 +1,4 @@
+pub mod Centred
+pub mod OpeningSums
+pub mod Starts
+pub mod MatchPayoffs

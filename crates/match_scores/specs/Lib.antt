@@ -1,0 +1,3 @@
+pub mod Openings
+pub mod Payoffs
+pub mod Ladders
