@@ -1,4 +1,6 @@
 pub mod Centred
 pub mod OpeningSums
 pub mod Starts
+pub mod Places
 pub mod MatchPayoffs
+pub mod OneScore

@@ -9,7 +9,7 @@ use Rattle.cube_actions.specs.Starts.{StartPairs}
 use Rattle.cube_actions.specs.Matches.{terms_of}
 use Rattle.cube_actions.specs.MatchKinds.{match_kinds}
 use Rattle.turn_rule.specs.declared.game.Game.{Game}
-use Rattle.turn_rule.specs.Games.{game_of}
+use Rattle.turn_rule.specs.Games.{IsGame, game_of}
 use Rattle.turn_rule.specs.Turn.{rounds}
 use Rattle.turn_rule.specs.States.{IsStateOf, AreNoLooser}
 use Rattle.turn_rule.specs.Truth.{Encloses, AreEnclosing}
@@ -67,6 +67,7 @@ EnclosesGame checkers turns ends starts place words =
 -- these are words of the game at a score, closed after so many rounds
 pub record AreWordsOf (checkers r : ℕ) (score : MatchScore) (starts : StartPairs) (words : WordList) : Type 0 where
   pub game : words.game ≡ game_at checkers score starts
+  pub valid : IsGame words.game
   pub rounds : words.rounds ≡ r
   pub closed : AreClosed words
 

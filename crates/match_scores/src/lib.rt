@@ -2,7 +2,12 @@
 #![tactic(auto)]
 
 mod openings;
+mod score_laws;
 mod start_laws;
 
 pub use openings::start_pair;
+pub use score_laws::{
+    enclosing_starts_bound_the_payoffs, sound_words_enclose_the_game_of_a_score,
+    start_pairs_enclose_the_start_of_a_score,
+};
 pub use start_laws::{tighter_words_tighten_starts, words_that_enclose_give_starts_that_enclose};
