@@ -4,3 +4,5 @@ pub mod Starts
 pub mod Places
 pub mod MatchPayoffs
 pub mod OneScore
+pub mod TighterStarts
+pub mod WholeLadder

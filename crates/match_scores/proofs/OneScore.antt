@@ -47,6 +47,7 @@ module _ (down : LeadDown) (checkers turns : ℕ) (ends : EndScores) (score : Ma
   pub game-enclosed : AreEndScores checkers turns ends → AreStarts starts → IsScore score → Covers starts score → EncloseStarts checkers turns ends starts → (enough : ℕ) (u : Words) → enough ≤ turns → AreSoundFrom (game_at checkers score starts) enough u → AreEnclosing (game_at checkers score starts) (match_scoring checkers turns ends score) turns u
   game-enclosed within valid is covers enclosed enough u more sound = sound turns more (match_scoring checkers turns ends score) (payoffs-within within valid is covers enclosed)
 
+module _ (checkers turns : ℕ) (ends : EndScores) (score : MatchScore) (starts : StartPairs) where
   same-test : (n : ℕ) → eqb n n ≡ true
   same-test n = grind (arith, nat_tests)
 
@@ -54,7 +55,7 @@ module _ (down : LeadDown) (checkers turns : ℕ) (ends : EndScores) (score : Ma
   start-is : thirty_starts checkers (exact (terms_of score starts) (match_scoring checkers turns ends score) turns) score ≡ match_start checkers turns ends score
   start-is =
       let values : thirty_starts checkers (exact (terms_of score starts) (match_scoring checkers turns ends score) turns) score ≡ thirty_starts checkers (exact (cube_game score) (match_scoring checkers turns ends score) turns) score =
-          λ i. thirty_starts checkers (λ p k. values-same score starts (record { match_length = 1; pairs = [] }) (match_scoring checkers turns ends score) turns p k i) score in
+      λ i. thirty_starts checkers (λ p k. values-same score starts (record { match_length = 1; pairs = [] }) (match_scoring checkers turns ends score) turns p k i) score in
       values ∙ sym (ap (λ (b : Bool). cond b (thirty_starts checkers (exact (cube_game score) (match_scoring checkers turns ends score) turns) score) (pos (game_parts turns) *ℤ starts_before checkers turns ends (points_left score) score)) (same-test (points_left score)))
 
   scale-is : (s n : ℕ) → 30 * (s * n) ≡ s * (30 * n)

@@ -1,10 +1,16 @@
 //! The scores of a match, solved from the last game backwards.
 #![tactic(auto)]
 
+mod examples;
+mod keep;
+mod ladder_laws;
 mod openings;
 mod score_laws;
 mod start_laws;
 
+pub use examples::{exact_start_examples, exact_win_examples, start_examples};
+pub use keep::Keep;
+pub use ladder_laws::solved_ladders_are_true_and_tight;
 pub use openings::start_pair;
 pub use score_laws::{
     enclosing_starts_bound_the_payoffs, sound_words_enclose_the_game_of_a_score,

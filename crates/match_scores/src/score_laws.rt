@@ -45,6 +45,5 @@ pub fn start_pairs_enclose_the_start_of_a_score()
         → Encloses (start_over checkers u score) (match_start checkers turns ends score)
         (start_scale turns score) }
 {
-    wins_lead_down_the_ladder();
     opening_plays_go_on();
 }

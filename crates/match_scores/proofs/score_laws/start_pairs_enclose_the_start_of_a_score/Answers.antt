@@ -3,4 +3,4 @@ use Rattle.match_scores.proofs.score_laws.start_pairs_enclose_the_start_of_a_sco
 
 pub returns : goal.returns
 returns c = λ checkers low high turns ends score starts u encloses.
-    start-enclosed c.wins_lead_down_the_ladder.ensures checkers turns ends score starts c.opening_plays_go_on.ensures low high u encloses
+    start-enclosed checkers turns ends score starts c.opening_plays_go_on.ensures low high u encloses
