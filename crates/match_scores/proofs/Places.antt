@@ -1,0 +1,56 @@
+-- Places of scores in the ladder of a match.
+use Rattle.std.proofs.Common.{◌≡◌, ◌<◌, ◌≤◌, ℕ, Bool, true, false, not, List, length, get_or, inl, inr, refl, sym, arith}
+use Rattle.std.proofs.lemmas.Bool.{cases_lt}
+use Rattle.std.proofs.lemmas.Bool.Decides.{nat_tests}
+use Rattle.std.proofs.lemmas.List.Sums.{prefix_len_passes, prefix_len_stops}
+use Rattle.std.specs.List.{position_or_len}
+use Rattle.cube_actions.specs.declared.phase.Phase.{Phase}
+use Rattle.cube_actions.specs.declared.phase.Phase.TheVariants.{Normal, Crawford, Post}
+use Rattle.cube_actions.specs.Scores.{MatchScore, last_game, same_score, same_phase}
+use Rattle.cube_actions.specs.Ladder.{ladder}
+use Rattle.cube_actions.specs.Starts.{ladder_place}
+use Rattle.match_scores.specs.Ladders.{score_at}
+
+not-false : (b : Bool) → not b ≡ false → b ≡ true
+not-false true h = refl
+not-false false h = cc
+
+same_phase-true : (a b : Phase) → same_phase a b ≡ true → a ≡ b
+same_phase-true Normal Normal h = refl
+same_phase-true Crawford Crawford h = refl
+same_phase-true Post Post h = refl
+same_phase-true _ _ h = cc
+
+same_phase-same : (a : Phase) → same_phase a a ≡ true
+same_phase-same Normal = refl
+same_phase-same Crawford = refl
+same_phase-same Post = refl
+
+same_score-true : (a b : MatchScore) → same_score a b ≡ true → a ≡ b
+same_score-true a b h =
+    let near : a.near ≡ b.near = grind (arith, nat_tests) in
+    let far : a.far ≡ b.far = grind (arith, nat_tests) in
+    let phase : same_phase a.phase b.phase ≡ true = grind (arith, nat_tests) in
+    let phases = same_phase-true a.phase b.phase phase in
+    λ i. record { near = near i; far = far i; phase = phases i }
+
+same_score-same : (a : MatchScore) → same_score a a ≡ true
+same_score-same a = let phase = same_phase-same a.phase in grind (arith, nat_tests)
+
+-- the score at its own place
+pub score-found : (match_length : ℕ) (score : MatchScore) → ladder_place match_length score < length (ladder match_length) → score_at match_length (ladder_place match_length score) ≡ score
+score-found match_length score listed =
+    let passes = not-false _ (prefix_len_stops (λ other. not (same_score score other)) (ladder match_length) last_game listed) in
+    sym (same_score-true score (score_at match_length (ladder_place match_length score)) passes)
+
+-- a score stands first where it is found
+pub place-first : (match_length place : ℕ) → place < length (ladder match_length) → ladder_place match_length (score_at match_length place) ≤ place
+place-first match_length place here =
+    let score = score_at match_length place in
+    elim (cases_lt place (ladder_place match_length score)) [
+      | inl later ↦ (let passes = prefix_len_passes (λ other. not (same_score score other)) (ladder match_length) place last_game later in let same = same_score-same score in absurd (no (same_score score score) same passes))
+      | inr first ↦ first
+    ] where
+      no : (b : Bool) → b ≡ true → not b ≡ true → ⊥
+      no true h k = absurd (grind arith)
+      no false h k = absurd (grind arith)

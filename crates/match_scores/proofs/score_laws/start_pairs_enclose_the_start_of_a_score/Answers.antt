@@ -1,0 +1,6 @@
+use Rattle.match_scores.proofs.OneScore.{start-enclosed}
+use Rattle.match_scores.proofs.score_laws.start_pairs_enclose_the_start_of_a_score.Goals as goal
+
+pub returns : goal.returns
+returns c = λ checkers low high turns ends score starts u encloses.
+    start-enclosed checkers turns ends score starts c.opening_plays_go_on.ensures low high u encloses

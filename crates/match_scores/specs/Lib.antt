@@ -1,0 +1,5 @@
+pub mod Openings
+pub mod Payoffs
+pub mod Ladders
+pub mod Keepers
+pub mod Examples

@@ -1,0 +1,100 @@
+-- How the games of a match are scored exactly, where each is cut off after so many turns: by the starts of the games that a win leads to.
+-- All are whole numbers, each over a scale.
+use Rattle.std.specs.Prelude.{ℕ, zero, suc, ◌+◌, ◌-◌, ◌*◌, ◌^◌, ◌==◌, nat_le, ℤ, pos, neg_ℤ, ◌*ℤ◌, [], None, slice_index_or, if◌then◌else◌}
+use Rattle.position_rank.specs.Placement.{Placement}
+use Rattle.game_payoff.specs.declared.payoff.Won.{Won}
+use Rattle.game_payoff.specs.declared.payoff.Won.TheVariants.{Single, Gammon, Backgammon}
+use Rattle.cube_actions.specs.declared.phase.Phase.{Phase}
+use Rattle.cube_actions.specs.declared.side.Side.{Side}
+use Rattle.cube_actions.specs.declared.side.Side.TheVariants.{Near}
+use Rattle.cube_actions.specs.Scores.{MatchScore, needs, other_side}
+use Rattle.cube_actions.specs.Stakes.{Terms}
+use Rattle.cube_actions.specs.MatchKinds.{match_kinds}
+use Rattle.cube_actions.specs.Matches.{next_score, stays_near, terms_of}
+use Rattle.turn_rule.specs.Exact.{Scoring, Values, exact}
+use Rattle.match_scores.specs.Openings.{thirty_starts}
+
+-- ---- one game
+
+-- what the near side has of the game at each score, over some scale
+abbrev pub ExactStarts : Type 0
+ExactStarts = MatchScore → ℤ
+
+-- what the winner of a game has of the next one, by what the two sides then need
+abbrev pub exact_next : ExactStarts → Phase → Side → ℕ → ℕ → ℤ
+exact_next starts phase winner own others =
+    if stays_near winner own others then starts (next_score phase own others)
+    else neg_ℤ (starts (next_score phase own others))
+
+-- what a side has of winning so many points: the whole match where it needs no more, else what it has of the next game
+abbrev pub exact_win : ℕ → ExactStarts → MatchScore → Side → ℕ → ℤ
+exact_win scale starts score winner won =
+    if nat_le (needs score winner) won then pos scale
+    else exact_next starts score.phase winner (needs score winner - won) (needs score (other_side winner))
+
+-- how often a win counts what the cube shows
+abbrev pub times_of : Won → ℕ
+times_of Single = 1
+times_of Gammon = 2
+times_of Backgammon = 3
+
+-- who moves in the kind of this number, and what the cube shows
+abbrev pub mover_in : MatchScore → ℕ → Side
+mover_in score k = (slice_index_or (match_kinds score) k (record { mover = Near; cube = 1; owner = None })).mover
+
+abbrev pub cube_in : MatchScore → ℕ → ℕ
+cube_in score k = (slice_index_or (match_kinds score) k (record { mover = Near; cube = 1; owner = None })).cube
+
+-- how the game at a score is scored: a win and a pass as the points that they win, an unfinished end as it is given
+abbrev pub scored_by : ℕ → ExactStarts → MatchScore → Values → Scoring
+scored_by scale starts score unfinished = record {
+  scale = scale;
+  win = λ k won. exact_win scale starts score (mover_in score k) (times_of won * cube_in score k);
+  pass = λ k. exact_win scale starts score (mover_in score k) (cube_in score k);
+  unfinished = unfinished;
+}
+
+-- The kinds of the game at a score and the right to double. What the games after it are worth isn't asked of these.
+abbrev pub cube_game : MatchScore → Terms
+cube_game score = terms_of score (record { match_length = 1; pairs = [] })
+
+-- ---- the whole match
+
+-- how many points the sides need together beyond one each: the fewer, the later in the match
+abbrev pub points_left : MatchScore → ℕ
+points_left score = (score.near + score.far) - 2
+
+-- a game multiplies what values are counted over by 36 for each of its turns and by 30 for its opening
+abbrev pub game_parts : ℕ → ℕ
+game_parts turns = 30 * 36 ^ turns
+
+-- what the exact values of a game at which so many points are left are counted over
+abbrev pub scale_of : ℕ → ℕ → ℕ
+scale_of turns zero = 1
+scale_of turns (suc left) = scale_of turns left * game_parts turns
+
+-- what each state of each score is worth to the side to move where the game is cut off, over the scale of that score
+abbrev pub EndScores : Type 0
+EndScores = MatchScore → Values
+
+-- The starts of all scores at which fewer than so many points are left, over the scale of so many: of those that have one point less the
+-- 30 openings of a game of so many turns, of those that have fewer still the same start as before, over the greater scale.
+abbrev pub starts_before : ℕ → ℕ → EndScores → ℕ → ExactStarts
+starts_before checkers turns ends zero score = pos 0
+starts_before checkers turns ends (suc left) score =
+    if points_left score == left then
+    thirty_starts checkers
+    (exact (cube_game score) (scored_by (scale_of turns left) (starts_before checkers turns ends left) score (ends score)) turns) score
+    else pos (game_parts turns) *ℤ starts_before checkers turns ends left score
+
+-- how the game at a score is scored, in a match whose games are cut off after so many turns with these end scores
+abbrev pub match_scoring : ℕ → ℕ → EndScores → MatchScore → Scoring
+match_scoring checkers turns ends score =
+    scored_by (scale_of turns (points_left score)) (starts_before checkers turns ends (points_left score)) score (ends score)
+
+-- what the near side has of the game at a score, over the scale of one point more
+abbrev pub match_start : ℕ → ℕ → EndScores → MatchScore → ℤ
+match_start checkers turns ends score = starts_before checkers turns ends (suc (points_left score)) score
+
+abbrev pub start_scale : ℕ → MatchScore → ℕ
+start_scale turns score = scale_of turns (suc (points_left score))

@@ -1,0 +1,19 @@
+//! The scores of a match, solved from the last game backwards.
+#![tactic(auto)]
+
+mod examples;
+mod keep;
+mod ladder_laws;
+mod openings;
+mod score_laws;
+mod start_laws;
+
+pub use examples::{exact_start_examples, exact_win_examples, start_examples};
+pub use keep::Keep;
+pub use ladder_laws::solved_ladders_are_true_and_tight;
+pub use openings::start_pair;
+pub use score_laws::{
+    enclosing_starts_bound_the_payoffs, sound_words_enclose_the_game_of_a_score,
+    start_pairs_enclose_the_start_of_a_score,
+};
+pub use start_laws::{tighter_words_tighten_starts, words_that_enclose_give_starts_that_enclose};
