@@ -151,6 +151,7 @@ full-stays size text full = by (nat_le 60000 size.lines) (nat_le 1000000 size.by
   either : (a b : Bool) → b ≡ true → (a || b) ≡ true
   either true b e = refl
   either false b e = e
+
   by : (a b : Bool) → nat_le 60000 size.lines ≡ a → nat_le 1000000 size.bytes ≡ b → (a || b) ≡ true → is_full (with_line size text) ≡ true
   by true b e f full = (let lines : nat_le 60000 (size.lines + 1) ≡ true = grind (arith, nat_tests) in ap (λ t. t || nat_le 1000000 (size.bytes + length text + 1)) lines)
   by false true e f full = (let bytes : nat_le 1000000 (size.bytes + length text + 1) ≡ true = grind (arith, nat_tests) in either (nat_le 60000 (size.lines + 1)) (nat_le 1000000 (size.bytes + length text + 1)) bytes)
@@ -174,9 +175,11 @@ game-tells takes line sheet game next makes winner points won =
     let plays = all-tell takes number (line + 1) (begun sheet) game.actions makes.end makes.acts in
     let over : TellsTo (moment_at number plays.0 makes.end.game) (ending_line game.ending ∷ []) (moment_at number (plays.0 + 1) (opening 1)) =
     subst (λ (e : Ending). TellsTo (moment_at number plays.0 makes.end.game) (ending_line e ∷ []) (moment_at number (plays.0 + 1) (opening 1))) (sym won)
-    (tells-line (moment_at number plays.0 makes.end.game) (ending_line (Ended winner points)) [] (moment_at number (plays.0 + 1) (opening 1)) (subst (λ (e : Ending). Ends makes.end e) won makes.ends, refl, refl)) in
-    (plays.0 + 1, tells-more (moment_at sheet.games line (opening 1)) (GameLine number game.away ∷ []) (map Acted game.actions ++ ending_line game.ending ∷ []) (moment_at number (line + 1) (opening 1)) (moment_at number (plays.0 + 1) (opening 1)) first
-        (tells-more (moment_at number (line + 1) (opening 1)) (map Acted game.actions) (ending_line game.ending ∷ []) (moment_at number plays.0 makes.end.game) (moment_at number (plays.0 + 1) (opening 1)) plays.1 over))
+    (tells-line (moment_at number plays.0 makes.end.game) (ending_line (Ended winner points)) [] (moment_at number (plays.0 + 1) (opening 1)) (subst (λ (e : Ending). Ends makes.end e) won makes.ends, refl, refl)) in (
+      plays.0 + 1,
+      tells-more (moment_at sheet.games line (opening 1)) (GameLine number game.away ∷ []) (map Acted game.actions ++ ending_line game.ending ∷ []) (moment_at number (line + 1) (opening 1)) (moment_at number (plays.0 + 1) (opening 1)) first
+          (tells-more (moment_at number (line + 1) (opening 1)) (map Acted game.actions) (ending_line game.ending ∷ []) (moment_at number plays.0 makes.end.game) (moment_at number (plays.0 + 1) (opening 1)) plays.1 over),
+    )
 
 left-tells : TakesPlays → (line : ℕ) (sheet : Sheet) (game : Game) (next : Sheet) → Makes sheet game next → game.ending ≡ Stopped
     → (end : Replayed) × TellsTo (moment_at sheet.games line (opening 1)) (game_lines (sheet.games + 1) game) end
@@ -186,9 +189,11 @@ left-tells takes line sheet game next makes left =
     let plays = all-tell takes number (line + 1) (begun sheet) game.actions makes.end makes.acts in
     let stopped : TellsTo (moment_at number plays.0 makes.end.game) (ending_line game.ending ∷ []) (moment_at number (plays.0 + 1) makes.end.game) =
     subst (λ (e : Ending). TellsTo (moment_at number plays.0 makes.end.game) (ending_line e ∷ []) (moment_at number (plays.0 + 1) makes.end.game)) (sym left)
-    (tells-line (moment_at number plays.0 makes.end.game) (ending_line Stopped) [] (moment_at number (plays.0 + 1) makes.end.game) ((subst (λ (e : Ending). Ends makes.end e) left makes.ends).0, refl, refl)) in
-    (moment_at number (plays.0 + 1) makes.end.game, tells-more (moment_at sheet.games line (opening 1)) (GameLine number game.away ∷ []) (map Acted game.actions ++ ending_line game.ending ∷ []) (moment_at number (line + 1) (opening 1)) (moment_at number (plays.0 + 1) makes.end.game) first
-        (tells-more (moment_at number (line + 1) (opening 1)) (map Acted game.actions) (ending_line game.ending ∷ []) (moment_at number plays.0 makes.end.game) (moment_at number (plays.0 + 1) makes.end.game) plays.1 stopped))
+    (tells-line (moment_at number plays.0 makes.end.game) (ending_line Stopped) [] (moment_at number (plays.0 + 1) makes.end.game) ((subst (λ (e : Ending). Ends makes.end e) left makes.ends).0, refl, refl)) in (
+      moment_at number (plays.0 + 1) makes.end.game,
+      tells-more (moment_at sheet.games line (opening 1)) (GameLine number game.away ∷ []) (map Acted game.actions ++ ending_line game.ending ∷ []) (moment_at number (line + 1) (opening 1)) (moment_at number (plays.0 + 1) makes.end.game) first
+          (tells-more (moment_at number (line + 1) (opening 1)) (map Acted game.actions) (ending_line game.ending ∷ []) (moment_at number plays.0 makes.end.game) (moment_at number (plays.0 + 1) makes.end.game) plays.1 stopped),
+    )
 
 games-tell : TakesPlays → (line : ℕ) (sheet : Sheet) (games : List Game) (end : Sheet) → AllMade sheet games end → (last : Replayed) × TellsTo (moment_at sheet.games line (opening 1)) (games_lines (sheet.games + 1) games) last
 games-tell takes line sheet [] end all = (moment_at sheet.games line (opening 1), ([], (refl, refl)))
