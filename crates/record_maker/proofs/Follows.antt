@@ -1,5 +1,5 @@
 -- The lines of a record that is made follow each other.
-use Rattle.std.proofs.Common.{◌≡◌, ◌≢◌, ◌∙◌, ◌+◌, ◌≤◌, ℕ, Bool, true, false, List, [], ◌∷◌, ◌++◌, Option, Some, None, is_some, length, map, All, ◌⊎◌, inl, inr, refl, sym, ap, subst, arith}
+use Rattle.std.proofs.Common.{◌≡◌, ◌≢◌, ◌∙◌, ◌+◌, ◌≤◌, ℕ, Bool, true, false, List, [], ◌∷◌, ◌++◌, Option, Some, None, is_some, map, ◌⊎◌, inl, inr, refl, sym, ap, subst, arith}
 use Rattle.std.specs.Option.{option_map}
 use Rattle.std.specs.Prelude.{IfSome, is_none, ◌&&◌, if◌then◌else◌}
 use Rattle.std.proofs.lemmas.List.{append-nil}
@@ -8,7 +8,6 @@ use Rattle.roll_table.specs.Rolls.{Dice, IsRoll}
 use Rattle.game_payoff.specs.Points.{points}
 use Rattle.game_payoff.specs.declared.payoff.Won.{Won}
 use Rattle.game_payoff.specs.declared.payoff.Won.TheVariants.{Single, Gammon, Backgammon}
-use Rattle.position_rank.specs.Placement.{Placement}
 use Rattle.game_record.specs.declared.cube.Cube.{Cube}
 use Rattle.game_record.specs.declared.line.Line.{Line}
 use Rattle.game_record.specs.declared.line.Line.TheVariants.{Title as TitleLine, Checkers as CheckersLine, Stakes as StakesLine, Game as GameLine, Acted, Closed}
@@ -28,13 +27,13 @@ use Rattle.game_record.specs.declared.record.What.TheVariants.{Rolled, Doubled, 
 use Rattle.game_record.specs.declared.stage.Next.{Next}
 use Rattle.game_record.specs.declared.stage.Next.TheVariants.{FirstGame, FirstRoll, Turn as TurnNext, Answer as AnswerNext, Roll as RollNext, End, NextGame, Close, Nothing as NothingNext}
 use Rattle.game_record.specs.declared.stage.Stage.{Stage}
-use Rattle.game_record.specs.Games.{counted, is_over, opening, worth}
-use Rattle.game_record.specs.Lines.{Fits, FitsNext, Follow, IsWrittenPlay, UpTo, ending_line, game_lines, games_lines, record_lines}
+use Rattle.game_record.specs.Games.{counted, is_over, worth}
+use Rattle.game_record.specs.Lines.{FitsNext, Follow, IsWrittenPlay, UpTo, ending_line, game_lines, games_lines, record_lines}
 use Rattle.game_record.specs.Turns.{after, first_stage, kind_of, kind_of_deed, stage_after}
 use Rattle.record_maker.specs.declared.due.Due.{Due}
 use Rattle.record_maker.specs.declared.due.Due.TheVariants.{Start, Turn, Answer, Roll, Nothing}
 use Rattle.record_maker.specs.Draws.{start_of, two_dice}
-use Rattle.record_maker.specs.Making.{AllDo, AllMade, Does, Ends, IsDone, IsMade, Makes, Moment, Plays, Sheet, begun, due_after, first_sheet, is_turn, undoubled_words}
+use Rattle.record_maker.specs.Making.{AllDo, AllMade, Ends, IsDone, IsMade, Makes, Moment, Plays, Sheet, begun, due_after, first_sheet, is_turn, undoubled_words}
 use Rattle.record_maker.specs.Sizes.{is_full}
 use Rattle.record_maker.proofs.Replays.{dice-roll, none-left, start-opens}
 

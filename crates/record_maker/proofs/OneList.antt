@@ -1,9 +1,8 @@
 -- A roll has one list of plays, so a word chooses one of them.
-use Rattle.std.proofs.Common.{◌≡◌, ◌≢◌, ◌∙◌, ◌+◌, ◌%◌, ◌<◌, ◌≤◌, ℕ, zero, suc, List, [], ◌∷◌, Some, All, length, map, get_or, slice_get, refl, sym, ap, subst, inl, inr, ◌⊎◌, arith}
-use Rattle.std.specs.Prelude.{AllPairs, Contains, unwrap_or}
+use Rattle.std.proofs.Common.{◌≡◌, ◌∙◌, ◌%◌, ◌<◌, ℕ, suc, List, [], ◌∷◌, Some, length, map, get_or, slice_get, refl, sym, ap, subst, inl, inr, ◌⊎◌, arith}
+use Rattle.std.specs.Prelude.{AllPairs, unwrap_or}
 use Rattle.std.proofs.lemmas.Bool.{cases_lt}
 use Rattle.std.proofs.lemmas.List.Elements.{All-contains}
-use Rattle.arrayvec.specs.ArrayVec.{ArrayVec}
 use Rattle.position_rank.specs.Placement.{Placement}
 use Rattle.roll_table.specs.Rolls.{Dice}
 use Rattle.move_rules.specs.Listing.{Among}
@@ -47,9 +46,11 @@ same-lists {X} R apart (x ∷ xs) (y ∷ ys) o p to back =
       first (inl e) other = e
       first (inr h) (inl e) = sym e
       first (inr h) (inr k) = absurd (apart x y (o.0 y k) (p.0 x h))
+
       behind : (z : X) → Among z xs → x ≡ y → (z ≡ y) ⊎ Among z ys → Among z ys
       behind z h head (inl e) = (let self = subst (λ (w : X). R x w) (e ∙ sym head) (o.0 z h) in absurd (apart x x self self))
       behind z h head (inr k) = k
+
       behind-too : (z : X) → Among z ys → x ≡ y → (z ≡ x) ⊎ Among z xs → Among z xs
       behind-too z h head (inl e) = (let self = subst (λ (w : X). R y w) (e ∙ head) (p.0 z h) in absurd (apart y y self self))
       behind-too z h head (inr k) = k
@@ -82,12 +83,12 @@ compared (m ∷ a) (n ∷ b) e = elim (cases_lt n.die m.die) [
   | inr low ↦ elim (cases_lt m.die n.die) [
     | inl high ↦ inr (inr (inl high))
     | inr low_too ↦ (let dies : m.die ≡ n.die = omega (arith, low, low_too) in elim (cases_lt n.from m.from) [
-        | inl far ↦ inr (inl (inr (inl (dies, far))))
-        | inr near ↦ elim (cases_lt m.from n.from) [
-          | inl far ↦ inr (inr (inr (inl (sym dies, far))))
-          | inr near_too ↦ (let froms : m.from ≡ n.from = omega (arith, near, near_too) in with_first (λ i. record { from = froms i; die = dies i }) (compared a b (omega (arith, e))))
-        ]
-      ])
+      | inl far ↦ inr (inl (inr (inl (dies, far))))
+      | inr near ↦ elim (cases_lt m.from n.from) [
+        | inl far ↦ inr (inr (inr (inl (sym dies, far))))
+        | inr near_too ↦ (let froms : m.from ≡ n.from = omega (arith, near, near_too) in with_first (λ i. record { from = froms i; die = dies i }) (compared a b (omega (arith, e))))
+      ]
+    ])
   ]
 ] where
   with_first : m ≡ n → Compared a b → Compared (m ∷ a) (n ∷ b)

@@ -1,8 +1,6 @@
 -- A number and a count of games give one record.
-use Rattle.std.proofs.Common.{◌≡◌, ◌∙◌, ◌+◌, ◌%◌, ◌<◌, ◌≤◌, ℕ, Bool, true, false, List, [], ◌∷◌, Option, Some, None, is_some, unwrap_or, refl, sym, ap, subst, inl, inr, ◌⊎◌, arith}
-use Rattle.arrayvec.specs.ArrayVec.{ArrayVec}
+use Rattle.std.proofs.Common.{◌≡◌, ◌∙◌, ◌≤◌, ℕ, Bool, true, false, List, [], ◌∷◌, Option, is_some, unwrap_or, refl, sym, ap, subst, inl, inr, arith}
 use Rattle.rand_pcg.specs.Lcg.{Lcg}
-use Rattle.position_rank.specs.Placement.{Placement}
 use Rattle.roll_table.specs.Rolls.{Dice}
 use Rattle.move_rules.specs.Notation.{IsPlayText, play_text}
 use Rattle.move_rules.specs.declared.play.Entry.{Entry}
@@ -21,9 +19,8 @@ use Rattle.game_record.specs.declared.record.What.TheVariants.{Rolled, Doubled, 
 use Rattle.game_record.specs.Games.{after_play, is_over}
 use Rattle.record_maker.specs.declared.due.Due.{Due}
 use Rattle.record_maker.specs.declared.due.Due.TheVariants.{Start, Turn, Answer, Roll, Nothing}
-use Rattle.record_maker.specs.declared.size.Size.{Size}
-use Rattle.record_maker.specs.Draws.{rest, start_of, two_dice, word}
-use Rattle.record_maker.specs.Making.{AllDo, AllMade, Does, Ends, IsAnswer, IsDone, IsLast, IsMade, Makes, Moment, Plays, Sheet, TakesTurn, action_text, begun, due_after, ending_text, first_sheet, is_turn, undoubled_words}
+use Rattle.record_maker.specs.Draws.{start_of, two_dice, word}
+use Rattle.record_maker.specs.Making.{AllDo, AllMade, Does, Ends, IsAnswer, IsDone, IsLast, IsMade, Makes, Moment, Plays, Sheet, TakesTurn, action_text, begun, due_after, ending_text, first_sheet, undoubled_words}
 use Rattle.record_maker.specs.Sizes.{is_full, with_line}
 use Rattle.record_maker.proofs.OneList.{one-chosen}
 

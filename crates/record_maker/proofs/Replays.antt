@@ -1,5 +1,5 @@
 -- A record that is made is by the rules of the game.
-use Rattle.std.proofs.Common.{◌≡◌, ◌≢◌, ◌∙◌, ◌+◌, ◌%◌, ◌<◌, ◌≤◌, ℕ, zero, suc, Bool, true, false, cond, eqb, ltb, max, min, ◌||◌, List, [], ◌∷◌, ◌++◌, Option, Some, None, is_some, length, map, All, slice_get, refl, sym, ap, subst, append_assoc, arith, nat_le}
+use Rattle.std.proofs.Common.{◌≡◌, ◌≢◌, ◌∙◌, ◌+◌, ◌≤◌, ℕ, zero, suc, Bool, true, false, cond, eqb, ◌||◌, List, [], ◌∷◌, ◌++◌, Some, length, map, All, slice_get, refl, sym, ap, subst, arith, nat_le}
 use Rattle.std.proofs.lemmas.Bool.Decides.{nat_tests}
 use Rattle.std.proofs.lemmas.List.{append-nil}
 use Rattle.std.proofs.lemmas.List.Elements.{All-get_or}
@@ -14,13 +14,11 @@ use Rattle.move_rules.specs.Written.{IsWritten}
 use Rattle.move_rules.specs.declared.play.Entry.{Entry}
 use Rattle.move_rules.specs.declared.play.Move.{Move}
 use Rattle.move_rules.specs.declared.written.Step.{Step}
-use Rattle.game_record.specs.declared.decision.Answer.TheVariants.{Take, Pass}
 use Rattle.game_record.specs.declared.decision.Decision.{Decision}
 use Rattle.game_record.specs.declared.line.Line.{Line}
 use Rattle.game_record.specs.declared.line.Line.TheVariants.{Game as GameLine, Acted}
 use Rattle.game_record.specs.declared.moment.Moment.{Moment as Replayed}
 use Rattle.game_record.specs.declared.player.Player.{Player}
-use Rattle.game_record.specs.declared.player.Player.TheVariants.{A}
 use Rattle.game_record.specs.declared.progress.Progress.{Progress}
 use Rattle.game_record.specs.declared.record.Action.{Action}
 use Rattle.game_record.specs.declared.record.Ending.{Ending}
@@ -30,7 +28,7 @@ use Rattle.game_record.specs.declared.record.Record.{Record}
 use Rattle.game_record.specs.declared.record.RecordStakes.TheVariants.{Jacoby}
 use Rattle.game_record.specs.declared.record.What.{What}
 use Rattle.game_record.specs.declared.record.What.TheVariants.{Rolled, Doubled, Took, Passed, Beavered}
-use Rattle.game_record.specs.Games.{after_answer, after_double, after_play, is_over, opening}
+use Rattle.game_record.specs.Games.{is_over, opening}
 use Rattle.game_record.specs.Lines.{ending_line, game_lines, games_lines}
 use Rattle.game_record.specs.Replay.{Acts, AllTell, IsReplay, Tells, first_moment}
 use Rattle.game_record.specs.Standings.{first_standing}
@@ -38,7 +36,7 @@ use Rattle.record_maker.specs.declared.due.Due.{Due}
 use Rattle.record_maker.specs.declared.due.Due.TheVariants.{Start, Turn, Answer, Roll, Nothing}
 use Rattle.record_maker.specs.declared.size.Size.{Size}
 use Rattle.record_maker.specs.Draws.{ArePlays, Start as Opening, die, rest, roll_of, start_in, start_of, started_by, starter, two_dice}
-use Rattle.record_maker.specs.Making.{AllDo, AllMade, Does, Ends, IsDone, IsMade, Makes, Moment, Plays, Sheet, begun, ending_text, first_sheet, undoubled_words}
+use Rattle.record_maker.specs.Making.{AllDo, AllMade, Ends, IsDone, IsMade, Makes, Moment, Plays, Sheet, begun, ending_text, first_sheet, undoubled_words}
 use Rattle.record_maker.specs.Sizes.{is_full, with_line}
 
 -- what is printed for a legal play is taken as one with the same end

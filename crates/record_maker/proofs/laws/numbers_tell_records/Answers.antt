@@ -1,4 +1,3 @@
-use Rattle.std.proofs.Common.{◌≡◌}
 use Rattle.record_maker.proofs.OneRecord.{one-record}
 use Rattle.record_maker.proofs.laws.numbers_tell_records.Goals as goal
 
