@@ -1,5 +1,5 @@
 -- The lines of a record that is made follow each other.
-use Rattle.std.proofs.Common.{◌≡◌, ◌≢◌, ◌∙◌, ◌+◌, ◌≤◌, ℕ, Bool, true, false, List, [], ◌∷◌, ◌++◌, Option, Some, None, is_some, length, map, All, ◌⊎◌, inl, inr, refl, sym, ap, subst, arith}
+use Rattle.std.proofs.Common.{◌≡◌, ◌≢◌, ◌∙◌, ◌+◌, ◌≤◌, ℕ, Bool, true, false, List, [], ◌∷◌, ◌++◌, Option, Some, None, is_some, map, ◌⊎◌, inl, inr, refl, sym, ap, subst, arith}
 use Rattle.std.specs.Option.{option_map}
 use Rattle.std.specs.Prelude.{IfSome, is_none, ◌&&◌, if◌then◌else◌}
 use Rattle.std.proofs.lemmas.List.{append-nil}
@@ -8,7 +8,6 @@ use Rattle.roll_table.specs.Rolls.{Dice, IsRoll}
 use Rattle.game_payoff.specs.Points.{points}
 use Rattle.game_payoff.specs.declared.payoff.Won.{Won}
 use Rattle.game_payoff.specs.declared.payoff.Won.TheVariants.{Single, Gammon, Backgammon}
-use Rattle.position_rank.specs.Placement.{Placement}
 use Rattle.game_record.specs.declared.cube.Cube.{Cube}
 use Rattle.game_record.specs.declared.line.Line.{Line}
 use Rattle.game_record.specs.declared.line.Line.TheVariants.{Title as TitleLine, Checkers as CheckersLine, Stakes as StakesLine, Game as GameLine, Acted, Closed}
@@ -28,13 +27,13 @@ use Rattle.game_record.specs.declared.record.What.TheVariants.{Rolled, Doubled, 
 use Rattle.game_record.specs.declared.stage.Next.{Next}
 use Rattle.game_record.specs.declared.stage.Next.TheVariants.{FirstGame, FirstRoll, Turn as TurnNext, Answer as AnswerNext, Roll as RollNext, End, NextGame, Close, Nothing as NothingNext}
 use Rattle.game_record.specs.declared.stage.Stage.{Stage}
-use Rattle.game_record.specs.Games.{counted, is_over, opening, worth}
-use Rattle.game_record.specs.Lines.{Fits, FitsNext, Follow, IsWrittenPlay, UpTo, ending_line, game_lines, games_lines, record_lines}
+use Rattle.game_record.specs.Games.{counted, is_over, worth}
+use Rattle.game_record.specs.Lines.{FitsNext, Follow, IsWrittenPlay, UpTo, ending_line, game_lines, games_lines, record_lines}
 use Rattle.game_record.specs.Turns.{after, first_stage, kind_of, kind_of_deed, stage_after}
 use Rattle.record_maker.specs.declared.due.Due.{Due}
 use Rattle.record_maker.specs.declared.due.Due.TheVariants.{Start, Turn, Answer, Roll, Nothing}
 use Rattle.record_maker.specs.Draws.{start_of, two_dice}
-use Rattle.record_maker.specs.Making.{AllDo, AllMade, Does, Ends, IsDone, IsMade, Makes, Moment, Plays, Sheet, begun, due_after, first_sheet, is_turn, undoubled_words}
+use Rattle.record_maker.specs.Making.{AllDo, AllMade, Ends, IsDone, IsMade, Makes, Moment, Plays, Sheet, begun, due_after, first_sheet, is_turn, undoubled_words}
 use Rattle.record_maker.specs.Sizes.{is_full}
 use Rattle.record_maker.proofs.Replays.{dice-roll, none-left, start-opens}
 
@@ -219,6 +218,7 @@ end-follows : (games : ℕ) (now : Moment) (ending : Ending) → CanEnd now → 
 end-follows games now (Ended winner points) can won = by now.due (can.over (ap is_some won)) where
   few : UpTo 3 points
   few = subst (λ (w : Option Win). IfSome w (λ win. UpTo 3 win.points)) won can.won
+
   by : (due : Due) → MayEnd due → Follow (stage_at (next_of due) games) (ending_line (Ended winner points) ∷ []) (stage_at NextGame games)
   by Start may = absurd may
   by (Turn player) may = (NextGame, refl, few, refl)
@@ -269,6 +269,7 @@ one-follows : (next : Next) (sheet : Sheet) (game : Game) (later : Sheet) (games
 one-follows next sheet game later games end may makes all on = by game.ending refl games all on where
   here : Follow (stage_at next sheet.games) (game_lines (sheet.games + 1) game) (stage_at (next_after game.ending) (sheet.games + 1))
   here = game-follows next sheet game later may makes
+
   by : (ending : Ending) → game.ending ≡ ending → (more : List Game) → AllMade later more end
       → ((winner : Player) (points : ℕ) → ending ≡ Ended winner points → FollowOn NextGame later.games (games_lines (later.games + 1) more))
       → FollowOn next sheet.games (games_lines (sheet.games + 1) (game ∷ more))
@@ -295,19 +296,22 @@ pub made-follows : (number count : ℕ) (rec : Record) → 1 ≤ count → IsMad
 made-follows number count rec some made =
     subst (λ (stakes : RecordStakes). Closes rec.checkers stakes rec.games) (sym made.stakes)
     (subst (λ (checkers : ℕ). Closes checkers Jacoby rec.games) (sym made.checkers) (by rec.games made.games)) where
-  close : (last : Next) → MayClose last → after false last (kind_of Closed) ≡ Some NothingNext
-  close NextGame may = refl
-  close Close may = refl
-  close _ may = absurd may
-  front : (games : List Line) (last : Next) (n : ℕ) → MayClose last → Follow (stage_at FirstGame 0) games (stage_at last n) → Follow first_stage (TitleLine ∷ CheckersLine 1 ∷ StakesLine Jacoby ∷ games ++ Closed ∷ []) (stage_at NothingNext n)
-  front games last n may follow =
-      let closed : Follow (stage_at last n) (Closed ∷ []) (stage_at NothingNext n) = (NothingNext, close last may, tt, refl) in
-      (_, refl, tt, (_, refl, (omega arith, omega arith), (_, refl, tt, follow-more (stage_at FirstGame 0) games (Closed ∷ []) (stage_at last n) (stage_at NothingNext n) follow closed)))
-  none : (end : Sheet) → end ≡ first_sheet number → (end.games ≡ count) ⊎ ((end.games ≤ count) × (is_full end.size ≡ true)) → ⊥
-  none end same (inl is) = (let zero_games = ap (λ (s : Sheet). s.games) same in omega (arith, some, is, zero_games))
-  none end same (inr (few, full)) = (let full_first = sym (ap (λ (s : Sheet). is_full s.size) same) ∙ full in absurd (cc))
-  by : (games : List Game) → AllMade (first_sheet number) games made.end → Closes 1 Jacoby games
-  by [] all = absurd (none made.end all made.last)
-  by (game ∷ games) (later, makes, all) =
-      let on = one-follows FirstGame (first_sheet number) game later games made.end tt makes all (λ winner points is. more-follow later games made.end all) in
-      (stage_at NothingNext on.1, front (games_lines 1 (game ∷ games)) on.0 on.1 on.2 on.3, refl)
+      close : (last : Next) → MayClose last → after false last (kind_of Closed) ≡ Some NothingNext
+      close NextGame may = refl
+      close Close may = refl
+      close _ may = absurd may
+
+      front : (games : List Line) (last : Next) (n : ℕ) → MayClose last → Follow (stage_at FirstGame 0) games (stage_at last n) → Follow first_stage (TitleLine ∷ CheckersLine 1 ∷ StakesLine Jacoby ∷ games ++ Closed ∷ []) (stage_at NothingNext n)
+      front games last n may follow =
+          let closed : Follow (stage_at last n) (Closed ∷ []) (stage_at NothingNext n) = (NothingNext, close last may, tt, refl) in
+          (_, refl, tt, (_, refl, (omega arith, omega arith), (_, refl, tt, follow-more (stage_at FirstGame 0) games (Closed ∷ []) (stage_at last n) (stage_at NothingNext n) follow closed)))
+
+      none : (end : Sheet) → end ≡ first_sheet number → (end.games ≡ count) ⊎ ((end.games ≤ count) × (is_full end.size ≡ true)) → ⊥
+      none end same (inl is) = (let zero_games = ap (λ (s : Sheet). s.games) same in omega (arith, some, is, zero_games))
+      none end same (inr (few, full)) = (let full_first = sym (ap (λ (s : Sheet). is_full s.size) same) ∙ full in absurd (cc))
+
+      by : (games : List Game) → AllMade (first_sheet number) games made.end → Closes 1 Jacoby games
+      by [] all = absurd (none made.end all made.last)
+      by (game ∷ games) (later, makes, all) =
+          let on = one-follows FirstGame (first_sheet number) game later games made.end tt makes all (λ winner points is. more-follow later games made.end all) in
+          (stage_at NothingNext on.1, front (games_lines 1 (game ∷ games)) on.0 on.1 on.2 on.3, refl)

@@ -5,7 +5,7 @@ use Rattle.game_record.specs.declared.record.Game.{Game}
 use Rattle.record_maker.specs.declared.size.Size.{Size}
 use Rattle.record_maker.specs.declared.state.Maker.{Maker}
 use Rattle.record_maker.specs.Makers.{HasRoom, makes_another, sheet_of}
-use Rattle.record_maker.specs.Making.{AllMade, IsLast, Makes, Sheet, first_sheet}
+use Rattle.record_maker.specs.Making.{AllMade, Makes, Sheet, first_sheet}
 use Rattle.record_maker.specs.Sizes.{is_full}
 
 -- so many games were made

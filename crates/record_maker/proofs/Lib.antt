@@ -1,6 +1,8 @@
 mod Follows
 mod Games
 mod Measures
+mod OneList
+mod OneRecord
 mod Playing
 mod Replays
 mod Turning

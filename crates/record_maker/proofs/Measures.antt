@@ -1,5 +1,5 @@
 -- How long the text of a record is that is made.
-use Rattle.std.proofs.Common.{◌≡◌, ◌∙◌, ◌+◌, ◌<◌, ◌≤◌, ◌^◌, ℕ, Bool, true, false, not, cond, eqb, ltb, ◌||◌, List, [], ◌∷◌, ◌++◌, Option, Some, None, length, map, codes, decimal, refl, sym, ap, subst, arith, append_assoc}
+use Rattle.std.proofs.Common.{◌≡◌, ◌+◌, ◌<◌, ◌≤◌, ◌^◌, ℕ, Bool, true, false, not, cond, eqb, ltb, ◌||◌, List, [], ◌∷◌, ◌++◌, Option, None, length, map, codes, decimal, refl, sym, ap, subst, arith}
 use Rattle.std.proofs.lemmas.Bool.Decides.{nat_tests}
 use Rattle.std.proofs.lemmas.List.{append-nil, length-append}
 use Rattle.std.proofs.lemmas.List.Concat.{flat_map-append}
@@ -22,7 +22,7 @@ use Rattle.game_record.specs.Lines.{Follow, IsRecord, ending_line, game_lines, g
 use Rattle.game_record.specs.Turns.{first_stage, stage_after}
 use Rattle.game_record.proofs.LineForms.{line-no-end}
 use Rattle.record_maker.specs.declared.size.Size.{Size}
-use Rattle.record_maker.specs.Makers.{HasRoom, IsDrawn}
+use Rattle.record_maker.specs.Makers.{IsDrawn}
 use Rattle.record_maker.specs.Making.{AllDo, AllMade, Makes, Moment, Sheet, begun, ending_text, first_sheet, game_text}
 use Rattle.record_maker.specs.Sizes.{no_text, with_line}
 use Rattle.record_maker.proofs.Follows.{made-follows}

@@ -1,8 +1,7 @@
 -- How a game is played out.
-use Rattle.std.proofs.Common.{◌≡◌, ◌∙◌, ◌+◌, ◌-◌, ◌*◌, ◌≤◌, ◌<◌, ℕ, Bool, true, false, not, ◌&&◌, ◌||◌, List, [], ◌∷◌, ◌++◌, Option, Some, None, length, refl, sym, ap, subst, arith, nat_le, is_some}
+use Rattle.std.proofs.Common.{◌≡◌, ◌∙◌, ◌+◌, ◌-◌, ◌≤◌, ◌<◌, Bool, true, false, not, ◌&&◌, ◌||◌, List, [], ◌∷◌, ◌++◌, Option, Some, None, refl, sym, ap, subst, arith, nat_le, is_some}
 use Rattle.std.proofs.lemmas.Bool.Decides.{nat_tests}
 use Rattle.game_record.specs.declared.player.Player.{Player}
-use Rattle.game_record.specs.declared.progress.Progress.{Progress}
 use Rattle.game_record.specs.declared.progress.Win.{Win}
 use Rattle.game_record.specs.declared.record.Action.{Action}
 use Rattle.game_record.specs.declared.record.What.{What}
@@ -13,8 +12,8 @@ use Rattle.record_maker.specs.declared.due.Due.TheVariants.{Start, Turn, Answer,
 use Rattle.record_maker.specs.declared.size.Size.{Size}
 use Rattle.record_maker.specs.declared.state.Maker.{Maker}
 use Rattle.record_maker.specs.Makers.{HasDone, HasRoom, at, behind, ending_of, goes_on}
-use Rattle.record_maker.specs.Making.{AllDo, Does, Ends, IsDone, Moment, action_text, due_after, is_turn}
-use Rattle.record_maker.specs.Sizes.{is_full, with_line}
+use Rattle.record_maker.specs.Making.{AllDo, Does, Ends, IsDone, Moment, due_after, is_turn}
+use Rattle.record_maker.specs.Sizes.{is_full}
 
 -- a game was played so far, and this is due
 pub record HasPlayed (start : Moment) (actions : List Action) (maker : Maker) (due : Due) : Type 0 where

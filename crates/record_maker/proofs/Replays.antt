@@ -1,5 +1,5 @@
 -- A record that is made is by the rules of the game.
-use Rattle.std.proofs.Common.{◌≡◌, ◌≢◌, ◌∙◌, ◌+◌, ◌%◌, ◌<◌, ◌≤◌, ℕ, zero, suc, Bool, true, false, cond, eqb, ltb, max, min, ◌||◌, List, [], ◌∷◌, ◌++◌, Option, Some, None, is_some, length, map, All, slice_get, refl, sym, ap, subst, append_assoc, arith, nat_le}
+use Rattle.std.proofs.Common.{◌≡◌, ◌≢◌, ◌∙◌, ◌+◌, ◌≤◌, ℕ, zero, suc, Bool, true, false, cond, eqb, ◌||◌, List, [], ◌∷◌, ◌++◌, Some, length, map, All, slice_get, refl, sym, ap, subst, arith, nat_le}
 use Rattle.std.proofs.lemmas.Bool.Decides.{nat_tests}
 use Rattle.std.proofs.lemmas.List.{append-nil}
 use Rattle.std.proofs.lemmas.List.Elements.{All-get_or}
@@ -14,13 +14,11 @@ use Rattle.move_rules.specs.Written.{IsWritten}
 use Rattle.move_rules.specs.declared.play.Entry.{Entry}
 use Rattle.move_rules.specs.declared.play.Move.{Move}
 use Rattle.move_rules.specs.declared.written.Step.{Step}
-use Rattle.game_record.specs.declared.decision.Answer.TheVariants.{Take, Pass}
 use Rattle.game_record.specs.declared.decision.Decision.{Decision}
 use Rattle.game_record.specs.declared.line.Line.{Line}
 use Rattle.game_record.specs.declared.line.Line.TheVariants.{Game as GameLine, Acted}
 use Rattle.game_record.specs.declared.moment.Moment.{Moment as Replayed}
 use Rattle.game_record.specs.declared.player.Player.{Player}
-use Rattle.game_record.specs.declared.player.Player.TheVariants.{A}
 use Rattle.game_record.specs.declared.progress.Progress.{Progress}
 use Rattle.game_record.specs.declared.record.Action.{Action}
 use Rattle.game_record.specs.declared.record.Ending.{Ending}
@@ -30,7 +28,7 @@ use Rattle.game_record.specs.declared.record.Record.{Record}
 use Rattle.game_record.specs.declared.record.RecordStakes.TheVariants.{Jacoby}
 use Rattle.game_record.specs.declared.record.What.{What}
 use Rattle.game_record.specs.declared.record.What.TheVariants.{Rolled, Doubled, Took, Passed, Beavered}
-use Rattle.game_record.specs.Games.{after_answer, after_double, after_play, is_over, opening}
+use Rattle.game_record.specs.Games.{is_over, opening}
 use Rattle.game_record.specs.Lines.{ending_line, game_lines, games_lines}
 use Rattle.game_record.specs.Replay.{Acts, AllTell, IsReplay, Tells, first_moment}
 use Rattle.game_record.specs.Standings.{first_standing}
@@ -38,7 +36,7 @@ use Rattle.record_maker.specs.declared.due.Due.{Due}
 use Rattle.record_maker.specs.declared.due.Due.TheVariants.{Start, Turn, Answer, Roll, Nothing}
 use Rattle.record_maker.specs.declared.size.Size.{Size}
 use Rattle.record_maker.specs.Draws.{ArePlays, Start as Opening, die, rest, roll_of, start_in, start_of, started_by, starter, two_dice}
-use Rattle.record_maker.specs.Making.{AllDo, AllMade, Does, Ends, IsDone, IsMade, Makes, Moment, Plays, Sheet, begun, ending_text, first_sheet, undoubled_words}
+use Rattle.record_maker.specs.Making.{AllDo, AllMade, Ends, IsDone, IsMade, Makes, Moment, Plays, Sheet, begun, ending_text, first_sheet, undoubled_words}
 use Rattle.record_maker.specs.Sizes.{is_full, with_line}
 
 -- what is printed for a legal play is taken as one with the same end
@@ -151,6 +149,7 @@ full-stays size text full = by (nat_le 60000 size.lines) (nat_le 1000000 size.by
   either : (a b : Bool) → b ≡ true → (a || b) ≡ true
   either true b e = refl
   either false b e = e
+
   by : (a b : Bool) → nat_le 60000 size.lines ≡ a → nat_le 1000000 size.bytes ≡ b → (a || b) ≡ true → is_full (with_line size text) ≡ true
   by true b e f full = (let lines : nat_le 60000 (size.lines + 1) ≡ true = grind (arith, nat_tests) in ap (λ t. t || nat_le 1000000 (size.bytes + length text + 1)) lines)
   by false true e f full = (let bytes : nat_le 1000000 (size.bytes + length text + 1) ≡ true = grind (arith, nat_tests) in either (nat_le 60000 (size.lines + 1)) (nat_le 1000000 (size.bytes + length text + 1)) bytes)
@@ -174,9 +173,11 @@ game-tells takes line sheet game next makes winner points won =
     let plays = all-tell takes number (line + 1) (begun sheet) game.actions makes.end makes.acts in
     let over : TellsTo (moment_at number plays.0 makes.end.game) (ending_line game.ending ∷ []) (moment_at number (plays.0 + 1) (opening 1)) =
     subst (λ (e : Ending). TellsTo (moment_at number plays.0 makes.end.game) (ending_line e ∷ []) (moment_at number (plays.0 + 1) (opening 1))) (sym won)
-    (tells-line (moment_at number plays.0 makes.end.game) (ending_line (Ended winner points)) [] (moment_at number (plays.0 + 1) (opening 1)) (subst (λ (e : Ending). Ends makes.end e) won makes.ends, refl, refl)) in
-    (plays.0 + 1, tells-more (moment_at sheet.games line (opening 1)) (GameLine number game.away ∷ []) (map Acted game.actions ++ ending_line game.ending ∷ []) (moment_at number (line + 1) (opening 1)) (moment_at number (plays.0 + 1) (opening 1)) first
-        (tells-more (moment_at number (line + 1) (opening 1)) (map Acted game.actions) (ending_line game.ending ∷ []) (moment_at number plays.0 makes.end.game) (moment_at number (plays.0 + 1) (opening 1)) plays.1 over))
+    (tells-line (moment_at number plays.0 makes.end.game) (ending_line (Ended winner points)) [] (moment_at number (plays.0 + 1) (opening 1)) (subst (λ (e : Ending). Ends makes.end e) won makes.ends, refl, refl)) in (
+      plays.0 + 1,
+      tells-more (moment_at sheet.games line (opening 1)) (GameLine number game.away ∷ []) (map Acted game.actions ++ ending_line game.ending ∷ []) (moment_at number (line + 1) (opening 1)) (moment_at number (plays.0 + 1) (opening 1)) first
+          (tells-more (moment_at number (line + 1) (opening 1)) (map Acted game.actions) (ending_line game.ending ∷ []) (moment_at number plays.0 makes.end.game) (moment_at number (plays.0 + 1) (opening 1)) plays.1 over),
+    )
 
 left-tells : TakesPlays → (line : ℕ) (sheet : Sheet) (game : Game) (next : Sheet) → Makes sheet game next → game.ending ≡ Stopped
     → (end : Replayed) × TellsTo (moment_at sheet.games line (opening 1)) (game_lines (sheet.games + 1) game) end
@@ -186,9 +187,11 @@ left-tells takes line sheet game next makes left =
     let plays = all-tell takes number (line + 1) (begun sheet) game.actions makes.end makes.acts in
     let stopped : TellsTo (moment_at number plays.0 makes.end.game) (ending_line game.ending ∷ []) (moment_at number (plays.0 + 1) makes.end.game) =
     subst (λ (e : Ending). TellsTo (moment_at number plays.0 makes.end.game) (ending_line e ∷ []) (moment_at number (plays.0 + 1) makes.end.game)) (sym left)
-    (tells-line (moment_at number plays.0 makes.end.game) (ending_line Stopped) [] (moment_at number (plays.0 + 1) makes.end.game) ((subst (λ (e : Ending). Ends makes.end e) left makes.ends).0, refl, refl)) in
-    (moment_at number (plays.0 + 1) makes.end.game, tells-more (moment_at sheet.games line (opening 1)) (GameLine number game.away ∷ []) (map Acted game.actions ++ ending_line game.ending ∷ []) (moment_at number (line + 1) (opening 1)) (moment_at number (plays.0 + 1) makes.end.game) first
-        (tells-more (moment_at number (line + 1) (opening 1)) (map Acted game.actions) (ending_line game.ending ∷ []) (moment_at number plays.0 makes.end.game) (moment_at number (plays.0 + 1) makes.end.game) plays.1 stopped))
+    (tells-line (moment_at number plays.0 makes.end.game) (ending_line Stopped) [] (moment_at number (plays.0 + 1) makes.end.game) ((subst (λ (e : Ending). Ends makes.end e) left makes.ends).0, refl, refl)) in (
+      moment_at number (plays.0 + 1) makes.end.game,
+      tells-more (moment_at sheet.games line (opening 1)) (GameLine number game.away ∷ []) (map Acted game.actions ++ ending_line game.ending ∷ []) (moment_at number (line + 1) (opening 1)) (moment_at number (plays.0 + 1) makes.end.game) first
+          (tells-more (moment_at number (line + 1) (opening 1)) (map Acted game.actions) (ending_line game.ending ∷ []) (moment_at number plays.0 makes.end.game) (moment_at number (plays.0 + 1) makes.end.game) plays.1 stopped),
+    )
 
 games-tell : TakesPlays → (line : ℕ) (sheet : Sheet) (games : List Game) (end : Sheet) → AllMade sheet games end → (last : Replayed) × TellsTo (moment_at sheet.games line (opening 1)) (games_lines (sheet.games + 1) games) last
 games-tell takes line sheet [] end all = (moment_at sheet.games line (opening 1), ([], (refl, refl)))

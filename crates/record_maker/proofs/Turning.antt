@@ -1,5 +1,4 @@
 -- What a player has done in his turn.
-use Rattle.std.proofs.Common.{◌≡◌}
 use Rattle.game_record.specs.declared.player.Player.{Player}
 use Rattle.game_record.specs.declared.record.What.{What}
 use Rattle.game_record.specs.declared.record.What.TheVariants.{Rolled, Doubled, Took, Passed, Beavered}

@@ -5,7 +5,8 @@ ghost use Rattle.game_record.specs.declared.decision.Decision.{Decision};
 ghost use Rattle.record_maker.specs.Makers.{IsDrawn, makes_another};
 ghost use Rattle.record_maker.specs.Making.{IsMade};
 
-use crate::laws::made_records_break_no_rule;use crate::state::Maker;
+use crate::laws::made_records_break_no_rule;
+use crate::state::Maker;
 use game_record::{Games, Record, RecordStakes};
 use hyper_outside::NoMemory;
 use std::alloc::Global;

@@ -14,4 +14,4 @@ mod state;
 mod tests;
 
 pub use draw::make_record;
-pub use laws::made_records_break_no_rule;
+pub use laws::{made_records_break_no_rule, numbers_tell_records};

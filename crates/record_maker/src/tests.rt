@@ -1,7 +1,25 @@
 use super::*;
-use game_record::{print_record, read_record, replay};
+use crate::state::Maker;
+use game_record::{Ending, print_record, read_record, replay};
 use std::alloc::AllocGlobal;
 use std::process::Abort;
+
+/// The record of the number 0 and one game: A's first die and B's are equal and drawn again, and a double is taken.
+const ZERO: &str = "hypergammon record 1\ncheckers 1\nstakes jacoby\ngame 1\nB 53 24/19 19/16\n\
+A 53 24/19 19/16\nB 11 16/15 15/14 14/13 13/12\nA 65 16/10 10/5\nB double\nA take\n\
+B 51 12/7 7/6\nA 61 5/4 4/off\nend A 2\nclose\n";
+
+/// The record of the number 7 and two games: a hit, a play of one move, and a double that is passed.
+const SEVEN: &str = "hypergammon record 1\ncheckers 1\nstakes jacoby\ngame 1\nB 32 24/21 21/19\n\
+A 21 24/22 22/21\nB 42 19/15 15/13\nA 51 21/16 16/15\nB 21 13/11 11/10*\n\
+A 21 bar/23 23/22\nB 62 10/4 4/2\nA 21 22/20 20/19\nB 44 2/off\nend B 1\ngame 2\n\
+B 62 24/18 18/16\nA 42 24/20 20/18\nB 31 16/13 13/12\nA 44 18/14 14/10 10/6 6/2\n\
+B 52 12/7 7/5\nA double\nB pass\nend A 1\nclose\n";
+
+/// The record of the greatest number and one game.
+const GREATEST: &str = "hypergammon record 1\ncheckers 1\nstakes jacoby\ngame 1\n\
+B 52 24/19 19/17\nA 53 24/19 19/16\nB 62 17/11 11/9*\nA 64 bar/19 19/15\n\
+B 22 9/7 7/5 5/3 3/1\nA 32 15/12 12/10\nB 43 1/off\nend B 1\nclose\n";
 
 /// The text of the record of a number and a count of games.
 fn made_text(rt: &(impl AllocGlobal + Abort), number: u64, games: u32) -> Vec<u8> {
@@ -9,8 +27,58 @@ fn made_text(rt: &(impl AllocGlobal + Abort), number: u64, games: u32) -> Vec<u8
     print_record(rt.alloc(), &rec).expect(rt, "memory")
 }
 
+/// What is printed is read back, has so many games, and breaks no rule.
+fn is_right(rt: &(impl AllocGlobal + Abort), text: &[u8], games: usize) {
+    let Ok(read) = read_record(rt.alloc(), text) else {
+        panic!(rt; "it isn't read");
+    };
+    assert_eq!(rt; read.games.len(), games);
+    assert!(rt; replay(rt.alloc(), &read).is_ok());
+}
+
+/// The words of these numbers give these records by the rules, as a plain program that knows nothing of this one reckons.
 #[test]
-fn look(rt: HostRuntime) {
-    let text = made_text(&rt, 7, 2);
-    println!(rt; "{}", str::from_utf8(&text).expect(&rt, "text")).expect(&rt, "print");
+fn records_are_those_of_their_words(rt: HostRuntime) {
+    assert!(rt; made_text(&rt, 0, 1).as_slice() == ZERO.as_bytes());
+    assert!(rt; made_text(&rt, 7, 2).as_slice() == SEVEN.as_bytes());
+    assert!(rt; made_text(&rt, u64::MAX, 1).as_slice() == GREATEST.as_bytes());
+}
+
+/// A number gives one text, and 20 games have the lines and bytes that the same plain program reckons.
+#[test]
+fn a_number_gives_one_text(rt: HostRuntime) {
+    let text = made_text(&rt, 7, 20);
+    assert!(rt; text.as_slice() == made_text(&rt, 7, 20).as_slice());
+    let mut lines: usize = 0;
+    for byte in text.iter() {
+        lines = lines.wrapping_add(usize::from(*byte == b'\n'));
+    }
+    assert_eq!(rt; (lines, text.len()), (148, 1913));
+    is_right(&rt, &text, 20);
+}
+
+/// As many games as can be asked for are read back, and replayed.
+#[test]
+fn a_thousand_games_are_right(rt: HostRuntime) {
+    let text = made_text(&rt, 7, 1000);
+    assert_eq!(rt; text.len(), 112_311);
+    assert!(rt;
+        text.as_slice()
+            .ends_with(b"B 44 15/11 11/7 7/3 3/off\nend B 1\nclose\n")
+    );
+    is_right(&rt, &text, 1000);
+}
+
+/// Where there is too much text, a game is left before its second turn, and none begins.
+#[test]
+fn too_much_text_ends_a_record(rt: HostRuntime) {
+    let mut maker = Maker::first(7);
+    maker.size.lines = 59_999;
+    let game = maker.make_game(rt.alloc(), 0).expect(&rt, "memory");
+    assert_eq!(rt; (game.actions.len(), game.ending), (1, Ending::Stopped));
+    assert!(rt; maker.size.is_full());
+    let mut maker = Maker::first(7);
+    maker.size.bytes = 999_999;
+    let game = maker.make_game(rt.alloc(), 0).expect(&rt, "memory");
+    assert_eq!(rt; (game.actions.len(), game.ending), (1, Ending::Stopped));
 }

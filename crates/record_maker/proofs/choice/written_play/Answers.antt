@@ -1,4 +1,4 @@
-use Rattle.std.proofs.Common.{◌≡◌, ◌∙◌, ◌≤◌, List, ℕ, length, sym, subst, arith}
+use Rattle.std.proofs.Common.{◌∙◌, List, ℕ, sym, subst, arith}
 use Rattle.move_rules.specs.Notation.{IsPlayText}
 use Rattle.record_maker.proofs.choice.written_play.Goals as goal
 

@@ -1,8 +1,7 @@
-use Rattle.std.proofs.Common.{◌≡◌, ◌≢◌, ◌∙◌, ◌+◌, ◌-◌, ◌<◌, ◌≤◌, ℕ, Bool, true, false, suc, zero, eqb, cond, sym, ap, refl, arith}
+use Rattle.std.proofs.Common.{◌≡◌, ◌≢◌, ◌∙◌, ◌+◌, ◌-◌, ℕ, Bool, true, false, suc, eqb, cond, sym, ap, refl, arith}
 use Rattle.std.proofs.lemmas.Bool.Decides.{nat_tests}
 use Rattle.rand_pcg.specs.Lcg.{Lcg}
 use Rattle.roll_table.specs.Rolls.{Dice}
-use Rattle.game_record.specs.declared.player.Player.{Player}
 use Rattle.game_record.specs.declared.player.Player.TheVariants.{A}
 use Rattle.record_maker.specs.Draws.{Start, die, rest, roll_of, start_in, started_by, starter}
 use Rattle.record_maker.proofs.dice.draw_start.Goals as goal

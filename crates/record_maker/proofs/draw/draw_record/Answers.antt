@@ -1,4 +1,4 @@
-use Rattle.std.proofs.Common.{◌≡◌, ◌∙◌, ◌+◌, ◌≤◌, List, true, false, refl, sym, subst, arith}
+use Rattle.std.proofs.Common.{◌≡◌, ◌∙◌, ◌+◌, List, true, false, refl, sym, subst, arith}
 use Rattle.game_record.specs.declared.record.Game.{Game}
 use Rattle.record_maker.specs.Makers.{makes_another, sheet_of}
 use Rattle.record_maker.specs.Making.{AllMade, first_sheet}

@@ -1,4 +1,3 @@
-use Rattle.std.proofs.Common.{◌≡◌}
 use Rattle.record_maker.proofs.Replays.{made-replays}
 use Rattle.record_maker.proofs.laws.made_records_break_no_rule.Goals as goal
 

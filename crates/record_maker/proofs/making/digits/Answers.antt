@@ -1,4 +1,4 @@
-use Rattle.std.proofs.Common.{◌≡◌, ◌≤◌, length, subst, sym, arith, List, ℕ}
+use Rattle.std.proofs.Common.{◌≤◌, length, subst, sym, arith, List, ℕ}
 use Rattle.std.proofs.lemmas.Fmt.{length-decimal-le}
 use Rattle.record_maker.proofs.making.digits.Goals as goal
 

@@ -1,4 +1,4 @@
-use Rattle.std.proofs.Common.{◌≡◌, subst}
+use Rattle.std.proofs.Common.{subst}
 use Rattle.rand_pcg.specs.Lcg.{Lcg}
 use Rattle.roll_table.specs.Rolls.{Dice}
 use Rattle.record_maker.specs.Makers.{at}

@@ -1,4 +1,4 @@
-use Rattle.std.proofs.Common.{◌≡◌, sym, subst}
+use Rattle.std.proofs.Common.{sym, subst}
 use Rattle.game_record.specs.declared.player.Player.{Player}
 use Rattle.record_maker.specs.Makers.{at}
 use Rattle.record_maker.specs.Making.{Rolls, due_after}

@@ -2,7 +2,7 @@ use Rattle.std.proofs.Common.{◌≡◌, sym, subst}
 use Rattle.game_record.specs.declared.player.Player.{Player}
 use Rattle.record_maker.specs.Draws.{Start}
 use Rattle.record_maker.specs.Makers.{at}
-use Rattle.record_maker.specs.Making.{Moment, Plays, due_after}
+use Rattle.record_maker.specs.Making.{Plays, due_after}
 use Rattle.record_maker.proofs.state.Maker.start.Goals as goal
 
 pub returns : goal.returns
