@@ -35,9 +35,10 @@ use std::thread::Threads;
 /// most the bound that is told with each.
 ///
 /// Else the line of one refusal was put, or a front of it where that failed, each only where the ones before don't come: 1 comes where the words are
-/// outside their form; 2 where a position's text is; 10 where `bound` asks for another number of checkers than its position has; 3 where a file that
-/// is to be read isn't there; 4 where it isn't a file of bounds, of `show` up to its pages; 10 where `show` is asked for a position of another number
-/// of checkers; 4 where the page of the position isn't right. 6 comes only where reading a file failed, 7 only where writing a file or the output
+/// outside their form; 2 where a position's text is, or else a roll's; 10 where `bound` asks for another number of checkers than its position has; 3 where a file that
+/// is to be read isn't there; 4 where it isn't a file of bounds, of `show` and `advise` up to its pages; 10 where these are asked for a position
+/// of another number of checkers, or `advise` for a kind that the game hasn't; 4 where the page of the position isn't right, or of `advise` that of a
+/// state on which the advice rests. 6 comes only where reading a file failed, 7 only where writing a file or the output
 /// failed, 8 where there was no memory. At 7 a front of the report may stand before the line, and the file in work holds what it held or a front of
 /// its text. At all others no file changed.
 pub fn run<R: Threads + Sync, F: Files, O: Sink, G: Gate + Sync>(
