@@ -2,7 +2,7 @@
 
 _hypergammon() {
     local word=${COMP_WORDS[COMP_CWORD]} before=${COMP_WORDS[COMP_CWORD-1]} command=${COMP_WORDS[1]}
-    local commands='bound solve show migrate help'
+    local commands='bound solve show migrate advise help'
     local stakes='cubeless money jacoby money-beavers jacoby-beavers'
     COMPREPLY=()
     if [ "$COMP_CWORD" -eq 1 ]; then
@@ -25,6 +25,19 @@ _hypergammon() {
                 *)
                     if [[ $word == -* ]]; then
                         mapfile -t COMPREPLY < <(compgen -W '--checkers --stakes --rounds --workers' -- "$word")
+                    else
+                        mapfile -t COMPREPLY < <(compgen -f -- "$word")
+                    fi
+                    ;;
+            esac
+            ;;
+        advise)
+            case $before in
+                --kind) mapfile -t COMPREPLY < <(compgen -W 'alone centred mine theirs' -- "$word") ;;
+                --roll) ;;
+                *)
+                    if [[ $word == -* ]]; then
+                        mapfile -t COMPREPLY < <(compgen -W '--kind --roll' -- "$word")
                     else
                         mapfile -t COMPREPLY < <(compgen -f -- "$word")
                     fi

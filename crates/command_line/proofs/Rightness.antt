@@ -7,6 +7,7 @@ use Rattle.std.proofs.lemmas.Bool.{leb-true}
 use Rattle.std.proofs.lemmas.Slice.Eq.{bytes_eq-Decides}
 use Rattle.hyper_outside.specs.declared.outside.BadWords.{BadWords}
 use Rattle.cube_actions.specs.Scores.{MatchScore}
+use Rattle.cube_actions.specs.declared.name.KindName.{KindName}
 use Rattle.cube_actions.specs.declared.name.StakesName.{StakesName}
 use Rattle.cube_actions.specs.declared.name.StakesName.TheVariants.{Cubeless, Money, Jacoby, MoneyBeavers, JacobyBeavers, Match}
 use Rattle.word_forms.specs.Form.{Bytes, Values, value_of, values_of}
@@ -14,8 +15,8 @@ use Rattle.hyper_outside.specs.declared.outside.WordsKind.TheVariants.{Word, For
 use Rattle.command_line.specs.declared.command.Command.TheVariants as command
 use Rattle.command_line.specs.declared.command.CommandName.{CommandName}
 use Rattle.command_line.specs.declared.command.CommandName.TheVariants as name
-use Rattle.command_line.specs.Values.{number_of, number_within, number_given, number_or, stakes_named, stakes_or, is_file_name, file_name, other_name}
-use Rattle.command_line.specs.Commands.{Asked, checked, refused, bound_values, solve_values, show_values, migrate_values, command_values, command_named, command_form}
+use Rattle.command_line.specs.Values.{number_of, number_within, number_given, number_or, stakes_named, stakes_or, kind_given, is_file_name, file_name, other_name}
+use Rattle.command_line.specs.Commands.{Asked, checked, refused, bound_values, solve_values, show_values, migrate_values, advise_values, command_values, command_named, command_form}
 use Rattle.command_line.specs.declared.values.TheConstants.{MOST_CHECKERS, MOST_ROUNDS, MOST_WORKERS, USUAL_ROUNDS}
 use Rattle.command_line.specs.Words.{is_faulty, place_at, form_reading, words_reading, reading}
 use Rattle.command_line.specs.Right.{IsName, IsRightCommand}
@@ -168,11 +169,25 @@ migrate-from (Some old) given name = new-from old (other_name old given) name (o
 migrate-right : (given : Values) → Right (migrate_values given)
 migrate-right given = migrate-from (file_name (value_of (codes "OLD") given)) (value_of (codes "NEW") given) (named (value_of (codes "OLD") given))
 
+advise-from : (file position : Option Bytes) (kind : Option (Option KindName)) (roll : Option Bytes) → IfSome file IsName →
+    Right (checked 1 file (λ file. checked 2 position (λ position. checked 3 kind (λ kind.
+    Ok (command.Advise (record { file = file; position = position; kind = kind; roll = roll }))))))
+advise-from None position kind roll name = tt
+advise-from (Some f) None kind roll name = tt
+advise-from (Some f) (Some p) None roll name = tt
+advise-from (Some f) (Some p) (Some k) roll name = name
+
+advise-right : (given : Values) → Right (advise_values given)
+advise-right given =
+    advise-from (file_name (value_of (codes "FILE") given)) (value_of (codes "POSITION") given) (kind_given (value_of (codes "kind") given)) (value_of (codes "roll") given)
+    (named (value_of (codes "FILE") given))
+
 values-right : (command : CommandName) (given : Values) → Right (command_values command given)
 values-right name.Bound given = bound-right given
 values-right name.Solve given = solve-right given
 values-right name.Show given = show-right given
 values-right name.Migrate given = migrate-right given
+values-right name.Advise given = advise-right given
 
 form-right : (command : CommandName) (values : Option Values) → Right (option_map_or (command_values command) values (refused Form 0))
 form-right command None = tt

@@ -7,8 +7,9 @@ use Rattle.command_line.specs.declared.command.Bound.{Bound as BoundWords}
 use Rattle.command_line.specs.declared.command.Solve.{Solve as SolveWords}
 use Rattle.command_line.specs.declared.command.Show.{Show as ShowWords}
 use Rattle.command_line.specs.declared.command.Migrate.{Migrate as MigrateWords}
+use Rattle.command_line.specs.declared.command.Advise.{Advise as AdviseWords}
 use Rattle.command_line.specs.declared.command.Command.{Command}
-use Rattle.command_line.specs.declared.command.Command.TheVariants.{Bound, Solve, Show, Migrate}
+use Rattle.command_line.specs.declared.command.Command.TheVariants.{Bound, Solve, Show, Migrate, Advise}
 use Rattle.command_line.specs.declared.values.TheConstants.{MOST_CHECKERS, MOST_ROUNDS, MOST_WORKERS}
 
 -- a file's name has 1 to 255 bytes
@@ -40,9 +41,13 @@ pub record IsRightMigrate (migrate : MigrateWords) : Type 0 where
   pub new : IsName migrate.new
   pub apart : migrate.old ≢ migrate.new
 
+abbrev pub IsRightAdvise : AdviseWords → Type 0
+IsRightAdvise advise = IsName advise.file
+
 -- numbers within their limits, names of files within theirs, and stakes that aren't a match
 abbrev pub IsRightCommand : Command → Type 0
 IsRightCommand (Bound bound) = IsRightBound bound
 IsRightCommand (Solve solve) = IsRightSolve solve
 IsRightCommand (Show show) = IsRightShow show
 IsRightCommand (Migrate migrate) = IsRightMigrate migrate
+IsRightCommand (Advise advise) = IsRightAdvise advise

@@ -1,11 +1,13 @@
 -- The forms of values.
-use Rattle.std.specs.Prelude.{ℕ, ◌==◌, nat_lt, nat_le, Bool, not, ◌&&◌, ◌||◌, List, length, slice_index, codes, Option, Some, None, if◌then◌else◌, option_and_then}
+use Rattle.std.specs.Prelude.{ℕ, ◌==◌, nat_lt, nat_le, Bool, not, ◌&&◌, ◌||◌, List, length, slice_index, codes, Option, Some, None, if◌then◌else◌, option_and_then, option_map}
 use Rattle.std.specs.List.{list_any}
 use Rattle.std.specs.Str.{bytes_eq, all_ascii_digits}
 use Rattle.std.specs.Str.Parse.{digits_value}
 use Rattle.word_forms.specs.Form.{Bytes}
+use Rattle.cube_actions.specs.declared.name.KindName.{KindName}
 use Rattle.cube_actions.specs.declared.name.StakesName.{StakesName}
 use Rattle.cube_actions.specs.declared.name.StakesName.TheVariants.{Cubeless, Money, Jacoby, MoneyBeavers, JacobyBeavers}
+use Rattle.cube_actions.specs.Names.{read_name}
 
 -- decimal digits without a leading zero
 abbrev pub is_number : Bytes → Bool
@@ -40,6 +42,11 @@ stakes_named word =
 abbrev pub stakes_or : StakesName → Option Bytes → Option StakesName
 stakes_or usual None = Some usual
 stakes_or usual (Some word) = stakes_named word
+
+-- the kind of state that is given, if one is; a word that is no kind's text is out of its form
+abbrev pub kind_given : Option Bytes → Option (Option KindName)
+kind_given None = Some None
+kind_given (Some word) = option_map (λ kind. Some kind) (read_name word)
 
 -- 1 to 255 bytes, none of them 0
 abbrev pub is_file_name : Bytes → Bool

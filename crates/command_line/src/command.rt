@@ -3,7 +3,7 @@ ghost use Rattle.word_forms.specs.Clap.{names};
 ghost use Rattle.command_line.specs.Commands.{command_named, command_form};
 
 use crate::text::Text;
-use cube_actions::StakesName;
+use cube_actions::{KindName, StakesName};
 
 /// A position whose pair is found by some rounds in a game without a cube.
 #[derive(Drop)]
@@ -49,6 +49,19 @@ pub struct Migrate {
     pub new: Text,
 }
 
+/// A position in which advice is sought from a file.
+#[derive(Drop)]
+pub struct Advise {
+    /// The file's name, 1 to 255 bytes.
+    pub file: Text,
+    /// In any form.
+    pub position: Text,
+    /// The kind of state; where none is given, the first of the file's game.
+    pub kind: Option<KindName>,
+    /// In any form; where none is given, the advice is on the cube.
+    pub roll: Option<Text>,
+}
+
 /// What a user asks for.
 #[derive(Drop)]
 pub enum Command {
@@ -56,6 +69,7 @@ pub enum Command {
     Solve(Solve),
     Show(Show),
     Migrate(Migrate),
+    Advise(Advise),
 }
 
 /// The commands.
@@ -65,6 +79,7 @@ pub enum CommandName {
     Solve,
     Show,
     Migrate,
+    Advise,
 }
 
 static BOUND: [&str; 3] = ["CHECKERS", "ROUNDS", "POSITION"];
@@ -76,6 +91,10 @@ static SOLVE_OPTIONS: [&str; 4] = ["checkers", "stakes", "rounds", "workers"];
 static SHOW: [&str; 2] = ["FILE", "POSITION"];
 
 static MIGRATE: [&str; 2] = ["OLD", "NEW"];
+
+static ADVISE: [&str; 2] = ["FILE", "POSITION"];
+
+static ADVISE_OPTIONS: [&str; 2] = ["kind", "roll"];
 
 static NO_OPTIONS: [&str; 0] = [];
 
@@ -89,6 +108,7 @@ impl CommandName {
             "solve" => Some(CommandName::Solve),
             "show" => Some(CommandName::Show),
             "migrate" => Some(CommandName::Migrate),
+            "advise" => Some(CommandName::Advise),
             _ => None,
         }
     }
@@ -102,6 +122,7 @@ impl CommandName {
             CommandName::Solve => SOLVE.as_slice(),
             CommandName::Show => SHOW.as_slice(),
             CommandName::Migrate => MIGRATE.as_slice(),
+            CommandName::Advise => ADVISE.as_slice(),
         }
     }
 
@@ -111,6 +132,7 @@ impl CommandName {
     {
         match self {
             CommandName::Solve => SOLVE_OPTIONS.as_slice(),
+            CommandName::Advise => ADVISE_OPTIONS.as_slice(),
             CommandName::Bound | CommandName::Show | CommandName::Migrate => NO_OPTIONS.as_slice(),
         }
     }

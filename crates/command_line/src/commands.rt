@@ -1,14 +1,14 @@
 ghost use Rattle.word_forms.specs.Form.{Values};
 ghost use Rattle.word_forms.specs.Clap.{HasValues};
-ghost use Rattle.command_line.specs.Commands.{bound_values, solve_values, show_values, migrate_values, command_values};
+ghost use Rattle.command_line.specs.Commands.{bound_values, solve_values, show_values, migrate_values, advise_values, command_values};
 ghost use Rattle.command_line.specs.Reading.{Gives};
 
-use crate::command::{Bound, Command, CommandName, Migrate, Show, Solve};
+use crate::command::{Advise, Bound, Command, CommandName, Migrate, Show, Solve};
 use crate::stop::{WordsStop, bad_value};
 use crate::text::Text;
 use crate::values::{
-    MOST_CHECKERS, MOST_ROUNDS, MOST_WORKERS, USUAL_ROUNDS, file_name, number_given, number_or,
-    other_name, stakes_or,
+    MOST_CHECKERS, MOST_ROUNDS, MOST_WORKERS, USUAL_ROUNDS, file_name, kind_given, number_given,
+    number_or, other_name, stakes_or, text_given,
 };
 use clap::ArgMatches;
 use cube_actions::StakesName;
@@ -28,6 +28,7 @@ pub(crate) fn read_values(
         CommandName::Solve => read_solve(alloc, values),
         CommandName::Show => read_show(alloc, values),
         CommandName::Migrate => read_migrate(alloc, values),
+        CommandName::Advise => read_advise(alloc, values),
     }
 }
 
@@ -109,5 +110,26 @@ fn read_migrate(alloc: Global, values: &ArgMatches<'_>) -> Result<Command, Words
     Ok(Command::Migrate(Migrate {
         old: Text::new(alloc, old)?,
         new: Text::new(alloc, new)?,
+    }))
+}
+
+fn read_advise(alloc: Global, values: &ArgMatches<'_>) -> Result<Command, WordsStop>
+    ensures { (given : Values) → HasValues given values.now
+        → Gives (advise_values given) result }
+{
+    let Some(file) = file_name(values.get_str("FILE")) else {
+        return Err(bad_value(1));
+    };
+    let Some(position) = values.get_str("POSITION") else {
+        return Err(bad_value(2));
+    };
+    let Some(kind) = kind_given(values.get_str("kind")) else {
+        return Err(bad_value(3));
+    };
+    Ok(Command::Advise(Advise {
+        file: Text::new(alloc, file)?,
+        position: Text::new(alloc, position)?,
+        kind,
+        roll: text_given(alloc, values.get_str("roll"))?,
     }))
 }

@@ -1,4 +1,5 @@
 use super::*;
+use cube_actions::KindName;
 use hyper_outside::{BadWords, WordsKind};
 use std::alloc::{AllocError, Global};
 use std::test::Fail;
@@ -123,5 +124,54 @@ fn long_words_and_names_are_refused(rt: HostRuntime) -> Result<(), Fail> {
     long.push('x')?;
     let longest = refusal(rt.alloc(), &["show", "x", long.as_str()])?;
     assert_eq!(rt; longest, Some((WordsKind::Word, 2)));
+    Ok(())
+}
+
+#[test]
+fn words_of_advise_are_refused(rt: HostRuntime) -> Result<(), Fail> {
+    let cases: [(&[&str], WordsKind, u32); 8] = [
+        (&["advise", "x"], WordsKind::Form, 0),
+        (&["advise", "x", "y", "z"], WordsKind::Form, 0),
+        (&["advise", "x", "y", "--rounds=3"], WordsKind::Form, 0),
+        (&["advise", "x", "y", "--kind"], WordsKind::Form, 0),
+        (&["advise", "x", "y", "--kind=Mine"], WordsKind::Value, 3),
+        (
+            &["advise", "--kind=near:1:far", "x", "y"],
+            WordsKind::Value,
+            3,
+        ),
+        (&["advise", "x\0", "y", "--kind=z"], WordsKind::Value, 1),
+        (&["advise", "x", "y", "--roll="], WordsKind::Word, 3),
+    ];
+    for (words, kind, place) in cases.iter() {
+        let found = refusal(rt.alloc(), words)?;
+        assert_eq!(rt; found, Some((*kind, *place)));
+    }
+    Ok(())
+}
+
+#[test]
+fn advise_takes_a_kind_and_a_roll(rt: HostRuntime) -> Result<(), Fail> {
+    let cases: [(&[&str], Option<KindName>, Option<&str>); 3] = [
+        (&["advise", "x", "y"], None, None),
+        (
+            &["advise", "--roll", "66", "x", "--kind=mine", "y"],
+            Some(KindName::Mine),
+            Some("66"),
+        ),
+        (&["advise", "x", "y", "--roll=z"], None, Some("z")),
+    ];
+    for (words, kind, roll) in cases {
+        let words = owned(rt.alloc(), words)?;
+        match read_words(rt.alloc(), words.as_slice()) {
+            Ok(Command::Advise(asked)) => {
+                assert_eq!(rt; asked.file.as_str(), "x");
+                assert_eq!(rt; asked.position.as_str(), "y");
+                assert_eq!(rt; asked.kind, kind);
+                assert_eq!(rt; asked.roll.as_ref().map(|text| text.as_str()), roll);
+            }
+            _ => panic!(rt; "refused"),
+        }
+    }
     Ok(())
 }

@@ -1,9 +1,12 @@
-ghost use Rattle.std.specs.Prelude.{◌≡◌, ◌==◌, ℕ, ◌≤◌, List, IfSome, option_map};
+ghost use Rattle.std.specs.Prelude.{◌≡◌, ◌==◌, ℕ, ◌≤◌, List, IfOk, IfSome, option_map};
 ghost use Rattle.std.specs.List.{list_any};
-ghost use Rattle.command_line.specs.Values.{number_within, number_given, number_or, stakes_named, stakes_or, is_file_name, file_name, other_name};
+ghost use Rattle.command_line.specs.Values.{number_within, number_given, number_or, stakes_named, stakes_or, kind_given, is_file_name, file_name, other_name};
 ghost use Rattle.command_line.specs.Words.{is_option, is_faulty};
 
-use cube_actions::StakesName;
+use crate::text::Text;
+use cube_actions::{KindName, StakesName};
+use hyper_outside::NoMemory;
+use std::alloc::Global;
 
 /// The most checkers per side, and those that `solve` takes where none are given.
 pub const MOST_CHECKERS: u8 = 3;
@@ -78,6 +81,26 @@ pub(crate) fn stakes_or(word: Option<&str>, usual: StakesName) -> Option<StakesN
     match word {
         Some(word) => stakes_named(word),
         None => Some(usual),
+    }
+}
+
+/// The kind of state that is given, `Some(None)` where none is.
+pub(crate) fn kind_given(word: Option<&str>) -> Option<Option<KindName>>
+    ensures { result ≡ kind_given (option_map (λ w. w.now) word.entry) }
+{
+    match word {
+        Some(word) => KindName::read(word).map(Some),
+        None => Some(None),
+    }
+}
+
+/// A copy of the word that is given.
+pub(crate) fn text_given(alloc: Global, word: Option<&str>) -> Result<Option<Text>, NoMemory>
+    ensures { IfOk result (λ text. text ≡ option_map (λ w. w.now) word.entry) }
+{
+    match word {
+        Some(word) => Ok(Some(Text::new(alloc, word)?)),
+        None => Ok(None),
     }
 }
 

@@ -2,3 +2,4 @@ pub mod Reports
 pub mod Games
 pub mod Files
 pub mod Refusals
+pub mod Advice

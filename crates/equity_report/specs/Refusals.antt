@@ -5,12 +5,17 @@ use Rattle.hyper_outside.specs.declared.outside.WordsKind.{WordsKind}
 use Rattle.hyper_outside.specs.declared.outside.WordsKind.TheVariants as kinds
 use Rattle.position_rank.specs.declared.text.BadPosition.{BadPosition}
 use Rattle.position_rank.specs.declared.text.BadPosition.TheVariants.{Shape, Place, Count, SharedPoint, Over}
+use Rattle.roll_table.specs.declared.roll.BadRoll.{BadRoll}
+use Rattle.roll_table.specs.declared.roll.BadRoll.TheVariants as rolls
+use Rattle.cube_actions.specs.Names.{kind_text}
 use Rattle.base_head.specs.declared.fault.BadFile.{BadFile}
 use Rattle.base_head.specs.declared.fault.FileFault.{FileFault}
 use Rattle.base_head.specs.declared.fault.FileFault.TheVariants as faults
 use Rattle.equity_report.specs.declared.text.GameName.{GameName}
 use Rattle.equity_report.specs.declared.refusal.Refusal.{Refusal}
-use Rattle.equity_report.specs.declared.refusal.Refusal.TheVariants.{Words, Position, Missing, File, Read, Write, Memory, Base}
+use Rattle.equity_report.specs.declared.refusal.Refusal.TheVariants.{Words, Position, Missing, File, Read, Write, Memory, Base, Roll}
+use Rattle.equity_report.specs.declared.refusal.Wanted.{Wanted}
+use Rattle.equity_report.specs.declared.refusal.Wanted.TheVariants.{Checkers, Kind}
 use Rattle.equity_report.specs.Reports.{line, counted_text}
 use Rattle.equity_report.specs.Games.{game_text}
 
@@ -28,6 +33,11 @@ position_kind Place = 2
 position_kind Count = 3
 position_kind SharedPoint = 4
 position_kind Over = 5
+
+-- what is wrong with a roll's text
+abbrev pub roll_kind : BadRoll → ℕ
+roll_kind rolls.Shape = 1
+roll_kind rolls.Order = 2
 
 -- what is wrong with a file
 abbrev pub file_fault_text : FileFault → List ℕ
@@ -51,6 +61,7 @@ status_of Read = 6
 status_of Write = 7
 status_of Memory = 8
 status_of (Base wanted found) = 10
+status_of (Roll bad) = 2
 
 abbrev pub bad_words_text : BadWords → List ℕ
 bad_words_text bad = codes "words " ++ counted_text (words_text bad.kind) bad.place
@@ -58,8 +69,13 @@ bad_words_text bad = codes "words " ++ counted_text (words_text bad.kind) bad.pl
 abbrev pub bad_file_text : BadFile → List ℕ
 bad_file_text bad = codes "file " ++ counted_text (file_fault_text bad.fault) bad.at
 
-abbrev pub base_text : ℕ → GameName → List ℕ
-base_text wanted found = codes "base wanted " ++ counted_text (codes "checkers") wanted ++ codes " found " ++ game_text found
+-- the checkers a side or the kind of state that is wanted
+abbrev pub wanted_text : Wanted → List ℕ
+wanted_text (Checkers checkers) = counted_text (codes "checkers") checkers
+wanted_text (Kind kind) = codes "kind " ++ kind_text kind
+
+abbrev pub base_text : Wanted → GameName → List ℕ
+base_text wanted found = codes "base wanted " ++ wanted_text wanted ++ codes " found " ++ game_text found
 
 abbrev pub reason_text : Refusal → List ℕ
 reason_text (Words bad) = bad_words_text bad
@@ -70,6 +86,7 @@ reason_text Read = codes "read"
 reason_text Write = codes "write"
 reason_text Memory = codes "memory"
 reason_text (Base wanted found) = base_text wanted found
+reason_text (Roll bad) = counted_text (codes "roll") (roll_kind bad)
 
 abbrev pub refusal_text : Refusal → List ℕ
 refusal_text refusal = line (codes "refused") (decimal (status_of refusal) ++ codes " " ++ reason_text refusal)

@@ -1,12 +1,14 @@
 //! The exact texts of reports and refusals.
 #![tactic(auto)]
 
+mod advice;
 mod files;
 mod refusal;
 mod report;
 mod text;
 
+pub use advice::{write_cube, write_ranking};
 pub use files::{KindRow, Solved, write_migrated, write_shown, write_solved};
-pub use refusal::{FileName, Refusal, write_refusal};
+pub use refusal::{FileName, Refusal, Wanted, write_refusal};
 pub use report::write_bound;
 pub use text::GameName;

@@ -1,15 +1,26 @@
 ghost use Rattle.std.specs.Prelude.{◌≡◌, ◌≤◌, ◌++◌, ◌+◌, ℕ, codes, decimal, length};
-ghost use Rattle.equity_report.specs.Refusals.{words_text, bad_words_text, file_fault_text, bad_file_text, base_text, position_kind, status_of, reason_text, refusal_text};
+ghost use Rattle.equity_report.specs.Refusals.{words_text, bad_words_text, file_fault_text, bad_file_text, base_text, wanted_text, position_kind, roll_kind, status_of, reason_text, refusal_text};
 ghost use Rattle.hyper_outside.specs.Sink.{Puts};
 
 use crate::text::{GameName, Report, add_counted, add_game, add_number};
 use arrayvec::ArrayString;
 use base_head::{BadFile, FileFault};
+use cube_actions::KindName;
 use hyper_outside::{BadWords, Failed, Sink, WordsKind};
 use position_rank::BadPosition;
+use roll_table::BadRoll;
 
 /// A file's name.
 pub type FileName = ArrayString<255>;
+
+/// What a run wants of the game of a file, or of the words, and what that game hasn't.
+#[derive(Clone, Copy, Debug, PartialEq, Eq)]
+pub enum Wanted {
+    /// So many checkers a side.
+    Checkers(u8),
+    /// This kind of state.
+    Kind(KindName),
+}
 
 /// Why a run was refused.
 #[derive(Clone, Copy, Debug, PartialEq, Eq)]
@@ -28,8 +39,10 @@ pub enum Refusal {
     Write,
     /// There was no memory.
     Memory,
-    /// The position wants another number of checkers a side than has the game of the file, or of the words.
-    Base { wanted: u8, found: GameName },
+    /// The game of the file, or of the words, isn't the one that is wanted.
+    Base { wanted: Wanted, found: GameName },
+    /// The roll's text is refused.
+    Roll(BadRoll),
 }
 
 fn words_text(kind: WordsKind) -> &'static str
@@ -69,7 +82,7 @@ impl Refusal {
     {
         match self {
             Refusal::Words(_) => 1,
-            Refusal::Position(_) => 2,
+            Refusal::Position(_) | Refusal::Roll(_) => 2,
             Refusal::Missing(_) => 3,
             Refusal::File(_) => 4,
             Refusal::Read => 6,
@@ -87,13 +100,34 @@ fn position_kind(bad: BadPosition) -> u8
     bad as u8
 }
 
-fn add_base(line: &mut Report, wanted: u8, found: GameName)
+fn roll_kind(bad: BadRoll) -> u8
+    ensures kind { result ≡ roll_kind bad }
+    ensures small { result ≤ 2 }
+{
+    bad as u8
+}
+
+fn add_wanted(line: &mut Report, wanted: Wanted)
+    requires { length line.old.bytes ≤ 60 }
+    ensures bytes { line.new.bytes ≡ line.old.bytes ++ wanted_text wanted }
+    ensures length { length line.new.bytes ≤ length line.old.bytes + 37 }
+{
+    match wanted {
+        Wanted::Checkers(checkers) => add_counted(line, "checkers", u64::from(checkers)),
+        Wanted::Kind(kind) => {
+            line.push_str("kind ");
+            line.push_str(kind.print().as_str());
+        }
+    }
+}
+
+fn add_base(line: &mut Report, wanted: Wanted, found: GameName)
     requires { length line.old.bytes ≤ 40 }
     ensures bytes { line.new.bytes ≡ line.old.bytes ++ base_text wanted found }
     ensures length { length line.new.bytes ≤ 240 }
 {
     line.push_str("base wanted ");
-    add_counted(line, "checkers", u64::from(wanted));
+    add_wanted(line, wanted);
     line.push_str(" found ");
     add_game(line, found);
 }
@@ -135,6 +169,9 @@ fn add_reason(line: &mut Report, refusal: &Refusal)
         Refusal::Write => line.push_str("write"),
         Refusal::Memory => line.push_str("memory"),
         Refusal::Base { wanted, found } => add_base(line, *wanted, *found),
+        Refusal::Roll(bad) => {
+            add_counted(line, "roll", u64::from(roll_kind(*bad)));
+        }
     }
 }
 

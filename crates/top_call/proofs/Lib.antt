@@ -4,3 +4,6 @@ mod Right
 mod Loaded
 mod LookedUp
 mod ShowLaws
+mod AdviseLaws
+mod AdviseFiles
+mod TwoRuns

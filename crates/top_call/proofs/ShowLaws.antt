@@ -27,7 +27,8 @@ use Rattle.database_file.proofs.PageWords.{word-among}
 use Rattle.equity_report.specs.declared.files.KindRow.{KindRow}
 use Rattle.equity_report.specs.declared.text.GameName.{GameName}
 use Rattle.equity_report.specs.declared.refusal.Refusal.{Refusal}
-use Rattle.equity_report.specs.declared.refusal.Refusal.TheVariants.{Words as BadWords, Position, Missing, File, Read, Write, Memory, Base}
+use Rattle.equity_report.specs.declared.refusal.Refusal.TheVariants.{Words as BadWords, Position, Missing, File, Read, Write, Memory, Base, Roll}
+use Rattle.equity_report.specs.declared.refusal.Wanted.TheVariants.{Checkers}
 use Rattle.top_call.specs.declared.task.ShowTask.{ShowTask}
 use Rattle.top_call.specs.Loads.{TellsStop, game_told}
 use Rattle.top_call.specs.Shows.{AnswersRows, IsShown, RefusesShowing, look_refusal, rows_from, words_in_file}
@@ -44,6 +45,7 @@ missing-told task Read t = absurd t
 missing-told task Write t = absurd t
 missing-told task Memory t = absurd t
 missing-told task (Base wanted found) t = absurd t
+missing-told task (Roll bad) t = absurd t
 
 pub not-opened : (task : ShowTask) (held : Option (List ℕ)) (stop : LoadStop) (refusal : Refusal) → AnswersPaged (option_map whole held) (Err stop) → TellsStop task.file stop refusal → RefusesShowing task refusal held
 not-opened task None stops.Missing refusal a t = missing-told task refusal t
@@ -56,7 +58,7 @@ not-opened task (Some bytes) stops.ReadFault refusal a t = refuses task (Some by
 not-opened task (Some bytes) stops.NoMemory refusal a t = refuses task (Some bytes) refusal Memory t tt
 
 pub other-game : (task : ShowTask) (held : Option (List ℕ)) (base : PagedFile) (wanted : ℕ) (found : GameName) → AnswersPaged (option_map whole held) (Ok base)
-    → wanted ≡ sum task.position.mover → found ≡ game_told base.head → wanted ≢ found.checkers → RefusesShowing task (Base wanted found) held
+    → wanted ≡ sum task.position.mover → found ≡ game_told base.head → wanted ≢ found.checkers → RefusesShowing task (Base (Checkers wanted) found) held
 other-game task None base wanted found a is game apart = absurd a
 other-game task (Some bytes) base wanted found a is game apart =
     let told : found ≡ game_told (Rattle.base_head.specs.Fronts.head_in (header_of_file bytes) bytes) = game ∙ rw a.head refl in

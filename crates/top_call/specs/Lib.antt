@@ -5,3 +5,5 @@ pub mod Solves
 pub mod Loads
 pub mod Migrates
 pub mod Shows
+pub mod Advises
+pub mod Headline

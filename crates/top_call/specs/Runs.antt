@@ -7,7 +7,7 @@ use Rattle.equity_report.specs.declared.refusal.Refusal.{Refusal}
 use Rattle.equity_report.specs.declared.refusal.Refusal.TheVariants.{Words, Missing, File, Read, Write, Memory, Base}
 use Rattle.equity_report.specs.Refusals.{status_of}
 use Rattle.top_call.specs.declared.task.Task.{Task}
-use Rattle.top_call.specs.declared.task.Task.TheVariants.{Bound, Solve, Show, Migrate}
+use Rattle.top_call.specs.declared.task.Task.TheVariants.{Bound, Solve, Show, Migrate, Advise}
 
 -- the task is the one that was asked for, or the refusal the one that is due, unless there was no memory
 abbrev pub IsDue : Result Task Refusal → Result Task Refusal → Type 0
@@ -46,6 +46,7 @@ EndsTask (Bound task) status = EndsWriting status
 EndsTask (Solve task) status = EndsWriting status
 EndsTask (Show task) status = EndsShowing status
 EndsTask (Migrate task) status = EndsLoading status
+EndsTask (Advise task) status = EndsShowing status
 
 -- Where words are refused, the status is that of the refusal, or that of no memory if there was none.
 abbrev pub Ends : Result Task Refusal → ℕ → Type 0

@@ -21,6 +21,7 @@ use Rattle.database_file.specs.Paged.{flaw_at, word_at}
 use Rattle.equity_report.specs.declared.files.KindRow.{KindRow}
 use Rattle.equity_report.specs.declared.refusal.Refusal.{Refusal}
 use Rattle.equity_report.specs.declared.refusal.Refusal.TheVariants.{Missing, File, Read, Memory, Base}
+use Rattle.equity_report.specs.declared.refusal.Wanted.TheVariants.{Checkers}
 use Rattle.equity_report.specs.Refusals.{status_of, refusal_text}
 use Rattle.equity_report.specs.Files.{shown_text}
 use Rattle.top_call.specs.declared.task.ShowTask.{ShowTask}
@@ -65,7 +66,7 @@ pub record HasShown (task : ShowTask) (told : Bool) (held : Option (List ℕ)) (
 pub record IsOtherGame (bytes : List ℕ) (p : Placement) (refusal : Refusal) : Type 0 where
   pub front : fault_before_pages (whole bytes) ≡ None
   pub other : (head_in (header_of_file bytes) bytes).checkers ≢ sum p.mover
-  pub line : refusal ≡ Base (sum p.mover) (game_told (head_in (header_of_file bytes) bytes))
+  pub line : refusal ≡ Base (Checkers (sum p.mover)) (game_told (head_in (header_of_file bytes) bytes))
 
 -- the position has the head's checkers, and this is wrong with its page
 pub record IsBadAt (bytes : List ℕ) (p : Placement) (refusal : Refusal) : Type 0 where

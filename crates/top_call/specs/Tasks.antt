@@ -1,9 +1,12 @@
 -- What a program's words ask for.
-use Rattle.std.specs.Prelude.{ℕ, ◌==◌, List, String, sum, Result, Ok, Err, if◌then◌else◌}
+use Rattle.std.specs.Prelude.{ℕ, ◌==◌, List, String, sum, Option, Some, None, IfSome, Result, Ok, Err, if◌then◌else◌}
 use Rattle.std.specs.declared.alloc.Global.{Global}
 use Rattle.position_rank.specs.Placement.{Placement, IsPosition, IsLive}
 use Rattle.position_rank.specs.declared.text.BadPosition.{BadPosition}
 use Rattle.position_rank.specs.Text.{read_position}
+use Rattle.roll_table.specs.declared.roll.BadRoll.{BadRoll}
+use Rattle.roll_table.specs.Rolls.{Dice, IsRoll}
+use Rattle.roll_table.specs.Text.{read_roll}
 use Rattle.hyper_outside.specs.declared.outside.BadWords.{BadWords}
 use Rattle.cube_actions.specs.declared.name.StakesName.TheVariants.{Cubeless}
 use Rattle.command_line.specs.declared.command.Command.{Command}
@@ -13,6 +16,7 @@ use Rattle.command_line.specs.declared.command.Solve.{Solve as SolveTask}
 use Rattle.command_line.specs.declared.command.Migrate.{Migrate as MigrateTask}
 use Rattle.command_line.specs.Words.{reading}
 use Rattle.command_line.specs.declared.command.Show.{Show as ShowWords}
+use Rattle.command_line.specs.declared.command.Advise.{Advise as AdviseWords}
 use Rattle.command_line.specs.Right.{IsName, IsRightSolve, IsRightMigrate}
 use Rattle.word_forms.specs.Clap.{bytes_of}
 use Rattle.cube_actions.specs.Stakes.{cubeless}
@@ -21,11 +25,13 @@ use Rattle.turn_rule.specs.States.{pair_of}
 use Rattle.equity_report.specs.Reports.{bound_text}
 use Rattle.equity_report.specs.declared.text.GameName.{GameName}
 use Rattle.equity_report.specs.declared.refusal.Refusal.{Refusal}
-use Rattle.equity_report.specs.declared.refusal.Refusal.TheVariants.{Words, Position, Base}
+use Rattle.equity_report.specs.declared.refusal.Refusal.TheVariants.{Words, Position, Base, Roll}
+use Rattle.equity_report.specs.declared.refusal.Wanted.TheVariants.{Checkers}
+use Rattle.top_call.specs.declared.task.AdviseTask.{AdviseTask}
 use Rattle.top_call.specs.declared.task.BoundTask.{BoundTask}
 use Rattle.top_call.specs.declared.task.ShowTask.{ShowTask}
 use Rattle.top_call.specs.declared.task.Task.{Task}
-use Rattle.top_call.specs.declared.task.Task.TheVariants.{Bound, Solve, Show, Migrate}
+use Rattle.top_call.specs.declared.task.Task.TheVariants.{Bound, Solve, Show, Migrate, Advise}
 
 -- a game without a cube, by its checkers
 abbrev pub cubeless_game : ℕ → GameName
@@ -35,7 +41,7 @@ cubeless_game checkers = record { checkers = checkers; stakes = Cubeless; match_
 abbrev pub fitting : ℕ → ℕ → Placement → Result Task Refusal
 fitting checkers rounds p =
     if sum p.mover == checkers then Ok (Bound (record { position = p; rounds = rounds }))
-    else Err (Base (sum p.mover) (cubeless_game checkers))
+    else Err (Base (Checkers (sum p.mover)) (cubeless_game checkers))
 
 abbrev pub with_position : BoundWords → Result Placement BadPosition → Result Task Refusal
 with_position bound (Ok p) = fitting bound.checkers bound.rounds p
@@ -46,11 +52,30 @@ abbrev pub with_shown : ShowWords → Result Placement BadPosition → Result Ta
 with_shown show (Ok p) = Ok (Show (record { file = show.file; position = p }))
 with_shown show (Err bad) = Err (Position bad)
 
+abbrev pub with_text : Result Dice BadRoll → Result (Option Dice) BadRoll
+with_text (Ok roll) = Ok (Some roll)
+with_text (Err bad) = Err bad
+
+-- the roll that is given, if one is
+abbrev pub roll_given : Option (List ℕ) → Result (Option Dice) BadRoll
+roll_given None = Ok None
+roll_given (Some text) = with_text (read_roll text)
+
+-- a state in which advice is sought: the roll is read after the position
+abbrev pub with_roll : AdviseWords → Placement → Result (Option Dice) BadRoll → Result Task Refusal
+with_roll advise p (Ok roll) = Ok (Advise (record { file = advise.file; position = p; kind = advise.kind; roll = roll }))
+with_roll advise p (Err bad) = Err (Roll bad)
+
+abbrev pub with_advised : AdviseWords → Result Placement BadPosition → Result Task Refusal
+with_advised advise (Ok p) = with_roll advise p (roll_given advise.roll)
+with_advised advise (Err bad) = Err (Position bad)
+
 abbrev pub with_words : Result Command BadWords → Result Task Refusal
 with_words (Ok (commands.Bound bound)) = with_position bound (read_position bound.position)
 with_words (Ok (commands.Solve solve)) = Ok (Solve solve)
 with_words (Ok (commands.Show show)) = with_shown show (read_position show.position)
 with_words (Ok (commands.Migrate migrate)) = Ok (Migrate migrate)
+with_words (Ok (commands.Advise advise)) = with_advised advise (read_position advise.position)
 with_words (Err bad) = Err (Words bad)
 
 -- the words are read first, then a position, and then its number of checkers is compared
@@ -85,6 +110,12 @@ IfMigrate (Ok (Migrate task)) P = P task
 IfMigrate (Ok _) P = Unit {0}
 IfMigrate (Err refusal) P = Unit {0}
 
+-- where advice is sought
+abbrev pub IfAdvise : Result Task Refusal → (AdviseTask → Type 0) → Type 0
+IfAdvise (Ok (Advise task)) P = P task
+IfAdvise (Ok _) P = Unit {0}
+IfAdvise (Err refusal) P = Unit {0}
+
 -- a live position
 pub record IsRightBound (task : BoundTask) : Type 0 where
   pub position : IsPosition task.position
@@ -96,6 +127,13 @@ pub record IsRightShow (task : ShowTask) : Type 0 where
   pub position : IsPosition task.position
   pub live : IsLive task.position
 
+-- a file's name, a live position, and perhaps a roll
+pub record IsRightAdvise (task : AdviseTask) : Type 0 where
+  pub file : IsName task.file
+  pub position : IsPosition task.position
+  pub live : IsLive task.position
+  pub roll : IfSome task.roll IsRoll
+
 -- the pair of the position after so many rounds of a game without a cube
 abbrev pub bound_report : BoundTask → List ℕ
 bound_report task = bound_text task.position task.rounds (pair_of (rounds cubeless task.rounds) task.position 0)
@@ -105,3 +143,4 @@ IsRightTask (Bound task) = IsRightBound task
 IsRightTask (Solve task) = IsRightSolve task
 IsRightTask (Show task) = IsRightShow task
 IsRightTask (Migrate task) = IsRightMigrate task
+IsRightTask (Advise task) = IsRightAdvise task

@@ -1,6 +1,8 @@
 //! The top call: what a run of the program does with its words, and what it ends with.
 #![tactic(auto)]
 
+mod advise;
+mod advise_laws;
 mod bound;
 mod load;
 mod migrate;
@@ -13,8 +15,13 @@ mod task;
 mod tests;
 mod top;
 
+pub use advise::{AskedKind, FoundAdvice, FoundRanking, OpenedFile};
+pub use advise_laws::{
+    advice_from_a_solved_file_loses_at_most_its_printed_bounds, looked_up_advice_is_of_the_file,
+    looked_up_rankings_are_of_the_file,
+};
 pub use program::{refuse_unread, start};
 pub use put::DONE;
 pub use show::{Rows, Shown};
-pub use task::{BoundTask, ShowTask, Task, read_task};
+pub use task::{AdviseTask, BoundTask, ShowTask, Task, read_task};
 pub use top::run;

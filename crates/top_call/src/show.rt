@@ -18,14 +18,14 @@ use arrayvec::ArrayVec;
 use base_head::BadFile;
 use database_file::{PagedBase, open_paged};
 use directed_fixed::{End, Pair};
-use equity_report::{GameName, KindRow, Refusal, write_shown};
+use equity_report::{GameName, KindRow, Refusal, Wanted, write_shown};
 use hyper_outside::{Failed, Files, LookStop, Sink};
 use position_rank::Position;
 use std::alloc::Global;
 use word_pages::Flaw;
 
 /// How many pages of a file are kept at most.
-const PAGES_KEPT: usize = 64;
+pub(crate) const PAGES_KEPT: usize = 64;
 
 /// A position's pairs, one for each kind.
 pub type Rows = ArrayVec<KindRow, 14>;
@@ -101,7 +101,7 @@ fn rows_of<F: Files>(
 }
 
 /// The refusal of a look-up that stopped.
-fn look_refusal(stop: LookStop) -> Refusal
+pub(crate) fn look_refusal(stop: LookStop) -> Refusal
     ensures { result ≡ look_refusal stop }
 {
     match stop {
@@ -137,7 +137,7 @@ fn look_up<F: Files>(alloc: Global, task: &ShowTask, files: &mut F) -> Result<Sh
     let wanted = task.position.checkers();
     if wanted != game.checkers {
         return Err(Refusal::Base {
-            wanted,
+            wanted: Wanted::Checkers(wanted),
             found: game,
         });
     }

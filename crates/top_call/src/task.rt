@@ -1,13 +1,15 @@
-ghost use Rattle.std.specs.Prelude.{◌≡◌, ℕ, IfOk};
+ghost use Rattle.std.specs.Prelude.{◌≡◌, ℕ, IfOk, IfSome, option_map};
 ghost use Rattle.position_rank.specs.Text.{read_position};
-ghost use Rattle.command_line.specs.Right.{IsRightShow};
-ghost use Rattle.top_call.specs.Tasks.{IsRightTask, asked, fitting, with_position, with_shown};
+ghost use Rattle.roll_table.specs.Rolls.{IsRoll};
+ghost use Rattle.command_line.specs.Right.{IsRightAdvise, IsRightShow};
+ghost use Rattle.top_call.specs.Tasks.{IsRightTask, asked, fitting, roll_given, with_advised, with_position, with_shown};
 ghost use Rattle.top_call.specs.Runs.{IsDue};
 
-use command_line::{Bound, Command, Migrate, Show, Solve, Text, WordsStop, read_words};
-use cube_actions::StakesName;
-use equity_report::{GameName, Refusal};
+use command_line::{Advise, Bound, Command, Migrate, Show, Solve, Text, WordsStop, read_words};
+use cube_actions::{KindName, StakesName};
+use equity_report::{GameName, Refusal, Wanted};
 use position_rank::{Position, read_position};
+use roll_table::{BadRoll, Roll};
 use std::alloc::Global;
 
 /// A position whose pair is asked for, and after how many rounds.
@@ -25,6 +27,18 @@ pub struct ShowTask {
     pub position: Position,
 }
 
+/// A state in which advice is sought from a file.
+#[derive(Drop)]
+pub struct AdviseTask {
+    /// The file's name, 1 to 255 bytes.
+    pub file: Text,
+    pub position: Position,
+    /// The kind of state; where none is given, the first of the file's game.
+    pub kind: Option<KindName>,
+    /// Where none is given, the advice is on the cube.
+    pub roll: Option<Roll>,
+}
+
 /// What the program's words ask for.
 #[derive(Drop)]
 pub enum Task {
@@ -32,9 +46,10 @@ pub enum Task {
     Solve(Solve),
     Show(ShowTask),
     Migrate(Migrate),
+    Advise(AdviseTask),
 }
 
-/// Reads the words, then a position, and compares its number of checkers with that of the words.
+/// Reads the words, then a position, then a roll, and compares its number of checkers with that of the words.
 pub fn read_task(alloc: Global, words: &[String]) -> Result<Task, Refusal>
     ensures due { IsDue (asked words.now) result }
     ensures right { IfOk result IsRightTask }
@@ -44,6 +59,7 @@ pub fn read_task(alloc: Global, words: &[String]) -> Result<Task, Refusal>
         Ok(Command::Solve(solve)) => Ok(Task::Solve(solve)),
         Ok(Command::Migrate(migrate)) => Ok(Task::Migrate(migrate)),
         Ok(Command::Show(show)) => show_task(show),
+        Ok(Command::Advise(advise)) => advise_task(advise),
         Err(WordsStop::Bad(bad)) => Err(Refusal::Words(bad)),
         Err(WordsStop::NoMemory) => Err(Refusal::Memory),
     }
@@ -71,6 +87,43 @@ fn show_task(show: Show) -> Result<Task, Refusal>
     }
 }
 
+/// The roll that is given.
+fn roll_given(text: Option<&str>) -> Result<Option<Roll>, BadRoll>
+    ensures roll { result ≡ roll_given (option_map (λ t. t.now) text.entry) }
+    ensures valid { IfOk result (λ roll. IfSome roll IsRoll) }
+{
+    match text {
+        Some(text) => Ok(Some(Roll::read(text)?)),
+        None => Ok(None),
+    }
+}
+
+fn advise_task(advise: Advise) -> Result<Task, Refusal>
+    requires { IsRightAdvise advise }
+    ensures task { result ≡ with_advised advise (read_position advise.position) }
+    ensures right { IfOk result IsRightTask }
+{
+    let Advise {
+        file,
+        position,
+        kind,
+        roll,
+    } = advise;
+    let position = match read_position(position.as_str()) {
+        Ok(position) => position,
+        Err(bad) => return Err(Refusal::Position(bad)),
+    };
+    match roll_given(roll.as_ref().map(|text| text.as_str())) {
+        Ok(roll) => Ok(Task::Advise(AdviseTask {
+            file,
+            position,
+            kind,
+            roll,
+        })),
+        Err(bad) => Err(Refusal::Roll(bad)),
+    }
+}
+
 /// The position's number of checkers is wanted, and the words' is what is found.
 fn fitting(checkers: u8, rounds: u32, position: Position) -> Result<Task, Refusal>
     ensures { result ≡ fitting checkers rounds position }
@@ -80,7 +133,7 @@ fn fitting(checkers: u8, rounds: u32, position: Position) -> Result<Task, Refusa
         Ok(Task::Bound(BoundTask { position, rounds }))
     } else {
         Err(Refusal::Base {
-            wanted,
+            wanted: Wanted::Checkers(wanted),
             found: GameName {
                 checkers,
                 stakes: StakesName::Cubeless,

@@ -3,6 +3,7 @@ use hyper_outside::{HonestFiles, HonestSink, MemFiles, MemSink, OpenGate};
 use std::alloc::{AllocError, Global};
 use std::test::Fail;
 
+mod advice;
 mod files;
 mod meeting;
 mod shows;

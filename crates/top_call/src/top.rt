@@ -3,7 +3,8 @@ ghost use Rattle.hyper_outside.specs.Causes.{Rose};
 ghost use Rattle.hyper_outside.specs.Files.{KeepsOthers, SameFiles};
 ghost use Rattle.equity_report.specs.declared.refusal.Refusal.TheVariants.{Memory, Read, Write};
 ghost use Rattle.equity_report.specs.Refusals.{status_of, refusal_text};
-ghost use Rattle.top_call.specs.Tasks.{IfBound, IfMigrate, IfShow, IfSolve, asked, bound_report};
+ghost use Rattle.top_call.specs.Advises.{HasAdvised, WasNotAdvised};
+ghost use Rattle.top_call.specs.Tasks.{IfAdvise, IfBound, IfMigrate, IfShow, IfSolve, asked, bound_report};
 ghost use Rattle.top_call.specs.Loads.{WasNotLoaded};
 ghost use Rattle.top_call.specs.Migrates.{HasMigrated, HasStoppedMigrating};
 ghost use Rattle.top_call.specs.Shows.{HasShown, WasNotShown};
@@ -11,6 +12,7 @@ ghost use Rattle.top_call.specs.Runs.{Ends, IsPut, WasPut, FailedThenPut};
 ghost use Rattle.top_call.specs.Truth.{PutsEnclosingPair};
 ghost use Rattle.top_call.specs.Solves.{HasSolved, HasStopped};
 
+use crate::advise::run_advise;
 use crate::bound::run_bound;
 use crate::migrate::run_migrate;
 use crate::put::refuse;
@@ -27,12 +29,16 @@ use std::thread::Threads;
 /// turns as there were rounds, however its unfinished end is scored. After `solve` the file holds, for each state, a pair at least as tight as the asked
 /// number of rounds and, in every game of enough turns, however its unfinished end is scored, enclosing what the state is worth exactly, for every
 /// number of workers and every gate; no other file changed. Of `show` it is of the position's pairs in the file, whose header and page are right.
-/// After `migrate` the new file holds the old one's head and words, all of which were right.
+/// After `migrate` the new file holds the old one's head and words, all of which were right. Of `advise` it is of the plays of a roll, or of what to do
+/// with the cube, by the pairs of the file, whose header and pages are right as far as the advice rests on them; where the file's pairs enclose what
+/// their states are worth exactly in every game of enough turns, the best play, the offer and the answer lose, in every game of enough turns, at
+/// most the bound that is told with each.
 ///
 /// Else the line of one refusal was put, or a front of it where that failed, each only where the ones before don't come: 1 comes where the words are
-/// outside their form; 2 where a position's text is; 10 where `bound` asks for another number of checkers than its position has; 3 where a file that
-/// is to be read isn't there; 4 where it isn't a file of bounds, of `show` up to its pages; 10 where `show` is asked for a position of another number
-/// of checkers; 4 where the page of the position isn't right. 6 comes only where reading a file failed, 7 only where writing a file or the output
+/// outside their form; 2 where a position's text is, or else a roll's; 10 where `bound` asks for another number of checkers than its position has; 3 where a file that
+/// is to be read isn't there; 4 where it isn't a file of bounds, of `show` and `advise` up to its pages; 10 where these are asked for a position
+/// of another number of checkers, or `advise` for a kind that the game hasn't; 4 where the page of the position isn't right, or of `advise` that of a
+/// state on which the advice rests. 6 comes only where reading a file failed, 7 only where writing a file or the output
 /// failed, 8 where there was no memory. At 7 a front of the report may stand before the line, and the file in work holds what it held or a front of
 /// its text. At all others no file changed.
 pub fn run<R: Threads + Sync, F: Files, O: Sink, G: Gate + Sync>(
@@ -115,6 +121,26 @@ pub fn run<R: Threads + Sync, F: Files, O: Sink, G: Gate + Sync>(
         → IfMigrate (asked words.now)
         (λ task. KeepsOthers task.new (F.held files.old) (F.held files.new)) }
 
+    // Advice from a file.
+    ensures advised { result ≡ 0
+        → IfAdvise (asked words.now)
+        (λ task. HasAdvised task (F.tells files.old) (F.held files.old task.file)
+        (λ text. IsPut (O.output out.old) (O.output out.new) text)) }
+    ensures advice_not_put { result ≡ status_of Write
+        → IfAdvise (asked words.now)
+        (λ task. HasAdvised task (F.tells files.old) (F.held files.old task.file)
+        (λ text. FailedThenPut (O.output out.old) (O.output out.new) text (refusal_text Write))) }
+    ensures not_advised { result ≢ 0 → result ≢ status_of Write
+        → IfAdvise (asked words.now)
+        (λ task. WasNotAdvised task (F.tells files.old) (F.held files.old task.file)
+        (O.output out.old) (O.output out.new) result) }
+    ensures advise_cause { IfAdvise (asked words.now)
+        (λ task. result ≡ status_of Write
+        → Rose (O.output out.old).faults (O.output out.new).faults) }
+    ensures advise_files { IsTrue (F.tells files.old)
+        → IfAdvise (asked words.now)
+        (λ task. SameFiles (F.held files.old) (F.held files.new)) }
+
     // What is told of faults, and which files stay.
     ensures cause { result ≡ status_of Write
         → Rose (F.write_faults files.old) (F.write_faults files.new)
@@ -136,6 +162,7 @@ pub fn run<R: Threads + Sync, F: Files, O: Sink, G: Gate + Sync>(
         Ok(Task::Solve(task)) => run_solve(rt, alloc, &task, files, out, gate),
         Ok(Task::Show(task)) => run_show(alloc, &task, files, out),
         Ok(Task::Migrate(task)) => run_migrate(alloc, &task, files, out),
+        Ok(Task::Advise(task)) => run_advise(alloc, &task, files, out),
         Err(refusal) => refuse(out, &refusal),
     }
 }

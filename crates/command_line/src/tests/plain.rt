@@ -12,7 +12,7 @@ struct Given<'a> {
     options: [Option<&'a str>; 4],
 }
 
-const WORDS: [&str; 32] = [
+const WORDS: [&str; 38] = [
     "1",
     "2",
     "3",
@@ -36,6 +36,12 @@ const WORDS: [&str; 32] = [
     "--stakes=money-beavers",
     "--rounds=16",
     "--workers=65",
+    "--kind",
+    "--kind=mine",
+    "--kind=near:1:far",
+    "--roll",
+    "--roll=21",
+    "near:2:far",
     "--stakes=a=b",
     "--=3",
     "--help",
@@ -54,12 +60,14 @@ fn is_faulty(word: &str) -> bool {
         || word.starts_with("--") && word.ends_with("=")
 }
 
-fn place_of(name: &str) -> Option<usize> {
-    match name {
-        "checkers" => Some(0),
-        "stakes" => Some(1),
-        "rounds" => Some(2),
-        "workers" => Some(3),
+fn place_of(command: CommandName, name: &str) -> Option<usize> {
+    match (command, name) {
+        (CommandName::Solve, "checkers") => Some(0),
+        (CommandName::Solve, "stakes") => Some(1),
+        (CommandName::Solve, "rounds") => Some(2),
+        (CommandName::Solve, "workers") => Some(3),
+        (CommandName::Advise, "kind") => Some(0),
+        (CommandName::Advise, "roll") => Some(1),
         _ => None,
     }
 }
@@ -74,8 +82,8 @@ fn store<'a>(options: &mut [Option<&'a str>], at: usize, value: &'a str) -> bool
     before.is_none()
 }
 
-/// The words one by one; `None` where they haven't the form of a command with options or without.
-fn words_given<'a>(words: &[&'a str], with_options: bool) -> Option<Given<'a>> {
+/// The words one by one; `None` where they haven't the form of the command.
+fn words_given<'a>(words: &[&'a str], command: CommandName) -> Option<Given<'a>> {
     let mut arguments: [Option<&'a str>; 4] = [None; 4];
     let mut options: [Option<&'a str>; 4] = [None; 4];
     let mut count: usize = 0;
@@ -83,16 +91,16 @@ fn words_given<'a>(words: &[&'a str], with_options: bool) -> Option<Given<'a>> {
     for word in words {
         let word = *word;
         if let Some(option) = word.strip_prefix("--") {
-            if waiting.is_some() || !with_options {
+            if waiting.is_some() {
                 return None;
             }
             match option.split_once("=") {
                 Some((name, value)) => {
-                    if !store(&mut options, place_of(name)?, value) {
+                    if !store(&mut options, place_of(command, name)?, value) {
                         return None;
                     }
                 }
-                None => waiting = Some(place_of(option)?),
+                None => waiting = Some(place_of(command, option)?),
             }
         } else if let Some(at) = waiting {
             if !store(&mut options, at, word) {
@@ -129,6 +137,13 @@ fn is_number(word: Option<&str>, most: u32) -> bool {
     }
 }
 
+fn is_kind(word: Option<&str>) -> bool {
+    match word {
+        Some(word) => word == "mine" || word == "near:2:far",
+        None => true,
+    }
+}
+
 fn is_stakes(word: Option<&str>) -> bool {
     match word {
         Some(word) => word == "jacoby" || word == "money-beavers",
@@ -140,6 +155,7 @@ fn is_stakes(word: Option<&str>) -> bool {
 fn bad_value(name: CommandName, all: &Given<'_>) -> u32 {
     let [first, second, _, _] = all.arguments;
     let [checkers, stakes, rounds, workers] = all.options;
+    let kind = checkers;
     match name {
         CommandName::Bound if !is_number(first, 3) => 1,
         CommandName::Bound if !is_number(second, 4096) => 2,
@@ -148,6 +164,7 @@ fn bad_value(name: CommandName, all: &Given<'_>) -> u32 {
         CommandName::Solve if !is_number(rounds, 4096) => 4,
         CommandName::Solve if !is_number(workers, 64) => 5,
         CommandName::Migrate if first == second => 2,
+        CommandName::Advise if !is_kind(kind) => 3,
         _ => 0,
     }
 }
@@ -163,9 +180,9 @@ fn plain(name: CommandName, words: &[&str]) -> Option<(WordsKind, u32)> {
     let wanted = match name {
         CommandName::Bound => 3,
         CommandName::Solve => 1,
-        CommandName::Show | CommandName::Migrate => 2,
+        CommandName::Show | CommandName::Migrate | CommandName::Advise => 2,
     };
-    match words_given(words, name == CommandName::Solve) {
+    match words_given(words, name) {
         Some(all) if all.count == wanted => match bad_value(name, &all) {
             0 => None,
             number => Some((WordsKind::Value, number)),
@@ -186,16 +203,17 @@ fn random_lines_are_read_as_by_hand(rt: HostRuntime) -> Result<(), Fail> {
         ("solve", CommandName::Solve),
         ("show", CommandName::Show),
         ("migrate", CommandName::Migrate),
+        ("advise", CommandName::Advise),
     ];
     let mut seed: u32 = 12;
-    for line in 0..500usize {
+    for line in 0..800usize {
         seed = next(seed);
-        let (text, name) = names[line % 4];
+        let (text, name) = names[line % 5];
         let count = 1 + (seed >> 16) as usize % 5;
         let mut words = [text; 6];
         for i in 0..count {
             seed = next(seed);
-            words[i + 1] = WORDS[(seed >> 16) as usize % 32];
+            words[i + 1] = WORDS[(seed >> 16) as usize % 38];
         }
         let expected = plain(name, &words[1..count + 1]);
         let found = refusal(rt.alloc(), &words[..count + 1])?;

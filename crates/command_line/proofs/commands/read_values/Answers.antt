@@ -11,3 +11,6 @@ returns-in-Show c = λ given has. rw c.in-Show.is (c.read_show.ensures given has
 
 pub returns-in-Migrate : goal.returns-in-Migrate
 returns-in-Migrate c = λ given has. rw c.in-Migrate.is (c.read_migrate.ensures given has)
+
+pub returns-in-Advise : goal.returns-in-Advise
+returns-in-Advise c = λ given has. rw c.in-Advise.is (c.read_advise.ensures given has)

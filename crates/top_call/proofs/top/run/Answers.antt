@@ -31,3 +31,9 @@ returns-in-Ok-Migrate-clause-memory g c = λ e.
     let put = λ (text : List ℕ). WasPut (g.O.Sink.output c.args.out.now) (g.O.Sink.output c.run_migrate.new.out) text in
     let not_loaded = c.run_migrate.ensures.refused (λ done. absurd (omega (arith, done, e))) (λ write. absurd (omega (arith, write, e))) in
     memory-text put not_loaded.refusal (sym not_loaded.is_status ∙ e) not_loaded.line
+
+pub returns-in-Ok-Advise-clause-memory : goal.returns-in-Ok-Advise-clause-memory
+returns-in-Ok-Advise-clause-memory g c = λ e.
+    let put = λ (text : List ℕ). WasPut (g.O.Sink.output c.args.out.now) (g.O.Sink.output c.run_advise.new.out) text in
+    let not_advised = c.run_advise.ensures.refused (λ done. absurd (omega (arith, done, e))) (λ write. absurd (omega (arith, write, e))) in
+    memory-text put not_advised.refusal (sym not_advised.is_status ∙ e) not_advised.line

@@ -1,0 +1,127 @@
+-- What is advised from a file that was solved.
+use Rattle.std.proofs.Common.{◌≡◌, ◌≢◌, ◌∙◌, ℕ, List, [], Option, Some, None, true, refl, sym, ap, subst, arith}
+use Rattle.roll_table.specs.Rolls.{Dice}
+use Rattle.position_rank.specs.Placement.{Placement}
+use Rattle.directed_fixed.specs.declared.bounds.End.{End}
+use Rattle.cube_actions.specs.Scores.{MatchScore}
+use Rattle.cube_actions.specs.Starts.{AreStarts}
+use Rattle.cube_actions.specs.declared.name.StakesName.{StakesName}
+use Rattle.cube_actions.specs.declared.name.StakesName.TheVariants.{Cubeless, Money, Jacoby, MoneyBeavers, JacobyBeavers, Match}
+use Rattle.hyper_outside.specs.Sink.{Output}
+use Rattle.turn_rule.specs.Games.{kinds_of}
+use Rattle.turn_rule.specs.Turn.{Words}
+use Rattle.turn_rule.specs.Truth.{AreSound}
+use Rattle.turn_rule.specs.declared.game.Game.{Game}
+use Rattle.interval_words.specs.Numbers.{words_of}
+use Rattle.interval_words.specs.WordLists.{WordList, words_in_list}
+use Rattle.play_analyser.specs.Advised.{ActionLosesAtMost, FirstLosesAtMost}
+use Rattle.word_pages.specs.declared.version.Version.{Version}
+use Rattle.word_pages.specs.declared.version.Version.TheVariants.{Two}
+use Rattle.base_head.specs.Fronts.{head_in}
+use Rattle.base_head.specs.Heads.{AreStartsOf, FileHead, IsHead, no_starts}
+use Rattle.database_file.specs.Bases.{IsBaseOf, base_with, words_of_file}
+use Rattle.database_file.specs.Faults.{header_of_file, whole}
+use Rattle.database_file.specs.FileBases.{FileBase}
+use Rattle.database_file.specs.Texts.{IsText, game_in}
+use Rattle.command_line.specs.declared.command.Solve.{Solve as SolveTask}
+use Rattle.command_line.specs.Right.{IsRightSolve}
+use Rattle.top_call.specs.declared.advise.AskedKind.{AskedKind}
+use Rattle.top_call.specs.declared.task.AdviseTask.{AdviseTask}
+use Rattle.top_call.specs.Runs.{IsPut}
+use Rattle.top_call.specs.Solves.{AreSolved, HasSolved, head_of, solved_file}
+use Rattle.top_call.specs.Advises.{Advises, HasAdvised, HasAdvisedOn, HavePairsOf, InTheEnd, IsKindAsked, IsStateIn, OfHeld, Ranks}
+use Rattle.top_call.specs.Headline.{PrintsGoodAdvice, PrintsGoodFor}
+
+no-starts-of : (name : StakesName) → ((score : MatchScore) → name ≢ Match score) → AreStartsOf name no_starts
+no-starts-of Cubeless apart = refl
+no-starts-of Money apart = refl
+no-starts-of Jacoby apart = refl
+no-starts-of MoneyBeavers apart = refl
+no-starts-of JacobyBeavers apart = refl
+no-starts-of (Match score) apart = absurd (apart score refl)
+
+none-before : AreStarts no_starts
+none-before = record { from = omega arith; to = omega arith; room = omega arith; within = λ k d lt. absurd (omega (arith, lt)) }
+
+solved-head : (solve : SolveTask) → IsRightSolve solve → IsHead (head_of solve)
+solved-head solve right = record {
+  some = right.some;
+  few = right.few;
+  begun = right.begun;
+  ended = right.ended;
+  valid = none-before;
+  starts = no-starts-of solve.stakes right.no_match;
+}
+
+version-one : Two ≡ Rattle.word_pages.specs.declared.version.Version.TheVariants.One → ⊥
+version-one is = absurd (omega (arith, ap (λ (v : Version). code v) is))
+  where
+    code : Version → ℕ
+    code Rattle.word_pages.specs.declared.version.Version.TheVariants.One = 1
+    code Two = 2
+
+solved-text : (solve : SolveTask) (words : WordList) → IsRightSolve solve → AreSolved solve words → IsText Two (head_of solve) words (solved_file solve words)
+solved-text solve words right solved = record {
+  valid = solved-head solve right;
+  takes = λ one. absurd (version-one one);
+  fitting = solved.fitting;
+  right = solved.right;
+  text = refl;
+}
+
+-- the words that were solved have the pairs of their file, and are sound
+module _ (solve : SolveTask) (words : WordList) (bytes : List ℕ) (solved : AreSolved solve words) (base : IsBaseOf (whole bytes) (record { head = head_of solve; words = words })) (advise : AdviseTask) (head : FileHead) (kind : AskedKind) (state : IsStateIn advise bytes head kind) where
+  head-same : head ≡ head_of solve
+  head-same = state.asked.head_is ∙ sym (ap (λ (b : FileBase). b.head) base.holds)
+
+  game-same : words.game ≡ game_in head
+  game-same = solved.fitting.game ∙ ap game_in (sym head-same)
+
+  have-pairs : HavePairsOf bytes (words_in_list words)
+  have-pairs end p k there page =
+      let list : words.list ≡ words_of_file bytes = ap (λ (b : FileBase). b.words.list) base.holds in
+      let kinds : kinds_of words.game ≡ (header_of_file bytes).kinds = ap kinds_of game-same ∙ sym state.kinds in
+      rw (kinds, list) refl
+
+  sound : AreSound (game_in head) (words_in_list words)
+  sound = subst (λ (g : Game). AreSound g (words_in_list words)) game-same solved.sound
+
+module _ (solve : SolveTask) (words : WordList) (solved : AreSolved solve words) (base : IsBaseOf (whole (solved_file solve words)) (record { head = head_of solve; words = words })) (advise : AdviseTask) (IsPrinted : List ℕ → Type 0) where
+  abbrev bytes : List ℕ
+  bytes = solved_file solve words
+
+  good-for : (roll : Option Dice) → HasAdvisedOn roll advise true (Some bytes) IsPrinted → PrintsGoodFor roll solve advise IsPrinted
+  good-for (Some roll) has =
+      let ranks = has.file refl in
+      let same = head-same solve words bytes solved base advise has.head has.kind ranks.state in
+      let u = words_in_list words in
+      record {
+        kind = has.kind;
+        ranking = has.ranking;
+        asked = subst (λ (h : FileHead). IsKindAsked h advise.kind has.kind) same ranks.state.asked.kind_is;
+        printed = has.report;
+        loses = subst (λ (h : FileHead). InTheEnd (game_in h) (λ scoring turns. FirstLosesAtMost (game_in h) scoring turns advise.position has.kind.number roll has.ranking.rows.items has.ranking.loss_bound)) same
+            (ranks.losses u (have-pairs solve words bytes solved base advise has.head has.kind ranks.state) (sound solve words bytes solved base advise has.head has.kind ranks.state));
+      }
+  good-for None has =
+      let advises = has.file refl in
+      let same = head-same solve words bytes solved base advise has.head has.kind advises.state in
+      let u = words_in_list words in
+      record {
+        kind = has.kind;
+        advice = has.advice;
+        asked = subst (λ (h : FileHead). IsKindAsked h advise.kind has.kind) same advises.state.asked.kind_is;
+        printed = has.report;
+        loses = subst (λ (h : FileHead). InTheEnd (game_in h) (λ scoring turns. ActionLosesAtMost (game_in h) scoring turns advise.position has.kind.number has.advice.action)) same
+            (advises.losses u (have-pairs solve words bytes solved base advise has.head has.kind advises.state) (sound solve words bytes solved base advise has.head has.kind advises.state));
+      }
+
+pub good-advice : ((version : Version) (head : FileHead) (words : WordList) (bytes : List ℕ) → IsText version head words bytes → IsBaseOf (whole bytes) (record { head = head; words = words }))
+    → (solve : SolveTask) (advise : AdviseTask) (file : Option (List ℕ)) (before after old new : Output) → IsRightSolve solve → HasSolved solve true file before after
+    → HasAdvised advise true file (λ text. IsPut old new text) → PrintsGoodAdvice solve advise (λ text. IsPut old new text)
+good-advice law solve advise file before after old new right solved advised =
+    let words = solved.words in
+    let bytes = solved_file solve words in
+    let base = law Two (head_of solve) words bytes (solved-text solve words right solved.solved) in
+    good-for solve words solved.solved base advise (λ text. IsPut old new text) advise.roll
+    (subst (λ (held : Option (List ℕ)). HasAdvised advise true held (λ text. IsPut old new text)) (solved.file refl) advised)

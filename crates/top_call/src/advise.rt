@@ -1,0 +1,342 @@
+ghost use Rattle.std.specs.Prelude.{◌≡◌, ◌≢◌, ◌≤◌, ◌<◌, IsTrue, IfErr, IfOk, None, Err, Some};
+ghost use Rattle.position_rank.specs.Placement.{IsPosition, IsLive};
+ghost use Rattle.roll_table.specs.Rolls.{IsRoll};
+ghost use Rattle.hyper_outside.specs.Causes.{Rose};
+ghost use Rattle.hyper_outside.specs.Files.{SameFiles};
+ghost use Rattle.hyper_outside.specs.declared.outside.LookStop.TheVariants.{ReadFault};
+ghost use Rattle.turn_rule.specs.Games.{IsGame, kinds_of};
+ghost use Rattle.turn_rule.specs.States.{IsStateOf};
+ghost use Rattle.base_head.specs.Heads.{stakes_of};
+ghost use Rattle.database_file.specs.Paged.{KeepsPagesOf};
+ghost use Rattle.database_file.specs.Texts.{game_in};
+ghost use Rattle.equity_report.specs.declared.refusal.Refusal.TheVariants.{Read, Write};
+ghost use Rattle.equity_report.specs.Refusals.{status_of, refusal_text};
+ghost use Rattle.top_call.specs.Tasks.{IsRightAdvise};
+ghost use Rattle.top_call.specs.Runs.{EndsShowing, FailedThenPut, IsOfShowing, IsPut};
+ghost use Rattle.top_call.specs.Advises.{AnswersAdvice, AnswersAsked, AnswersCube, AnswersOpened, AnswersRanked, AnswersRanking, CanBePlayed, HasAdvised, HasAdvisedCube, HasRanked, WasNotAdvised};
+
+use crate::advise_laws::{looked_up_advice_is_of_the_file, looked_up_rankings_are_of_the_file};
+use crate::load::{game_told, refusal_of};
+use crate::put::{DONE, refuse};
+use crate::show::{PAGES_KEPT, look_refusal};
+use crate::task::AdviseTask;
+use base_head::Head;
+use cube_actions::KindName;
+use database_file::{PagedBase, open_paged};
+use equity_report::{Refusal, Wanted, write_cube, write_ranking};
+use hyper_outside::{Failed, Files, LookStop, Sink};
+use play_analyser::{CubeAdvice, Ranking, cube_advice, rank_plays};
+use position_rank::Position;
+use roll_table::Roll;
+use std::alloc::Global;
+
+/// A kind of state of a game.
+#[derive(Clone, Copy, Debug, PartialEq, Eq)]
+pub struct AskedKind {
+    pub number: usize,
+    pub name: KindName,
+}
+
+/// A file that was opened for a state of its game.
+#[derive(Drop)]
+pub struct OpenedFile {
+    pub base: PagedBase,
+    pub kind: AskedKind,
+}
+
+/// What a file says of the plays of a roll.
+#[derive(Drop)]
+pub struct FoundRanking {
+    pub kind: AskedKind,
+    pub ranking: Ranking,
+}
+
+/// What a file says of the cube.
+#[derive(Clone, Copy, Debug, PartialEq, Eq)]
+pub struct FoundAdvice {
+    pub kind: AskedKind,
+    pub advice: CubeAdvice,
+}
+
+/// The kind of state that is asked for, or a refusal where the head's game has other checkers than the position, or no such kind.
+fn asked_kind(head: &Head, task: &AdviseTask) -> Result<AskedKind, Refusal>
+    requires { IsRightAdvise task.now }
+    ensures asked { AnswersAsked task.now head.now result }
+    ensures game { IfOk result (λ kind. IsGame (game_in head.now)) }
+    ensures number { IfOk result (λ kind. kind.number < kinds_of (game_in head.now)) }
+    ensures kinds { IfErr result IsOfShowing }
+{
+    let game = game_told(head);
+    let wanted = task.position.checkers();
+    if wanted != game.checkers {
+        return Err(Refusal::Base {
+            wanted: Wanted::Checkers(wanted),
+            found: game,
+        });
+    }
+    let stakes = head.stakes();
+    let Some(name) = task.kind else {
+        // What `kinds` ensures says that there is a first one.
+        let _kinds = stakes.kinds();
+        return Ok(AskedKind {
+            number: 0,
+            name: stakes.kind_name(0),
+        });
+    };
+    match stakes.number_of(name) {
+        Some(number) => Ok(AskedKind { number, name }),
+        None => Err(Refusal::Base {
+            wanted: Wanted::Kind(name),
+            found: game,
+        }),
+    }
+}
+
+/// Opens the file of a task, and finds the kind of state that is asked for.
+fn open_asked<F: Files>(
+    alloc: Global,
+    task: &AdviseTask,
+    files: &mut F,
+) -> Result<OpenedFile, Refusal>
+    requires { IsRightAdvise task.now }
+    ensures told { AnswersOpened task.now (F.tells files.old)
+        (F.held files.old task.now.file) result }
+    ensures state { IfOk result (λ opened. IsStateOf opened.base.header.checkers
+        opened.base.header.kinds task.now.position opened.kind.number) }
+    ensures name { IfOk result (λ opened. opened.base.name ≡ task.now.file) }
+    ensures of_file { IfOk result (λ opened.
+        KeepsPagesOf opened.base (F.tells files.new) (F.held files.new)) }
+    ensures same { IsTrue (F.tells files.old)
+        → SameFiles (F.held files.old) (F.held files.new) }
+    ensures tells { F.tells files.new ≡ F.tells files.old }
+    ensures later { F.read_faults files.old ≤ F.read_faults files.new }
+    ensures cause { result ≡ Err Read
+        → Rose (F.read_faults files.old) (F.read_faults files.new) }
+    ensures kinds { IfErr result IsOfShowing }
+{
+    let name = task.file.as_str();
+    let base = match open_paged(alloc, files, name, PAGES_KEPT) {
+        Ok(base) => base,
+        Err(stop) => return Err(refusal_of(stop, name)),
+    };
+    match asked_kind(base.head(), task) {
+        Ok(kind) => Ok(OpenedFile { base, kind }),
+        Err(refusal) => Err(refusal),
+    }
+}
+
+/// The plays of a roll, from the best to the worst.
+fn ranking_of<F: Files>(
+    base: &mut PagedBase,
+    files: &mut F,
+    position: &Position,
+    kind: usize,
+    roll: Roll,
+) -> Result<Ranking, LookStop>
+    requires state { IsStateOf base.old.header.checkers base.old.header.kinds
+        position.now kind }
+    requires of_file { KeepsPagesOf base.old (F.tells files.old) (F.held files.old) }
+    ensures told { IsTrue (F.tells files.old)
+        → AnswersRanking base.old.header (F.held files.old (base.old.name))
+        (stakes_of base.old.head) position.now kind roll result }
+    ensures plays { IfOk result (λ ranking. CanBePlayed position.now ranking.rows.items) }
+    ensures same { IsTrue (F.tells files.old)
+        → SameFiles (F.held files.old) (F.held files.new) }
+    ensures later { F.read_faults files.old ≤ F.read_faults files.new }
+    ensures cause { result ≡ Err ReadFault
+        → Rose (F.read_faults files.old) (F.read_faults files.new) }
+{
+    let stakes = base.head().stakes();
+    // What `high` ensures says that the roll shows two dice.
+    let _high = roll.high();
+    let mut reader = base.reader(files);
+    rank_plays(&stakes, position, kind, roll, &mut reader)
+}
+
+/// What to do with the cube.
+fn advice_of<F: Files>(
+    base: &mut PagedBase,
+    files: &mut F,
+    position: &Position,
+    kind: usize,
+) -> Result<CubeAdvice, LookStop>
+    requires state { IsStateOf base.old.header.checkers base.old.header.kinds
+        position.now kind }
+    requires of_file { KeepsPagesOf base.old (F.tells files.old) (F.held files.old) }
+    ensures told { IsTrue (F.tells files.old)
+        → AnswersAdvice base.old.header (F.held files.old (base.old.name))
+        (stakes_of base.old.head) position.now kind result }
+    ensures same { IsTrue (F.tells files.old)
+        → SameFiles (F.held files.old) (F.held files.new) }
+    ensures later { F.read_faults files.old ≤ F.read_faults files.new }
+    ensures cause { result ≡ Err ReadFault
+        → Rose (F.read_faults files.old) (F.read_faults files.new) }
+{
+    let stakes = base.head().stakes();
+    let mut reader = base.reader(files);
+    cube_advice(&stakes, position, kind, &mut reader)
+}
+
+/// What a file says of the plays of a roll, or what refuses it.
+fn find_ranking<F: Files>(
+    alloc: Global,
+    task: &AdviseTask,
+    roll: Roll,
+    files: &mut F,
+) -> Result<FoundRanking, Refusal>
+    requires right { IsRightAdvise task.now }
+    requires roll { task.now.roll ≡ Some roll }
+    ensures told { AnswersRanked task.now roll (F.tells files.old)
+        (F.held files.old task.now.file) result }
+    ensures plays { IfOk result (λ found.
+        CanBePlayed task.now.position found.ranking.rows.items) }
+    ensures same { IsTrue (F.tells files.old)
+        → SameFiles (F.held files.old) (F.held files.new) }
+    ensures later { F.read_faults files.old ≤ F.read_faults files.new }
+    ensures cause { result ≡ Err Read
+        → Rose (F.read_faults files.old) (F.read_faults files.new) }
+    ensures kinds { IfErr result IsOfShowing }
+{
+    looked_up_rankings_are_of_the_file();
+    let OpenedFile { mut base, kind } = match open_asked(alloc, task, files) {
+        Ok(opened) => opened,
+        Err(refusal) => return Err(refusal),
+    };
+    match ranking_of(&mut base, files, &task.position, kind.number, roll) {
+        Ok(ranking) => Ok(FoundRanking { kind, ranking }),
+        Err(stop) => Err(look_refusal(stop)),
+    }
+}
+
+/// What a file says of the cube, or what refuses it.
+fn find_advice<F: Files>(
+    alloc: Global,
+    task: &AdviseTask,
+    files: &mut F,
+) -> Result<FoundAdvice, Refusal>
+    requires right { IsRightAdvise task.now }
+    requires roll { task.now.roll ≡ None }
+    ensures told { AnswersCube task.now (F.tells files.old)
+        (F.held files.old task.now.file) result }
+    ensures same { IsTrue (F.tells files.old)
+        → SameFiles (F.held files.old) (F.held files.new) }
+    ensures later { F.read_faults files.old ≤ F.read_faults files.new }
+    ensures cause { result ≡ Err Read
+        → Rose (F.read_faults files.old) (F.read_faults files.new) }
+    ensures kinds { IfErr result IsOfShowing }
+{
+    looked_up_advice_is_of_the_file();
+    let OpenedFile { mut base, kind } = match open_asked(alloc, task, files) {
+        Ok(opened) => opened,
+        Err(refusal) => return Err(refusal),
+    };
+    match advice_of(&mut base, files, &task.position, kind.number) {
+        Ok(advice) => Ok(FoundAdvice { kind, advice }),
+        Err(stop) => Err(look_refusal(stop)),
+    }
+}
+
+/// Puts the plays of a roll, or a refusal.
+fn run_ranking<F: Files, O: Sink>(
+    alloc: Global,
+    task: &AdviseTask,
+    roll: Roll,
+    files: &mut F,
+    out: &mut O,
+) -> u8
+    requires right { IsRightAdvise task.now }
+    requires roll { task.now.roll ≡ Some roll }
+    ensures ends { EndsShowing result }
+    ensures ranked { result ≡ 0 → HasRanked task.now roll (F.tells files.old)
+        (F.held files.old task.now.file)
+        (λ text. IsPut (O.output out.old) (O.output out.new) text) }
+    ensures stopped { result ≡ status_of Write → HasRanked task.now roll (F.tells files.old)
+        (F.held files.old task.now.file)
+        (λ text. FailedThenPut (O.output out.old) (O.output out.new) text (refusal_text Write)) }
+    ensures refused { result ≢ 0 → result ≢ status_of Write
+        → WasNotAdvised task.now (F.tells files.old) (F.held files.old task.now.file)
+        (O.output out.old) (O.output out.new) result }
+    ensures read_cause { result ≡ status_of Read
+        → Rose (F.read_faults files.old) (F.read_faults files.new) }
+    ensures write_cause { result ≡ status_of Write
+        → Rose (O.output out.old).faults (O.output out.new).faults }
+    ensures same { IsTrue (F.tells files.old)
+        → SameFiles (F.held files.old) (F.held files.new) }
+{
+    let found = match find_ranking(alloc, task, roll, files) {
+        Ok(found) => found,
+        Err(refusal) => return refuse(out, &refusal),
+    };
+    match write_ranking(out, &task.position, roll, found.kind.name, &found.ranking) {
+        Ok(()) => DONE,
+        Err(Failed) => refuse(out, &Refusal::Write),
+    }
+}
+
+/// Puts what to do with the cube, or a refusal.
+fn run_cube<F: Files, O: Sink>(
+    alloc: Global,
+    task: &AdviseTask,
+    files: &mut F,
+    out: &mut O,
+) -> u8
+    requires right { IsRightAdvise task.now }
+    requires roll { task.now.roll ≡ None }
+    ensures ends { EndsShowing result }
+    ensures advised { result ≡ 0 → HasAdvisedCube task.now (F.tells files.old)
+        (F.held files.old task.now.file)
+        (λ text. IsPut (O.output out.old) (O.output out.new) text) }
+    ensures stopped { result ≡ status_of Write → HasAdvisedCube task.now (F.tells files.old)
+        (F.held files.old task.now.file)
+        (λ text. FailedThenPut (O.output out.old) (O.output out.new) text (refusal_text Write)) }
+    ensures refused { result ≢ 0 → result ≢ status_of Write
+        → WasNotAdvised task.now (F.tells files.old) (F.held files.old task.now.file)
+        (O.output out.old) (O.output out.new) result }
+    ensures read_cause { result ≡ status_of Read
+        → Rose (F.read_faults files.old) (F.read_faults files.new) }
+    ensures write_cause { result ≡ status_of Write
+        → Rose (O.output out.old).faults (O.output out.new).faults }
+    ensures same { IsTrue (F.tells files.old)
+        → SameFiles (F.held files.old) (F.held files.new) }
+{
+    let found = match find_advice(alloc, task, files) {
+        Ok(found) => found,
+        Err(refusal) => return refuse(out, &refusal),
+    };
+    match write_cube(out, &task.position, found.kind.name, &found.advice) {
+        Ok(()) => DONE,
+        Err(Failed) => refuse(out, &Refusal::Write),
+    }
+}
+
+/// Puts the plays of the roll that is given, or what to do with the cube where none is; or a refusal where the advice can't be had or putting
+/// fails.
+pub(crate) fn run_advise<F: Files, O: Sink>(
+    alloc: Global,
+    task: &AdviseTask,
+    files: &mut F,
+    out: &mut O,
+) -> u8
+    requires { IsRightAdvise task.now }
+    ensures ends { EndsShowing result }
+    ensures advised { result ≡ 0 → HasAdvised task.now (F.tells files.old)
+        (F.held files.old task.now.file)
+        (λ text. IsPut (O.output out.old) (O.output out.new) text) }
+    ensures stopped { result ≡ status_of Write → HasAdvised task.now (F.tells files.old)
+        (F.held files.old task.now.file)
+        (λ text. FailedThenPut (O.output out.old) (O.output out.new) text (refusal_text Write)) }
+    ensures refused { result ≢ 0 → result ≢ status_of Write
+        → WasNotAdvised task.now (F.tells files.old) (F.held files.old task.now.file)
+        (O.output out.old) (O.output out.new) result }
+    ensures read_cause { result ≡ status_of Read
+        → Rose (F.read_faults files.old) (F.read_faults files.new) }
+    ensures write_cause { result ≡ status_of Write
+        → Rose (O.output out.old).faults (O.output out.new).faults }
+    ensures same { IsTrue (F.tells files.old)
+        → SameFiles (F.held files.old) (F.held files.new) }
+{
+    match task.roll {
+        Some(roll) => run_ranking(alloc, task, roll, files, out),
+        None => run_cube(alloc, task, files, out),
+    }
+}
