@@ -7,8 +7,9 @@ use Rattle.command_line.specs.declared.command.Bound.{Bound as BoundWords}
 use Rattle.command_line.specs.declared.command.Solve.{Solve as SolveWords}
 use Rattle.command_line.specs.declared.command.Show.{Show as ShowWords}
 use Rattle.command_line.specs.declared.command.Migrate.{Migrate as MigrateWords}
+use Rattle.command_line.specs.declared.command.Verify.{Verify as VerifyWords}
 use Rattle.command_line.specs.declared.command.Command.{Command}
-use Rattle.command_line.specs.declared.command.Command.TheVariants.{Bound, Solve, Show, Migrate}
+use Rattle.command_line.specs.declared.command.Command.TheVariants.{Bound, Solve, Show, Migrate, Verify}
 use Rattle.command_line.specs.declared.values.TheConstants.{MOST_CHECKERS, MOST_ROUNDS, MOST_WORKERS}
 
 -- a file's name has 1 to 255 bytes
@@ -40,9 +41,15 @@ pub record IsRightMigrate (migrate : MigrateWords) : Type 0 where
   pub new : IsName migrate.new
   pub apart : migrate.old ≢ migrate.new
 
+pub record IsRightVerify (verify : VerifyWords) : Type 0 where
+  pub file : IsName verify.file
+  pub one : 1 ≤ verify.workers
+  pub most : verify.workers ≤ MOST_WORKERS
+
 -- numbers within their limits, names of files within theirs, and stakes that aren't a match
 abbrev pub IsRightCommand : Command → Type 0
 IsRightCommand (Bound bound) = IsRightBound bound
 IsRightCommand (Solve solve) = IsRightSolve solve
 IsRightCommand (Show show) = IsRightShow show
 IsRightCommand (Migrate migrate) = IsRightMigrate migrate
+IsRightCommand (Verify verify) = IsRightVerify verify

@@ -49,6 +49,15 @@ pub struct Migrate {
     pub new: Text,
 }
 
+/// A file whose words are checked by some workers.
+#[derive(Drop)]
+pub struct Verify {
+    /// The file's name, 1 to 255 bytes.
+    pub file: Text,
+    /// 1 to 64.
+    pub workers: u32,
+}
+
 /// What a user asks for.
 #[derive(Drop)]
 pub enum Command {
@@ -56,6 +65,7 @@ pub enum Command {
     Solve(Solve),
     Show(Show),
     Migrate(Migrate),
+    Verify(Verify),
 }
 
 /// The commands.
@@ -65,6 +75,7 @@ pub enum CommandName {
     Solve,
     Show,
     Migrate,
+    Verify,
 }
 
 static BOUND: [&str; 3] = ["CHECKERS", "ROUNDS", "POSITION"];
@@ -76,6 +87,10 @@ static SOLVE_OPTIONS: [&str; 4] = ["checkers", "stakes", "rounds", "workers"];
 static SHOW: [&str; 2] = ["FILE", "POSITION"];
 
 static MIGRATE: [&str; 2] = ["OLD", "NEW"];
+
+static VERIFY: [&str; 1] = ["FILE"];
+
+static VERIFY_OPTIONS: [&str; 1] = ["workers"];
 
 static NO_OPTIONS: [&str; 0] = [];
 
@@ -89,6 +104,7 @@ impl CommandName {
             "solve" => Some(CommandName::Solve),
             "show" => Some(CommandName::Show),
             "migrate" => Some(CommandName::Migrate),
+            "verify" => Some(CommandName::Verify),
             _ => None,
         }
     }
@@ -102,6 +118,7 @@ impl CommandName {
             CommandName::Solve => SOLVE.as_slice(),
             CommandName::Show => SHOW.as_slice(),
             CommandName::Migrate => MIGRATE.as_slice(),
+            CommandName::Verify => VERIFY.as_slice(),
         }
     }
 
@@ -111,6 +128,7 @@ impl CommandName {
     {
         match self {
             CommandName::Solve => SOLVE_OPTIONS.as_slice(),
+            CommandName::Verify => VERIFY_OPTIONS.as_slice(),
             CommandName::Bound | CommandName::Show | CommandName::Migrate => NO_OPTIONS.as_slice(),
         }
     }

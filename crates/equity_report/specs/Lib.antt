@@ -1,4 +1,5 @@
 pub mod Reports
 pub mod Games
 pub mod Files
+pub mod Verify
 pub mod Refusals

@@ -10,9 +10,10 @@ use Rattle.base_head.specs.declared.fault.FileFault.{FileFault}
 use Rattle.base_head.specs.declared.fault.FileFault.TheVariants as faults
 use Rattle.equity_report.specs.declared.text.GameName.{GameName}
 use Rattle.equity_report.specs.declared.refusal.Refusal.{Refusal}
-use Rattle.equity_report.specs.declared.refusal.Refusal.TheVariants.{Words, Position, Missing, File, Read, Write, Memory, Base}
+use Rattle.equity_report.specs.declared.refusal.Refusal.TheVariants.{Words, Position, Missing, File, Read, Write, Memory, Base, Inconsistent}
 use Rattle.equity_report.specs.Reports.{line, counted_text}
 use Rattle.equity_report.specs.Games.{game_text}
+use Rattle.equity_report.specs.Verify.{unheld_text}
 
 -- what is wrong with the words
 abbrev pub words_text : WordsKind → List ℕ
@@ -51,6 +52,7 @@ status_of Read = 6
 status_of Write = 7
 status_of Memory = 8
 status_of (Base wanted found) = 10
+status_of (Inconsistent unheld) = 9
 
 abbrev pub bad_words_text : BadWords → List ℕ
 bad_words_text bad = codes "words " ++ counted_text (words_text bad.kind) bad.place
@@ -70,6 +72,7 @@ reason_text Read = codes "read"
 reason_text Write = codes "write"
 reason_text Memory = codes "memory"
 reason_text (Base wanted found) = base_text wanted found
+reason_text (Inconsistent unheld) = unheld_text unheld
 
 abbrev pub refusal_text : Refusal → List ℕ
 refusal_text refusal = line (codes "refused") (decimal (status_of refusal) ++ codes " " ++ reason_text refusal)

@@ -5,8 +5,10 @@ mod files;
 mod refusal;
 mod report;
 mod text;
+mod verify;
 
 pub use files::{KindRow, Solved, write_migrated, write_shown, write_solved};
 pub use refusal::{FileName, Refusal, write_refusal};
 pub use report::write_bound;
 pub use text::GameName;
+pub use verify::{Unheld, write_verified};

@@ -3,6 +3,7 @@ ghost use Rattle.equity_report.specs.Refusals.{words_text, bad_words_text, file_
 ghost use Rattle.hyper_outside.specs.Sink.{Puts};
 
 use crate::text::{GameName, Report, add_counted, add_game, add_number};
+use crate::verify::{Unheld, add_unheld};
 use arrayvec::ArrayString;
 use base_head::{BadFile, FileFault};
 use hyper_outside::{BadWords, Failed, Sink, WordsKind};
@@ -30,6 +31,8 @@ pub enum Refusal {
     Memory,
     /// The position wants another number of checkers a side than has the game of the file, or of the words.
     Base { wanted: u8, found: GameName },
+    /// The file's words aren't consistent, and this is the first that tells it.
+    Inconsistent(Unheld),
 }
 
 fn words_text(kind: WordsKind) -> &'static str
@@ -76,6 +79,7 @@ impl Refusal {
             Refusal::Write => 7,
             Refusal::Memory => 8,
             Refusal::Base { .. } => 10,
+            Refusal::Inconsistent(_) => 9,
         }
     }
 }
@@ -135,6 +139,7 @@ fn add_reason(line: &mut Report, refusal: &Refusal)
         Refusal::Write => line.push_str("write"),
         Refusal::Memory => line.push_str("memory"),
         Refusal::Base { wanted, found } => add_base(line, *wanted, *found),
+        Refusal::Inconsistent(unheld) => add_unheld(line, unheld),
     }
 }
 

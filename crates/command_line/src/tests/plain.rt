@@ -148,8 +148,15 @@ fn bad_value(name: CommandName, all: &Given<'_>) -> u32 {
         CommandName::Solve if !is_number(rounds, 4096) => 4,
         CommandName::Solve if !is_number(workers, 64) => 5,
         CommandName::Migrate if first == second => 2,
+        CommandName::Verify if !is_number(workers, 64) => 2,
         _ => 0,
     }
+}
+
+/// Whether each option that is given is one of the command's.
+fn has_options(name: CommandName, all: &Given<'_>) -> bool {
+    let [checkers, stakes, rounds, _] = all.options;
+    name != CommandName::Verify || checkers.is_none() && stakes.is_none() && rounds.is_none()
 }
 
 fn plain(name: CommandName, words: &[&str]) -> Option<(WordsKind, u32)> {
@@ -162,11 +169,12 @@ fn plain(name: CommandName, words: &[&str]) -> Option<(WordsKind, u32)> {
     }
     let wanted = match name {
         CommandName::Bound => 3,
-        CommandName::Solve => 1,
+        CommandName::Solve | CommandName::Verify => 1,
         CommandName::Show | CommandName::Migrate => 2,
     };
-    match words_given(words, name == CommandName::Solve) {
-        Some(all) if all.count == wanted => match bad_value(name, &all) {
+    let with_options = name == CommandName::Solve || name == CommandName::Verify;
+    match words_given(words, with_options) {
+        Some(all) if all.count == wanted && has_options(name, &all) => match bad_value(name, &all) {
             0 => None,
             number => Some((WordsKind::Value, number)),
         },
@@ -186,11 +194,12 @@ fn random_lines_are_read_as_by_hand(rt: HostRuntime) -> Result<(), Fail> {
         ("solve", CommandName::Solve),
         ("show", CommandName::Show),
         ("migrate", CommandName::Migrate),
+        ("verify", CommandName::Verify),
     ];
     let mut seed: u32 = 12;
     for line in 0..500usize {
         seed = next(seed);
-        let (text, name) = names[line % 4];
+        let (text, name) = names[line % 5];
         let count = 1 + (seed >> 16) as usize % 5;
         let mut words = [text; 6];
         for i in 0..count {

@@ -11,3 +11,6 @@ returns-in-Show c = λ given has. rw c.in-Show.is (c.read_show.ensures given has
 
 pub returns-in-Migrate : goal.returns-in-Migrate
 returns-in-Migrate c = λ given has. rw c.in-Migrate.is (c.read_migrate.ensures given has)
+
+pub returns-in-Verify : goal.returns-in-Verify
+returns-in-Verify c = λ given has. rw c.in-Verify.is (c.read_verify.ensures given has)
