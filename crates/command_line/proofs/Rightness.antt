@@ -16,7 +16,7 @@ use Rattle.command_line.specs.declared.command.Command.TheVariants as command
 use Rattle.command_line.specs.declared.command.CommandName.{CommandName}
 use Rattle.command_line.specs.declared.command.CommandName.TheVariants as name
 use Rattle.command_line.specs.Values.{number_of, number_within, number_given, number_or, stakes_named, stakes_or, kind_given, is_file_name, file_name, other_name}
-use Rattle.command_line.specs.Commands.{Asked, checked, refused, bound_values, solve_values, show_values, migrate_values, advise_values, command_values, command_named, command_form}
+use Rattle.command_line.specs.Commands.{Asked, checked, refused, bound_values, solve_values, show_values, migrate_values, advise_values, command_values, command_named, command_form, verify_values}
 use Rattle.command_line.specs.declared.values.TheConstants.{MOST_CHECKERS, MOST_ROUNDS, MOST_WORKERS, USUAL_ROUNDS}
 use Rattle.command_line.specs.Words.{is_faulty, place_at, form_reading, words_reading, reading}
 use Rattle.command_line.specs.Right.{IsName, IsRightCommand}
@@ -182,12 +182,25 @@ advise-right given =
     advise-from (file_name (value_of (codes "FILE") given)) (value_of (codes "POSITION") given) (kind_given (value_of (codes "kind") given)) (value_of (codes "roll") given)
     (named (value_of (codes "FILE") given))
 
+verify-from : (file : Option Bytes) (workers : Option ℕ) → IfSome file IsName → IfSome workers (Within MOST_WORKERS) →
+    Right (checked 1 file (λ file. checked 2 workers (λ workers. Ok (command.Verify (record { file = file; workers = workers })))))
+verify-from None workers name most = tt
+verify-from (Some f) None name most = tt
+verify-from (Some f) (Some w) name most = record { file = name; one = most.0; most = most.1 }
+
+verify-right : (given : Values) → Right (verify_values given)
+verify-right given =
+    let workers = value_of (codes "workers") given in
+    verify-from (file_name (value_of (codes "FILE") given)) (number_or MOST_WORKERS 1 workers)
+    (named (value_of (codes "FILE") given)) (or-within MOST_WORKERS 1 workers (omega arith, omega arith))
+
 values-right : (command : CommandName) (given : Values) → Right (command_values command given)
 values-right name.Bound given = bound-right given
 values-right name.Solve given = solve-right given
 values-right name.Show given = show-right given
 values-right name.Migrate given = migrate-right given
 values-right name.Advise given = advise-right given
+values-right name.Verify given = verify-right given
 
 form-right : (command : CommandName) (values : Option Values) → Right (option_map_or (command_values command) values (refused Form 0))
 form-right command None = tt

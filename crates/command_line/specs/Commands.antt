@@ -8,7 +8,7 @@ use Rattle.hyper_outside.specs.declared.outside.WordsKind.TheVariants.{Value}
 use Rattle.cube_actions.specs.declared.name.StakesName.TheVariants.{Jacoby}
 use Rattle.word_forms.specs.Form.{Bytes, Form, Values, value_of}
 use Rattle.command_line.specs.declared.command.Command.{Command}
-use Rattle.command_line.specs.declared.command.Command.TheVariants.{Bound, Solve, Show, Migrate, Advise}
+use Rattle.command_line.specs.declared.command.Command.TheVariants.{Bound, Solve, Show, Migrate, Advise, Verify}
 use Rattle.command_line.specs.declared.command.CommandName.{CommandName}
 use Rattle.command_line.specs.declared.command.CommandName.TheVariants as name
 use Rattle.command_line.specs.declared.values.TheConstants.{MOST_CHECKERS, MOST_ROUNDS, MOST_WORKERS, USUAL_ROUNDS}
@@ -80,6 +80,15 @@ advise_values given =
     checked 3 (kind_given (value_of (codes "kind") given)) (λ kind.
     Ok (Advise (record { file = file; position = position; kind = kind; roll = value_of (codes "roll") given })))))
 
+abbrev pub verify_form : Form
+verify_form = record { arguments = codes "FILE" ∷ []; options = codes "workers" ∷ [] }
+
+abbrev pub verify_values : Values → Result Asked BadWords
+verify_values given =
+    checked 1 (file_name (value_of (codes "FILE") given)) (λ file.
+    checked 2 (number_or MOST_WORKERS 1 (value_of (codes "workers") given)) (λ workers.
+    Ok (Verify (record { file = file; workers = workers }))))
+
 -- ---- all of them
 
 abbrev pub command_named : Bytes → Option CommandName
@@ -88,7 +97,8 @@ command_named word =
     else (if bytes_eq word (codes "solve") then Some name.Solve
     else (if bytes_eq word (codes "show") then Some name.Show
     else (if bytes_eq word (codes "migrate") then Some name.Migrate
-    else (if bytes_eq word (codes "advise") then Some name.Advise else None))))
+    else (if bytes_eq word (codes "advise") then Some name.Advise
+    else (if bytes_eq word (codes "verify") then Some name.Verify else None)))))
 
 abbrev pub command_form : CommandName → Form
 command_form name.Bound = bound_form
@@ -96,6 +106,7 @@ command_form name.Solve = solve_form
 command_form name.Show = show_form
 command_form name.Migrate = migrate_form
 command_form name.Advise = advise_form
+command_form name.Verify = verify_form
 
 abbrev pub command_values : CommandName → Values → Result Asked BadWords
 command_values name.Bound given = bound_values given
@@ -103,3 +114,4 @@ command_values name.Solve given = solve_values given
 command_values name.Show given = show_values given
 command_values name.Migrate given = migrate_values given
 command_values name.Advise given = advise_values given
+command_values name.Verify given = verify_values given

@@ -9,7 +9,8 @@ use Rattle.command_line.specs.declared.command.Show.{Show as ShowWords}
 use Rattle.command_line.specs.declared.command.Migrate.{Migrate as MigrateWords}
 use Rattle.command_line.specs.declared.command.Advise.{Advise as AdviseWords}
 use Rattle.command_line.specs.declared.command.Command.{Command}
-use Rattle.command_line.specs.declared.command.Command.TheVariants.{Bound, Solve, Show, Migrate, Advise}
+use Rattle.command_line.specs.declared.command.Command.TheVariants.{Bound, Solve, Show, Migrate, Advise, Verify}
+use Rattle.command_line.specs.declared.command.Verify.{Verify as VerifyWords}
 use Rattle.command_line.specs.declared.values.TheConstants.{MOST_CHECKERS, MOST_ROUNDS, MOST_WORKERS}
 
 -- a file's name has 1 to 255 bytes
@@ -44,6 +45,11 @@ pub record IsRightMigrate (migrate : MigrateWords) : Type 0 where
 abbrev pub IsRightAdvise : AdviseWords → Type 0
 IsRightAdvise advise = IsName advise.file
 
+pub record IsRightVerify (verify : VerifyWords) : Type 0 where
+  pub file : IsName verify.file
+  pub one : 1 ≤ verify.workers
+  pub most : verify.workers ≤ MOST_WORKERS
+
 -- numbers within their limits, names of files within theirs, and stakes that aren't a match
 abbrev pub IsRightCommand : Command → Type 0
 IsRightCommand (Bound bound) = IsRightBound bound
@@ -51,3 +57,4 @@ IsRightCommand (Solve solve) = IsRightSolve solve
 IsRightCommand (Show show) = IsRightShow show
 IsRightCommand (Migrate migrate) = IsRightMigrate migrate
 IsRightCommand (Advise advise) = IsRightAdvise advise
+IsRightCommand (Verify verify) = IsRightVerify verify

@@ -62,6 +62,15 @@ pub struct Advise {
     pub roll: Option<Text>,
 }
 
+/// A file whose words are checked by some workers.
+#[derive(Drop)]
+pub struct Verify {
+    /// The file's name, 1 to 255 bytes.
+    pub file: Text,
+    /// 1 to 64.
+    pub workers: u32,
+}
+
 /// What a user asks for.
 #[derive(Drop)]
 pub enum Command {
@@ -70,6 +79,7 @@ pub enum Command {
     Show(Show),
     Migrate(Migrate),
     Advise(Advise),
+    Verify(Verify),
 }
 
 /// The commands.
@@ -80,6 +90,7 @@ pub enum CommandName {
     Show,
     Migrate,
     Advise,
+    Verify,
 }
 
 static BOUND: [&str; 3] = ["CHECKERS", "ROUNDS", "POSITION"];
@@ -96,6 +107,10 @@ static ADVISE: [&str; 2] = ["FILE", "POSITION"];
 
 static ADVISE_OPTIONS: [&str; 2] = ["kind", "roll"];
 
+static VERIFY: [&str; 1] = ["FILE"];
+
+static VERIFY_OPTIONS: [&str; 1] = ["workers"];
+
 static NO_OPTIONS: [&str; 0] = [];
 
 impl CommandName {
@@ -109,6 +124,7 @@ impl CommandName {
             "show" => Some(CommandName::Show),
             "migrate" => Some(CommandName::Migrate),
             "advise" => Some(CommandName::Advise),
+            "verify" => Some(CommandName::Verify),
             _ => None,
         }
     }
@@ -123,6 +139,7 @@ impl CommandName {
             CommandName::Show => SHOW.as_slice(),
             CommandName::Migrate => MIGRATE.as_slice(),
             CommandName::Advise => ADVISE.as_slice(),
+            CommandName::Verify => VERIFY.as_slice(),
         }
     }
 
@@ -133,6 +150,7 @@ impl CommandName {
         match self {
             CommandName::Solve => SOLVE_OPTIONS.as_slice(),
             CommandName::Advise => ADVISE_OPTIONS.as_slice(),
+            CommandName::Verify => VERIFY_OPTIONS.as_slice(),
             CommandName::Bound | CommandName::Show | CommandName::Migrate => NO_OPTIONS.as_slice(),
         }
     }

@@ -1,9 +1,9 @@
 ghost use Rattle.word_forms.specs.Form.{Values};
 ghost use Rattle.word_forms.specs.Clap.{HasValues};
-ghost use Rattle.command_line.specs.Commands.{bound_values, solve_values, show_values, migrate_values, advise_values, command_values};
+ghost use Rattle.command_line.specs.Commands.{bound_values, solve_values, show_values, migrate_values, advise_values, command_values, verify_values};
 ghost use Rattle.command_line.specs.Reading.{Gives};
 
-use crate::command::{Advise, Bound, Command, CommandName, Migrate, Show, Solve};
+use crate::command::{Advise, Bound, Command, CommandName, Migrate, Show, Solve, Verify};
 use crate::stop::{WordsStop, bad_value};
 use crate::text::Text;
 use crate::values::{
@@ -29,6 +29,7 @@ pub(crate) fn read_values(
         CommandName::Show => read_show(alloc, values),
         CommandName::Migrate => read_migrate(alloc, values),
         CommandName::Advise => read_advise(alloc, values),
+        CommandName::Verify => read_verify(alloc, values),
     }
 }
 
@@ -131,5 +132,22 @@ fn read_advise(alloc: Global, values: &ArgMatches<'_>) -> Result<Command, WordsS
         position: Text::new(alloc, position)?,
         kind,
         roll: text_given(alloc, values.get_str("roll"))?,
+    }))
+}
+
+fn read_verify(alloc: Global, values: &ArgMatches<'_>) -> Result<Command, WordsStop>
+    ensures { (given : Values) → HasValues given values.now
+        → Gives (verify_values given) result }
+{
+    let Some(file) = file_name(values.get_str("FILE")) else {
+        return Err(bad_value(1));
+    };
+    let given = values.get_str("workers");
+    let Some(workers) = number_or(given, MOST_WORKERS, 1) else {
+        return Err(bad_value(2));
+    };
+    Ok(Command::Verify(Verify {
+        file: Text::new(alloc, file)?,
+        workers,
     }))
 }

@@ -11,7 +11,7 @@ mod text;
 mod values;
 mod words;
 
-pub use command::{Advise, Bound, Command, CommandName, Migrate, Show, Solve};
+pub use command::{Advise, Bound, Command, CommandName, Migrate, Show, Solve, Verify};
 pub use laws::commands_are_right;
 pub use stop::WordsStop;
 pub use text::Text;

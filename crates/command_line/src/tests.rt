@@ -25,7 +25,7 @@ fn refusal(alloc: Global, words: &[&str]) -> Result<Option<(WordsKind, u32)>, Al
 
 #[test]
 fn words_are_refused_in_order(rt: HostRuntime) -> Result<(), Fail> {
-    let cases: [(&[&str], WordsKind, u32); 14] = [
+    let cases: [(&[&str], WordsKind, u32); 20] = [
         (&[], WordsKind::Command, 0),
         (&["fly", "--"], WordsKind::Command, 0),
         (&["bound", "-1", "1", "6 / 1"], WordsKind::Word, 1),
@@ -40,6 +40,12 @@ fn words_are_refused_in_order(rt: HostRuntime) -> Result<(), Fail> {
         (&["migrate", "x", "x"], WordsKind::Value, 2),
         (&["migrate", "x\0", "x\0"], WordsKind::Value, 1),
         (&["migrate", "x", "y", "z"], WordsKind::Form, 0),
+        (&["verify"], WordsKind::Form, 0),
+        (&["verify", "x", "y"], WordsKind::Form, 0),
+        (&["verify", "x", "--rounds", "3"], WordsKind::Form, 0),
+        (&["verify", "x", "--workers", "65"], WordsKind::Value, 2),
+        (&["verify", "x", "--workers=0"], WordsKind::Value, 2),
+        (&["verify", "a\0b", "--workers=0"], WordsKind::Value, 1),
     ];
     for (words, kind, place) in cases.iter() {
         let found = refusal(rt.alloc(), words)?;
@@ -101,6 +107,26 @@ fn solve_has_usual_values(rt: HostRuntime) -> Result<(), Fail> {
             assert_eq!(rt; asked.workers, 1);
         }
         _ => panic!(rt; "refused"),
+    }
+    Ok(())
+}
+
+#[test]
+fn verify_has_usual_workers(rt: HostRuntime) -> Result<(), Fail> {
+    let cases: [(&[&str], u32); 3] = [
+        (&["verify", "two.base"], 1),
+        (&["verify", "two.base", "--workers", "64"], 64),
+        (&["verify", "--workers=3", "two.base"], 3),
+    ];
+    for (words, workers) in cases.iter() {
+        let words = owned(rt.alloc(), words)?;
+        match read_words(rt.alloc(), words.as_slice()) {
+            Ok(Command::Verify(asked)) => {
+                assert_eq!(rt; asked.file.as_str(), "two.base");
+                assert_eq!(rt; asked.workers, *workers);
+            }
+            _ => panic!(rt; "refused"),
+        }
     }
     Ok(())
 }

@@ -33,7 +33,7 @@ pub struct KindRow {
     pub pair: Pair,
 }
 
-fn add_rounds(report: &mut Report, game: GameName, rounds: u32)
+pub(crate) fn add_rounds(report: &mut Report, game: GameName, rounds: u32)
     requires { length report.old.bytes ≤ 1000 }
     ensures bytes { report.new.bytes ≡ report.old.bytes ++ rounds_text game rounds }
     ensures length { length report.new.bytes ≤ length report.old.bytes + 138 }

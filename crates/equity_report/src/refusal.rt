@@ -3,6 +3,7 @@ ghost use Rattle.equity_report.specs.Refusals.{words_text, bad_words_text, file_
 ghost use Rattle.hyper_outside.specs.Sink.{Puts};
 
 use crate::text::{GameName, Report, add_counted, add_game, add_number};
+use crate::verify::{Unheld, add_unheld};
 use arrayvec::ArrayString;
 use base_head::{BadFile, FileFault};
 use cube_actions::KindName;
@@ -43,6 +44,8 @@ pub enum Refusal {
     Base { wanted: Wanted, found: GameName },
     /// The roll's text is refused.
     Roll(BadRoll),
+    /// The file's words aren't consistent, and this is the first that tells it.
+    Inconsistent(Unheld),
 }
 
 fn words_text(kind: WordsKind) -> &'static str
@@ -89,6 +92,7 @@ impl Refusal {
             Refusal::Write => 7,
             Refusal::Memory => 8,
             Refusal::Base { .. } => 10,
+            Refusal::Inconsistent(_) => 9,
         }
     }
 }
@@ -172,6 +176,7 @@ fn add_reason(line: &mut Report, refusal: &Refusal)
         Refusal::Roll(bad) => {
             add_counted(line, "roll", u64::from(roll_kind(*bad)));
         }
+        Refusal::Inconsistent(unheld) => add_unheld(line, unheld),
     }
 }
 

@@ -68,6 +68,7 @@ fn place_of(command: CommandName, name: &str) -> Option<usize> {
         (CommandName::Solve, "workers") => Some(3),
         (CommandName::Advise, "kind") => Some(0),
         (CommandName::Advise, "roll") => Some(1),
+        (CommandName::Verify, "workers") => Some(3),
         _ => None,
     }
 }
@@ -165,6 +166,7 @@ fn bad_value(name: CommandName, all: &Given<'_>) -> u32 {
         CommandName::Solve if !is_number(workers, 64) => 5,
         CommandName::Migrate if first == second => 2,
         CommandName::Advise if !is_kind(kind) => 3,
+        CommandName::Verify if !is_number(workers, 64) => 2,
         _ => 0,
     }
 }
@@ -179,7 +181,7 @@ fn plain(name: CommandName, words: &[&str]) -> Option<(WordsKind, u32)> {
     }
     let wanted = match name {
         CommandName::Bound => 3,
-        CommandName::Solve => 1,
+        CommandName::Solve | CommandName::Verify => 1,
         CommandName::Show | CommandName::Migrate | CommandName::Advise => 2,
     };
     match words_given(words, name) {
@@ -204,11 +206,12 @@ fn random_lines_are_read_as_by_hand(rt: HostRuntime) -> Result<(), Fail> {
         ("show", CommandName::Show),
         ("migrate", CommandName::Migrate),
         ("advise", CommandName::Advise),
+        ("verify", CommandName::Verify),
     ];
     let mut seed: u32 = 12;
     for line in 0..800usize {
         seed = next(seed);
-        let (text, name) = names[line % 5];
+        let (text, name) = names[line % 6];
         let count = 1 + (seed >> 16) as usize % 5;
         let mut words = [text; 6];
         for i in 0..count {

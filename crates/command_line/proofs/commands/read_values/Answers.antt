@@ -14,3 +14,6 @@ returns-in-Migrate c = λ given has. rw c.in-Migrate.is (c.read_migrate.ensures 
 
 pub returns-in-Advise : goal.returns-in-Advise
 returns-in-Advise c = λ given has. rw c.in-Advise.is (c.read_advise.ensures given has)
+
+pub returns-in-Verify : goal.returns-in-Verify
+returns-in-Verify c = λ given has. rw c.in-Verify.is (c.read_verify.ensures given has)
