@@ -203,10 +203,10 @@ module _ (bytes : List ℕ) (head : FileHead) (p : Placement) (k : ℕ) (valid :
     advice-pages q j (inl may) = pair-pages (of_roll (stakes_of head) p k 1) advice.no_double is.no_double q j may
     advice-pages q j (inr may) =
         by_action advice.action (subst (λ (o : Option Double). IsAdviceOn o advice.action (λ d a. IsActionBy (Taken_over (told_in bytes)) advice.no_double d a)) may.right is.action) where
-      by_action : (action : Option CubeAction) → IsAdviceOn (Some may.double) action (λ d a. IsActionBy (Taken_over (told_in bytes)) advice.no_double d a) → flaw_at (header_of_file bytes) (Some bytes) q ≡ None
-      by_action None h = absurd h
-      by_action (Some action) h =
-          answers-pages may.double.answers.items (taken_of action) h.taken may.taken (Contains-Among may.taken may.double.answers.items may.answer) q j may.after
+          by_action : (action : Option CubeAction) → IsAdviceOn (Some may.double) action (λ d a. IsActionBy (Taken_over (told_in bytes)) advice.no_double d a) → flaw_at (header_of_file bytes) (Some bytes) q ≡ None
+          by_action None h = absurd h
+          by_action (Some action) h =
+              answers-pages may.double.answers.items (taken_of action) h.taken may.taken (Contains-Among may.taken may.double.answers.items may.answer) q j may.after
 
     pub advice-over : (u : Words) → HavePairsOf bytes u → IsCubeAdvice (stakes_of head) p k (source_in bytes) u advice
     advice-over u have = record {

@@ -274,12 +274,7 @@ fn run_ranking<F: Files, O: Sink>(
 }
 
 /// Puts what to do with the cube, or a refusal.
-fn run_cube<F: Files, O: Sink>(
-    alloc: Global,
-    task: &AdviseTask,
-    files: &mut F,
-    out: &mut O,
-) -> u8
+fn run_cube<F: Files, O: Sink>(alloc: Global, task: &AdviseTask, files: &mut F, out: &mut O) -> u8
     requires right { IsRightAdvise task.now }
     requires roll { task.now.roll ≡ None }
     ensures ends { EndsShowing result }

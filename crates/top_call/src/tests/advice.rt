@@ -6,7 +6,13 @@ use std::test::Fail;
 
 // Words that solve a game, each within a second.
 const SOLVES: [&[&str]; 5] = [
-    &["solve", "m1", "--checkers=1", "--stakes=money", "--rounds=2"],
+    &[
+        "solve",
+        "m1",
+        "--checkers=1",
+        "--stakes=money",
+        "--rounds=2",
+    ],
     &["solve", "j1", "--checkers=1", "--rounds=2"],
     &["solve", "j2", "--checkers=2", "--rounds=1", "--workers=4"],
     &[
@@ -149,7 +155,10 @@ fn a_damaged_page_counts_where_advice_rests_on_it(rt: HostRuntime) -> Result<(),
     assert_eq!(rt; out.put_bytes(), PLAY_TEXT.as_bytes());
     let (status, out) = ask(&rt, alloc, &mut files, &CUBE)?;
     assert_eq!(rt; status, 4);
-    assert_eq!(rt; out.put_bytes(), "refused 4 file page-digest 6106\n".as_bytes());
+    assert_eq!(rt;
+        out.put_bytes(),
+        "refused 4 file page-digest 6106\n".as_bytes()
+    );
     Ok(())
 }
 

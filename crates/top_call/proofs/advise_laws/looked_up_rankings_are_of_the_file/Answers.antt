@@ -15,8 +15,11 @@ returns c = λ task roll bytes head kind ranking is right looked.
           c.one_list_gives_the_ranking.ensures (source_in bytes) u (stakes_of head) p k roll ranking refl
           (ranking-agrees bytes head p k is.valid is.game is.checkers is.kinds is.state roll right ranking looked u have)
           (ranking-over bytes head p k is.valid is.game is.checkers is.kinds is.state roll right ranking looked u have);
-      losses = λ u have sound. (sound.0, λ turns more scoring within.
-          c.best_plays_lose_at_most_their_bounds.ensures.looked (game_in head) scoring turns u (record { right = is.game; within = within; words = sound.1 turns more scoring within })
-          p k is.state roll right (source_in bytes) ranking refl
-          (ranking-over bytes head p k is.valid is.game is.checkers is.kinds is.state roll right ranking looked u have));
+      losses = λ u have sound. (
+        sound.0,
+        λ turns more scoring within.
+            c.best_plays_lose_at_most_their_bounds.ensures.looked (game_in head) scoring turns u (record { right = is.game; within = within; words = sound.1 turns more scoring within })
+            p k is.state roll right (source_in bytes) ranking refl
+            (ranking-over bytes head p k is.valid is.game is.checkers is.kinds is.state roll right ranking looked u have),
+      );
     }
