@@ -14,7 +14,7 @@ ghost use Rattle.turn_rule.specs.Following.{AgreeOn};
 ghost use Rattle.turn_rule.specs.Games.{IsGame};
 ghost use Rattle.turn_rule.specs.Looks.{AreStakesOf, HasDamage, LooksUp, Seen, Source};
 ghost use Rattle.turn_rule.specs.States.{AreNoLooser};
-ghost use Rattle.turn_rule.specs.Truth.{AreNoLooserStakes, AreSoundFrom};
+ghost use Rattle.turn_rule.specs.Truth.{AreNoLooserStakes, AreSound, AreSoundFrom};
 ghost use Rattle.turn_rule.specs.Turn.{Words};
 ghost use Rattle.record_analysis.specs.Analyses.{analysis_of, unjudged};
 ghost use Rattle.record_analysis.specs.Judging.{CanBeJudged, JudgesAll, MayFollowSome};
@@ -23,6 +23,7 @@ ghost use Rattle.record_analysis.specs.Truth.{
   EncloseLosses,
   IsDecisionOf,
   IsNoLooserAnalysis,
+  IsTrueAnalysis,
 };
 ghost use Rattle.record_analysis.specs.declared.analysis.Judged.{Judged};
 
@@ -62,12 +63,16 @@ pub fn sure_sources_judge()
 {}
 
 /// Where words enclose every state from so many turns on, all pairs of the analysis over them enclose
-/// what the decisions lose exactly, from the same number of turns on.
+/// what the decisions lose exactly, from the same number of turns on. So the analysis over sound words
+/// is true.
 pub fn analyses_enclose_what_is_lost()
-    ensures { (game : Game) → IsGame game → (enough : ℕ) (u : Words) → AreSoundFrom game enough u
+    ensures from { (game : Game) → IsGame game → (enough : ℕ) (u : Words) → AreSoundFrom game enough u
         → (decisions : List Decision) → All (IsDecisionOf game) decisions
         → (turns : ℕ) → enough ≤ turns
         → EncloseLosses game turns (analysis_of game.stakes u decisions) }
+    ensures sound { (game : Game) → IsGame game → (u : Words) → AreSound game u
+        → (decisions : List Decision) → All (IsDecisionOf game) decisions
+        → IsTrueAnalysis game (analysis_of game.stakes u decisions) }
 {}
 
 /// Where words are at least as tight, and the stakes' wins and passes known at least as well, so is each
