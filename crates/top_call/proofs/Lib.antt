@@ -4,3 +4,5 @@ mod Right
 mod Loaded
 mod LookedUp
 mod ShowLaws
+mod Verified
+mod SolvedFiles

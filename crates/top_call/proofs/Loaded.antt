@@ -7,12 +7,12 @@ use Rattle.database_file.specs.declared.stop.LoadStop.TheVariants as stops
 use Rattle.database_file.specs.Bases.{AnswersBase}
 use Rattle.database_file.specs.Faults.{Read as FileRead, whole}
 use Rattle.equity_report.specs.declared.refusal.Refusal.{Refusal}
-use Rattle.equity_report.specs.declared.refusal.Refusal.TheVariants.{Words, Position, Missing, File, Read, Write, Memory, Base}
+use Rattle.equity_report.specs.declared.refusal.Refusal.TheVariants.{Words, Position, Missing, File, Read, Write, Memory, Base, Inconsistent}
 use Rattle.equity_report.specs.Refusals.{status_of, refusal_text}
 use Rattle.hyper_outside.specs.Files.{Contents}
 use Rattle.hyper_outside.specs.Sink.{Output}
 use Rattle.top_call.specs.declared.task.Task.{Task}
-use Rattle.top_call.specs.declared.task.Task.TheVariants.{Bound, Solve, Show, Migrate}
+use Rattle.top_call.specs.declared.task.Task.TheVariants.{Bound, Solve, Show, Migrate, Verify}
 use Rattle.top_call.specs.Loads.{OfFile, TellsStop, RefusesLoading, WasNotLoaded}
 use Rattle.top_call.specs.Runs.{IsDue, WasPut}
 use Rattle.top_call.specs.Tasks.{IfMigrate}
@@ -34,6 +34,7 @@ missing-told name Read t = absurd t
 missing-told name Write t = absurd t
 missing-told name Memory t = absurd t
 missing-told name (Base wanted found) t = absurd t
+missing-told name (Inconsistent unheld) t = absurd t
 
 pub not-loaded : (name : List ℕ) (file : Option FileRead) (stop : LoadStop) (refusal : Refusal) → AnswersBase file (Err stop) → TellsStop name stop refusal → RefusesLoading name refusal file
 not-loaded name None stops.Missing refusal a t = missing-told name refusal t
@@ -55,6 +56,7 @@ module _ (told : Bool) (held : Contents) (old new : Output) (status : ℕ) where
   no-memory (Ok (Bound task)) is put = tt
   no-memory (Ok (Solve task)) is put = tt
   no-memory (Ok (Show task)) is put = tt
+  no-memory (Ok (Verify task)) is put = tt
   no-memory (Ok (Migrate task)) is put = record {
     refusal = Memory;
     cause = of-file told (held task.old) (RefusesLoading task.old Memory) (λ _. tt) (None, tt);
@@ -71,3 +73,4 @@ module _ (told : Bool) (held : Contents) (old new : Output) (status : ℕ) where
   unread expected Write due is put = subst Unread (sym due) tt
   unread expected Memory due is put = no-memory expected is put
   unread expected (Base wanted found) due is put = subst Unread (sym due) tt
+  unread expected (Inconsistent unheld) due is put = subst Unread (sym due) tt

@@ -5,3 +5,4 @@ pub mod Solves
 pub mod Loads
 pub mod Migrates
 pub mod Shows
+pub mod Verifies

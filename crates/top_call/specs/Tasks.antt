@@ -11,9 +11,10 @@ use Rattle.command_line.specs.declared.command.Command.TheVariants as commands
 use Rattle.command_line.specs.declared.command.Bound.{Bound as BoundWords}
 use Rattle.command_line.specs.declared.command.Solve.{Solve as SolveTask}
 use Rattle.command_line.specs.declared.command.Migrate.{Migrate as MigrateTask}
+use Rattle.command_line.specs.declared.command.Verify.{Verify as VerifyTask}
 use Rattle.command_line.specs.Words.{reading}
 use Rattle.command_line.specs.declared.command.Show.{Show as ShowWords}
-use Rattle.command_line.specs.Right.{IsName, IsRightSolve, IsRightMigrate}
+use Rattle.command_line.specs.Right.{IsName, IsRightSolve, IsRightMigrate, IsRightVerify}
 use Rattle.word_forms.specs.Clap.{bytes_of}
 use Rattle.cube_actions.specs.Stakes.{cubeless}
 use Rattle.turn_rule.specs.Turn.{rounds}
@@ -25,7 +26,7 @@ use Rattle.equity_report.specs.declared.refusal.Refusal.TheVariants.{Words, Posi
 use Rattle.top_call.specs.declared.task.BoundTask.{BoundTask}
 use Rattle.top_call.specs.declared.task.ShowTask.{ShowTask}
 use Rattle.top_call.specs.declared.task.Task.{Task}
-use Rattle.top_call.specs.declared.task.Task.TheVariants.{Bound, Solve, Show, Migrate}
+use Rattle.top_call.specs.declared.task.Task.TheVariants.{Bound, Solve, Show, Migrate, Verify}
 
 -- a game without a cube, by its checkers
 abbrev pub cubeless_game : ℕ → GameName
@@ -51,6 +52,7 @@ with_words (Ok (commands.Bound bound)) = with_position bound (read_position boun
 with_words (Ok (commands.Solve solve)) = Ok (Solve solve)
 with_words (Ok (commands.Show show)) = with_shown show (read_position show.position)
 with_words (Ok (commands.Migrate migrate)) = Ok (Migrate migrate)
+with_words (Ok (commands.Verify verify)) = Ok (Verify verify)
 with_words (Err bad) = Err (Words bad)
 
 -- the words are read first, then a position, and then its number of checkers is compared
@@ -85,6 +87,12 @@ IfMigrate (Ok (Migrate task)) P = P task
 IfMigrate (Ok _) P = Unit {0}
 IfMigrate (Err refusal) P = Unit {0}
 
+-- where a file's words are to be checked
+abbrev pub IfVerify : Result Task Refusal → (VerifyTask → Type 0) → Type 0
+IfVerify (Ok (Verify task)) P = P task
+IfVerify (Ok _) P = Unit {0}
+IfVerify (Err refusal) P = Unit {0}
+
 -- a live position
 pub record IsRightBound (task : BoundTask) : Type 0 where
   pub position : IsPosition task.position
@@ -105,3 +113,4 @@ IsRightTask (Bound task) = IsRightBound task
 IsRightTask (Solve task) = IsRightSolve task
 IsRightTask (Show task) = IsRightShow task
 IsRightTask (Migrate task) = IsRightMigrate task
+IsRightTask (Verify task) = IsRightVerify task

@@ -12,9 +12,12 @@ mod task;
 #[cfg(test)]
 mod tests;
 mod top;
+mod verify;
+mod verify_laws;
 
 pub use program::{refuse_unread, start};
 pub use put::DONE;
 pub use show::{Rows, Shown};
 pub use task::{BoundTask, ShowTask, Task, read_task};
 pub use top::run;
+pub use verify_laws::solved_files_are_consistent;

@@ -4,7 +4,7 @@ ghost use Rattle.command_line.specs.Right.{IsRightShow};
 ghost use Rattle.top_call.specs.Tasks.{IsRightTask, asked, fitting, with_position, with_shown};
 ghost use Rattle.top_call.specs.Runs.{IsDue};
 
-use command_line::{Bound, Command, Migrate, Show, Solve, Text, WordsStop, read_words};
+use command_line::{Bound, Command, Migrate, Show, Solve, Text, Verify, WordsStop, read_words};
 use cube_actions::StakesName;
 use equity_report::{GameName, Refusal};
 use position_rank::{Position, read_position};
@@ -32,6 +32,7 @@ pub enum Task {
     Solve(Solve),
     Show(ShowTask),
     Migrate(Migrate),
+    Verify(Verify),
 }
 
 /// Reads the words, then a position, and compares its number of checkers with that of the words.
@@ -43,6 +44,7 @@ pub fn read_task(alloc: Global, words: &[String]) -> Result<Task, Refusal>
         Ok(Command::Bound(bound)) => bound_task(&bound),
         Ok(Command::Solve(solve)) => Ok(Task::Solve(solve)),
         Ok(Command::Migrate(migrate)) => Ok(Task::Migrate(migrate)),
+        Ok(Command::Verify(verify)) => Ok(Task::Verify(verify)),
         Ok(Command::Show(show)) => show_task(show),
         Err(WordsStop::Bad(bad)) => Err(Refusal::Words(bad)),
         Err(WordsStop::NoMemory) => Err(Refusal::Memory),

@@ -12,3 +12,6 @@ show_task-requires c = subst IsRightCommand c.in-Ok-Show.field-0-is (command-rig
 
 pub returns-in-Ok-Migrate-clause-right : goal.returns-in-Ok-Migrate-clause-right
 returns-in-Ok-Migrate-clause-right c = subst IsRightCommand c.in-Ok-Migrate.field-0-is (command-right (bytes_of c.args.words.now) c.in-Ok-Migrate.field-0 c.in-Ok-Migrate.ensures)
+
+pub returns-in-Ok-Verify-clause-right : goal.returns-in-Ok-Verify-clause-right
+returns-in-Ok-Verify-clause-right c = subst IsRightCommand c.in-Ok-Verify.field-0-is (command-right (bytes_of c.args.words.now) c.in-Ok-Verify.field-0 c.in-Ok-Verify.ensures)
