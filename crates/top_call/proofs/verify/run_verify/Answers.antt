@@ -6,7 +6,7 @@ use Rattle.top_call.specs.Verifies.{verified_report}
 use Rattle.top_call.proofs.verify.run_verify.Goals as goal
 
 -- what was put with success is put
-put-told : (old new : Option (List ℕ)) (text : List ℕ) (x : Unit {0}) → Gains old new text (Ok {E = Failed} x) → IsTold old new text
+put-told : (old new : Option (List ℕ)) (text : List ℕ) (x : Unit {0}) → Gains {T = Unit {0}} {E = Failed} old new text (Ok x) → IsTold old new text
 put-told None new text x gains = gains
 put-told (Some old) new text x gains = gains
 
