@@ -2,7 +2,7 @@
 
 _hypergammon() {
     local word=${COMP_WORDS[COMP_CWORD]} before=${COMP_WORDS[COMP_CWORD-1]} command=${COMP_WORDS[1]}
-    local commands='bound solve show migrate advise help'
+    local commands='bound solve show migrate advise verify help'
     local stakes='cubeless money jacoby money-beavers jacoby-beavers'
     COMPREPLY=()
     if [ "$COMP_CWORD" -eq 1 ]; then
@@ -46,6 +46,18 @@ _hypergammon() {
             ;;
         show) [ "$COMP_CWORD" -eq 2 ] && mapfile -t COMPREPLY < <(compgen -f -- "$word") ;;
         migrate) [ "$COMP_CWORD" -le 3 ] && mapfile -t COMPREPLY < <(compgen -f -- "$word") ;;
+        verify)
+            case $before in
+                --workers) ;;
+                *)
+                    if [[ $word == -* ]]; then
+                        mapfile -t COMPREPLY < <(compgen -W '--workers' -- "$word")
+                    else
+                        mapfile -t COMPREPLY < <(compgen -f -- "$word")
+                    fi
+                    ;;
+            esac
+            ;;
     esac
 }
 

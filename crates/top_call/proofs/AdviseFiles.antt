@@ -28,7 +28,7 @@ use Rattle.database_file.specs.PagedFiles.{PagedFile}
 use Rattle.database_file.specs.Texts.{game_in}
 use Rattle.database_file.proofs.Bases.{kinds-named}
 use Rattle.equity_report.specs.declared.refusal.Refusal.{Refusal}
-use Rattle.equity_report.specs.declared.refusal.Refusal.TheVariants.{Words, Position, Missing, File, Read, Write, Memory, Base, Roll}
+use Rattle.equity_report.specs.declared.refusal.Refusal.TheVariants.{Words, Position, Missing, File, Read, Write, Memory, Base, Roll, Inconsistent}
 use Rattle.equity_report.specs.declared.refusal.Wanted.TheVariants.{Checkers, Kind}
 use Rattle.top_call.specs.declared.advise.AskedKind.{AskedKind}
 use Rattle.top_call.specs.declared.task.AdviseTask.{AdviseTask}
@@ -57,6 +57,7 @@ missing-told task Write t = absurd t
 missing-told task Memory t = absurd t
 missing-told task (Base wanted found) t = absurd t
 missing-told task (Roll bad) t = absurd t
+missing-told task (Inconsistent unheld) t = absurd t
 
 pub advice-not-opened : (task : AdviseTask) (held : Option (List ℕ)) (stop : LoadStop) (refusal : Refusal) → AnswersPaged (option_map whole held) (Err stop) → TellsStop task.file stop refusal → RefusesAdvice task refusal held
 advice-not-opened task None stops.Missing refusal a t = missing-told task refusal t
@@ -78,6 +79,7 @@ other-wanted task bytes base Write a w = absurd w
 other-wanted task bytes base Memory a w = absurd w
 other-wanted task bytes base (Base wanted found) a w = record { front = a.right; wants = subst (λ (h : FileHead). WantsOther task h (Base wanted found)) a.head w }
 other-wanted task bytes base (Roll bad) a w = absurd w
+other-wanted task bytes base (Inconsistent unheld) a w = absurd w
 
 pub not-asked : (task : AdviseTask) (held : Option (List ℕ)) (base : PagedFile) (refusal : Refusal) → AnswersPaged (option_map whole held) (Ok base) → WantsOther task base.head refusal → RefusesAdvice task refusal held
 not-asked task None base refusal a w = absurd a

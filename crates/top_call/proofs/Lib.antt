@@ -7,3 +7,5 @@ mod ShowLaws
 mod AdviseLaws
 mod AdviseFiles
 mod TwoRuns
+mod Verified
+mod SolvedFiles

@@ -7,12 +7,12 @@ use Rattle.database_file.specs.declared.stop.LoadStop.TheVariants as stops
 use Rattle.database_file.specs.Bases.{AnswersBase}
 use Rattle.database_file.specs.Faults.{Read as FileRead, whole}
 use Rattle.equity_report.specs.declared.refusal.Refusal.{Refusal}
-use Rattle.equity_report.specs.declared.refusal.Refusal.TheVariants.{Words, Position, Missing, File, Read, Write, Memory, Base, Roll}
+use Rattle.equity_report.specs.declared.refusal.Refusal.TheVariants.{Words, Position, Missing, File, Read, Write, Memory, Base, Roll, Inconsistent}
 use Rattle.equity_report.specs.Refusals.{status_of, refusal_text}
 use Rattle.hyper_outside.specs.Files.{Contents}
 use Rattle.hyper_outside.specs.Sink.{Output}
 use Rattle.top_call.specs.declared.task.Task.{Task}
-use Rattle.top_call.specs.declared.task.Task.TheVariants.{Bound, Solve, Show, Migrate, Advise}
+use Rattle.top_call.specs.declared.task.Task.TheVariants.{Bound, Solve, Show, Migrate, Advise, Verify}
 use Rattle.top_call.specs.Loads.{OfFile, TellsStop, RefusesLoading, WasNotLoaded}
 use Rattle.top_call.specs.Runs.{IsDue, WasPut}
 use Rattle.top_call.specs.Tasks.{IfMigrate}
@@ -35,6 +35,7 @@ missing-told name Write t = absurd t
 missing-told name Memory t = absurd t
 missing-told name (Base wanted found) t = absurd t
 missing-told name (Roll bad) t = absurd t
+missing-told name (Inconsistent unheld) t = absurd t
 
 pub not-loaded : (name : List ℕ) (file : Option FileRead) (stop : LoadStop) (refusal : Refusal) → AnswersBase file (Err stop) → TellsStop name stop refusal → RefusesLoading name refusal file
 not-loaded name None stops.Missing refusal a t = missing-told name refusal t
@@ -57,6 +58,7 @@ module _ (told : Bool) (held : Contents) (old new : Output) (status : ℕ) where
   no-memory (Ok (Solve task)) is put = tt
   no-memory (Ok (Show task)) is put = tt
   no-memory (Ok (Advise task)) is put = tt
+  no-memory (Ok (Verify task)) is put = tt
   no-memory (Ok (Migrate task)) is put = record {
     refusal = Memory;
     cause = of-file told (held task.old) (RefusesLoading task.old Memory) (λ _. tt) (None, tt);
@@ -74,3 +76,4 @@ module _ (told : Bool) (held : Contents) (old new : Output) (status : ℕ) where
   unread expected Memory due is put = no-memory expected is put
   unread expected (Base wanted found) due is put = subst Unread (sym due) tt
   unread expected (Roll bad) due is put = subst Unread (sym due) tt
+  unread expected (Inconsistent unheld) due is put = subst Unread (sym due) tt

@@ -27,7 +27,7 @@ use Rattle.database_file.proofs.PageWords.{word-among}
 use Rattle.equity_report.specs.declared.files.KindRow.{KindRow}
 use Rattle.equity_report.specs.declared.text.GameName.{GameName}
 use Rattle.equity_report.specs.declared.refusal.Refusal.{Refusal}
-use Rattle.equity_report.specs.declared.refusal.Refusal.TheVariants.{Words as BadWords, Position, Missing, File, Read, Write, Memory, Base, Roll}
+use Rattle.equity_report.specs.declared.refusal.Refusal.TheVariants.{Words as BadWords, Position, Missing, File, Read, Write, Memory, Base, Roll, Inconsistent}
 use Rattle.equity_report.specs.declared.refusal.Wanted.TheVariants.{Checkers}
 use Rattle.top_call.specs.declared.task.ShowTask.{ShowTask}
 use Rattle.top_call.specs.Loads.{TellsStop, game_told}
@@ -46,6 +46,7 @@ missing-told task Write t = absurd t
 missing-told task Memory t = absurd t
 missing-told task (Base wanted found) t = absurd t
 missing-told task (Roll bad) t = absurd t
+missing-told task (Inconsistent unheld) t = absurd t
 
 pub not-opened : (task : ShowTask) (held : Option (List ℕ)) (stop : LoadStop) (refusal : Refusal) → AnswersPaged (option_map whole held) (Err stop) → TellsStop task.file stop refusal → RefusesShowing task refusal held
 not-opened task None stops.Missing refusal a t = missing-told task refusal t

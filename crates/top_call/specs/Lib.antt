@@ -7,3 +7,4 @@ pub mod Migrates
 pub mod Shows
 pub mod Advises
 pub mod Headline
+pub mod Verifies

@@ -4,10 +4,10 @@ use Rattle.hyper_outside.specs.declared.outside.Failed.{Failed}
 use Rattle.hyper_outside.specs.declared.outside.WordsKind.TheVariants.{Word}
 use Rattle.hyper_outside.specs.Sink.{Output, Puts}
 use Rattle.equity_report.specs.declared.refusal.Refusal.{Refusal}
-use Rattle.equity_report.specs.declared.refusal.Refusal.TheVariants.{Words, Missing, File, Read, Write, Memory, Base}
+use Rattle.equity_report.specs.declared.refusal.Refusal.TheVariants.{Words, Missing, File, Read, Write, Memory, Base, Inconsistent}
 use Rattle.equity_report.specs.Refusals.{status_of}
 use Rattle.top_call.specs.declared.task.Task.{Task}
-use Rattle.top_call.specs.declared.task.Task.TheVariants.{Bound, Solve, Show, Migrate, Advise}
+use Rattle.top_call.specs.declared.task.Task.TheVariants.{Bound, Solve, Show, Migrate, Advise, Verify}
 
 -- the task is the one that was asked for, or the refusal the one that is due, unless there was no memory
 abbrev pub IsDue : Result Task Refusal → Result Task Refusal → Type 0
@@ -40,6 +40,15 @@ IsOfShowing refusal = IsOfLoading refusal
 abbrev pub EndsShowing : ℕ → Type 0
 EndsShowing status = (status ≡ 0) ⊎ (status ≡ status_of Write) ⊎ ((refusal : Refusal) × IsOfShowing refusal × (status ≡ status_of refusal))
 
+-- a refusal of a file whose words are to be checked: one of loading, or they aren't consistent
+abbrev pub IsOfVerifying : Refusal → Type 0
+IsOfVerifying (Inconsistent unheld) = ⊤
+IsOfVerifying refusal = IsOfLoading refusal
+
+-- 0 where the report was put, that of a failed write where putting failed, and else that of a file that wasn't found to be consistent
+abbrev pub EndsVerifying : ℕ → Type 0
+EndsVerifying status = (status ≡ 0) ⊎ (status ≡ status_of Write) ⊎ ((refusal : Refusal) × IsOfVerifying refusal × (status ≡ status_of refusal))
+
 -- how a task may end
 abbrev pub EndsTask : Task → ℕ → Type 0
 EndsTask (Bound task) status = EndsWriting status
@@ -47,6 +56,7 @@ EndsTask (Solve task) status = EndsWriting status
 EndsTask (Show task) status = EndsShowing status
 EndsTask (Migrate task) status = EndsLoading status
 EndsTask (Advise task) status = EndsShowing status
+EndsTask (Verify task) status = EndsVerifying status
 
 -- Where words are refused, the status is that of the refusal, or that of no memory if there was none.
 abbrev pub Ends : Result Task Refusal → ℕ → Type 0

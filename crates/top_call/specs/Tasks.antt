@@ -14,10 +14,11 @@ use Rattle.command_line.specs.declared.command.Command.TheVariants as commands
 use Rattle.command_line.specs.declared.command.Bound.{Bound as BoundWords}
 use Rattle.command_line.specs.declared.command.Solve.{Solve as SolveTask}
 use Rattle.command_line.specs.declared.command.Migrate.{Migrate as MigrateTask}
+use Rattle.command_line.specs.declared.command.Verify.{Verify as VerifyTask}
 use Rattle.command_line.specs.Words.{reading}
 use Rattle.command_line.specs.declared.command.Show.{Show as ShowWords}
 use Rattle.command_line.specs.declared.command.Advise.{Advise as AdviseWords}
-use Rattle.command_line.specs.Right.{IsName, IsRightSolve, IsRightMigrate}
+use Rattle.command_line.specs.Right.{IsName, IsRightSolve, IsRightMigrate, IsRightVerify}
 use Rattle.word_forms.specs.Clap.{bytes_of}
 use Rattle.cube_actions.specs.Stakes.{cubeless}
 use Rattle.turn_rule.specs.Turn.{rounds}
@@ -31,7 +32,7 @@ use Rattle.top_call.specs.declared.task.AdviseTask.{AdviseTask}
 use Rattle.top_call.specs.declared.task.BoundTask.{BoundTask}
 use Rattle.top_call.specs.declared.task.ShowTask.{ShowTask}
 use Rattle.top_call.specs.declared.task.Task.{Task}
-use Rattle.top_call.specs.declared.task.Task.TheVariants.{Bound, Solve, Show, Migrate, Advise}
+use Rattle.top_call.specs.declared.task.Task.TheVariants.{Bound, Solve, Show, Migrate, Advise, Verify}
 
 -- a game without a cube, by its checkers
 abbrev pub cubeless_game : ℕ → GameName
@@ -76,6 +77,7 @@ with_words (Ok (commands.Solve solve)) = Ok (Solve solve)
 with_words (Ok (commands.Show show)) = with_shown show (read_position show.position)
 with_words (Ok (commands.Migrate migrate)) = Ok (Migrate migrate)
 with_words (Ok (commands.Advise advise)) = with_advised advise (read_position advise.position)
+with_words (Ok (commands.Verify verify)) = Ok (Verify verify)
 with_words (Err bad) = Err (Words bad)
 
 -- the words are read first, then a position, and then its number of checkers is compared
@@ -116,6 +118,12 @@ IfAdvise (Ok (Advise task)) P = P task
 IfAdvise (Ok _) P = Unit {0}
 IfAdvise (Err refusal) P = Unit {0}
 
+-- where a file's words are to be checked
+abbrev pub IfVerify : Result Task Refusal → (VerifyTask → Type 0) → Type 0
+IfVerify (Ok (Verify task)) P = P task
+IfVerify (Ok _) P = Unit {0}
+IfVerify (Err refusal) P = Unit {0}
+
 -- a live position
 pub record IsRightBound (task : BoundTask) : Type 0 where
   pub position : IsPosition task.position
@@ -144,3 +152,4 @@ IsRightTask (Solve task) = IsRightSolve task
 IsRightTask (Show task) = IsRightShow task
 IsRightTask (Migrate task) = IsRightMigrate task
 IsRightTask (Advise task) = IsRightAdvise task
+IsRightTask (Verify task) = IsRightVerify task

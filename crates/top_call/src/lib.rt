@@ -14,6 +14,8 @@ mod task;
 #[cfg(test)]
 mod tests;
 mod top;
+mod verify;
+mod verify_laws;
 
 pub use advise::{AskedKind, FoundAdvice, FoundRanking, OpenedFile};
 pub use advise_laws::{
@@ -25,3 +27,4 @@ pub use put::DONE;
 pub use show::{Rows, Shown};
 pub use task::{AdviseTask, BoundTask, ShowTask, Task, read_task};
 pub use top::run;
+pub use verify_laws::solved_files_are_consistent;

@@ -5,7 +5,9 @@ ghost use Rattle.command_line.specs.Right.{IsRightAdvise, IsRightShow};
 ghost use Rattle.top_call.specs.Tasks.{IsRightTask, asked, fitting, roll_given, with_advised, with_position, with_shown};
 ghost use Rattle.top_call.specs.Runs.{IsDue};
 
-use command_line::{Advise, Bound, Command, Migrate, Show, Solve, Text, WordsStop, read_words};
+use command_line::{
+    Advise, Bound, Command, Migrate, Show, Solve, Text, Verify, WordsStop, read_words,
+};
 use cube_actions::{KindName, StakesName};
 use equity_report::{GameName, Refusal, Wanted};
 use position_rank::{Position, read_position};
@@ -47,6 +49,7 @@ pub enum Task {
     Show(ShowTask),
     Migrate(Migrate),
     Advise(AdviseTask),
+    Verify(Verify),
 }
 
 /// Reads the words, then a position, then a roll, and compares its number of checkers with that of the words.
@@ -58,6 +61,7 @@ pub fn read_task(alloc: Global, words: &[String]) -> Result<Task, Refusal>
         Ok(Command::Bound(bound)) => bound_task(&bound),
         Ok(Command::Solve(solve)) => Ok(Task::Solve(solve)),
         Ok(Command::Migrate(migrate)) => Ok(Task::Migrate(migrate)),
+        Ok(Command::Verify(verify)) => Ok(Task::Verify(verify)),
         Ok(Command::Show(show)) => show_task(show),
         Ok(Command::Advise(advise)) => advise_task(advise),
         Err(WordsStop::Bad(bad)) => Err(Refusal::Words(bad)),

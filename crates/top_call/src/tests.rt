@@ -7,6 +7,7 @@ mod advice;
 mod files;
 mod meeting;
 mod shows;
+mod verifies;
 
 fn owned(alloc: Global, words: &[&str]) -> Result<Vec<String>, AllocError> {
     let mut all = Vec::new(alloc);
@@ -17,7 +18,7 @@ fn owned(alloc: Global, words: &[&str]) -> Result<Vec<String>, AllocError> {
 }
 
 // The words, the status, and all that is put.
-const ROWS: [(&[&str], u8, &str); 36] = [
+const ROWS: [(&[&str], u8, &str); 38] = [
     (
         &["bound", "1", "1", "24 / 24"],
         0,
@@ -130,6 +131,12 @@ const ROWS: [(&[&str], u8, &str); 36] = [
     (&["show", "x", "6 / 1"], 3, "refused 3 missing x\n"),
     (&["migrate", "x", "x"], 1, "refused 1 words value 2\n"),
     (&["migrate", "x", "y"], 3, "refused 3 missing x\n"),
+    (&["verify", "x"], 3, "refused 3 missing x\n"),
+    (
+        &["verify", "c1", "--workers", "65"],
+        1,
+        "refused 1 words value 2\n",
+    ),
 ];
 
 #[test]

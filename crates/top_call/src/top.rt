@@ -4,10 +4,11 @@ ghost use Rattle.hyper_outside.specs.Files.{KeepsOthers, SameFiles};
 ghost use Rattle.equity_report.specs.declared.refusal.Refusal.TheVariants.{Memory, Read, Write};
 ghost use Rattle.equity_report.specs.Refusals.{status_of, refusal_text};
 ghost use Rattle.top_call.specs.Advises.{HasAdvised, WasNotAdvised};
-ghost use Rattle.top_call.specs.Tasks.{IfAdvise, IfBound, IfMigrate, IfShow, IfSolve, asked, bound_report};
+ghost use Rattle.top_call.specs.Tasks.{IfAdvise, IfBound, IfMigrate, IfShow, IfSolve, IfVerify, asked, bound_report};
 ghost use Rattle.top_call.specs.Loads.{WasNotLoaded};
 ghost use Rattle.top_call.specs.Migrates.{HasMigrated, HasStoppedMigrating};
 ghost use Rattle.top_call.specs.Shows.{HasShown, WasNotShown};
+ghost use Rattle.top_call.specs.Verifies.{HasVerified, WasNotVerified};
 ghost use Rattle.top_call.specs.Runs.{Ends, IsPut, WasPut, FailedThenPut};
 ghost use Rattle.top_call.specs.Truth.{PutsEnclosingPair};
 ghost use Rattle.top_call.specs.Solves.{HasSolved, HasStopped};
@@ -19,6 +20,7 @@ use crate::put::refuse;
 use crate::show::run_show;
 use crate::solve::run_solve;
 use crate::task::{Task, read_task};
+use crate::verify::run_verify;
 use hyper_outside::{Files, Gate, Sink};
 use std::alloc::Global;
 use std::thread::Threads;
@@ -32,15 +34,17 @@ use std::thread::Threads;
 /// After `migrate` the new file holds the old one's head and words, all of which were right. Of `advise` it is of the plays of a roll, or of what to do
 /// with the cube, by the pairs of the file, whose header and pages are right as far as the advice rests on them; where the file's pairs enclose what
 /// their states are worth exactly in every game of enough turns, the best play, the offer and the answer lose, in every game of enough turns, at
-/// most the bound that is told with each.
+/// most the bound that is told with each. Of `verify` it is of a file whose words are consistent: whoever made it, they enclose every state in games of
+/// any number of turns, and what a choice loses over them encloses what it loses exactly.
 ///
 /// Else the line of one refusal was put, or a front of it where that failed, each only where the ones before don't come: 1 comes where the words are
-/// outside their form; 2 where a position's text is, or else a roll's; 10 where `bound` asks for another number of checkers than its position has; 3 where a file that
-/// is to be read isn't there; 4 where it isn't a file of bounds, of `show` and `advise` up to its pages; 10 where these are asked for a position
-/// of another number of checkers, or `advise` for a kind that the game hasn't; 4 where the page of the position isn't right, or of `advise` that of a
-/// state on which the advice rests. 6 comes only where reading a file failed, 7 only where writing a file or the output
-/// failed, 8 where there was no memory. At 7 a front of the report may stand before the line, and the file in work holds what it held or a front of
-/// its text. At all others no file changed.
+/// outside their form; 2 where a position's text is, or else a roll's; 10 where `bound` asks for another number of checkers than its position has; 3
+/// where a file that is to be read isn't there; 4 where it isn't a file of bounds, of `show` and `advise` up to its pages; 10 where these are asked for
+/// a position of another number of checkers, or `advise` for a kind that the game hasn't; 4 where the page of the position isn't right, or of `advise`
+/// that of a state on which the advice rests; 9 where the words of a file that `verify` checks aren't consistent, with the first that doesn't hold by
+/// rising live rank, then by kind, the lower word before the upper one. 6 comes only where reading a file failed, 7 only where writing a file or the
+/// output failed, 8 where there was no memory. At 7 a front of the report may stand before the line, and the file in work holds what it held or a front
+/// of its text. At all others no file changed.
 pub fn run<R: Threads + Sync, F: Files, O: Sink, G: Gate + Sync>(
     rt: &R,
     alloc: Global,
@@ -141,6 +145,26 @@ pub fn run<R: Threads + Sync, F: Files, O: Sink, G: Gate + Sync>(
         → IfAdvise (asked words.now)
         (λ task. SameFiles (F.held files.old) (F.held files.new)) }
 
+    // A file whose words are checked.
+    ensures verified { result ≡ 0
+        → IfVerify (asked words.now)
+        (λ task. HasVerified task (F.tells files.old) (F.held files.old task.file)
+        (λ text. IsPut (O.output out.old) (O.output out.new) text)) }
+    ensures not_told { result ≡ status_of Write
+        → IfVerify (asked words.now)
+        (λ task. HasVerified task (F.tells files.old) (F.held files.old task.file)
+        (λ text. FailedThenPut (O.output out.old) (O.output out.new) text (refusal_text Write))) }
+    ensures not_verified { result ≢ 0 → result ≢ status_of Write
+        → IfVerify (asked words.now)
+        (λ task. WasNotVerified task.file (F.tells files.old) (F.held files.old task.file)
+        (O.output out.old) (O.output out.new) result) }
+    ensures verify_cause { IfVerify (asked words.now)
+        (λ task. result ≡ status_of Write
+        → Rose (O.output out.old).faults (O.output out.new).faults) }
+    ensures verify_files { IsTrue (F.tells files.old)
+        → IfVerify (asked words.now)
+        (λ task. SameFiles (F.held files.old) (F.held files.new)) }
+
     // What is told of faults, and which files stay.
     ensures cause { result ≡ status_of Write
         → Rose (F.write_faults files.old) (F.write_faults files.new)
@@ -163,6 +187,7 @@ pub fn run<R: Threads + Sync, F: Files, O: Sink, G: Gate + Sync>(
         Ok(Task::Show(task)) => run_show(alloc, &task, files, out),
         Ok(Task::Migrate(task)) => run_migrate(alloc, &task, files, out),
         Ok(Task::Advise(task)) => run_advise(alloc, &task, files, out),
+        Ok(Task::Verify(task)) => run_verify(rt, alloc, &task, files, out),
         Err(refusal) => refuse(out, &refusal),
     }
 }

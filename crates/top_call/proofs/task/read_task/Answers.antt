@@ -15,3 +15,6 @@ returns-in-Ok-Migrate-clause-right c = subst IsRightCommand c.in-Ok-Migrate.fiel
 
 pub advise_task-requires : goal.advise_task-requires
 advise_task-requires c = subst IsRightCommand c.in-Ok-Advise.field-0-is (command-right (bytes_of c.args.words.now) c.in-Ok-Advise.field-0 c.in-Ok-Advise.ensures)
+
+pub returns-in-Ok-Verify-clause-right : goal.returns-in-Ok-Verify-clause-right
+returns-in-Ok-Verify-clause-right c = subst IsRightCommand c.in-Ok-Verify.field-0-is (command-right (bytes_of c.args.words.now) c.in-Ok-Verify.field-0 c.in-Ok-Verify.ensures)

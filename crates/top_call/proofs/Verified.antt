@@ -1,0 +1,121 @@
+-- What is known of words that were checked, and of a file that wasn't found to be consistent.
+use Rattle.std.proofs.Common.{◌≡◌, List, ℕ, neg_ℤ, Bool, IsTrue, Option, Some, None, Result, Ok, Err, sym, ap, subst, arith}
+use Rattle.hyper_outside.specs.Files.{Contents}
+use Rattle.hyper_outside.specs.Sink.{Output}
+use Rattle.position_rank.specs.Placement.{Placement}
+use Rattle.directed_fixed.specs.declared.bounds.End.TheVariants.{Lower, Upper}
+use Rattle.turn_rule.specs.declared.game.Game.{Game}
+use Rattle.turn_rule.specs.Games.{IsGame, kinds_of}
+use Rattle.turn_rule.specs.States.{IsState}
+use Rattle.turn_rule.specs.Turn.{Words}
+use Rattle.turn_rule.specs.Exact.{Scoring}
+use Rattle.turn_rule.specs.Truth.{AreConsistent, AreEnclosing, Encloses, IsScoring, IsScoringWithin}
+use Rattle.turn_rule.proofs.Fractions.{bound-looser}
+use Rattle.game_record.specs.declared.decision.Choice.{Choice}
+use Rattle.play_analyser.specs.Choices.{IsChoice}
+use Rattle.play_analyser.specs.Regrets.{counted_over, loss_of, regret_of}
+use Rattle.interval_words.specs.Numbers.{state_of}
+use Rattle.interval_words.specs.WordLists.{WordList, AreRight, words_in_list}
+use Rattle.interval_words.proofs.Places.{state-in}
+use Rattle.database_file.specs.Bases.{AnswersBase}
+use Rattle.database_file.specs.FileBases.{FileBase}
+use Rattle.database_file.specs.Faults.{Read as FileRead}
+use Rattle.base_verify.specs.Findings.{AlwaysEnclose}
+use Rattle.equity_report.specs.declared.refusal.Refusal.{Refusal}
+use Rattle.equity_report.specs.declared.refusal.Refusal.TheVariants.{Words as BadWords, Position, Missing, File, Read, Write, Memory, Base, Roll, Inconsistent}
+use Rattle.equity_report.specs.Refusals.{status_of, refusal_text}
+use Rattle.top_call.specs.declared.task.Task.{Task}
+use Rattle.top_call.specs.declared.task.Task.TheVariants.{Bound, Solve, Show, Migrate, Advise, Verify}
+use Rattle.top_call.specs.Loads.{OfFile, RefusesLoading}
+use Rattle.top_call.specs.Runs.{IsDue, WasPut}
+use Rattle.top_call.specs.Tasks.{IfVerify}
+use Rattle.top_call.specs.Verifies.{AnswersCheck, AreVerified, LossesEnclose, RefusesVerifying, WasNotVerified}
+use Rattle.top_call.proofs.Loaded.{of-file}
+
+-- an unfinished end that lies in the pair of its own state lies within the bound
+within-stakes : (words : WordList) → AreRight words → (scoring : Scoring) → IsScoringWithin words.game (words_in_list words) scoring → IsScoring words.game scoring
+within-stakes words right scoring within = record {
+  scale = within.scale;
+  wins = within.wins;
+  passes = within.passes;
+  unfinished = λ p k state.
+      let inside = right.within (state_of (kinds_of words.game) p k) (state-in words.game.checkers (kinds_of words.game) p k state) in
+      let encloses = within.unfinished p k state in
+      record {
+        lower = bound-looser Lower (words_in_list words Lower p k) (neg_ℤ words.game.stakes.bound) (scoring.unfinished p k) scoring.scale inside.from encloses.lower;
+        upper = bound-looser Upper (words_in_list words Upper p k) words.game.stakes.bound (scoring.unfinished p k) scoring.scale inside.to encloses.upper;
+      };
+}
+
+-- the law on losses, of a game
+abbrev Law : Game → Type 0
+Law game =
+    (scoring : Scoring) → IsScoring game scoring
+    → (turns : ℕ) (u : Words) → AreEnclosing game scoring turns u
+    → (p : Placement) (k : ℕ) → IsState game p k
+    → (choice : Choice) → IsChoice game.stakes p k choice
+    → Encloses (loss_of game.stakes u p k choice) (regret_of game.stakes scoring turns p k choice) (counted_over scoring turns choice)
+
+losses : (words : WordList) → AreRight words → Law words.game → AlwaysEnclose words → LossesEnclose words
+losses words right law enclosing scoring within turns =
+    law scoring (within-stakes words right scoring within) turns (words_in_list words) (enclosing scoring within turns)
+
+pub verified : (words : WordList) → AreRight words → Law words.game → AreConsistent words.game (words_in_list words) → AlwaysEnclose words → AreVerified words
+verified words right law consistent enclosing = record { consistent = consistent; enclosing = enclosing; losses = losses words right law enclosing }
+
+-- a file that can't be loaded can't be found to be consistent
+pub refuses-verifying : (name : List ℕ) (refusal : Refusal) (file : Option FileRead) → RefusesLoading name refusal file → RefusesVerifying name refusal file
+refuses-verifying name (BadWords bad) file r = r
+refuses-verifying name (Position bad) file r = r
+refuses-verifying name (Missing missing) file r = r
+refuses-verifying name (File bad) file r = r
+refuses-verifying name Read file r = r
+refuses-verifying name Write file r = r
+refuses-verifying name Memory file r = r
+refuses-verifying name (Base wanted found) file r = r
+refuses-verifying name (Roll bad) file r = r
+refuses-verifying name (Inconsistent unheld) file r = absurd r
+
+-- what checking refuses of a base that was read from a file
+pub check-refuses : (name : List ℕ) (base : FileBase) (file : Option FileRead) → AnswersBase file (Ok base) → (refusal : Refusal) → AnswersCheck base (Err refusal) → RefusesVerifying name refusal file
+check-refuses name base file read (BadWords bad) is = absurd (omega (arith, ap status_of is))
+check-refuses name base file read (Position bad) is = absurd (omega (arith, ap status_of is))
+check-refuses name base file read (Missing missing) is = absurd (omega (arith, ap status_of is))
+check-refuses name base file read (File bad) is = absurd (omega (arith, ap status_of is))
+check-refuses name base file read Read is = absurd (omega (arith, ap status_of is))
+check-refuses name base file read Write is = absurd (omega (arith, ap status_of is))
+check-refuses name base file read Memory is = tt
+check-refuses name base file read (Base wanted found) is = absurd (omega (arith, ap status_of is))
+check-refuses name base file read (Roll bad) is = absurd (omega (arith, ap status_of is))
+check-refuses name base file read (Inconsistent unheld) is = record { base = base; read = read; is = is }
+
+-- where a file's words are to be checked and there was no memory for the program's words, nothing is known of it
+module _ (told : Bool) (held : Contents) (old new : Output) (status : ℕ) where
+  abbrev Unread : Result Task Refusal → Type 0
+  Unread expected = IfVerify expected (λ task. WasNotVerified task.file told (held task.file) old new status)
+
+  no-memory : (expected : Result Task Refusal) → status ≡ status_of Memory → WasPut old new (refusal_text Memory) → Unread expected
+  no-memory (Err refusal) is put = tt
+  no-memory (Ok (Bound task)) is put = tt
+  no-memory (Ok (Solve task)) is put = tt
+  no-memory (Ok (Show task)) is put = tt
+  no-memory (Ok (Migrate task)) is put = tt
+  no-memory (Ok (Advise task)) is put = tt
+  no-memory (Ok (Verify task)) is put = record {
+    refusal = Memory;
+    cause = of-file told (held task.file) (RefusesVerifying task.file Memory) (λ _. tt) (None, tt);
+    line = put;
+    is_status = is;
+  }
+
+  pub unread-verify : (expected : Result Task Refusal) (refusal : Refusal) → IsDue expected (Err refusal) → status ≡ status_of refusal → WasPut old new (refusal_text refusal) → Unread expected
+  unread-verify expected (BadWords bad) due is put = subst Unread (sym due) tt
+  unread-verify expected (Position bad) due is put = subst Unread (sym due) tt
+  unread-verify expected (Missing missing) due is put = subst Unread (sym due) tt
+  unread-verify expected (File bad) due is put = subst Unread (sym due) tt
+  unread-verify expected Read due is put = subst Unread (sym due) tt
+  unread-verify expected Write due is put = subst Unread (sym due) tt
+  unread-verify expected Memory due is put = no-memory expected is put
+  unread-verify expected (Base wanted found) due is put = subst Unread (sym due) tt
+  unread-verify expected (Roll bad) due is put = subst Unread (sym due) tt
+  unread-verify expected (Inconsistent unheld) due is put = subst Unread (sym due) tt

@@ -1,0 +1,135 @@
+ghost use Rattle.std.specs.Prelude.{◌≡◌, ◌≢◌, ◌⊎◌, ◌≤◌, IsTrue, IfErr, Err};
+ghost use Rattle.hyper_outside.specs.Causes.{Rose};
+ghost use Rattle.hyper_outside.specs.Files.{SameFiles};
+ghost use Rattle.hyper_outside.specs.Sink.{Puts};
+ghost use Rattle.turn_rule.specs.States.{IsState};
+ghost use Rattle.equity_report.specs.declared.refusal.Refusal.TheVariants.{Read, Write};
+ghost use Rattle.equity_report.specs.Refusals.{status_of, refusal_text};
+ghost use Rattle.command_line.specs.Right.{IsRightVerify};
+ghost use Rattle.top_call.specs.Runs.{EndsVerifying, FailedThenPut, IsOfVerifying, IsPut};
+ghost use Rattle.top_call.specs.Verifies.{AnswersCheck, AnswersVerify, HasVerified, TellsFinding, WasNotVerified, verified_report};
+
+use crate::load::{game_told, refusal_of};
+use crate::put::{DONE, refuse};
+use base_head::{Head, Header};
+use base_verify::{Finding, VerifyStop, findings_tell_inconsistency, verify};
+use command_line::Verify;
+use database_file::{Base, load_base};
+use equity_report::{Refusal, Unheld, write_verified};
+use hyper_outside::{Failed, Files, Sink};
+use play_analyser::losses_enclose_regrets;
+use std::alloc::Global;
+use std::thread::Threads;
+use word_pages::Version;
+
+/// What is told of a finding in a loaded file.
+fn unheld_of(base: &Base, finding: &Finding) -> Unheld
+    requires { IsState base.now.words.game finding.now.position finding.now.kind }
+    ensures { TellsFinding base.now.head finding.now result }
+{
+    let stakes = base.head().stakes();
+    Unheld {
+        side: finding.side,
+        kind: stakes.kind_name(finding.kind),
+        stored: finding.stored,
+        computed: finding.computed,
+        position: finding.position,
+    }
+}
+
+/// Nothing, where the words of a loaded file are consistent, else the refusal that tells the first one that doesn't hold. It asks for
+/// memory, and may answer that refusal.
+fn check<R: Threads + Sync>(
+    rt: &R,
+    alloc: Global,
+    base: &Base,
+    workers: u32,
+) -> Result<(), Refusal>
+    requires workers { (1 ≤ workers) × (workers ≤ 64) }
+    ensures told { AnswersCheck base.now result }
+    ensures kinds { IfErr result IsOfVerifying }
+    ensures unread { result ≢ Err Read }
+{
+    base.words().right();
+    findings_tell_inconsistency();
+    losses_enclose_regrets();
+    match verify(rt, alloc, base, workers) {
+        Ok(()) => Ok(()),
+        Err(VerifyStop::Inconsistent(finding)) => {
+            Err(Refusal::Inconsistent(unheld_of(base, &finding)))
+        }
+        Err(VerifyStop::NoMemory) => Err(Refusal::Memory),
+    }
+}
+
+/// What a file holds whose words are consistent, or what refuses it: it can't be loaded, or they aren't.
+fn load_verified<R: Threads + Sync, F: Files>(
+    rt: &R,
+    alloc: Global,
+    task: &Verify,
+    files: &mut F,
+) -> Result<Base, Refusal>
+    requires { IsRightVerify task.now }
+    ensures told { AnswersVerify task.now.file (F.tells files.old)
+        (F.held files.old task.now.file) result }
+    ensures same { IsTrue (F.tells files.old)
+        → SameFiles (F.held files.old) (F.held files.new) }
+    ensures cause { result ≡ Err Read
+        → Rose (F.read_faults files.old) (F.read_faults files.new) }
+    ensures kinds { IfErr result IsOfVerifying }
+{
+    let name = task.file.as_str();
+    let base = match load_base(alloc, files, name) {
+        Ok(base) => base,
+        Err(stop) => return Err(refusal_of(stop, name)),
+    };
+    match check(rt, alloc, &base, task.workers) {
+        Ok(()) => Ok(base),
+        Err(refusal) => Err(refusal),
+    }
+}
+
+/// Puts the report on a file with this head.
+fn report<O: Sink>(head: &Head, out: &mut O) -> Result<(), Failed>
+    ensures { Puts (O.output out.old) (O.output out.new) (verified_report head.now) result }
+{
+    let positions = Header::of(head, Version::Two).positions;
+    write_verified(out, game_told(head), head.rounds(), positions)
+}
+
+/// Loads a file, checks its words by some workers and puts the report, or a refusal where the file isn't right, its words aren't
+/// consistent, one of these fails or there is no memory.
+pub(crate) fn run_verify<R: Threads + Sync, F: Files, O: Sink>(
+    rt: &R,
+    alloc: Global,
+    task: &Verify,
+    files: &mut F,
+    out: &mut O,
+) -> u8
+    requires { IsRightVerify task.now }
+    ensures ends { EndsVerifying result }
+    ensures verified { result ≡ 0 → HasVerified task.now (F.tells files.old)
+        (F.held files.old task.now.file)
+        (λ text. IsPut (O.output out.old) (O.output out.new) text) }
+    ensures stopped { result ≡ status_of Write → HasVerified task.now (F.tells files.old)
+        (F.held files.old task.now.file)
+        (λ text. FailedThenPut (O.output out.old) (O.output out.new) text (refusal_text Write)) }
+    ensures refused { result ≢ 0 → result ≢ status_of Write
+        → WasNotVerified task.now.file (F.tells files.old) (F.held files.old task.now.file)
+        (O.output out.old) (O.output out.new) result }
+    ensures read_cause { result ≡ status_of Read
+        → Rose (F.read_faults files.old) (F.read_faults files.new) }
+    ensures write_cause { result ≡ status_of Write
+        → Rose (O.output out.old).faults (O.output out.new).faults }
+    ensures same { IsTrue (F.tells files.old)
+        → SameFiles (F.held files.old) (F.held files.new) }
+{
+    let base = match load_verified(rt, alloc, task, files) {
+        Ok(base) => base,
+        Err(refusal) => return refuse(out, &refusal),
+    };
+    match report(base.head(), out) {
+        Ok(()) => DONE,
+        Err(Failed) => refuse(out, &Refusal::Write),
+    }
+}
