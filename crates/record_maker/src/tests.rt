@@ -1,3 +1,5 @@
+ghost use Rattle.std.specs.Prelude.{◌≤◌};
+
 use super::*;
 use crate::state::Maker;
 use game_record::{Ending, print_record, read_record, replay};
@@ -22,7 +24,10 @@ B 52 24/19 19/17\nA 53 24/19 19/16\nB 62 17/11 11/9*\nA 64 bar/19 19/15\n\
 B 22 9/7 7/5 5/3 3/1\nA 32 15/12 12/10\nB 43 1/off\nend B 1\nclose\n";
 
 /// The text of the record of a number and a count of games.
-fn made_text(rt: &(impl AllocGlobal + Abort), number: u64, games: u32) -> Vec<u8> {
+fn made_text(rt: &(impl AllocGlobal + Abort), number: u64, games: u32) -> Vec<u8>
+    requires from { 1 ≤ games }
+    requires to { games ≤ 1000 }
+{
     let rec = make_record(rt.alloc(), number, games).expect(rt, "memory");
     print_record(rt.alloc(), &rec).expect(rt, "memory")
 }
@@ -74,11 +79,13 @@ fn a_thousand_games_are_right(rt: HostRuntime) {
 fn too_much_text_ends_a_record(rt: HostRuntime) {
     let mut maker = Maker::first(7);
     maker.size.lines = 59_999;
+    assert!(rt; !maker.size.is_full());
     let game = maker.make_game(rt.alloc(), 0).expect(&rt, "memory");
     assert_eq!(rt; (game.actions.len(), game.ending), (1, Ending::Stopped));
     assert!(rt; maker.size.is_full());
     let mut maker = Maker::first(7);
     maker.size.bytes = 999_999;
+    assert!(rt; !maker.size.is_full());
     let game = maker.make_game(rt.alloc(), 0).expect(&rt, "memory");
     assert_eq!(rt; (game.actions.len(), game.ending), (1, Ending::Stopped));
 }
