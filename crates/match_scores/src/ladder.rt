@@ -130,7 +130,15 @@ pub fn solve_ladder<R: Threads + Sync, G: Gate + Sync, K: Keep>(
     let mut starts = Starts::new(match_length);
     for score in ladder(match_length).as_slice() {
         if let Err(stop) = take_score(
-            rt, alloc, checkers, *score, &mut starts, rounds, workers, gate, keep,
+            rt,
+            alloc,
+            checkers,
+            *score,
+            &mut starts,
+            rounds,
+            workers,
+            gate,
+            keep,
         ) {
             return Err(stop);
         }
