@@ -6,3 +6,4 @@ pub mod MatchPayoffs
 pub mod OneScore
 pub mod TighterStarts
 pub mod WholeLadder
+pub mod Handing

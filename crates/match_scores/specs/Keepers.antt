@@ -6,6 +6,8 @@ use Rattle.cube_actions.specs.Starts.{StartPairs}
 use Rattle.hyper_outside.specs.Causes.{Rose}
 use Rattle.interval_words.specs.WordLists.{WordList}
 use Rattle.match_scores.specs.Ladders.{score_at, AreWordsOf, IsSolved, IsLadder}
+use Rattle.match_scores.specs.declared.ladder.LadderStop.{LadderStop}
+use Rattle.match_scores.specs.declared.ladder.LadderStop.TheVariants.{Keep}
 
 -- What contracts see of a keeper: which ladder it is for, how many scores it has kept, whether it has failed, and how often the calls of the
 -- outside have failed by which it may, the one kind and the other.
@@ -77,6 +79,13 @@ pub record HasKept (many : ℕ) (keeper : Keeper) : Type 0 where
 pub record IsSolvedSoFar (checkers match_length r : ℕ) (starts : StartPairs) : Type 0 where
   pub of_length : starts.match_length ≡ match_length
   pub solved : (words : ℕ → WordList) × IsSolved checkers r starts words
+
+-- Scores were handed to a keeper. It has failed exactly where that is answered, and then one of its counts rose.
+pub record HandsOver {T : Type 0} (old new : Keeper) (result : Result T LadderStop) : Type 0 where
+  pub same : IsForSame old new
+  pub counts : CountsOn old new
+  pub failed : IsErrOf result Keep ↔ (new.failed ≡ true)
+  pub cause : IsErrOf result Keep → EitherRose old new
 
 -- the start pairs of a whole ladder, which are those of words of each of its scores: they are true and tight
 pub record IsWholeLadder (checkers match_length r : ℕ) (starts : StartPairs) : Type 0 where

@@ -3,6 +3,7 @@
 
 mod examples;
 mod keep;
+mod ladder;
 mod ladder_laws;
 mod openings;
 mod score_laws;
@@ -10,6 +11,7 @@ mod start_laws;
 
 pub use examples::{exact_start_examples, exact_win_examples, start_examples};
 pub use keep::Keep;
+pub use ladder::{LadderStop, solve_ladder};
 pub use ladder_laws::solved_ladders_are_true_and_tight;
 pub use openings::start_pair;
 pub use score_laws::{
