@@ -31,6 +31,7 @@ use Rattle.equity_report.specs.declared.refusal.Refusal.TheVariants.{Words as Ba
 use Rattle.equity_report.specs.declared.refusal.Wanted.TheVariants.{Checkers}
 use Rattle.top_call.specs.declared.task.ShowTask.{ShowTask}
 use Rattle.top_call.specs.Loads.{TellsStop, game_told}
+use Rattle.top_call.specs.Runs.{IsOfShowing}
 use Rattle.top_call.specs.Shows.{AnswersRows, IsShown, RefusesShowing, look_refusal, rows_from, words_in_file}
 
 refuses : (task : ShowTask) (held : Option (List ℕ)) (refusal due : Refusal) → refusal ≡ due → RefusesShowing task due held → RefusesShowing task refusal held
@@ -112,3 +113,9 @@ not-found task (Some bytes) base (looks.BadPage fault at) a fits told = inr (rec
 pub same-file : (header : Header) (held after : Contents) (name other : List ℕ) (p : Placement) (result : Result (Rattle.arrayvec.specs.ArrayVec.ArrayVec KindRow) LookStop) → other ≡ name → after name ≡ held name → AnswersRows header (after other) p result → AnswersRows header (held name) p result
 same-file header held after name other p result is same told =
     subst (λ (file : Option (List ℕ)). AnswersRows header file p result) same (subst (λ (n : List ℕ). AnswersRows header (after n) p result) is told)
+
+-- a look-up that stopped is refused as showing may be
+pub look-shows : (stop : LookStop) → IsOfShowing (look_refusal stop)
+look-shows looks.ReadFault = tt
+look-shows (looks.BadPage fault at) = tt
+look-shows looks.NoMemory = tt

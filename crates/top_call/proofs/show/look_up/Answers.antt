@@ -2,7 +2,7 @@ use Rattle.std.proofs.Common.{◌≡◌, ◌∙◌, IsTrue, Err, sum, sym, subst
 use Rattle.base_head.specs.Heads.{FileHead}
 use Rattle.equity_report.specs.declared.text.GameName.{GameName}
 use Rattle.top_call.specs.Loads.{game_told}
-use Rattle.top_call.proofs.ShowLaws.{not-found, not-opened, other-game, same-file, shown-told}
+use Rattle.top_call.proofs.ShowLaws.{look-shows, not-found, not-opened, other-game, same-file, shown-told}
 use Rattle.top_call.proofs.show.look_up.Goals as goal
 
 pub returns-in-Err-clause-told : goal.returns-in-Err-clause-told
@@ -38,3 +38,6 @@ returns-clause-told g c told =
     (rw (c.as_str-name.ensures) at c.in-Ok.ensures.told told) fits
     (same-file base.header (g.F.Files.held c.args.files.now) (g.F.Files.held c.open_paged.new.files) c.args.task.now.file base.name c.args.task.now.position (Err c.in-Err-rows_of.stop)
     (c.in-Ok.ensures.name ∙ c.as_str-name.ensures) (c.in-Ok.ensures.same told c.args.task.now.file) (c.in-Err-rows_of.ensures.told (subst IsTrue (sym c.in-Ok.ensures.tells) told))))
+
+pub returns-clause-kinds : goal.returns-clause-kinds
+returns-clause-kinds g c = rw (c.look_refusal.ensures) (look-shows c.in-Err-rows_of.stop)
