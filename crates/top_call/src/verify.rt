@@ -39,12 +39,7 @@ fn unheld_of(base: &Base, finding: &Finding) -> Unheld
 
 /// Nothing, where the words of a loaded file are consistent, else the refusal that tells the first one that doesn't hold. It asks for
 /// memory, and may answer that refusal.
-fn check<R: Threads + Sync>(
-    rt: &R,
-    alloc: Global,
-    base: &Base,
-    workers: u32,
-) -> Result<(), Refusal>
+fn check<R: Threads + Sync>(rt: &R, alloc: Global, base: &Base, workers: u32) -> Result<(), Refusal>
     requires workers { (1 ≤ workers) × (workers ≤ 64) }
     ensures told { AnswersCheck base.now result }
     ensures kinds { IfErr result IsOfVerifying }
