@@ -82,6 +82,7 @@ fn take_score<R: Threads + Sync, G: Gate + Sync, K: Keep>(
     opening_plays_go_on();
     wins_lead_down_the_ladder();
     ladders_are_exact();
+    // What `match_length` ensures says that the start pairs so far are those of a match.
     let _length = starts.match_length();
     let closed = match solve_score(rt, alloc, checkers, score, starts, rounds, workers, gate) {
         Ok(closed) => closed,

@@ -11,7 +11,8 @@ use move_rules::opening_plays_go_on;
 /// enclose its game and each start pair encloses the start of its score. Start pairs are at least as tight as the plain
 /// ones, and words as the rounds for the stakes of these.
 pub fn solved_ladders_are_true_and_tight()
-    ensures { (checkers r : ℕ) → 1 ≤ checkers → checkers ≤ 3 → (starts : StartPairs) → AreStarts starts
+    ensures { (checkers r : ℕ) → 1 ≤ checkers → checkers ≤ 3
+        → (starts : StartPairs) → AreStarts starts
         → (words : ℕ → WordList) → IsSolved checkers r starts words
         → IsLadder checkers r starts words }
 {

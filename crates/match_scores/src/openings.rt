@@ -127,6 +127,7 @@ pub fn start_pair(score: Score, words: &Words) -> Pair
 {
     words.right();
     opening_plays_go_on();
+    // As in `opened_by`, the stakes have a kind for each name of the score.
     let _kinds = words.stakes().kinds();
     let mut list = PlayList::new();
     let lower = start_at(End::Lower, score, words, &mut list);

@@ -13,8 +13,9 @@ use move_rules::opening_plays_go_on;
 
 /// Tighter words of the game at a score give a start pair that is at least as tight.
 pub fn tighter_words_tighten_starts()
-    ensures { (checkers : ℕ) → 1 ≤ checkers → checkers ≤ 3 → (score : MatchScore) (starts : StartPairs)
-        (u v : Words) → AreNoLooser (game_at checkers score starts) u v
+    ensures { (checkers : ℕ) → 1 ≤ checkers → checkers ≤ 3
+        → (score : MatchScore) (starts : StartPairs) (u v : Words)
+        → AreNoLooser (game_at checkers score starts) u v
         → AreNoLooserPairs (start_over checkers u score) (start_over checkers v score) }
 {
     opening_plays_go_on();
@@ -23,8 +24,8 @@ pub fn tighter_words_tighten_starts()
 /// Words that enclose every state of the game at a score give a start pair that encloses what the near side has of the
 /// game, however it is scored. The opening play isn't one of the turns: values are counted over 30 times as much.
 pub fn words_that_enclose_give_starts_that_enclose()
-    ensures { (checkers : ℕ) → 1 ≤ checkers → checkers ≤ 3 → (score : MatchScore) (starts : StartPairs)
-        (scoring : Scoring) (turns : ℕ) (u : Words)
+    ensures { (checkers : ℕ) → 1 ≤ checkers → checkers ≤ 3
+        → (score : MatchScore) (starts : StartPairs) (scoring : Scoring) (turns : ℕ) (u : Words)
         → AreEnclosing (game_at checkers score starts) scoring turns u
         → Encloses (start_over checkers u score)
         (thirty_starts checkers (exact (game_at checkers score starts).stakes scoring turns) score)
