@@ -5,8 +5,6 @@ use Rattle.roll_table.specs.Rolls.{Dice, IsRoll}
 use Rattle.cube_actions.specs.declared.name.StakesName.{StakesName}
 use Rattle.cube_actions.specs.Names.{names_of}
 use Rattle.hyper_outside.specs.Files.{Contents}
-use Rattle.hyper_outside.specs.Sink.{Gains}
-use Rattle.hyper_outside.specs.declared.outside.Failed.{Failed}
 use Rattle.hyper_outside.specs.declared.outside.LookStop.{LookStop}
 use Rattle.hyper_outside.specs.declared.outside.LookStop.TheVariants as looks
 use Rattle.turn_rule.specs.Games.{IsGame, kinds_of}
@@ -33,16 +31,10 @@ use Rattle.equity_report.specs.declared.refusal.Wanted.TheVariants.{Checkers, Ki
 use Rattle.top_call.specs.declared.advise.AskedKind.{AskedKind}
 use Rattle.top_call.specs.declared.task.AdviseTask.{AdviseTask}
 use Rattle.top_call.specs.Loads.{TellsStop}
-use Rattle.top_call.specs.Runs.{IsTold}
 use Rattle.top_call.specs.Shows.{look_refusal}
 use Rattle.top_call.specs.Tasks.{IsRightAdvise}
 use Rattle.top_call.specs.Advises.{Advises, AnswersAdvice, AnswersAsked, AnswersRanking, AnswersSought, IsOnBadPage, IsStateIn, OfHeld, Ranks, RefusesAdvice, RestsOn, WantsOther}
 use Rattle.top_call.proofs.AdviseLaws.{bad-page, source_in, told_in}
-
--- a text that gained what was put is put
-pub all-told : (old new : Option (List ℕ)) (text : List ℕ) (done : Unit {0}) → Gains {E = Failed} old new text (Ok done) → IsTold old new text
-all-told None new text done gains = gains
-all-told (Some old) new text done gains = gains
 
 refuses : (task : AdviseTask) (held : Option (List ℕ)) (refusal due : Refusal) → refusal ≡ due → RefusesAdvice task due held → RefusesAdvice task refusal held
 refuses task held refusal due is h = subst (λ (r : Refusal). RefusesAdvice task r held) (sym is) h

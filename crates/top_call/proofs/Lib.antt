@@ -9,3 +9,5 @@ mod AdviseFiles
 mod TwoRuns
 mod Verified
 mod SolvedFiles
+mod Telling
+mod Unread

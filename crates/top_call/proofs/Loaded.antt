@@ -8,14 +8,8 @@ use Rattle.database_file.specs.Bases.{AnswersBase}
 use Rattle.database_file.specs.Faults.{Read as FileRead, whole}
 use Rattle.equity_report.specs.declared.refusal.Refusal.{Refusal}
 use Rattle.equity_report.specs.declared.refusal.Refusal.TheVariants.{Words, Position, Missing, File, Read, Write, Memory, Base, Roll, Inconsistent}
-use Rattle.equity_report.specs.Refusals.{status_of, refusal_text}
-use Rattle.hyper_outside.specs.Files.{Contents}
-use Rattle.hyper_outside.specs.Sink.{Output}
-use Rattle.top_call.specs.declared.task.Task.{Task}
-use Rattle.top_call.specs.declared.task.Task.TheVariants.{Bound, Solve, Show, Migrate, Advise, Verify}
-use Rattle.top_call.specs.Loads.{OfFile, TellsStop, RefusesLoading, WasNotLoaded}
-use Rattle.top_call.specs.Runs.{IsDue, WasPut}
-use Rattle.top_call.specs.Tasks.{IfMigrate}
+use Rattle.top_call.specs.Loads.{OfFile, TellsStop, RefusesLoading}
+use Rattle.top_call.specs.Runs.{IsOfLoading}
 
 -- of the file that is held, where files tell what they hold, and else of some file
 pub of-file : (told : Bool) (held : Option (List ℕ)) (P : Option FileRead → Type 0) → (IsTrue told → P (option_map whole held)) → ((file : Option FileRead) × P file) → OfFile told held P
@@ -47,33 +41,18 @@ not-loaded name (Some file) (stops.BadFile bad) refusal a t = refuses name (Some
 not-loaded name (Some file) stops.ReadFault refusal a t = refuses name (Some file) refusal Read t tt
 not-loaded name (Some file) stops.NoMemory refusal a t = refuses name (Some file) refusal Memory t tt
 
--- where a file is to be written anew and there was no memory for the words, nothing is known of it
-module _ (told : Bool) (held : Contents) (old new : Output) (status : ℕ) where
-  abbrev Unread : Result Task Refusal → Type 0
-  Unread expected = IfMigrate expected (λ task. WasNotLoaded task.old told (held task.old) old new status)
-
-  no-memory : (expected : Result Task Refusal) → status ≡ status_of Memory → WasPut old new (refusal_text Memory) → Unread expected
-  no-memory (Err refusal) is put = tt
-  no-memory (Ok (Bound task)) is put = tt
-  no-memory (Ok (Solve task)) is put = tt
-  no-memory (Ok (Show task)) is put = tt
-  no-memory (Ok (Advise task)) is put = tt
-  no-memory (Ok (Verify task)) is put = tt
-  no-memory (Ok (Migrate task)) is put = record {
-    refusal = Memory;
-    cause = of-file told (held task.old) (RefusesLoading task.old Memory) (λ _. tt) (None, tt);
-    line = put;
-    is_status = is;
-  }
-
-  pub unread : (expected : Result Task Refusal) (refusal : Refusal) → IsDue expected (Err refusal) → status ≡ status_of refusal → WasPut old new (refusal_text refusal) → Unread expected
-  unread expected (Words bad) due is put = subst Unread (sym due) tt
-  unread expected (Position bad) due is put = subst Unread (sym due) tt
-  unread expected (Missing missing) due is put = subst Unread (sym due) tt
-  unread expected (File bad) due is put = subst Unread (sym due) tt
-  unread expected Read due is put = subst Unread (sym due) tt
-  unread expected Write due is put = subst Unread (sym due) tt
-  unread expected Memory due is put = no-memory expected is put
-  unread expected (Base wanted found) due is put = subst Unread (sym due) tt
-  unread expected (Roll bad) due is put = subst Unread (sym due) tt
-  unread expected (Inconsistent unheld) due is put = subst Unread (sym due) tt
+-- the refusal of a file that was not loaded is one of loading
+pub loading-kind : (name : List ℕ) (stop : LoadStop) (refusal : Refusal) → TellsStop name stop refusal → IsOfLoading refusal
+loading-kind name stops.Missing (Words bad) t = absurd t
+loading-kind name stops.Missing (Position bad) t = absurd t
+loading-kind name stops.Missing (Missing missing) t = tt
+loading-kind name stops.Missing (File bad) t = tt
+loading-kind name stops.Missing Read t = tt
+loading-kind name stops.Missing Write t = absurd t
+loading-kind name stops.Missing Memory t = tt
+loading-kind name stops.Missing (Base wanted found) t = absurd t
+loading-kind name stops.Missing (Roll bad) t = absurd t
+loading-kind name stops.Missing (Inconsistent unheld) t = absurd t
+loading-kind name (stops.BadFile bad) refusal t = subst IsOfLoading (sym t) tt
+loading-kind name stops.ReadFault refusal t = subst IsOfLoading (sym t) tt
+loading-kind name stops.NoMemory refusal t = subst IsOfLoading (sym t) tt

@@ -20,8 +20,9 @@ use Rattle.command_line.specs.Right.{IsRightSolve}
 use Rattle.equity_report.specs.declared.refusal.Refusal.{Refusal}
 use Rattle.equity_report.specs.declared.refusal.Refusal.TheVariants.{Words, Position, Missing, File, Read, Write, Memory, Base, Roll, Inconsistent}
 use Rattle.equity_report.specs.Refusals.{status_of}
+use Rattle.top_call.specs.Runs.{WasRefused}
 use Rattle.top_call.specs.Solves.{HasSolved, head_of, solved_file}
-use Rattle.top_call.specs.Verifies.{RefusesVerifying, WasNotVerified}
+use Rattle.top_call.specs.Verifies.{MayRefuseVerifying, RefusesVerifying}
 
 -- stakes that aren't a match have no starts
 starts-of : (stakes : StakesName) → ((score : MatchScore) → stakes ≢ Match score) → AreStartsOf stakes no_starts
@@ -72,7 +73,7 @@ abbrev Law : Type 0
 Law = (version : Version) (head : FileHead) (words : WordList) (bytes : List ℕ) → IsText version head words bytes → IsBaseOf (whole bytes) (record { head = head; words = words })
 
 pub solved-consistent : Law → (task : Solve) (held : Option (List ℕ)) (before after old new : Output) (status : ℕ) → IsRightSolve task → HasSolved task true held before after
-    → WasNotVerified task.file true held old new status → (status ≡ status_of Read) ⊎ (status ≡ status_of Memory)
+    → WasRefused (MayRefuseVerifying task.file true held) old new status → (status ≡ status_of Read) ⊎ (status ≡ status_of Memory)
 solved-consistent law task held before after old new status right solved not =
     let words = solved.words in
     let text = solved_file task words in

@@ -1,7 +1,5 @@
 -- What is known of words that were checked, and of a file that wasn't found to be consistent.
 use Rattle.std.proofs.Common.{◌≡◌, List, ℕ, neg_ℤ, Bool, IsTrue, Option, Some, None, Result, Ok, Err, sym, ap, subst, arith}
-use Rattle.hyper_outside.specs.Files.{Contents}
-use Rattle.hyper_outside.specs.Sink.{Output}
 use Rattle.position_rank.specs.Placement.{Placement}
 use Rattle.directed_fixed.specs.declared.bounds.End.TheVariants.{Lower, Upper}
 use Rattle.turn_rule.specs.declared.game.Game.{Game}
@@ -23,14 +21,9 @@ use Rattle.database_file.specs.Faults.{Read as FileRead}
 use Rattle.base_verify.specs.Findings.{AlwaysEnclose}
 use Rattle.equity_report.specs.declared.refusal.Refusal.{Refusal}
 use Rattle.equity_report.specs.declared.refusal.Refusal.TheVariants.{Words as BadWords, Position, Missing, File, Read, Write, Memory, Base, Roll, Inconsistent}
-use Rattle.equity_report.specs.Refusals.{status_of, refusal_text}
-use Rattle.top_call.specs.declared.task.Task.{Task}
-use Rattle.top_call.specs.declared.task.Task.TheVariants.{Bound, Solve, Show, Migrate, Advise, Verify}
+use Rattle.equity_report.specs.Refusals.{status_of}
 use Rattle.top_call.specs.Loads.{OfFile, RefusesLoading}
-use Rattle.top_call.specs.Runs.{IsDue, WasPut}
-use Rattle.top_call.specs.Tasks.{IfVerify}
-use Rattle.top_call.specs.Verifies.{AnswersCheck, AreVerified, LossesEnclose, RefusesVerifying, WasNotVerified}
-use Rattle.top_call.proofs.Loaded.{of-file}
+use Rattle.top_call.specs.Verifies.{AnswersCheck, AreVerified, LossesEnclose, RefusesVerifying}
 
 -- an unfinished end that lies in the pair of its own state lies within the bound
 within-stakes : (words : WordList) → AreRight words → (scoring : Scoring) → IsScoringWithin words.game (words_in_list words) scoring → IsScoring words.game scoring
@@ -88,34 +81,3 @@ check-refuses name base file read Memory is = tt
 check-refuses name base file read (Base wanted found) is = absurd (omega (arith, ap status_of is))
 check-refuses name base file read (Roll bad) is = absurd (omega (arith, ap status_of is))
 check-refuses name base file read (Inconsistent unheld) is = record { base = base; read = read; is = is }
-
--- where a file's words are to be checked and there was no memory for the program's words, nothing is known of it
-module _ (told : Bool) (held : Contents) (old new : Output) (status : ℕ) where
-  abbrev Unread : Result Task Refusal → Type 0
-  Unread expected = IfVerify expected (λ task. WasNotVerified task.file told (held task.file) old new status)
-
-  no-memory : (expected : Result Task Refusal) → status ≡ status_of Memory → WasPut old new (refusal_text Memory) → Unread expected
-  no-memory (Err refusal) is put = tt
-  no-memory (Ok (Bound task)) is put = tt
-  no-memory (Ok (Solve task)) is put = tt
-  no-memory (Ok (Show task)) is put = tt
-  no-memory (Ok (Migrate task)) is put = tt
-  no-memory (Ok (Advise task)) is put = tt
-  no-memory (Ok (Verify task)) is put = record {
-    refusal = Memory;
-    cause = of-file told (held task.file) (RefusesVerifying task.file Memory) (λ _. tt) (None, tt);
-    line = put;
-    is_status = is;
-  }
-
-  pub unread-verify : (expected : Result Task Refusal) (refusal : Refusal) → IsDue expected (Err refusal) → status ≡ status_of refusal → WasPut old new (refusal_text refusal) → Unread expected
-  unread-verify expected (BadWords bad) due is put = subst Unread (sym due) tt
-  unread-verify expected (Position bad) due is put = subst Unread (sym due) tt
-  unread-verify expected (Missing missing) due is put = subst Unread (sym due) tt
-  unread-verify expected (File bad) due is put = subst Unread (sym due) tt
-  unread-verify expected Read due is put = subst Unread (sym due) tt
-  unread-verify expected Write due is put = subst Unread (sym due) tt
-  unread-verify expected Memory due is put = no-memory expected is put
-  unread-verify expected (Base wanted found) due is put = subst Unread (sym due) tt
-  unread-verify expected (Roll bad) due is put = subst Unread (sym due) tt
-  unread-verify expected (Inconsistent unheld) due is put = subst Unread (sym due) tt

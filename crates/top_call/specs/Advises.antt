@@ -35,7 +35,6 @@ use Rattle.equity_report.specs.declared.text.GameName.{GameName}
 use Rattle.equity_report.specs.declared.refusal.Refusal.{Refusal}
 use Rattle.equity_report.specs.declared.refusal.Refusal.TheVariants.{Missing, File, Read, Memory, Base}
 use Rattle.equity_report.specs.declared.refusal.Wanted.TheVariants.{Checkers, Kind}
-use Rattle.equity_report.specs.Refusals.{status_of, refusal_text}
 use Rattle.equity_report.specs.Advice.{cube_text, ranking_text}
 use Rattle.top_call.specs.declared.advise.AskedKind.{AskedKind}
 use Rattle.top_call.specs.declared.advise.FoundAdvice.{FoundAdvice}
@@ -43,7 +42,7 @@ use Rattle.top_call.specs.declared.advise.FoundRanking.{FoundRanking}
 use Rattle.top_call.specs.declared.advise.OpenedFile.{OpenedFile}
 use Rattle.top_call.specs.declared.task.AdviseTask.{AdviseTask}
 use Rattle.top_call.specs.Loads.{game_told}
-use Rattle.top_call.specs.Runs.{WasPut}
+use Rattle.top_call.specs.Runs.{Tells}
 use Rattle.top_call.specs.Shows.{words_in_file}
 
 -- ---- the state in which advice is sought
@@ -197,12 +196,13 @@ RefusesAdvice task Read held = ⊤
 RefusesAdvice task Memory held = ⊤
 RefusesAdvice task _ _ = ⊥
 
--- Nothing was advised: the line of the refusal was put, and the status is its.
-pub record WasNotAdvised (task : AdviseTask) (told : Bool) (held : Option (List ℕ)) (old new : Output) (status : ℕ) : Type 0 where
-  pub refusal : Refusal
-  pub cause : IsTrue told → RefusesAdvice task refusal held
-  pub line : WasPut old new (refusal_text refusal)
-  pub is_status : status ≡ status_of refusal
+-- this refuses advice, of the file that is held where files tell what they hold
+abbrev pub MayRefuseAdvice : AdviseTask → Bool → Option (List ℕ) → Refusal → Type 0
+MayRefuseAdvice task told held refusal = IsTrue told → RefusesAdvice task refusal held
+
+-- how advising ends
+abbrev pub TellsAdvice : AdviseTask → Bool → Option (List ℕ) → Output → Output → ℕ → Type 0
+TellsAdvice task told held = Tells (HasAdvised task told held) (MayRefuseAdvice task told held)
 
 -- ---- what look-ups in a file may answer
 

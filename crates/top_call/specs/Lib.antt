@@ -8,3 +8,4 @@ pub mod Shows
 pub mod Advises
 pub mod Headline
 pub mod Verifies
+pub mod Outcomes

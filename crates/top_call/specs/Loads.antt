@@ -5,12 +5,9 @@ use Rattle.base_head.specs.Heads.{FileHead}
 use Rattle.database_file.specs.declared.stop.LoadStop.{LoadStop}
 use Rattle.database_file.specs.declared.stop.LoadStop.TheVariants as stops
 use Rattle.database_file.specs.Faults.{Read as FileRead, file_fault, whole}
-use Rattle.hyper_outside.specs.Sink.{Output}
 use Rattle.equity_report.specs.declared.text.GameName.{GameName}
 use Rattle.equity_report.specs.declared.refusal.Refusal.{Refusal}
 use Rattle.equity_report.specs.declared.refusal.Refusal.TheVariants.{Missing, File, Read, Memory}
-use Rattle.equity_report.specs.Refusals.{status_of, refusal_text}
-use Rattle.top_call.specs.Runs.{WasPut}
 
 -- the game of a head, as it is told
 abbrev pub game_told : FileHead → GameName
@@ -36,9 +33,6 @@ RefusesLoading name Read file = ⊤
 RefusesLoading name Memory file = ⊤
 RefusesLoading name _ _ = ⊥
 
--- A file of this name was not loaded: the line of the refusal was put, and the status is its.
-pub record WasNotLoaded (name : List ℕ) (told : Bool) (held : Option (List ℕ)) (old new : Output) (status : ℕ) : Type 0 where
-  pub refusal : Refusal
-  pub cause : OfFile told held (RefusesLoading name refusal)
-  pub line : WasPut old new (refusal_text refusal)
-  pub is_status : status ≡ status_of refusal
+-- a file of this name may be refused so, of the one that is held where files tell what they hold
+abbrev pub MayRefuseLoading : List ℕ → Bool → Option (List ℕ) → Refusal → Type 0
+MayRefuseLoading name told held refusal = OfFile told held (RefusesLoading name refusal)

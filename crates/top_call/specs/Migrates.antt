@@ -1,5 +1,6 @@
 -- What a file that is written anew leaves.
-use Rattle.std.specs.Prelude.{◌≡◌, ◌⊎◌, ℕ, List, [], Option, Some, Ok, IsTrue, Bool}
+use Rattle.std.specs.Prelude.{◌≡◌, ◌≢◌, ◌⊎◌, ℕ, List, [], Option, Some, Ok, IsTrue, Bool}
+use Rattle.hyper_outside.specs.Files.{Contents}
 use Rattle.hyper_outside.specs.Sink.{Output}
 use Rattle.word_pages.specs.declared.version.Version.TheVariants.{Two}
 use Rattle.base_head.specs.Heads.{FileHead}
@@ -10,10 +11,10 @@ use Rattle.database_file.specs.Texts.{file_text}
 use Rattle.database_file.specs.Writing.{HoldsFront}
 use Rattle.command_line.specs.declared.command.Migrate.{Migrate}
 use Rattle.equity_report.specs.declared.refusal.Refusal.TheVariants.{Write}
-use Rattle.equity_report.specs.Refusals.{refusal_text}
+use Rattle.equity_report.specs.Refusals.{status_of, refusal_text}
 use Rattle.equity_report.specs.Files.{migrated_text}
-use Rattle.top_call.specs.Loads.{OfFile, game_told}
-use Rattle.top_call.specs.Runs.{IsPut, WasPut, FailedThenPut}
+use Rattle.top_call.specs.Loads.{MayRefuseLoading, OfFile, game_told}
+use Rattle.top_call.specs.Runs.{IsPut, WasPut, FailedThenPut, WasRefused}
 
 -- a head and words in version 2
 abbrev pub latest_file : FileBase → List ℕ
@@ -40,3 +41,9 @@ pub record HasStoppedMigrating (task : Migrate) (told : Bool) (before was held :
   pub line :
       WasPut old new (refusal_text Write)
       ⊎ FailedThenPut old new (migrated_report task base.head) (refusal_text Write)
+
+-- How writing a file anew ends: it was written anew, or writing failed, or the old one was refused; no file but the new one changed.
+pub record Migrates (task : Migrate) (told : Bool) (before after : Contents) (old new : Output) (status : ℕ) : Type 0 where
+  pub migrated : status ≡ 0 → HasMigrated task told (before task.old) (after task.new) old new
+  pub stopped : status ≡ status_of Write → HasStoppedMigrating task told (before task.old) (before task.new) (after task.new) old new
+  pub refused : status ≢ 0 → status ≢ status_of Write → WasRefused (MayRefuseLoading task.old told (before task.old)) old new status

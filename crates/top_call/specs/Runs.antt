@@ -1,11 +1,12 @@
 -- How a run may end.
-use Rattle.std.specs.Prelude.{◌≡◌, ℕ, List, ◌++◌, Option, Some, None, Result, Ok, Err, ◌⊎◌, IsErr, ⊤}
+use Rattle.std.specs.Prelude.{◌≡◌, ◌≢◌, ℕ, List, ◌++◌, Option, Some, None, Result, Ok, Err, ◌⊎◌, IsErr, ⊤}
+use Rattle.hyper_outside.specs.Causes.{Rose}
 use Rattle.hyper_outside.specs.declared.outside.Failed.{Failed}
 use Rattle.hyper_outside.specs.declared.outside.WordsKind.TheVariants.{Word}
 use Rattle.hyper_outside.specs.Sink.{Output, Puts}
 use Rattle.equity_report.specs.declared.refusal.Refusal.{Refusal}
 use Rattle.equity_report.specs.declared.refusal.Refusal.TheVariants.{Words, Missing, File, Read, Write, Memory, Base, Inconsistent}
-use Rattle.equity_report.specs.Refusals.{status_of}
+use Rattle.equity_report.specs.Refusals.{status_of, refusal_text}
 use Rattle.top_call.specs.declared.task.Task.{Task}
 use Rattle.top_call.specs.declared.task.Task.TheVariants.{Bound, Solve, Show, Migrate, Advise, Verify}
 
@@ -19,6 +20,10 @@ IsDue expected (Err refusal) = expected ≡ Err refusal
 abbrev pub EndsWriting : ℕ → Type 0
 EndsWriting status = (status ≡ 0) ⊎ (status ≡ status_of Write) ⊎ (status ≡ status_of Memory)
 
+-- 0 where the report was put, that of a failed write where writing failed, and else that of one of these refusals
+abbrev pub EndsBy : (Refusal → Type 0) → ℕ → Type 0
+EndsBy IsOne status = (status ≡ 0) ⊎ (status ≡ status_of Write) ⊎ ((refusal : Refusal) × IsOne refusal × (status ≡ status_of refusal))
+
 -- a refusal of a file that is to be loaded: it isn't there, isn't right, or couldn't be read, or there was no memory for it
 abbrev pub IsOfLoading : Refusal → Type 0
 IsOfLoading (Missing name) = ⊤
@@ -27,36 +32,24 @@ IsOfLoading Read = ⊤
 IsOfLoading Memory = ⊤
 IsOfLoading _ = ⊥
 
--- 0 where the report was put, that of a failed write where writing failed, and else that of a file that couldn't be loaded
-abbrev pub EndsLoading : ℕ → Type 0
-EndsLoading status = (status ≡ 0) ⊎ (status ≡ status_of Write) ⊎ ((refusal : Refusal) × IsOfLoading refusal × (status ≡ status_of refusal))
-
 -- a refusal of a file in which a position is to be looked up: one of loading, or the file is of another game
 abbrev pub IsOfShowing : Refusal → Type 0
 IsOfShowing (Base wanted found) = ⊤
 IsOfShowing refusal = IsOfLoading refusal
-
--- 0 where the report was put, that of a failed write where putting failed, and else that of a position that couldn't be looked up
-abbrev pub EndsShowing : ℕ → Type 0
-EndsShowing status = (status ≡ 0) ⊎ (status ≡ status_of Write) ⊎ ((refusal : Refusal) × IsOfShowing refusal × (status ≡ status_of refusal))
 
 -- a refusal of a file whose words are to be checked: one of loading, or they aren't consistent
 abbrev pub IsOfVerifying : Refusal → Type 0
 IsOfVerifying (Inconsistent unheld) = ⊤
 IsOfVerifying refusal = IsOfLoading refusal
 
--- 0 where the report was put, that of a failed write where putting failed, and else that of a file that wasn't found to be consistent
-abbrev pub EndsVerifying : ℕ → Type 0
-EndsVerifying status = (status ≡ 0) ⊎ (status ≡ status_of Write) ⊎ ((refusal : Refusal) × IsOfVerifying refusal × (status ≡ status_of refusal))
-
 -- how a task may end
 abbrev pub EndsTask : Task → ℕ → Type 0
 EndsTask (Bound task) status = EndsWriting status
 EndsTask (Solve task) status = EndsWriting status
-EndsTask (Show task) status = EndsShowing status
-EndsTask (Migrate task) status = EndsLoading status
-EndsTask (Advise task) status = EndsShowing status
-EndsTask (Verify task) status = EndsVerifying status
+EndsTask (Show task) status = EndsBy IsOfShowing status
+EndsTask (Migrate task) status = EndsBy IsOfLoading status
+EndsTask (Advise task) status = EndsBy IsOfShowing status
+EndsTask (Verify task) status = EndsBy IsOfVerifying status
 
 -- Where words are refused, the status is that of the refusal, or that of no memory if there was none.
 abbrev pub Ends : Result Task Refusal → ℕ → Type 0
@@ -83,6 +76,21 @@ WasPut old new text = (answer : Result (Unit {0}) Failed) × Puts old new text a
 abbrev pub FailedThenPut : Output → Output → List ℕ → List ℕ → Type 0
 FailedThenPut old new first second =
     (middle : Output) × (answer : Result (Unit {0}) Failed) × IsErr answer × Puts old middle first answer × WasPut middle new second
+
+-- A run was refused: a refusal was due, its line was put, and the status is its.
+pub record WasRefused (Refuses : Refusal → Type 0) (old new : Output) (status : ℕ) : Type 0 where
+  pub refusal : Refusal
+  pub cause : Refuses refusal
+  pub line : WasPut old new (refusal_text refusal)
+  pub is_status : status ≡ status_of refusal
+
+-- How a command ends that only reads, and tells what it finds: at 0 the report of that was put; at 7 putting it failed, and then the line of that
+-- refusal was put; else it was refused.
+pub record Tells (HasFound : (List ℕ → Type 0) → Type 0) (Refuses : Refusal → Type 0) (old new : Output) (status : ℕ) : Type 0 where
+  pub told : status ≡ 0 → HasFound (IsPut old new)
+  pub not_put : status ≡ status_of Write → HasFound (λ text. FailedThenPut old new text (refusal_text Write))
+  pub refused : status ≢ 0 → status ≢ status_of Write → WasRefused Refuses old new status
+  pub cause : status ≡ status_of Write → Rose old.faults new.faults
 
 -- some word isn't text: which one can't be told
 abbrev pub no_text : Refusal

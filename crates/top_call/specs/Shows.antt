@@ -22,12 +22,11 @@ use Rattle.equity_report.specs.declared.files.KindRow.{KindRow}
 use Rattle.equity_report.specs.declared.refusal.Refusal.{Refusal}
 use Rattle.equity_report.specs.declared.refusal.Refusal.TheVariants.{Missing, File, Read, Memory, Base}
 use Rattle.equity_report.specs.declared.refusal.Wanted.TheVariants.{Checkers}
-use Rattle.equity_report.specs.Refusals.{status_of, refusal_text}
 use Rattle.equity_report.specs.Files.{shown_text}
 use Rattle.top_call.specs.declared.task.ShowTask.{ShowTask}
 use Rattle.top_call.specs.declared.show.Shown.{Shown}
 use Rattle.top_call.specs.Loads.{game_told}
-use Rattle.top_call.specs.Runs.{WasPut}
+use Rattle.top_call.specs.Runs.{Tells}
 
 -- the words of a file, two for each state
 abbrev pub words_in_file : List ℕ → Words
@@ -84,12 +83,9 @@ RefusesShowing task Read held = ⊤
 RefusesShowing task Memory held = ⊤
 RefusesShowing task _ _ = ⊥
 
--- A position's pairs were not shown: the line of the refusal was put, and the status is its.
-pub record WasNotShown (task : ShowTask) (told : Bool) (held : Option (List ℕ)) (old new : Output) (status : ℕ) : Type 0 where
-  pub refusal : Refusal
-  pub cause : IsTrue told → RefusesShowing task refusal held
-  pub line : WasPut old new (refusal_text refusal)
-  pub is_status : status ≡ status_of refusal
+-- how showing a position ends
+abbrev pub TellsShown : ShowTask → Bool → Option (List ℕ) → Output → Output → ℕ → Type 0
+TellsShown task told held = Tells (HasShown task told held) (λ refusal. IsTrue told → RefusesShowing task refusal held)
 
 -- ---- what look-ups in a file may answer
 

@@ -1,6 +1,7 @@
 -- What a game that is solved leaves.
 use Rattle.std.specs.Prelude.{◌≡◌, ◌⊎◌, ℕ, ℤ, List, [], Option, Some, IsTrue, Bool, length}
 use Rattle.position_rank.specs.LiveRanks.{live_positions}
+use Rattle.hyper_outside.specs.Files.{Contents}
 use Rattle.hyper_outside.specs.Sink.{Output}
 use Rattle.cube_actions.specs.Names.{names_of}
 use Rattle.turn_rule.specs.Turn.{rounds}
@@ -14,7 +15,7 @@ use Rattle.database_file.specs.Texts.{AreWordsOf, file_text}
 use Rattle.database_file.specs.Writing.{HoldsFront}
 use Rattle.command_line.specs.declared.command.Solve.{Solve}
 use Rattle.equity_report.specs.declared.refusal.Refusal.TheVariants.{Write}
-use Rattle.equity_report.specs.Refusals.{refusal_text}
+use Rattle.equity_report.specs.Refusals.{status_of, refusal_text}
 use Rattle.equity_report.specs.Files.{solved_text}
 use Rattle.top_call.specs.Runs.{IsPut, WasPut, FailedThenPut}
 
@@ -66,3 +67,8 @@ pub record HasStopped (task : Solve) (told : Bool) (before held : Option (List �
   pub line :
       WasPut old new (refusal_text Write)
       ⊎ ((widest : ℤ) × IsWidest words widest × FailedThenPut old new (solved_report task widest) (refusal_text Write))
+
+-- How solving a game ends: it was solved, or writing failed, or there was no memory.
+pub record Solves (task : Solve) (told : Bool) (before after : Contents) (old new : Output) (status : ℕ) : Type 0 where
+  pub solved : status ≡ 0 → HasSolved task told (after task.file) old new
+  pub stopped : status ≡ status_of Write → HasStopped task told (before task.file) (after task.file) old new

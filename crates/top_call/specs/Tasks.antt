@@ -80,49 +80,13 @@ with_words (Ok (commands.Advise advise)) = with_advised advise (read_position ad
 with_words (Ok (commands.Verify verify)) = Ok (Verify verify)
 with_words (Err bad) = Err (Words bad)
 
--- the words are read first, then a position, and then its number of checkers is compared
+-- the words are read first, then a position, then a roll, and then the position's number of checkers is compared
 abbrev pub task_of : List (List ℕ) → Result Task Refusal
 task_of words = with_words (reading words)
 
 -- the same of the program's words
 abbrev pub asked : List (String Global) → Result Task Refusal
 asked words = task_of (bytes_of words)
-
--- where a position's pair is asked for
-abbrev pub IfBound : Result Task Refusal → (BoundTask → Type 0) → Type 0
-IfBound (Ok (Bound task)) P = P task
-IfBound (Ok _) P = Unit {0}
-IfBound (Err refusal) P = Unit {0}
-
--- where a game is to be solved
-abbrev pub IfSolve : Result Task Refusal → (SolveTask → Type 0) → Type 0
-IfSolve (Ok (Solve task)) P = P task
-IfSolve (Ok _) P = Unit {0}
-IfSolve (Err refusal) P = Unit {0}
-
--- where a position is to be looked up
-abbrev pub IfShow : Result Task Refusal → (ShowTask → Type 0) → Type 0
-IfShow (Ok (Show task)) P = P task
-IfShow (Ok _) P = Unit {0}
-IfShow (Err refusal) P = Unit {0}
-
--- where a file is to be written anew
-abbrev pub IfMigrate : Result Task Refusal → (MigrateTask → Type 0) → Type 0
-IfMigrate (Ok (Migrate task)) P = P task
-IfMigrate (Ok _) P = Unit {0}
-IfMigrate (Err refusal) P = Unit {0}
-
--- where advice is sought
-abbrev pub IfAdvise : Result Task Refusal → (AdviseTask → Type 0) → Type 0
-IfAdvise (Ok (Advise task)) P = P task
-IfAdvise (Ok _) P = Unit {0}
-IfAdvise (Err refusal) P = Unit {0}
-
--- where a file's words are to be checked
-abbrev pub IfVerify : Result Task Refusal → (VerifyTask → Type 0) → Type 0
-IfVerify (Ok (Verify task)) P = P task
-IfVerify (Ok _) P = Unit {0}
-IfVerify (Err refusal) P = Unit {0}
 
 -- a live position
 pub record IsRightBound (task : BoundTask) : Type 0 where

@@ -1,5 +1,5 @@
 -- What is known of a file whose words were checked.
-use Rattle.std.specs.Prelude.{◌≡◌, ◌≢◌, ℕ, List, Bool, Option, Some, Result, Ok, Err, slice_get}
+use Rattle.std.specs.Prelude.{◌≡◌, ℕ, List, Bool, Option, Some, Result, Ok, Err, slice_get}
 use Rattle.position_rank.specs.LiveRanks.{live_positions}
 use Rattle.position_rank.specs.Placement.{Placement}
 use Rattle.cube_actions.specs.Names.{names_of}
@@ -21,10 +21,9 @@ use Rattle.command_line.specs.declared.command.Verify.{Verify}
 use Rattle.equity_report.specs.declared.verify.Unheld.{Unheld}
 use Rattle.equity_report.specs.declared.refusal.Refusal.{Refusal}
 use Rattle.equity_report.specs.declared.refusal.Refusal.TheVariants.{Inconsistent, Memory}
-use Rattle.equity_report.specs.Refusals.{status_of, refusal_text}
 use Rattle.equity_report.specs.Verify.{verified_text}
 use Rattle.top_call.specs.Loads.{OfFile, RefusesLoading, game_told}
-use Rattle.top_call.specs.Runs.{WasPut}
+use Rattle.top_call.specs.Runs.{Tells}
 
 -- the report on a file with this head
 abbrev pub verified_report : FileHead → List ℕ
@@ -82,12 +81,13 @@ abbrev pub RefusesVerifying : List ℕ → Refusal → Option FileRead → Type 
 RefusesVerifying name (Inconsistent unheld) file = HoldsUnheld unheld file
 RefusesVerifying name refusal file = RefusesLoading name refusal file
 
--- A file of this name wasn't found to be consistent: the line of the refusal was put, and the status is its.
-pub record WasNotVerified (name : List ℕ) (told : Bool) (held : Option (List ℕ)) (old new : Output) (status : ℕ) : Type 0 where
-  pub refusal : Refusal
-  pub cause : OfFile told held (RefusesVerifying name refusal)
-  pub line : WasPut old new (refusal_text refusal)
-  pub is_status : status ≡ status_of refusal
+-- this refuses a file of this name, of the one that is held where files tell what they hold
+abbrev pub MayRefuseVerifying : List ℕ → Bool → Option (List ℕ) → Refusal → Type 0
+MayRefuseVerifying name told held refusal = OfFile told held (RefusesVerifying name refusal)
+
+-- how checking a file ends
+abbrev pub TellsVerified : Verify → Bool → Option (List ℕ) → Output → Output → ℕ → Type 0
+TellsVerified task told held = Tells (HasVerified task told held) (MayRefuseVerifying task.file told held)
 
 -- ---- what checking may answer
 

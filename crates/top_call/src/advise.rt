@@ -1,4 +1,4 @@
-ghost use Rattle.std.specs.Prelude.{◌≡◌, ◌≢◌, ◌≤◌, ◌<◌, IsTrue, IfErr, IfOk, None, Err, Some};
+ghost use Rattle.std.specs.Prelude.{◌≡◌, ◌≤◌, ◌<◌, IsTrue, IfErr, IfOk, None, Err, Some};
 ghost use Rattle.position_rank.specs.Placement.{IsPosition, IsLive};
 ghost use Rattle.roll_table.specs.Rolls.{IsRoll};
 ghost use Rattle.hyper_outside.specs.Causes.{Rose};
@@ -9,11 +9,11 @@ ghost use Rattle.turn_rule.specs.States.{IsStateOf};
 ghost use Rattle.base_head.specs.Heads.{stakes_of};
 ghost use Rattle.database_file.specs.Paged.{KeepsPagesOf};
 ghost use Rattle.database_file.specs.Texts.{game_in};
-ghost use Rattle.equity_report.specs.declared.refusal.Refusal.TheVariants.{Read, Write};
-ghost use Rattle.equity_report.specs.Refusals.{status_of, refusal_text};
+ghost use Rattle.equity_report.specs.declared.refusal.Refusal.TheVariants.{Read};
+ghost use Rattle.equity_report.specs.Refusals.{status_of};
 ghost use Rattle.top_call.specs.Tasks.{IsRightAdvise};
-ghost use Rattle.top_call.specs.Runs.{EndsShowing, FailedThenPut, IsOfShowing, IsPut};
-ghost use Rattle.top_call.specs.Advises.{AnswersAdvice, AnswersAsked, AnswersCube, AnswersOpened, AnswersRanked, AnswersRanking, CanBePlayed, HasAdvised, HasAdvisedCube, HasRanked, WasNotAdvised};
+ghost use Rattle.top_call.specs.Runs.{EndsBy, IsOfShowing, Tells};
+ghost use Rattle.top_call.specs.Advises.{AnswersAdvice, AnswersAsked, AnswersCube, AnswersOpened, AnswersRanked, AnswersRanking, CanBePlayed, HasAdvisedCube, HasRanked, MayRefuseAdvice, TellsAdvice};
 
 use crate::advise_laws::{looked_up_advice_is_of_the_file, looked_up_rankings_are_of_the_file};
 use crate::load::{game_told, refusal_of};
@@ -246,20 +246,12 @@ fn run_ranking<F: Files, O: Sink>(
 ) -> u8
     requires right { IsRightAdvise task.now }
     requires roll { task.now.roll ≡ Some roll }
-    ensures ends { EndsShowing result }
-    ensures ranked { result ≡ 0 → HasRanked task.now roll (F.tells files.old)
-        (F.held files.old task.now.file)
-        (λ text. IsPut (O.output out.old) (O.output out.new) text) }
-    ensures stopped { result ≡ status_of Write → HasRanked task.now roll (F.tells files.old)
-        (F.held files.old task.now.file)
-        (λ text. FailedThenPut (O.output out.old) (O.output out.new) text (refusal_text Write)) }
-    ensures refused { result ≢ 0 → result ≢ status_of Write
-        → WasNotAdvised task.now (F.tells files.old) (F.held files.old task.now.file)
+    ensures ends { EndsBy IsOfShowing result }
+    ensures tells { Tells (HasRanked task.now roll (F.tells files.old) (F.held files.old task.now.file))
+        (MayRefuseAdvice task.now (F.tells files.old) (F.held files.old task.now.file))
         (O.output out.old) (O.output out.new) result }
     ensures read_cause { result ≡ status_of Read
         → Rose (F.read_faults files.old) (F.read_faults files.new) }
-    ensures write_cause { result ≡ status_of Write
-        → Rose (O.output out.old).faults (O.output out.new).faults }
     ensures same { IsTrue (F.tells files.old)
         → SameFiles (F.held files.old) (F.held files.new) }
 {
@@ -277,20 +269,12 @@ fn run_ranking<F: Files, O: Sink>(
 fn run_cube<F: Files, O: Sink>(alloc: Global, task: &AdviseTask, files: &mut F, out: &mut O) -> u8
     requires right { IsRightAdvise task.now }
     requires roll { task.now.roll ≡ None }
-    ensures ends { EndsShowing result }
-    ensures advised { result ≡ 0 → HasAdvisedCube task.now (F.tells files.old)
-        (F.held files.old task.now.file)
-        (λ text. IsPut (O.output out.old) (O.output out.new) text) }
-    ensures stopped { result ≡ status_of Write → HasAdvisedCube task.now (F.tells files.old)
-        (F.held files.old task.now.file)
-        (λ text. FailedThenPut (O.output out.old) (O.output out.new) text (refusal_text Write)) }
-    ensures refused { result ≢ 0 → result ≢ status_of Write
-        → WasNotAdvised task.now (F.tells files.old) (F.held files.old task.now.file)
+    ensures ends { EndsBy IsOfShowing result }
+    ensures tells { Tells (HasAdvisedCube task.now (F.tells files.old) (F.held files.old task.now.file))
+        (MayRefuseAdvice task.now (F.tells files.old) (F.held files.old task.now.file))
         (O.output out.old) (O.output out.new) result }
     ensures read_cause { result ≡ status_of Read
         → Rose (F.read_faults files.old) (F.read_faults files.new) }
-    ensures write_cause { result ≡ status_of Write
-        → Rose (O.output out.old).faults (O.output out.new).faults }
     ensures same { IsTrue (F.tells files.old)
         → SameFiles (F.held files.old) (F.held files.new) }
 {
@@ -313,20 +297,11 @@ pub(crate) fn run_advise<F: Files, O: Sink>(
     out: &mut O,
 ) -> u8
     requires { IsRightAdvise task.now }
-    ensures ends { EndsShowing result }
-    ensures advised { result ≡ 0 → HasAdvised task.now (F.tells files.old)
-        (F.held files.old task.now.file)
-        (λ text. IsPut (O.output out.old) (O.output out.new) text) }
-    ensures stopped { result ≡ status_of Write → HasAdvised task.now (F.tells files.old)
-        (F.held files.old task.now.file)
-        (λ text. FailedThenPut (O.output out.old) (O.output out.new) text (refusal_text Write)) }
-    ensures refused { result ≢ 0 → result ≢ status_of Write
-        → WasNotAdvised task.now (F.tells files.old) (F.held files.old task.now.file)
+    ensures ends { EndsBy IsOfShowing result }
+    ensures tells { TellsAdvice task.now (F.tells files.old) (F.held files.old task.now.file)
         (O.output out.old) (O.output out.new) result }
     ensures read_cause { result ≡ status_of Read
         → Rose (F.read_faults files.old) (F.read_faults files.new) }
-    ensures write_cause { result ≡ status_of Write
-        → Rose (O.output out.old).faults (O.output out.new).faults }
     ensures same { IsTrue (F.tells files.old)
         → SameFiles (F.held files.old) (F.held files.new) }
 {

@@ -1,13 +1,12 @@
 ghost use Rattle.std.specs.Prelude.{◌≡◌, ◌⊎◌, IfOk};
-ghost use Rattle.hyper_outside.specs.Causes.{Rose};
 ghost use Rattle.cube_actions.specs.Stakes.{cubeless};
 ghost use Rattle.turn_rule.specs.Turn.{rounds};
 ghost use Rattle.turn_rule.specs.States.{pair_of};
 ghost use Rattle.equity_report.specs.declared.refusal.Refusal.TheVariants.{Memory, Write};
 ghost use Rattle.equity_report.specs.Refusals.{status_of, refusal_text};
-ghost use Rattle.top_call.specs.Tasks.{IsRightBound, bound_report};
-ghost use Rattle.top_call.specs.Runs.{IsPut, WasPut, FailedThenPut};
-ghost use Rattle.top_call.specs.Truth.{PutsEnclosingPair};
+ghost use Rattle.top_call.specs.Tasks.{IsRightBound};
+ghost use Rattle.top_call.specs.Runs.{WasPut};
+ghost use Rattle.top_call.specs.Truth.{TellsBound};
 
 use crate::put::{DONE, refuse};
 use crate::task::BoundTask;
@@ -36,16 +35,9 @@ fn pair_after(alloc: Global, task: &BoundTask) -> Result<Pair, NoMemory>
 pub(crate) fn run_bound<O: Sink>(alloc: Global, task: &BoundTask, out: &mut O) -> u8
     requires { IsRightBound task.now }
     ensures ends { (result ≡ 0) ⊎ (result ≡ status_of Write) ⊎ (result ≡ status_of Memory) }
-    ensures report { result ≡ 0 → IsPut (O.output out.old) (O.output out.new)
-        (bound_report task.now) }
-    ensures truth { result ≡ 0 → PutsEnclosingPair (O.output out.old) (O.output out.new) task.now }
+    ensures tells { TellsBound task.now (O.output out.old) (O.output out.new) result }
     ensures memory { result ≡ status_of Memory
         → WasPut (O.output out.old) (O.output out.new) (refusal_text Memory) }
-    ensures write { result ≡ status_of Write
-        → FailedThenPut (O.output out.old) (O.output out.new) (bound_report task.now)
-        (refusal_text Write) }
-    ensures cause { result ≡ status_of Write
-        → Rose (O.output out.old).faults (O.output out.new).faults }
 {
     let Ok(pair) = pair_after(alloc, task) else {
         return refuse(out, &Refusal::Memory);

@@ -5,9 +5,8 @@ ghost use Rattle.hyper_outside.specs.Sink.{Puts};
 ghost use Rattle.equity_report.specs.declared.refusal.Refusal.TheVariants.{Read, Write};
 ghost use Rattle.equity_report.specs.Refusals.{status_of, refusal_text};
 ghost use Rattle.command_line.specs.Right.{IsRightMigrate};
-ghost use Rattle.top_call.specs.Loads.{WasNotLoaded};
-ghost use Rattle.top_call.specs.Migrates.{HasMigrated, HasStoppedMigrating, migrated_report};
-ghost use Rattle.top_call.specs.Runs.{EndsLoading, FailedThenPut, IsPut};
+ghost use Rattle.top_call.specs.Migrates.{Migrates, migrated_report};
+ghost use Rattle.top_call.specs.Runs.{EndsBy, FailedThenPut, IsOfLoading, IsPut};
 
 use crate::load::{game_told, refusal_of};
 use crate::put::{DONE, refuse};
@@ -60,16 +59,8 @@ pub(crate) fn run_migrate<F: Files, O: Sink>(
     out: &mut O,
 ) -> u8
     requires { IsRightMigrate task.now }
-    ensures ends { EndsLoading result }
-    ensures migrated { result ≡ 0 → HasMigrated task.now (F.tells files.old)
-        (F.held files.old task.now.old) (F.held files.new task.now.new)
-        (O.output out.old) (O.output out.new) }
-    ensures stopped { result ≡ status_of Write → HasStoppedMigrating task.now (F.tells files.old)
-        (F.held files.old task.now.old)
-        (F.held files.old task.now.new) (F.held files.new task.now.new)
-        (O.output out.old) (O.output out.new) }
-    ensures refused { result ≢ 0 → result ≢ status_of Write
-        → WasNotLoaded task.now.old (F.tells files.old) (F.held files.old task.now.old)
+    ensures ends { EndsBy IsOfLoading result }
+    ensures migrates { Migrates task.now (F.tells files.old) (F.held files.old) (F.held files.new)
         (O.output out.old) (O.output out.new) result }
     ensures read_cause { result ≡ status_of Read
         → Rose (F.read_faults files.old) (F.read_faults files.new) }

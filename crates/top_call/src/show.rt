@@ -1,15 +1,15 @@
-ghost use Rattle.std.specs.Prelude.{◌≡◌, ◌≢◌, ◌⊎◌, ◌≤◌, IsTrue, IfErr, IfOk, Err, length, sum};
+ghost use Rattle.std.specs.Prelude.{◌≡◌, ◌≤◌, IsTrue, IfErr, IfOk, Err, length, sum};
 ghost use Rattle.position_rank.specs.Placement.{IsPosition, IsLive};
 ghost use Rattle.hyper_outside.specs.Causes.{Rose};
 ghost use Rattle.hyper_outside.specs.Files.{SameFiles};
 ghost use Rattle.hyper_outside.specs.declared.outside.LookStop.TheVariants.{ReadFault};
 ghost use Rattle.turn_rule.specs.States.{IsStateOf};
 ghost use Rattle.database_file.specs.Paged.{KeepsPagesOf};
-ghost use Rattle.equity_report.specs.declared.refusal.Refusal.TheVariants.{Read, Write};
-ghost use Rattle.equity_report.specs.Refusals.{status_of, refusal_text};
+ghost use Rattle.equity_report.specs.declared.refusal.Refusal.TheVariants.{Read};
+ghost use Rattle.equity_report.specs.Refusals.{status_of};
 ghost use Rattle.top_call.specs.Tasks.{IsRightShow};
-ghost use Rattle.top_call.specs.Runs.{EndsShowing, FailedThenPut, IsOfShowing, IsPut};
-ghost use Rattle.top_call.specs.Shows.{AnswersPair, AnswersRows, AnswersShow, HasShown, WasNotShown, look_refusal};
+ghost use Rattle.top_call.specs.Runs.{EndsBy, IsOfShowing};
+ghost use Rattle.top_call.specs.Shows.{AnswersPair, AnswersRows, AnswersShow, TellsShown, look_refusal};
 
 use crate::load::{game_told, refusal_of};
 use crate::put::{DONE, refuse};
@@ -155,20 +155,11 @@ pub(crate) fn run_show<F: Files, O: Sink>(
     out: &mut O,
 ) -> u8
     requires { IsRightShow task.now }
-    ensures ends { EndsShowing result }
-    ensures shown { result ≡ 0 → HasShown task.now (F.tells files.old)
-        (F.held files.old task.now.file)
-        (λ text. IsPut (O.output out.old) (O.output out.new) text) }
-    ensures stopped { result ≡ status_of Write → HasShown task.now (F.tells files.old)
-        (F.held files.old task.now.file)
-        (λ text. FailedThenPut (O.output out.old) (O.output out.new) text (refusal_text Write)) }
-    ensures refused { result ≢ 0 → result ≢ status_of Write
-        → WasNotShown task.now (F.tells files.old) (F.held files.old task.now.file)
+    ensures ends { EndsBy IsOfShowing result }
+    ensures tells { TellsShown task.now (F.tells files.old) (F.held files.old task.now.file)
         (O.output out.old) (O.output out.new) result }
     ensures read_cause { result ≡ status_of Read
         → Rose (F.read_faults files.old) (F.read_faults files.new) }
-    ensures write_cause { result ≡ status_of Write
-        → Rose (O.output out.old).faults (O.output out.new).faults }
     ensures same { IsTrue (F.tells files.old)
         → SameFiles (F.held files.old) (F.held files.new) }
 {

@@ -6,7 +6,7 @@ ghost use Rattle.equity_report.specs.declared.refusal.Refusal.TheVariants.{Memor
 ghost use Rattle.equity_report.specs.Refusals.{status_of, refusal_text};
 ghost use Rattle.command_line.specs.Right.{IsRightSolve};
 ghost use Rattle.top_call.specs.Runs.{FailedThenPut, IsPut, WasPut};
-ghost use Rattle.top_call.specs.Solves.{AreSolved, HasSolved, HasStopped, head_of, solved_report};
+ghost use Rattle.top_call.specs.Solves.{AreSolved, Solves, head_of, solved_report};
 
 use crate::put::{DONE, refuse};
 use base_head::{Head, Header};
@@ -100,11 +100,8 @@ pub(crate) fn run_solve<R: Threads + Sync, F: Files, O: Sink, G: Gate + Sync>(
 ) -> u8
     requires { IsRightSolve task.now }
     ensures ends { (result ≡ 0) ⊎ (result ≡ status_of Write) ⊎ (result ≡ status_of Memory) }
-    ensures solved { result ≡ 0 → HasSolved task.now (F.tells files.old)
-        (F.held files.new task.now.file) (O.output out.old) (O.output out.new) }
-    ensures stopped { result ≡ status_of Write → HasStopped task.now (F.tells files.old)
-        (F.held files.old task.now.file) (F.held files.new task.now.file)
-        (O.output out.old) (O.output out.new) }
+    ensures solves { Solves task.now (F.tells files.old) (F.held files.old) (F.held files.new)
+        (O.output out.old) (O.output out.new) result }
     ensures cause { result ≡ status_of Write
         → Rose (F.write_faults files.old) (F.write_faults files.new)
         ⊎ Rose (O.output out.old).faults (O.output out.new).faults }

@@ -1,17 +1,11 @@
-ghost use Rattle.std.specs.Prelude.{◌≡◌, ◌≢◌, ◌⊎◌, IfErr, IsTrue};
+ghost use Rattle.std.specs.Prelude.{◌≡◌, ◌≢◌, ◌⊎◌, IsTrue};
 ghost use Rattle.hyper_outside.specs.Causes.{Rose};
-ghost use Rattle.hyper_outside.specs.Files.{KeepsOthers, SameFiles};
+ghost use Rattle.hyper_outside.specs.Files.{SameFiles};
 ghost use Rattle.equity_report.specs.declared.refusal.Refusal.TheVariants.{Memory, Read, Write};
 ghost use Rattle.equity_report.specs.Refusals.{status_of, refusal_text};
-ghost use Rattle.top_call.specs.Advises.{HasAdvised, WasNotAdvised};
-ghost use Rattle.top_call.specs.Tasks.{IfAdvise, IfBound, IfMigrate, IfShow, IfSolve, IfVerify, asked, bound_report};
-ghost use Rattle.top_call.specs.Loads.{WasNotLoaded};
-ghost use Rattle.top_call.specs.Migrates.{HasMigrated, HasStoppedMigrating};
-ghost use Rattle.top_call.specs.Shows.{HasShown, WasNotShown};
-ghost use Rattle.top_call.specs.Verifies.{HasVerified, WasNotVerified};
-ghost use Rattle.top_call.specs.Runs.{Ends, IsPut, WasPut, FailedThenPut};
-ghost use Rattle.top_call.specs.Truth.{PutsEnclosingPair};
-ghost use Rattle.top_call.specs.Solves.{HasSolved, HasStopped};
+ghost use Rattle.top_call.specs.Outcomes.{HasRun, KeepsFiles, LeavesFiles};
+ghost use Rattle.top_call.specs.Runs.{Ends, WasPut};
+ghost use Rattle.top_call.specs.Tasks.{asked};
 
 use crate::advise::run_advise;
 use crate::bound::run_bound;
@@ -54,132 +48,21 @@ pub fn run<R: Threads + Sync, F: Files, O: Sink, G: Gate + Sync>(
     gate: &G,
 ) -> u8
     ensures ends { Ends (asked words.now) result }
-    ensures refusal { IfErr (asked words.now)
-        (λ refusal. result ≡ status_of refusal
-        → WasPut (O.output out.old) (O.output out.new) (refusal_text refusal)) }
+    ensures has_run { HasRun (asked words.now) (F.tells files.old)
+        (F.held files.old) (F.held files.new)
+        (O.output out.old) (O.output out.new) result }
     ensures memory { result ≡ status_of Memory
         → WasPut (O.output out.old) (O.output out.new) (refusal_text Memory) }
-
-    // The pair of a position.
-    ensures report { result ≡ 0
-        → IfBound (asked words.now)
-        (λ task. IsPut (O.output out.old) (O.output out.new) (bound_report task)) }
-    ensures truth { result ≡ 0
-        → IfBound (asked words.now)
-        (λ task. PutsEnclosingPair (O.output out.old) (O.output out.new) task) }
-    ensures write { result ≡ status_of Write
-        → IfBound (asked words.now)
-        (λ task. FailedThenPut (O.output out.old) (O.output out.new)
-        (bound_report task) (refusal_text Write)) }
-
-    // A game that is solved.
-    ensures solved { result ≡ 0
-        → IfSolve (asked words.now)
-        (λ task. HasSolved task (F.tells files.old) (F.held files.new task.file)
-        (O.output out.old) (O.output out.new)) }
-    ensures stopped { result ≡ status_of Write
-        → IfSolve (asked words.now)
-        (λ task. HasStopped task (F.tells files.old)
-        (F.held files.old task.file) (F.held files.new task.file)
-        (O.output out.old) (O.output out.new)) }
-    ensures others { IsTrue (F.tells files.old)
-        → IfSolve (asked words.now)
-        (λ task. KeepsOthers task.file (F.held files.old) (F.held files.new)) }
-
-    // A position's pairs in a file.
-    ensures shown { result ≡ 0
-        → IfShow (asked words.now)
-        (λ task. HasShown task (F.tells files.old) (F.held files.old task.file)
-        (λ text. IsPut (O.output out.old) (O.output out.new) text)) }
-    ensures not_put { result ≡ status_of Write
-        → IfShow (asked words.now)
-        (λ task. HasShown task (F.tells files.old) (F.held files.old task.file)
-        (λ text. FailedThenPut (O.output out.old) (O.output out.new) text (refusal_text Write))) }
-    ensures not_shown { result ≢ 0 → result ≢ status_of Write
-        → IfShow (asked words.now)
-        (λ task. WasNotShown task (F.tells files.old) (F.held files.old task.file)
-        (O.output out.old) (O.output out.new) result) }
-    ensures show_cause { IfShow (asked words.now)
-        (λ task. result ≡ status_of Write
-        → Rose (O.output out.old).faults (O.output out.new).faults) }
-    ensures show_files { IsTrue (F.tells files.old)
-        → IfShow (asked words.now)
-        (λ task. SameFiles (F.held files.old) (F.held files.new)) }
-
-    // A file that is written anew.
-    ensures migrated { result ≡ 0
-        → IfMigrate (asked words.now)
-        (λ task. HasMigrated task (F.tells files.old)
-        (F.held files.old task.old) (F.held files.new task.new)
-        (O.output out.old) (O.output out.new)) }
-    ensures not_migrated { result ≡ status_of Write
-        → IfMigrate (asked words.now)
-        (λ task. HasStoppedMigrating task (F.tells files.old)
-        (F.held files.old task.old) (F.held files.old task.new) (F.held files.new task.new)
-        (O.output out.old) (O.output out.new)) }
-    ensures old_refused { result ≢ 0 → result ≢ status_of Write
-        → IfMigrate (asked words.now)
-        (λ task. WasNotLoaded task.old (F.tells files.old) (F.held files.old task.old)
-        (O.output out.old) (O.output out.new) result) }
-    ensures other_than_new { IsTrue (F.tells files.old)
-        → IfMigrate (asked words.now)
-        (λ task. KeepsOthers task.new (F.held files.old) (F.held files.new)) }
-
-    // Advice from a file.
-    ensures advised { result ≡ 0
-        → IfAdvise (asked words.now)
-        (λ task. HasAdvised task (F.tells files.old) (F.held files.old task.file)
-        (λ text. IsPut (O.output out.old) (O.output out.new) text)) }
-    ensures advice_not_put { result ≡ status_of Write
-        → IfAdvise (asked words.now)
-        (λ task. HasAdvised task (F.tells files.old) (F.held files.old task.file)
-        (λ text. FailedThenPut (O.output out.old) (O.output out.new) text (refusal_text Write))) }
-    ensures not_advised { result ≢ 0 → result ≢ status_of Write
-        → IfAdvise (asked words.now)
-        (λ task. WasNotAdvised task (F.tells files.old) (F.held files.old task.file)
-        (O.output out.old) (O.output out.new) result) }
-    ensures advise_cause { IfAdvise (asked words.now)
-        (λ task. result ≡ status_of Write
-        → Rose (O.output out.old).faults (O.output out.new).faults) }
-    ensures advise_files { IsTrue (F.tells files.old)
-        → IfAdvise (asked words.now)
-        (λ task. SameFiles (F.held files.old) (F.held files.new)) }
-
-    // A file whose words are checked.
-    ensures verified { result ≡ 0
-        → IfVerify (asked words.now)
-        (λ task. HasVerified task (F.tells files.old) (F.held files.old task.file)
-        (λ text. IsPut (O.output out.old) (O.output out.new) text)) }
-    ensures not_told { result ≡ status_of Write
-        → IfVerify (asked words.now)
-        (λ task. HasVerified task (F.tells files.old) (F.held files.old task.file)
-        (λ text. FailedThenPut (O.output out.old) (O.output out.new) text (refusal_text Write))) }
-    ensures not_verified { result ≢ 0 → result ≢ status_of Write
-        → IfVerify (asked words.now)
-        (λ task. WasNotVerified task.file (F.tells files.old) (F.held files.old task.file)
-        (O.output out.old) (O.output out.new) result) }
-    ensures verify_cause { IfVerify (asked words.now)
-        (λ task. result ≡ status_of Write
-        → Rose (O.output out.old).faults (O.output out.new).faults) }
-    ensures verify_files { IsTrue (F.tells files.old)
-        → IfVerify (asked words.now)
-        (λ task. SameFiles (F.held files.old) (F.held files.new)) }
-
-    // What is told of faults, and which files stay.
     ensures cause { result ≡ status_of Write
         → Rose (F.write_faults files.old) (F.write_faults files.new)
         ⊎ Rose (O.output out.old).faults (O.output out.new).faults }
     ensures read_cause { result ≡ status_of Read
         → Rose (F.read_faults files.old) (F.read_faults files.new) }
-    ensures bound_cause { IfBound (asked words.now)
-        (λ task. result ≡ status_of Write
-        → Rose (O.output out.old).faults (O.output out.new).faults) }
-    ensures bound_files { IfBound (asked words.now) (λ task. files.new ≡ files.old) }
-    ensures solve_files { IfSolve (asked words.now)
-        (λ task. result ≢ 0 → result ≢ status_of Write → files.new ≡ files.old) }
-    ensures refused_files { IfErr (asked words.now) (λ refusal. files.new ≡ files.old) }
-    ensures files { result ≢ 0 → result ≢ status_of Write → IsTrue (F.tells files.old)
+    ensures kept { IsTrue (F.tells files.old)
+        → KeepsFiles (asked words.now) (F.held files.old) (F.held files.new) }
+    ensures refused_files { result ≢ 0 → result ≢ status_of Write → IsTrue (F.tells files.old)
         → SameFiles (F.held files.old) (F.held files.new) }
+    ensures untouched { LeavesFiles (asked words.now) result → files.new ≡ files.old }
 {
     match read_task(alloc, words) {
         Ok(Task::Bound(task)) => run_bound(alloc, &task, out),

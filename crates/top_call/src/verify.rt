@@ -3,11 +3,11 @@ ghost use Rattle.hyper_outside.specs.Causes.{Rose};
 ghost use Rattle.hyper_outside.specs.Files.{SameFiles};
 ghost use Rattle.hyper_outside.specs.Sink.{Puts};
 ghost use Rattle.turn_rule.specs.States.{IsState};
-ghost use Rattle.equity_report.specs.declared.refusal.Refusal.TheVariants.{Read, Write};
-ghost use Rattle.equity_report.specs.Refusals.{status_of, refusal_text};
+ghost use Rattle.equity_report.specs.declared.refusal.Refusal.TheVariants.{Read};
+ghost use Rattle.equity_report.specs.Refusals.{status_of};
 ghost use Rattle.command_line.specs.Right.{IsRightVerify};
-ghost use Rattle.top_call.specs.Runs.{EndsVerifying, FailedThenPut, IsOfVerifying, IsPut};
-ghost use Rattle.top_call.specs.Verifies.{AnswersCheck, AnswersVerify, HasVerified, TellsFinding, WasNotVerified, verified_report};
+ghost use Rattle.top_call.specs.Runs.{EndsBy, IsOfVerifying};
+ghost use Rattle.top_call.specs.Verifies.{AnswersCheck, AnswersVerify, TellsFinding, TellsVerified, verified_report};
 
 use crate::load::{game_told, refusal_of};
 use crate::put::{DONE, refuse};
@@ -102,20 +102,11 @@ pub(crate) fn run_verify<R: Threads + Sync, F: Files, O: Sink>(
     out: &mut O,
 ) -> u8
     requires { IsRightVerify task.now }
-    ensures ends { EndsVerifying result }
-    ensures verified { result ≡ 0 → HasVerified task.now (F.tells files.old)
-        (F.held files.old task.now.file)
-        (λ text. IsPut (O.output out.old) (O.output out.new) text) }
-    ensures stopped { result ≡ status_of Write → HasVerified task.now (F.tells files.old)
-        (F.held files.old task.now.file)
-        (λ text. FailedThenPut (O.output out.old) (O.output out.new) text (refusal_text Write)) }
-    ensures refused { result ≢ 0 → result ≢ status_of Write
-        → WasNotVerified task.now.file (F.tells files.old) (F.held files.old task.now.file)
+    ensures ends { EndsBy IsOfVerifying result }
+    ensures tells { TellsVerified task.now (F.tells files.old) (F.held files.old task.now.file)
         (O.output out.old) (O.output out.new) result }
     ensures read_cause { result ≡ status_of Read
         → Rose (F.read_faults files.old) (F.read_faults files.new) }
-    ensures write_cause { result ≡ status_of Write
-        → Rose (O.output out.old).faults (O.output out.new).faults }
     ensures same { IsTrue (F.tells files.old)
         → SameFiles (F.held files.old) (F.held files.new) }
 {

@@ -4,8 +4,9 @@ ghost use Rattle.command_line.specs.declared.command.Solve.{Solve};
 ghost use Rattle.command_line.specs.Right.{IsRightSolve};
 ghost use Rattle.equity_report.specs.declared.refusal.Refusal.TheVariants.{Memory, Read};
 ghost use Rattle.equity_report.specs.Refusals.{status_of};
+ghost use Rattle.top_call.specs.Runs.{WasRefused};
 ghost use Rattle.top_call.specs.Solves.{HasSolved};
-ghost use Rattle.top_call.specs.Verifies.{WasNotVerified};
+ghost use Rattle.top_call.specs.Verifies.{MayRefuseVerifying};
 
 use database_file::texts_are_read_back;
 
@@ -14,7 +15,7 @@ use database_file::texts_are_read_back;
 pub fn solved_files_are_consistent()
     ensures { (task : Solve) (held : Option (List ℕ)) (before after old new : Output) (status : ℕ)
         → IsRightSolve task → HasSolved task true held before after
-        → WasNotVerified task.file true held old new status
+        → WasRefused (MayRefuseVerifying task.file true held) old new status
         → (status ≡ status_of Read) ⊎ (status ≡ status_of Memory) }
 {
     texts_are_read_back();

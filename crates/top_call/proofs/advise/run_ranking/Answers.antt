@@ -1,28 +1,36 @@
-use Rattle.std.proofs.Common.{Err, rules}
 use Rattle.equity_report.specs.Advice.{ranking_text}
-use Rattle.top_call.proofs.AdviseFiles.{all-told}
+use Rattle.top_call.specs.Advises.{HasRanked, MayRefuseAdvice}
+use Rattle.top_call.specs.Runs.{IsOfShowing}
+use Rattle.top_call.proofs.Telling.{has-told, not-told, was-refused}
 use Rattle.top_call.proofs.advise.run_ranking.Goals as goal
 
-pub returns-in-Ok-write_ranking-clause-ranked : goal.returns-in-Ok-write_ranking-clause-ranked
-returns-in-Ok-write_ranking-clause-ranked g c = λ _.
+pub returns-in-Err-clause-tells : goal.returns-in-Err-clause-tells
+returns-in-Err-clause-tells g c =
+    let task = c.args.task.now in
+    let told = g.F.Files.tells c.args.files.now in
+    let held = g.F.Files.held c.args.files.now task.file in
+    was-refused (HasRanked task c.args.roll told held) (MayRefuseAdvice task told held) (g.O.Sink.output c.args.out.now) (g.O.Sink.output c.refuse.new.out)
+    IsOfShowing (λ none. none) c.in-Err.refusal c.in-Err.ensures.kinds c.in-Err.ensures.told c.refuse.result c.refuse.ensures.status c.refuse.ensures.told
+
+pub returns-in-Ok-write_ranking-clause-tells : goal.returns-in-Ok-write_ranking-clause-tells
+returns-in-Ok-write_ranking-clause-tells g c =
+    let task = c.args.task.now in
+    let told = g.F.Files.tells c.args.files.now in
+    let held = g.F.Files.held c.args.files.now task.file in
     let (head, file) = c.in-Ok.ensures.told in
     let found = c.in-Ok.found in
-    record {
-      head = head;
-      kind = found.kind;
-      ranking = found.ranking;
-      file = file;
-      report = all-told (g.O.Sink.output c.args.out.now).told (g.O.Sink.output c.write_ranking.new.out).told (ranking_text c.args.task.now.position c.args.roll found.kind.name found.ranking)
-          c.in-Ok-write_ranking.field-0 c.in-Ok-write_ranking.ensures.gains;
-    }
+    has-told (HasRanked task c.args.roll told held) (MayRefuseAdvice task told held) (g.O.Sink.output c.args.out.now) (g.O.Sink.output c.write_ranking.new.out)
+    (ranking_text task.position c.args.roll found.kind.name found.ranking) c.in-Ok-write_ranking.field-0 c.in-Ok-write_ranking.ensures
+    (λ IsReport report. record { head = head; kind = found.kind; ranking = found.ranking; file = file; report = report })
 
-pub returns-in-Err-write_ranking-clause-stopped : goal.returns-in-Err-write_ranking-clause-stopped
-returns-in-Err-write_ranking-clause-stopped g c = λ _.
+pub returns-clause-tells : goal.returns-clause-tells
+returns-clause-tells g c =
+    let task = c.args.task.now in
+    let told = g.F.Files.tells c.args.files.now in
+    let held = g.F.Files.held c.args.files.now task.file in
     let (head, file) = c.in-Ok.ensures.told in
-    record {
-      head = head;
-      kind = c.in-Ok.found.kind;
-      ranking = c.in-Ok.found.ranking;
-      file = file;
-      report = (g.O.Sink.output c.write_ranking.new.out, Err c.in-Err-write_ranking.field-0, search rules, c.in-Err-write_ranking.ensures, c.refuse-in-Err-write_ranking.ensures.told);
-    }
+    let found = c.in-Ok.found in
+    not-told (HasRanked task c.args.roll told held) (MayRefuseAdvice task told held) (g.O.Sink.output c.args.out.now) (g.O.Sink.output c.refuse-in-Err-write_ranking.new.out)
+    (g.O.Sink.output c.write_ranking.new.out) (ranking_text task.position c.args.roll found.kind.name found.ranking) c.in-Err-write_ranking.field-0 c.in-Err-write_ranking.ensures
+    (λ IsReport report. record { head = head; kind = found.kind; ranking = found.ranking; file = file; report = report })
+    c.refuse-in-Err-write_ranking.result c.refuse-in-Err-write_ranking.ensures.status c.refuse-in-Err-write_ranking.ensures.told

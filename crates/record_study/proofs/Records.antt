@@ -1,0 +1,70 @@
+-- The decisions of a record outside a match can be judged by the words of its game.
+use Rattle.std.proofs.Common.{◌≡◌, ℕ, ◌+◌, ◌<◌, List, length, map, Bool, true, false, All, Option, None, refl, sym, subst, arith}
+use Rattle.std.proofs.lemmas.Bool.{false≢true}
+use Rattle.std.proofs.lemmas.List.Elements.{All-map}
+use Rattle.std.specs.Prelude.{get_or}
+use Rattle.cube_actions.specs.Scores.{MatchScore}
+use Rattle.cube_actions.specs.Stakes.{IsValid, Terms}
+use Rattle.cube_actions.specs.Starts.{StartPairs}
+use Rattle.game_record.specs.Kinds.{stakes_at}
+use Rattle.game_record.specs.Lines.{Follow, IsRecord, UpTo, record_lines}
+use Rattle.game_record.specs.RightDecisions.{IsRightDecision, IsScoreIn, terms_for}
+use Rattle.game_record.specs.Turns.{first_stage, is_match}
+use Rattle.game_record.specs.declared.decision.Decision.{Decision}
+use Rattle.game_record.specs.declared.record.Record.{Record}
+use Rattle.game_record.specs.declared.record.RecordStakes.{RecordStakes}
+use Rattle.game_record.specs.declared.record.RecordStakes.TheVariants.{Cubeless, Money, Jacoby, MoneyBeavers, JacobyBeavers, Match}
+use Rattle.game_record.specs.declared.stage.Stage.{Stage}
+use Rattle.turn_rule.specs.declared.game.Game.{Game}
+use Rattle.turn_rule.specs.Games.{kinds_of}
+use Rattle.turn_rule.specs.Looks.{AreStakesOf, Source}
+use Rattle.record_analysis.specs.Analyses.{unjudged}
+use Rattle.record_analysis.specs.Judging.{CanBeJudged, IsAt}
+use Rattle.record_analysis.specs.Truth.{IsDecisionOf}
+use Rattle.record_analysis.specs.declared.analysis.Judged.{Judged}
+use Rattle.record_study.specs.Studies.{stakes_of}
+
+-- a record is of one to three checkers
+pub checkers-of : (rec : Record) → IsRecord rec → UpTo 3 rec.checkers
+checkers-of rec valid = go valid.end valid.follow where
+  go : (end : Stage) → Follow first_stage (record_lines rec) end → UpTo 3 rec.checkers
+  go end (a, comes_a, fits_a, (b, comes_b, checkers, more)) = checkers
+
+plain-stakes : (stakes : RecordStakes) → is_match stakes ≡ false → (score : Option MatchScore) (starts : StartPairs) → stakes_of stakes ≡ terms_for (stakes_at stakes score) starts
+plain-stakes Cubeless plain score starts = refl
+plain-stakes Money plain score starts = refl
+plain-stakes Jacoby plain score starts = refl
+plain-stakes MoneyBeavers plain score starts = refl
+plain-stakes JacobyBeavers plain score starts = refl
+plain-stakes (Match length) plain score starts = absurd (false≢true (sym plain))
+
+plain-score : (stakes : RecordStakes) → is_match stakes ≡ false → (score : Option MatchScore) → IsScoreIn stakes score → score ≡ None
+plain-score Cubeless plain score is = is
+plain-score Money plain score is = is
+plain-score Jacoby plain score is = is
+plain-score MoneyBeavers plain score is = is
+plain-score JacobyBeavers plain score is = is
+plain-score (Match length) plain score is = absurd (false≢true (sym plain))
+
+-- outside a match no decision has a score
+pub plain-scores : (rec : Record) → is_match rec.stakes ≡ false → (decisions : List Decision) → All (IsRightDecision rec) decisions → All (λ (decision : Decision). decision.score ≡ None) decisions
+plain-scores rec plain decisions right = λ i d below. plain-score rec.stakes plain (get_or decisions i d).score (right i d below).score
+
+-- the law on right decisions
+abbrev Law : Type 0
+Law =
+    (rec : Record) (starts : StartPairs) (decision : Decision) → IsRightDecision rec decision → (source : Source) (stakes : Terms) → source.checkers ≡ rec.checkers
+    → stakes ≡ terms_for (stakes_at rec.stakes decision.score) starts → IsValid stakes → AreStakesOf source stakes → CanBeJudged source stakes decision
+
+module _ (law : Law) (rec : Record) (plain : is_match rec.stakes ≡ false) (starts : StartPairs) (decisions : List Decision) (right : All (IsRightDecision rec) decisions) (source : Source) (stakes : Terms) (checkers : source.checkers ≡ rec.checkers) (named : stakes ≡ stakes_of rec.stakes) (valid : IsValid stakes) (fits : AreStakesOf source stakes) where
+  pub can-be-judged : All (CanBeJudged source stakes) decisions
+  can-be-judged i d below =
+      let decision = get_or decisions i d in
+      law rec starts decision (right i d below) source stakes checkers
+      (subst (λ (t : Terms). stakes ≡ t) (plain-stakes rec.stakes plain decision.score starts) named) valid fits
+
+-- the same of decisions that weren't judged yet, at any score
+pub unjudged-can : (source : Source) (stakes : Terms) (decisions : List Decision) → All (CanBeJudged source stakes) decisions
+    → All (λ (judged : Judged). IsAt None judged → CanBeJudged source stakes judged.decision) (map unjudged decisions)
+unjudged-can source stakes decisions can =
+    All-map (λ (judged : Judged). IsAt None judged → CanBeJudged source stakes judged.decision) unjudged decisions (λ i d below at. can i d below)

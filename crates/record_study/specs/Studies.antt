@@ -1,0 +1,33 @@
+-- Studying a recorded game: the game that it is played for is solved, and by that its decisions are judged.
+use Rattle.std.specs.Prelude.{ℕ, List}
+use Rattle.cube_actions.specs.Money.{jacoby, jacoby_beavers, money, money_beavers}
+use Rattle.cube_actions.specs.Stakes.{Terms, cubeless}
+use Rattle.game_record.specs.declared.decision.Decision.{Decision}
+use Rattle.game_record.specs.declared.record.Record.{Record}
+use Rattle.game_record.specs.declared.record.RecordStakes.{RecordStakes}
+use Rattle.game_record.specs.declared.record.RecordStakes.TheVariants.{Cubeless, Money, Jacoby, MoneyBeavers, JacobyBeavers, Match}
+use Rattle.turn_rule.specs.declared.game.Game.{Game}
+use Rattle.turn_rule.specs.Games.{game_of}
+use Rattle.turn_rule.specs.Turn.{rounds}
+use Rattle.record_analysis.specs.Analyses.{analysis_of}
+use Rattle.record_analysis.specs.Truth.{IsNoLooserAnalysis, IsTrueAnalysis}
+use Rattle.record_analysis.specs.declared.analysis.Judged.{Judged}
+
+-- what a record outside a match is played for; a match has no stakes of its own
+abbrev pub stakes_of : RecordStakes → Terms
+stakes_of Cubeless = cubeless
+stakes_of Money = money
+stakes_of Jacoby = jacoby
+stakes_of MoneyBeavers = money_beavers
+stakes_of JacobyBeavers = jacoby_beavers
+stakes_of (Match length) = cubeless
+
+-- the game that a record outside a match is played in
+abbrev pub game_of_record : Record → Game
+game_of_record rec = game_of rec.checkers (stakes_of rec.stakes)
+
+-- The decisions were studied: from some number of turns on, one for all of them, each pair encloses what its decision loses exactly; and each is
+-- at least as tight as over so many rounds in which all states are worked out from the round before.
+pub record AreStudied (game : Game) (most : ℕ) (decisions : List Decision) (list : List Judged) : Type 0 where
+  pub true : IsTrueAnalysis game list
+  pub tight : IsNoLooserAnalysis list (analysis_of game.stakes (rounds game.stakes most) decisions)

@@ -1,0 +1,79 @@
+-- What is known where the program's words are refused, or there was no memory for them.
+use Rattle.std.proofs.Common.{◌≡◌, ◌∙◌, ℕ, List, Bool, IsTrue, None, Result, Ok, Err, sym, subst, arith}
+use Rattle.hyper_outside.specs.Files.{Contents}
+use Rattle.hyper_outside.specs.Sink.{Output}
+use Rattle.equity_report.specs.declared.refusal.Refusal.{Refusal}
+use Rattle.equity_report.specs.declared.refusal.Refusal.TheVariants.{Words, Position, Missing, File, Read, Write, Memory, Base, Roll, Inconsistent}
+use Rattle.equity_report.specs.Refusals.{status_of, refusal_text}
+use Rattle.top_call.specs.declared.task.Task.{Task}
+use Rattle.top_call.specs.declared.task.Task.TheVariants.{Bound, Solve, Show, Migrate, Advise, Verify}
+use Rattle.top_call.specs.Advises.{HasAdvised, MayRefuseAdvice}
+use Rattle.top_call.specs.Loads.{RefusesLoading}
+use Rattle.top_call.specs.Outcomes.{HasRun}
+use Rattle.top_call.specs.Runs.{IsDue, WasPut}
+use Rattle.top_call.specs.Shows.{HasShown, RefusesShowing}
+use Rattle.top_call.specs.Verifies.{HasVerified, MayRefuseVerifying, RefusesVerifying}
+use Rattle.top_call.proofs.Loaded.{of-file}
+use Rattle.top_call.proofs.Telling.{no-memory}
+
+of_memory : (W : List ℕ → Type 0) (refusal : Refusal) → 8 ≡ status_of refusal → W (refusal_text Memory) → W (refusal_text refusal)
+of_memory W (Words bad) e w = absurd (omega arith)
+of_memory W (Position bad) e w = absurd (omega arith)
+of_memory W (Missing name) e w = absurd (omega arith)
+of_memory W (File bad) e w = absurd (omega arith)
+of_memory W Read e w = absurd (omega arith)
+of_memory W Write e w = absurd (omega arith)
+of_memory W Memory e w = w
+of_memory W (Base wanted found) e w = absurd (omega arith)
+of_memory W (Roll bad) e w = absurd (omega arith)
+of_memory W (Inconsistent unheld) e w = absurd (omega arith)
+
+-- where there was no memory for the words, nothing is known of what they ask for
+module _ (told : Bool) (before after : Contents) (old new : Output) (status : ℕ) where
+  abbrev Run : Result Task Refusal → Type 0
+  Run expected = HasRun expected told before after old new status
+
+  unheld : status ≡ status_of Memory → WasPut old new (refusal_text Memory) → (expected : Result Task Refusal) → Run expected
+  unheld is put (Err refusal) = λ e. of_memory (WasPut old new) refusal (sym is ∙ e) put
+  unheld is put (Ok (Bound task)) = record {
+    report = λ done. absurd (omega (arith, done, is));
+    truth = λ done. absurd (omega (arith, done, is));
+    write = λ write. absurd (omega (arith, write, is));
+    cause = λ write. absurd (omega (arith, write, is));
+  }
+  unheld is put (Ok (Solve task)) = record {
+    solved = λ done. absurd (omega (arith, done, is));
+    stopped = λ write. absurd (omega (arith, write, is));
+  }
+  unheld is put (Ok (Show task)) =
+      no-memory (HasShown task told (before task.file)) (λ refusal. IsTrue told → RefusesShowing task refusal (before task.file)) old new (λ _. tt) status is put
+  unheld is put (Ok (Migrate task)) = record {
+    migrated = λ done. absurd (omega (arith, done, is));
+    stopped = λ write. absurd (omega (arith, write, is));
+    refused = λ done write. record {
+      refusal = Memory;
+      cause = of-file told (before task.old) (RefusesLoading task.old Memory) (λ _. tt) (None, tt);
+      line = put;
+      is_status = is;
+    };
+  }
+  unheld is put (Ok (Advise task)) =
+      no-memory (HasAdvised task told (before task.file)) (MayRefuseAdvice task told (before task.file)) old new (λ _. tt) status is put
+  unheld is put (Ok (Verify task)) =
+      no-memory (HasVerified task told (before task.file)) (MayRefuseVerifying task.file told (before task.file)) old new
+      (of-file told (before task.file) (RefusesVerifying task.file Memory) (λ _. tt) (None, tt)) status is put
+
+  refused : (expected : Result Task Refusal) (refusal : Refusal) → expected ≡ Err refusal → WasPut old new (refusal_text refusal) → Run expected
+  refused expected refusal due put = subst Run (sym due) (λ _. put)
+
+  pub unread : (expected : Result Task Refusal) (refusal : Refusal) → IsDue expected (Err refusal) → status ≡ status_of refusal → WasPut old new (refusal_text refusal) → Run expected
+  unread expected (Words bad) due is put = refused expected (Words bad) due put
+  unread expected (Position bad) due is put = refused expected (Position bad) due put
+  unread expected (Missing missing) due is put = refused expected (Missing missing) due put
+  unread expected (File bad) due is put = refused expected (File bad) due put
+  unread expected Read due is put = refused expected Read due put
+  unread expected Write due is put = refused expected Write due put
+  unread expected Memory due is put = unheld is put expected
+  unread expected (Base wanted found) due is put = refused expected (Base wanted found) due put
+  unread expected (Roll bad) due is put = refused expected (Roll bad) due put
+  unread expected (Inconsistent unheld) due is put = refused expected (Inconsistent unheld) due put
