@@ -2,5 +2,8 @@ pub mod Reports
 pub mod Games
 pub mod Files
 pub mod Verify
+pub mod Records
 pub mod Refusals
 pub mod Advice
+pub mod Analyses
+pub mod Ladder

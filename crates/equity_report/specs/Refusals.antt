@@ -13,11 +13,12 @@ use Rattle.base_head.specs.declared.fault.FileFault.{FileFault}
 use Rattle.base_head.specs.declared.fault.FileFault.TheVariants as faults
 use Rattle.equity_report.specs.declared.text.GameName.{GameName}
 use Rattle.equity_report.specs.declared.refusal.Refusal.{Refusal}
-use Rattle.equity_report.specs.declared.refusal.Refusal.TheVariants.{Words, Position, Missing, File, Read, Write, Memory, Base, Roll, Inconsistent}
+use Rattle.equity_report.specs.declared.refusal.Refusal.TheVariants.{Words, Position, Missing, File, Record, Read, Write, Memory, Base, Roll, Inconsistent}
 use Rattle.equity_report.specs.declared.refusal.Wanted.{Wanted}
-use Rattle.equity_report.specs.declared.refusal.Wanted.TheVariants.{Checkers, Kind}
+use Rattle.equity_report.specs.declared.refusal.Wanted.TheVariants.{Checkers, Kind, Fits}
 use Rattle.equity_report.specs.Reports.{line, counted_text}
 use Rattle.equity_report.specs.Games.{game_text}
+use Rattle.equity_report.specs.Records.{bad_record_text}
 use Rattle.equity_report.specs.Verify.{unheld_text}
 
 -- what is wrong with the words
@@ -58,6 +59,7 @@ status_of (Words bad) = 1
 status_of (Position bad) = 2
 status_of (Missing name) = 3
 status_of (File bad) = 4
+status_of (Record bad) = 5
 status_of Read = 6
 status_of Write = 7
 status_of Memory = 8
@@ -71,10 +73,11 @@ bad_words_text bad = codes "words " ++ counted_text (words_text bad.kind) bad.pl
 abbrev pub bad_file_text : BadFile → List ℕ
 bad_file_text bad = codes "file " ++ counted_text (file_fault_text bad.fault) bad.at
 
--- the checkers a side or the kind of state that is wanted
+-- the checkers a side, the kind of state or the game that is wanted
 abbrev pub wanted_text : Wanted → List ℕ
 wanted_text (Checkers checkers) = counted_text (codes "checkers") checkers
 wanted_text (Kind kind) = codes "kind " ++ kind_text kind
+wanted_text (Fits game) = game_text game
 
 abbrev pub base_text : Wanted → GameName → List ℕ
 base_text wanted found = codes "base wanted " ++ wanted_text wanted ++ codes " found " ++ game_text found
@@ -84,6 +87,7 @@ reason_text (Words bad) = bad_words_text bad
 reason_text (Position bad) = counted_text (codes "position") (position_kind bad)
 reason_text (Missing name) = codes "missing " ++ name.bytes
 reason_text (File bad) = bad_file_text bad
+reason_text (Record bad) = bad_record_text bad
 reason_text Read = codes "read"
 reason_text Write = codes "write"
 reason_text Memory = codes "memory"

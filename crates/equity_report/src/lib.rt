@@ -2,14 +2,21 @@
 #![tactic(auto)]
 
 mod advice;
+mod analysis;
 mod files;
+mod ladder;
+mod record;
 mod refusal;
 mod report;
+#[cfg(test)]
+mod tests;
 mod text;
 mod verify;
 
 pub use advice::{write_cube, write_ranking};
+pub use analysis::{write_analysis, write_made};
 pub use files::{KindRow, Solved, write_migrated, write_shown, write_solved};
+pub use ladder::{write_ladder_end, write_ladder_score};
 pub use refusal::{FileName, Refusal, Wanted, write_refusal};
 pub use report::write_bound;
 pub use text::GameName;

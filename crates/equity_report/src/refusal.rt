@@ -2,11 +2,13 @@ ghost use Rattle.std.specs.Prelude.{◌≡◌, ◌≤◌, ◌++◌, ◌+◌, ℕ
 ghost use Rattle.equity_report.specs.Refusals.{words_text, bad_words_text, file_fault_text, bad_file_text, base_text, wanted_text, position_kind, roll_kind, status_of, reason_text, refusal_text};
 ghost use Rattle.hyper_outside.specs.Sink.{Puts};
 
+use crate::record::add_bad_record;
 use crate::text::{GameName, Report, add_counted, add_game, add_number};
 use crate::verify::{Unheld, add_unheld};
 use arrayvec::ArrayString;
 use base_head::{BadFile, FileFault};
 use cube_actions::KindName;
+use game_record::BadRecord;
 use hyper_outside::{BadWords, Failed, Sink, WordsKind};
 use position_rank::BadPosition;
 use roll_table::BadRoll;
@@ -21,6 +23,8 @@ pub enum Wanted {
     Checkers(u8),
     /// This kind of state.
     Kind(KindName),
+    /// These checkers a side and these stakes.
+    Fits(GameName),
 }
 
 /// Why a run was refused.
@@ -46,6 +50,8 @@ pub enum Refusal {
     Roll(BadRoll),
     /// The file's words aren't consistent, and this is the first that tells it.
     Inconsistent(Unheld),
+    /// The record's text is none, or the game that it tells breaks a rule.
+    Record(BadRecord),
 }
 
 fn words_text(kind: WordsKind) -> &'static str
@@ -88,6 +94,7 @@ impl Refusal {
             Refusal::Position(_) | Refusal::Roll(_) => 2,
             Refusal::Missing(_) => 3,
             Refusal::File(_) => 4,
+            Refusal::Record(_) => 5,
             Refusal::Read => 6,
             Refusal::Write => 7,
             Refusal::Memory => 8,
@@ -114,7 +121,7 @@ fn roll_kind(bad: BadRoll) -> u8
 fn add_wanted(line: &mut Report, wanted: Wanted)
     requires { length line.old.bytes ≤ 60 }
     ensures bytes { line.new.bytes ≡ line.old.bytes ++ wanted_text wanted }
-    ensures length { length line.new.bytes ≤ length line.old.bytes + 37 }
+    ensures length { length line.new.bytes ≤ length line.old.bytes + 100 }
 {
     match wanted {
         Wanted::Checkers(checkers) => add_counted(line, "checkers", u64::from(checkers)),
@@ -122,13 +129,14 @@ fn add_wanted(line: &mut Report, wanted: Wanted)
             line.push_str("kind ");
             line.push_str(kind.print().as_str());
         }
+        Wanted::Fits(game) => add_game(line, game),
     }
 }
 
 fn add_base(line: &mut Report, wanted: Wanted, found: GameName)
     requires { length line.old.bytes ≤ 40 }
     ensures bytes { line.new.bytes ≡ line.old.bytes ++ base_text wanted found }
-    ensures length { length line.new.bytes ≤ 240 }
+    ensures length { length line.new.bytes ≤ 300 }
 {
     line.push_str("base wanted ");
     add_wanted(line, wanted);
@@ -177,6 +185,7 @@ fn add_reason(line: &mut Report, refusal: &Refusal)
             add_counted(line, "roll", u64::from(roll_kind(*bad)));
         }
         Refusal::Inconsistent(unheld) => add_unheld(line, unheld),
+        Refusal::Record(bad) => add_bad_record(line, *bad),
     }
 }
 
