@@ -1,5 +1,5 @@
 -- The decisions of a record outside a match can be judged by the words of its game.
-use Rattle.std.proofs.Common.{◌≡◌, ℕ, ◌+◌, ◌<◌, List, length, map, Bool, true, false, All, Option, None, refl, sym, subst, arith}
+use Rattle.std.proofs.Common.{◌≡◌, List, [], map, false, All, IfOk, IsOk, Option, None, Result, Ok, Err, refl, sym, subst}
 use Rattle.std.proofs.lemmas.Bool.{false≢true}
 use Rattle.std.proofs.lemmas.List.Elements.{All-map}
 use Rattle.std.specs.Prelude.{get_or}
@@ -15,8 +15,8 @@ use Rattle.game_record.specs.declared.record.Record.{Record}
 use Rattle.game_record.specs.declared.record.RecordStakes.{RecordStakes}
 use Rattle.game_record.specs.declared.record.RecordStakes.TheVariants.{Cubeless, Money, Jacoby, MoneyBeavers, JacobyBeavers, Match}
 use Rattle.game_record.specs.declared.stage.Stage.{Stage}
-use Rattle.turn_rule.specs.declared.game.Game.{Game}
-use Rattle.turn_rule.specs.Games.{kinds_of}
+use Rattle.hyper_outside.specs.declared.outside.LookStop.{LookStop}
+use Rattle.interval_words.specs.WordLists.{WordList, source_of}
 use Rattle.turn_rule.specs.Looks.{AreStakesOf, Source}
 use Rattle.record_analysis.specs.Analyses.{unjudged}
 use Rattle.record_analysis.specs.Judging.{CanBeJudged, IsAt}
@@ -68,3 +68,21 @@ pub unjudged-can : (source : Source) (stakes : Terms) (decisions : List Decision
     → All (λ (judged : Judged). IsAt None judged → CanBeJudged source stakes judged.decision) (map unjudged decisions)
 unjudged-can source stakes decisions can =
     All-map (λ (judged : Judged). IsAt None judged → CanBeJudged source stakes judged.decision) unjudged decisions (λ i d below at. can i d below)
+
+-- what was answered
+pub answered : (P : Type 0) (result : Result (Unit {0}) LookStop) → IsOk result → IfOk result (λ _. P) → P
+answered P (Ok done) ok is = is
+answered P (Err stop) ok is = absurd (cc)
+
+-- what holds of each value holds of one that was answered
+pub if-ok : {A E : Type 0} (P Q : A → Type 0) (result : Result A E) → ((x : A) → P x → Q x) → IfOk result P → IfOk result Q
+if-ok P Q (Ok x) map is = map x is
+if-ok P Q (Err e) map is = tt
+
+-- the starts of what isn't a match
+abbrev pub no_starts : StartPairs
+no_starts = record { match_length = 1; pairs = [] }
+
+-- decisions that the words of a game can judge are of that game
+pub decisions-of : (words : WordList) (decisions : List Decision) → All (CanBeJudged (source_of words) words.game.stakes) decisions → All (IsDecisionOf words.game) decisions
+decisions-of words decisions can = λ i d below. record { state = (can i d below).state; choice = (can i d below).choice }

@@ -1,8 +1,8 @@
 //! Studying a recorded game: solving what it is played for, and judging its decisions by that.
 #![tactic(auto)]
 
-mod study;
+mod studying;
 #[cfg(test)]
 mod tests;
 
-pub use study::{stakes_of, study};
+pub use studying::{stakes_of, study};

@@ -25,8 +25,10 @@ fn a_take_that_is_sure_to_lose_costs_a_point(rt: HostRuntime) {
         panic!(&rt; "it is played for something else");
     };
     let decisions = replay(rt.alloc(), &rec).expect(&rt, "it breaks a rule");
-    let analysis =
-        study(&rt, rt.alloc(), &rec, decisions, 8, 4, &OpenGate).expect(&rt, "no memory");
+    let analysis = study(&rt, rt.alloc(), &rec, decisions, 8, 4, &OpenGate).expect(
+        &rt,
+        "no memory",
+    );
     assert_eq!(rt; analysis.len(), 16);
     for judged in analysis.as_slice() {
         let loss = judged.loss.expect(&rt, "it isn't judged");

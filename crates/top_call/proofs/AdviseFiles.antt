@@ -26,7 +26,7 @@ use Rattle.database_file.specs.PagedFiles.{PagedFile}
 use Rattle.database_file.specs.Texts.{game_in}
 use Rattle.database_file.proofs.Bases.{kinds-named}
 use Rattle.equity_report.specs.declared.refusal.Refusal.{Refusal}
-use Rattle.equity_report.specs.declared.refusal.Refusal.TheVariants.{Words, Position, Missing, File, Read, Write, Memory, Base, Roll, Inconsistent}
+use Rattle.equity_report.specs.declared.refusal.Refusal.TheVariants.{Words, Position, Missing, File, Read, Write, Memory, Base, Roll, Inconsistent, Record}
 use Rattle.equity_report.specs.declared.refusal.Wanted.TheVariants.{Checkers, Kind}
 use Rattle.top_call.specs.declared.advise.AskedKind.{AskedKind}
 use Rattle.top_call.specs.declared.task.AdviseTask.{AdviseTask}
@@ -35,24 +35,15 @@ use Rattle.top_call.specs.Shows.{look_refusal}
 use Rattle.top_call.specs.Tasks.{IsRightAdvise}
 use Rattle.top_call.specs.Advises.{Advises, AnswersAdvice, AnswersAsked, AnswersRanking, AnswersSought, IsOnBadPage, IsStateIn, OfHeld, Ranks, RefusesAdvice, RestsOn, WantsOther}
 use Rattle.top_call.proofs.AdviseLaws.{bad-page, source_in, told_in}
+use Rattle.top_call.proofs.Loaded.{tells-missing}
 
 refuses : (task : AdviseTask) (held : Option (List ℕ)) (refusal due : Refusal) → refusal ≡ due → RefusesAdvice task due held → RefusesAdvice task refusal held
 refuses task held refusal due is h = subst (λ (r : Refusal). RefusesAdvice task r held) (sym is) h
 
-missing-told : (task : AdviseTask) (refusal : Refusal) → TellsStop task.file stops.Missing refusal → RefusesAdvice task refusal None
-missing-told task (Words bad) t = absurd t
-missing-told task (Position bad) t = absurd t
-missing-told task (Missing missing) t = (t, refl)
-missing-told task (File bad) t = absurd t
-missing-told task Read t = absurd t
-missing-told task Write t = absurd t
-missing-told task Memory t = absurd t
-missing-told task (Base wanted found) t = absurd t
-missing-told task (Roll bad) t = absurd t
-missing-told task (Inconsistent unheld) t = absurd t
-
 pub advice-not-opened : (task : AdviseTask) (held : Option (List ℕ)) (stop : LoadStop) (refusal : Refusal) → AnswersPaged (option_map whole held) (Err stop) → TellsStop task.file stop refusal → RefusesAdvice task refusal held
-advice-not-opened task None stops.Missing refusal a t = missing-told task refusal t
+advice-not-opened task None stops.Missing refusal a t =
+    let (missing, is, named) = tells-missing task.file refusal t in
+    refuses task None refusal (Missing missing) is (named, refl)
 advice-not-opened task None (stops.BadFile bad) refusal a t = absurd a
 advice-not-opened task None stops.ReadFault refusal a t = refuses task None refusal Read t tt
 advice-not-opened task None stops.NoMemory refusal a t = absurd a
@@ -72,6 +63,7 @@ other-wanted task bytes base Memory a w = absurd w
 other-wanted task bytes base (Base wanted found) a w = record { front = a.right; wants = subst (λ (h : FileHead). WantsOther task h (Base wanted found)) a.head w }
 other-wanted task bytes base (Roll bad) a w = absurd w
 other-wanted task bytes base (Inconsistent unheld) a w = absurd w
+other-wanted task bytes base (Record bad) a w = absurd w
 
 pub not-asked : (task : AdviseTask) (held : Option (List ℕ)) (base : PagedFile) (refusal : Refusal) → AnswersPaged (option_map whole held) (Ok base) → WantsOther task base.head refusal → RefusesAdvice task refusal held
 not-asked task None base refusal a w = absurd a

@@ -1,7 +1,7 @@
 -- What a refusal that is put says of the one that is due.
 use Rattle.std.proofs.Common.{◌≡◌, inl, inr, ℕ, List, Ok, Err, Result, arith}
 use Rattle.equity_report.specs.declared.refusal.Refusal.{Refusal}
-use Rattle.equity_report.specs.declared.refusal.Refusal.TheVariants.{Words, Position, Missing, File, Read, Write, Memory, Base, Roll, Inconsistent}
+use Rattle.equity_report.specs.declared.refusal.Refusal.TheVariants.{Words, Position, Missing, File, Read, Write, Memory, Base, Roll, Inconsistent, Record}
 use Rattle.equity_report.specs.Refusals.{status_of, refusal_text}
 use Rattle.top_call.specs.declared.task.Task.{Task}
 use Rattle.top_call.specs.declared.task.Task.TheVariants.{Bound, Solve, Show, Migrate, Advise, Verify}
@@ -19,6 +19,7 @@ memory-text W Memory e w = w
 memory-text W (Base wanted found) e w = absurd (omega arith)
 memory-text W (Roll bad) e w = absurd (omega arith)
 memory-text W (Inconsistent unheld) e w = absurd (omega arith)
+memory-text W (Record bad) e w = absurd (omega arith)
 
 writing-status : (status : ℕ) → EndsWriting status → IsStatus status
 writing-status status (inl done) = inl done

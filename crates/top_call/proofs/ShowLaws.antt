@@ -27,30 +27,21 @@ use Rattle.database_file.proofs.PageWords.{word-among}
 use Rattle.equity_report.specs.declared.files.KindRow.{KindRow}
 use Rattle.equity_report.specs.declared.text.GameName.{GameName}
 use Rattle.equity_report.specs.declared.refusal.Refusal.{Refusal}
-use Rattle.equity_report.specs.declared.refusal.Refusal.TheVariants.{Words as BadWords, Position, Missing, File, Read, Write, Memory, Base, Roll, Inconsistent}
+use Rattle.equity_report.specs.declared.refusal.Refusal.TheVariants.{Words as BadWords, Position, Missing, File, Read, Write, Memory, Base, Roll, Inconsistent, Record}
 use Rattle.equity_report.specs.declared.refusal.Wanted.TheVariants.{Checkers}
 use Rattle.top_call.specs.declared.task.ShowTask.{ShowTask}
 use Rattle.top_call.specs.Loads.{TellsStop, game_told}
 use Rattle.top_call.specs.Runs.{IsOfShowing}
 use Rattle.top_call.specs.Shows.{AnswersRows, IsShown, RefusesShowing, look_refusal, rows_from, words_in_file}
+use Rattle.top_call.proofs.Loaded.{tells-missing}
 
 refuses : (task : ShowTask) (held : Option (List ℕ)) (refusal due : Refusal) → refusal ≡ due → RefusesShowing task due held → RefusesShowing task refusal held
 refuses task held refusal due is h = subst (λ (r : Refusal). RefusesShowing task r held) (sym is) h
 
-missing-told : (task : ShowTask) (refusal : Refusal) → TellsStop task.file stops.Missing refusal → RefusesShowing task refusal None
-missing-told task (BadWords bad) t = absurd t
-missing-told task (Position bad) t = absurd t
-missing-told task (Missing missing) t = (t, refl)
-missing-told task (File bad) t = absurd t
-missing-told task Read t = absurd t
-missing-told task Write t = absurd t
-missing-told task Memory t = absurd t
-missing-told task (Base wanted found) t = absurd t
-missing-told task (Roll bad) t = absurd t
-missing-told task (Inconsistent unheld) t = absurd t
-
 pub not-opened : (task : ShowTask) (held : Option (List ℕ)) (stop : LoadStop) (refusal : Refusal) → AnswersPaged (option_map whole held) (Err stop) → TellsStop task.file stop refusal → RefusesShowing task refusal held
-not-opened task None stops.Missing refusal a t = missing-told task refusal t
+not-opened task None stops.Missing refusal a t =
+    let (missing, is, named) = tells-missing task.file refusal t in
+    refuses task None refusal (Missing missing) is (named, refl)
 not-opened task None (stops.BadFile bad) refusal a t = absurd a
 not-opened task None stops.ReadFault refusal a t = refuses task None refusal Read t tt
 not-opened task None stops.NoMemory refusal a t = absurd a

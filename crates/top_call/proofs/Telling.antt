@@ -4,7 +4,7 @@ use Rattle.hyper_outside.specs.Causes.{Rose}
 use Rattle.hyper_outside.specs.Sink.{Gains, Output, Puts}
 use Rattle.hyper_outside.specs.declared.outside.Failed.{Failed}
 use Rattle.equity_report.specs.declared.refusal.Refusal.{Refusal}
-use Rattle.equity_report.specs.declared.refusal.Refusal.TheVariants.{Words, Position, Missing, File, Read, Write, Memory, Base, Roll, Inconsistent}
+use Rattle.equity_report.specs.declared.refusal.Refusal.TheVariants.{Words, Position, Missing, File, Read, Write, Memory, Base, Roll, Inconsistent, Record}
 use Rattle.equity_report.specs.Refusals.{status_of, refusal_text}
 use Rattle.top_call.specs.Runs.{IsTold, IsPut, FailedThenPut, Tells, WasPut, WasRefused}
 
@@ -25,6 +25,7 @@ some-status Memory = λ e. absurd (omega (arith, e))
 some-status (Base wanted found) = λ e. absurd (omega (arith, e))
 some-status (Roll bad) = λ e. absurd (omega (arith, e))
 some-status (Inconsistent unheld) = λ e. absurd (omega (arith, e))
+some-status (Record bad) = λ e. absurd (omega (arith, e))
 
 -- a refusal of one of these kinds, which a failed write isn't, has another status than a failed write
 pub not-write : (IsOne : Refusal → Type 0) → (IsOne Write → ⊥) → (refusal : Refusal) → IsOne refusal → status_of refusal ≢ status_of Write
@@ -38,6 +39,7 @@ not-write IsOne no Memory is = λ e. absurd (omega (arith, e))
 not-write IsOne no (Base wanted found) is = λ e. absurd (omega (arith, e))
 not-write IsOne no (Roll bad) is = λ e. absurd (omega (arith, e))
 not-write IsOne no (Inconsistent unheld) is = λ e. absurd (omega (arith, e))
+not-write IsOne no (Record bad) is = λ e. absurd (omega (arith, e))
 
 -- what was put behind a text that failed
 pub failed-then : (old middle new : Output) (first second : List ℕ) (failed : Failed) → Puts {T = Unit {0}} old middle first (Err failed) → WasPut middle new second → FailedThenPut old new first second

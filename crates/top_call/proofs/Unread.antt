@@ -3,7 +3,7 @@ use Rattle.std.proofs.Common.{◌≡◌, ◌∙◌, ℕ, List, Bool, IsTrue, Non
 use Rattle.hyper_outside.specs.Files.{Contents}
 use Rattle.hyper_outside.specs.Sink.{Output}
 use Rattle.equity_report.specs.declared.refusal.Refusal.{Refusal}
-use Rattle.equity_report.specs.declared.refusal.Refusal.TheVariants.{Words, Position, Missing, File, Read, Write, Memory, Base, Roll, Inconsistent}
+use Rattle.equity_report.specs.declared.refusal.Refusal.TheVariants.{Words, Position, Missing, File, Read, Write, Memory, Base, Roll, Inconsistent, Record}
 use Rattle.equity_report.specs.Refusals.{status_of, refusal_text}
 use Rattle.top_call.specs.declared.task.Task.{Task}
 use Rattle.top_call.specs.declared.task.Task.TheVariants.{Bound, Solve, Show, Migrate, Advise, Verify}
@@ -27,6 +27,7 @@ of_memory W Memory e w = w
 of_memory W (Base wanted found) e w = absurd (omega arith)
 of_memory W (Roll bad) e w = absurd (omega arith)
 of_memory W (Inconsistent unheld) e w = absurd (omega arith)
+of_memory W (Record bad) e w = absurd (omega arith)
 
 -- where there was no memory for the words, nothing is known of what they ask for
 module _ (told : Bool) (before after : Contents) (old new : Output) (status : ℕ) where
@@ -77,3 +78,4 @@ module _ (told : Bool) (before after : Contents) (old new : Output) (status : �
   unread expected (Base wanted found) due is put = refused expected (Base wanted found) due put
   unread expected (Roll bad) due is put = refused expected (Roll bad) due put
   unread expected (Inconsistent unheld) due is put = refused expected (Inconsistent unheld) due put
+  unread expected (Record bad) due is put = refused expected (Record bad) due put

@@ -33,11 +33,7 @@ pub fn stakes_of(stakes: RecordStakes) -> Stakes
 }
 
 /// The analysis of decisions of a game outside a match by words of that game.
-fn analysis_by(
-    alloc: Global,
-    words: &Words,
-    decisions: Decisions,
-) -> Result<Analysis, NoMemory>
+fn analysis_by(alloc: Global, words: &Words, decisions: Decisions) -> Result<Analysis, NoMemory>
     requires few { length decisions ≤ 131072 }
     requires can { All (CanBeJudged (source_of words.now) words.now.game.stakes) decisions }
     requires plain { All (λ decision. decision.score ≡ None) decisions }
