@@ -2,7 +2,7 @@
 
 _hypergammon() {
     local word=${COMP_WORDS[COMP_CWORD]} before=${COMP_WORDS[COMP_CWORD-1]} command=${COMP_WORDS[1]}
-    local commands='bound solve show migrate advise verify help'
+    local commands='bound solve show migrate advise verify analyse study make help'
     local stakes='cubeless money jacoby money-beavers jacoby-beavers'
     COMPREPLY=()
     if [ "$COMP_CWORD" -eq 1 ]; then
@@ -44,6 +44,20 @@ _hypergammon() {
                     ;;
             esac
             ;;
+        analyse) [ "$COMP_CWORD" -le 3 ] && mapfile -t COMPREPLY < <(compgen -f -- "$word") ;;
+        study)
+            case $before in
+                --rounds | --workers) ;;
+                *)
+                    if [[ $word == -* ]]; then
+                        mapfile -t COMPREPLY < <(compgen -W '--rounds --workers' -- "$word")
+                    else
+                        mapfile -t COMPREPLY < <(compgen -f -- "$word")
+                    fi
+                    ;;
+            esac
+            ;;
+        make) [ "$COMP_CWORD" -eq 4 ] && mapfile -t COMPREPLY < <(compgen -f -- "$word") ;;
         show) [ "$COMP_CWORD" -eq 2 ] && mapfile -t COMPREPLY < <(compgen -f -- "$word") ;;
         migrate) [ "$COMP_CWORD" -le 3 ] && mapfile -t COMPREPLY < <(compgen -f -- "$word") ;;
         verify)

@@ -1,12 +1,13 @@
 -- Numbers in decimal digits.
-use Rattle.std.proofs.Common.{◌≡◌, ◌≢◌, ℕ, ◌^◌, ◌<◌, ◌≤◌, ◌==◌, nat_eq, true, false, ◌&&◌, List, [], ◌∷◌, length, slice_index, Some, None, sym, refl, ◌∙◌, ap, inl, inr, arith}
+use Rattle.std.proofs.Common.{◌≡◌, ◌≢◌, ℕ, ◌^◌, ◌<◌, ◌≤◌, ◌==◌, nat_eq, true, false, not, ◌||◌, ◌&&◌, List, [], ◌∷◌, length, slice_index, Some, None, Result, Ok, Err, sym, refl, ◌∙◌, ap, inl, inr, arith}
 use Rattle.std.specs.List.{starts_with}
 use Rattle.std.specs.Str.{all_ascii_digits}
-use Rattle.std.specs.Str.Parse.{digits_value}
+use Rattle.std.specs.Str.Parse.{digits_value, ParsesUnsigned}
+use Rattle.std.specs.Result.{result_ok}
 use Rattle.std.proofs.lemmas.Bool.{lt-ltb, le-leb, false≢true}
 use Rattle.std.proofs.lemmas.Bool.Decides.{nat_tests, eqb_tells}
-use Rattle.std.proofs.lemmas.Str.Parse.{IsNumeralModel, numerals_by_value, tells_all_ascii_digits}
-use Rattle.command_line.specs.Values.{number_within}
+use Rattle.std.proofs.lemmas.Str.Parse.{IsNumeralModel, numerals_by_value, parse_plain, tells_all_ascii_digits}
+use Rattle.command_line.specs.Values.{number_within, long_number}
 
 -- a number is its digits
 pub own : IsNumeralModel (λ ds. all_ascii_digits ds ≡ true) (digits_value 10)
@@ -31,3 +32,20 @@ number-is word most n digits some lead value least below =
 pub number-none : (word : List ℕ) (most : ℕ) → most < 2 ^ 32 → ((all_ascii_digits word ≡ true) × (0 < length word) × (digits_value 10 word < 2 ^ 32) → ⊥)
     → None ≡ number_within most word
 number-none word most limit never = grind (arith, nat_tests)
+
+leading : (word : List ℕ) → (1 < length word → slice_index word 0 ≢ 48) → (not (slice_index word 0 == 48) || length word == 1) ≡ true
+leading [] lead = refl
+leading (x ∷ []) lead = elim (eqb_tells x 48) [ inl same ↦ rw same.0 refl | inr other ↦ rw other.0 refl ]
+leading (x ∷ y ∷ rest) lead = elim (eqb_tells x 48) [ inl same ↦ absurd (lead (omega arith) same.1) | inr other ↦ rw other.0 refl ]
+
+-- what reading digits of at most 64 bits gives
+pub long-is : {E : Type 0} (word : List ℕ) (r : Result ℕ E) → ParsesUnsigned 64 10 word r → slice_index word 0 ≢ 43 → (1 < length word → slice_index word 0 ≢ 48)
+    → result_ok r ≡ long_number word
+long-is {E = E} word (Ok n) parses sign lead =
+    let found = parse_plain own {E = E} 64 word (Ok n) parses sign in
+    let some = lt-ltb 0 (length word) found.0.1 in
+    let small = lt-ltb n (2 ^ 64) (omega (arith, found.0.2, found.1)) in
+    rw (some, found.0.0, leading word lead, ← found.1, small) refl
+long-is {E = E} word (Err e) parses sign lead =
+    let never = parse_plain own {E = E} 64 word (Err e) parses sign in
+    grind (arith, nat_tests)

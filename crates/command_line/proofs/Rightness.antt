@@ -1,9 +1,9 @@
 -- What is read keeps to its limits.
-use Rattle.std.proofs.Common.{◌≡◌, ◌≢◌, ◌≤◌, ◌∙◌, ◌&&◌, ℕ, Bool, true, false, not, List, [], ◌∷◌, length, Option, Some, None, Result, Ok, Err, refl, sym, ap, subst, arith}
-use Rattle.std.specs.Prelude.{codes, IfOk, IfSome, IsTrue, if◌then◌else◌, nat_le, position}
+use Rattle.std.proofs.Common.{◌≡◌, ◌≢◌, ◌^◌, ◌<◌, ◌≤◌, ◌∙◌, ◌&&◌, ℕ, Bool, true, false, List, [], ◌∷◌, length, Option, Some, None, Result, Ok, refl, sym, ap, subst, arith}
+use Rattle.std.specs.Prelude.{codes, IfOk, IfSome, if◌then◌else◌, nat_le, nat_lt, position}
 use Rattle.std.specs.Option.{option_map_or, option_and_then}
 use Rattle.std.specs.Str.{bytes_eq}
-use Rattle.std.proofs.lemmas.Bool.{leb-true}
+use Rattle.std.proofs.lemmas.Bool.{leb-true, ltb-true}
 use Rattle.std.proofs.lemmas.Slice.Eq.{bytes_eq-Decides}
 use Rattle.hyper_outside.specs.declared.outside.BadWords.{BadWords}
 use Rattle.cube_actions.specs.Scores.{MatchScore}
@@ -15,9 +15,9 @@ use Rattle.hyper_outside.specs.declared.outside.WordsKind.TheVariants.{Word, For
 use Rattle.command_line.specs.declared.command.Command.TheVariants as command
 use Rattle.command_line.specs.declared.command.CommandName.{CommandName}
 use Rattle.command_line.specs.declared.command.CommandName.TheVariants as name
-use Rattle.command_line.specs.Values.{number_of, number_within, number_given, number_or, stakes_named, stakes_or, kind_given, is_file_name, file_name, other_name}
-use Rattle.command_line.specs.Commands.{Asked, checked, refused, bound_values, solve_values, show_values, migrate_values, advise_values, command_values, command_named, command_form, verify_values}
-use Rattle.command_line.specs.declared.values.TheConstants.{MOST_CHECKERS, MOST_ROUNDS, MOST_WORKERS, USUAL_ROUNDS}
+use Rattle.command_line.specs.Values.{number_of, number_within, long_number_given, number_given, number_or, stakes_named, stakes_or, kind_given, is_file_name, file_name, other_name}
+use Rattle.command_line.specs.Commands.{Asked, checked, refused, bound_values, solve_values, show_values, migrate_values, advise_values, command_values, command_named, command_form, verify_values, analyse_values, study_values, make_values}
+use Rattle.command_line.specs.declared.values.TheConstants.{MOST_CHECKERS, MOST_GAMES, MOST_ROUNDS, MOST_WORKERS, USUAL_ROUNDS}
 use Rattle.command_line.specs.Words.{is_faulty, place_at, form_reading, words_reading, reading}
 use Rattle.command_line.specs.Right.{IsName, IsRightCommand}
 
@@ -65,6 +65,13 @@ given-within most (Some word) = within most word
 or-within : (most usual : ℕ) (given : Option Bytes) → Within most usual → IfSome (number_or most usual given) (Within most)
 or-within most usual None is = is
 or-within most usual (Some word) is = within most word
+
+abbrev IsLong : ℕ → Type 0
+IsLong n = n < 2 ^ 64
+
+long : (given : Option Bytes) → IfSome (long_number_given given) IsLong
+long None = tt
+long (Some word) = then-some (λ _. Unit {0}) IsLong _ (number_of word) (any (number_of word)) (λ n _. if-some IsLong (nat_lt n (2 ^ 64)) n (λ e. ltb-true n (2 ^ 64) e))
 
 abbrev match_code : StakesName → ℕ
 match_code Cubeless = 0
@@ -194,6 +201,47 @@ verify-right given =
     verify-from (file_name (value_of (codes "FILE") given)) (number_or MOST_WORKERS 1 workers)
     (named (value_of (codes "FILE") given)) (or-within MOST_WORKERS 1 workers (omega arith, omega arith))
 
+analyse-from : (base rec : Option Bytes) → IfSome base IsName → IfSome rec IsName →
+    Right (checked 1 base (λ base. checked 2 rec (λ rec. Ok (command.Analyse (record { base = base; rec = rec })))))
+analyse-from None rec first second = tt
+analyse-from (Some b) None first second = tt
+analyse-from (Some b) (Some r) first second = record { base = first; rec = second }
+
+analyse-right : (given : Values) → Right (analyse_values given)
+analyse-right given =
+    analyse-from (file_name (value_of (codes "BASE") given)) (file_name (value_of (codes "RECORD") given))
+    (named (value_of (codes "BASE") given)) (named (value_of (codes "RECORD") given))
+
+study-from : (rec : Option Bytes) (rounds workers : Option ℕ) → IfSome rec IsName → IfSome rounds (Within MOST_ROUNDS) → IfSome workers (Within MOST_WORKERS) →
+    Right (checked 1 rec (λ rec. checked 2 rounds (λ rounds. checked 3 workers (λ workers.
+    Ok (command.Study (record { rec = rec; rounds = rounds; workers = workers }))))))
+study-from None rounds workers name ended most = tt
+study-from (Some r) None workers name ended most = tt
+study-from (Some r) (Some n) None name ended most = tt
+study-from (Some r) (Some n) (Some w) name ended most =
+    record { rec = name; begun = ended.0; ended = ended.1; one = most.0; most = most.1 }
+
+study-right : (given : Values) → Right (study_values given)
+study-right given =
+    let rounds = value_of (codes "rounds") given in
+    let workers = value_of (codes "workers") given in
+    study-from (file_name (value_of (codes "RECORD") given)) (number_or MOST_ROUNDS USUAL_ROUNDS rounds) (number_or MOST_WORKERS 1 workers)
+    (named (value_of (codes "RECORD") given)) (or-within MOST_ROUNDS USUAL_ROUNDS rounds (omega arith, omega arith)) (or-within MOST_WORKERS 1 workers (omega arith, omega arith))
+
+make-from : (number games : Option ℕ) (file : Option Bytes) → IfSome number IsLong → IfSome games (Within MOST_GAMES) → IfSome file IsName →
+    Right (checked 1 number (λ number. checked 2 games (λ games. checked 3 file (λ file.
+    Ok (command.Make (record { number = number; games = games; file = file }))))))
+make-from None games file small few name = tt
+make-from (Some n) None file small few name = tt
+make-from (Some n) (Some g) None small few name = tt
+make-from (Some n) (Some g) (Some f) small few name = record { number = small; some = few.0; few = few.1; file = name }
+
+make-right : (given : Values) → Right (make_values given)
+make-right given =
+    let games = value_of (codes "GAMES") given in
+    make-from (long_number_given (value_of (codes "NUMBER") given)) (number_given MOST_GAMES games) (file_name (value_of (codes "FILE") given))
+    (long (value_of (codes "NUMBER") given)) (given-within MOST_GAMES games) (named (value_of (codes "FILE") given))
+
 values-right : (command : CommandName) (given : Values) → Right (command_values command given)
 values-right name.Bound given = bound-right given
 values-right name.Solve given = solve-right given
@@ -201,6 +249,9 @@ values-right name.Show given = show-right given
 values-right name.Migrate given = migrate-right given
 values-right name.Advise given = advise-right given
 values-right name.Verify given = verify-right given
+values-right name.Analyse given = analyse-right given
+values-right name.Study given = study-right given
+values-right name.Make given = make-right given
 
 form-right : (command : CommandName) (values : Option Values) → Right (option_map_or (command_values command) values (refused Form 0))
 form-right command None = tt

@@ -8,11 +8,11 @@ use Rattle.hyper_outside.specs.declared.outside.WordsKind.TheVariants.{Value}
 use Rattle.cube_actions.specs.declared.name.StakesName.TheVariants.{Jacoby}
 use Rattle.word_forms.specs.Form.{Bytes, Form, Values, value_of}
 use Rattle.command_line.specs.declared.command.Command.{Command}
-use Rattle.command_line.specs.declared.command.Command.TheVariants.{Bound, Solve, Show, Migrate, Advise, Verify}
+use Rattle.command_line.specs.declared.command.Command.TheVariants.{Bound, Solve, Show, Migrate, Advise, Verify, Analyse, Study, Make}
 use Rattle.command_line.specs.declared.command.CommandName.{CommandName}
 use Rattle.command_line.specs.declared.command.CommandName.TheVariants as name
-use Rattle.command_line.specs.declared.values.TheConstants.{MOST_CHECKERS, MOST_ROUNDS, MOST_WORKERS, USUAL_ROUNDS}
-use Rattle.command_line.specs.Values.{number_given, number_or, stakes_or, kind_given, file_name, other_name}
+use Rattle.command_line.specs.declared.values.TheConstants.{MOST_CHECKERS, MOST_GAMES, MOST_ROUNDS, MOST_WORKERS, USUAL_ROUNDS}
+use Rattle.command_line.specs.Values.{long_number_given, number_given, number_or, stakes_or, kind_given, file_name, other_name}
 
 -- what right words ask for
 abbrev pub Asked : Type 0
@@ -89,6 +89,36 @@ verify_values given =
     checked 2 (number_or MOST_WORKERS 1 (value_of (codes "workers") given)) (λ workers.
     Ok (Verify (record { file = file; workers = workers }))))
 
+abbrev pub analyse_form : Form
+analyse_form = record { arguments = codes "BASE" ∷ codes "RECORD" ∷ []; options = [] }
+
+abbrev pub analyse_values : Values → Result Asked BadWords
+analyse_values given =
+    checked 1 (file_name (value_of (codes "BASE") given)) (λ base.
+    checked 2 (file_name (value_of (codes "RECORD") given)) (λ rec.
+    Ok (Analyse (record { base = base; rec = rec }))))
+
+abbrev pub study_form : Form
+study_form = record { arguments = codes "RECORD" ∷ []; options = codes "rounds" ∷ codes "workers" ∷ [] }
+
+abbrev pub study_values : Values → Result Asked BadWords
+study_values given =
+    checked 1 (file_name (value_of (codes "RECORD") given)) (λ rec.
+    checked 2 (number_or MOST_ROUNDS USUAL_ROUNDS (value_of (codes "rounds") given)) (λ rounds.
+    checked 3 (number_or MOST_WORKERS 1 (value_of (codes "workers") given)) (λ workers.
+    Ok (Study (record { rec = rec; rounds = rounds; workers = workers })))))
+
+abbrev pub make_form : Form
+make_form = record { arguments = codes "NUMBER" ∷ codes "GAMES" ∷ codes "FILE" ∷ []; options = [] }
+
+-- any number of 64 bits names a record, 0 too
+abbrev pub make_values : Values → Result Asked BadWords
+make_values given =
+    checked 1 (long_number_given (value_of (codes "NUMBER") given)) (λ number.
+    checked 2 (number_given MOST_GAMES (value_of (codes "GAMES") given)) (λ games.
+    checked 3 (file_name (value_of (codes "FILE") given)) (λ file.
+    Ok (Make (record { number = number; games = games; file = file })))))
+
 -- ---- all of them
 
 abbrev pub command_named : Bytes → Option CommandName
@@ -98,7 +128,10 @@ command_named word =
     else (if bytes_eq word (codes "show") then Some name.Show
     else (if bytes_eq word (codes "migrate") then Some name.Migrate
     else (if bytes_eq word (codes "advise") then Some name.Advise
-    else (if bytes_eq word (codes "verify") then Some name.Verify else None)))))
+    else (if bytes_eq word (codes "verify") then Some name.Verify
+    else (if bytes_eq word (codes "analyse") then Some name.Analyse
+    else (if bytes_eq word (codes "study") then Some name.Study
+    else (if bytes_eq word (codes "make") then Some name.Make else None))))))))
 
 abbrev pub command_form : CommandName → Form
 command_form name.Bound = bound_form
@@ -107,6 +140,9 @@ command_form name.Show = show_form
 command_form name.Migrate = migrate_form
 command_form name.Advise = advise_form
 command_form name.Verify = verify_form
+command_form name.Analyse = analyse_form
+command_form name.Study = study_form
+command_form name.Make = make_form
 
 abbrev pub command_values : CommandName → Values → Result Asked BadWords
 command_values name.Bound given = bound_values given
@@ -115,3 +151,6 @@ command_values name.Show given = show_values given
 command_values name.Migrate given = migrate_values given
 command_values name.Advise given = advise_values given
 command_values name.Verify given = verify_values given
+command_values name.Analyse given = analyse_values given
+command_values name.Study given = study_values given
+command_values name.Make given = make_values given

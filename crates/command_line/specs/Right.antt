@@ -1,5 +1,5 @@
 -- What the commands that are read keep to.
-use Rattle.std.specs.Prelude.{◌≡◌, ◌≢◌, ◌≤◌, length}
+use Rattle.std.specs.Prelude.{◌≢◌, ◌^◌, ◌<◌, ◌≤◌, length}
 use Rattle.cube_actions.specs.Scores.{MatchScore}
 use Rattle.cube_actions.specs.declared.name.StakesName.TheVariants.{Match}
 use Rattle.word_forms.specs.Form.{Bytes}
@@ -8,10 +8,13 @@ use Rattle.command_line.specs.declared.command.Solve.{Solve as SolveWords}
 use Rattle.command_line.specs.declared.command.Show.{Show as ShowWords}
 use Rattle.command_line.specs.declared.command.Migrate.{Migrate as MigrateWords}
 use Rattle.command_line.specs.declared.command.Advise.{Advise as AdviseWords}
+use Rattle.command_line.specs.declared.command.Analyse.{Analyse as AnalyseWords}
 use Rattle.command_line.specs.declared.command.Command.{Command}
-use Rattle.command_line.specs.declared.command.Command.TheVariants.{Bound, Solve, Show, Migrate, Advise, Verify}
+use Rattle.command_line.specs.declared.command.Command.TheVariants.{Bound, Solve, Show, Migrate, Advise, Verify, Analyse, Study, Make}
+use Rattle.command_line.specs.declared.command.Make.{Make as MakeWords}
+use Rattle.command_line.specs.declared.command.Study.{Study as StudyWords}
 use Rattle.command_line.specs.declared.command.Verify.{Verify as VerifyWords}
-use Rattle.command_line.specs.declared.values.TheConstants.{MOST_CHECKERS, MOST_ROUNDS, MOST_WORKERS}
+use Rattle.command_line.specs.declared.values.TheConstants.{MOST_CHECKERS, MOST_GAMES, MOST_ROUNDS, MOST_WORKERS}
 
 -- a file's name has 1 to 255 bytes
 pub record IsName (name : Bytes) : Type 0 where
@@ -50,6 +53,23 @@ pub record IsRightVerify (verify : VerifyWords) : Type 0 where
   pub one : 1 ≤ verify.workers
   pub most : verify.workers ≤ MOST_WORKERS
 
+pub record IsRightAnalyse (analyse : AnalyseWords) : Type 0 where
+  pub base : IsName analyse.base
+  pub rec : IsName analyse.rec
+
+pub record IsRightStudy (study : StudyWords) : Type 0 where
+  pub rec : IsName study.rec
+  pub begun : 1 ≤ study.rounds
+  pub ended : study.rounds ≤ MOST_ROUNDS
+  pub one : 1 ≤ study.workers
+  pub most : study.workers ≤ MOST_WORKERS
+
+pub record IsRightMake (make : MakeWords) : Type 0 where
+  pub number : make.number < 2 ^ 64
+  pub some : 1 ≤ make.games
+  pub few : make.games ≤ MOST_GAMES
+  pub file : IsName make.file
+
 -- numbers within their limits, names of files within theirs, and stakes that aren't a match
 abbrev pub IsRightCommand : Command → Type 0
 IsRightCommand (Bound bound) = IsRightBound bound
@@ -58,3 +78,6 @@ IsRightCommand (Show show) = IsRightShow show
 IsRightCommand (Migrate migrate) = IsRightMigrate migrate
 IsRightCommand (Advise advise) = IsRightAdvise advise
 IsRightCommand (Verify verify) = IsRightVerify verify
+IsRightCommand (Analyse analyse) = IsRightAnalyse analyse
+IsRightCommand (Study study) = IsRightStudy study
+IsRightCommand (Make make) = IsRightMake make

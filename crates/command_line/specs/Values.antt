@@ -1,5 +1,5 @@
 -- The forms of values.
-use Rattle.std.specs.Prelude.{ℕ, ◌==◌, nat_lt, nat_le, Bool, not, ◌&&◌, ◌||◌, List, length, slice_index, codes, Option, Some, None, if◌then◌else◌, option_and_then, option_map}
+use Rattle.std.specs.Prelude.{ℕ, ◌^◌, ◌==◌, nat_lt, nat_le, Bool, not, ◌&&◌, ◌||◌, length, slice_index, codes, Option, Some, None, if◌then◌else◌, option_and_then, option_map}
 use Rattle.std.specs.List.{list_any}
 use Rattle.std.specs.Str.{bytes_eq, all_ascii_digits}
 use Rattle.std.specs.Str.Parse.{digits_value}
@@ -20,6 +20,13 @@ number_of word = if is_number word then Some (digits_value 10 word) else None
 -- a number from 1 to this limit
 abbrev pub number_within : ℕ → Bytes → Option ℕ
 number_within most word = option_and_then (λ n. if nat_le 1 n && nat_le n most then Some n else None) (number_of word)
+
+-- a number of at most 64 bits
+abbrev pub long_number : Bytes → Option ℕ
+long_number word = option_and_then (λ n. if nat_lt n (2 ^ 64) then Some n else None) (number_of word)
+
+abbrev pub long_number_given : Option Bytes → Option ℕ
+long_number_given given = option_and_then long_number given
 
 -- the number that is given
 abbrev pub number_given : ℕ → Option Bytes → Option ℕ

@@ -71,6 +71,36 @@ pub struct Verify {
     pub workers: u32,
 }
 
+/// A recorded game whose decisions are judged by a file.
+#[derive(Drop)]
+pub struct Analyse {
+    /// The name of the file of bounds, 1 to 255 bytes.
+    pub base: Text,
+    /// The record's name, 1 to 255 bytes.
+    pub rec: Text,
+}
+
+/// A recorded game whose decisions are judged by what is solved for it.
+#[derive(Drop)]
+pub struct Study {
+    /// The record's name, 1 to 255 bytes.
+    pub rec: Text,
+    /// 1 to 4096.
+    pub rounds: u32,
+    /// 1 to 64.
+    pub workers: u32,
+}
+
+/// A record that is made by a number, judged and written to a file.
+#[derive(Drop)]
+pub struct Make {
+    pub number: u64,
+    /// 1 to 1000.
+    pub games: u32,
+    /// The file's name, 1 to 255 bytes.
+    pub file: Text,
+}
+
 /// What a user asks for.
 #[derive(Drop)]
 pub enum Command {
@@ -80,6 +110,9 @@ pub enum Command {
     Migrate(Migrate),
     Advise(Advise),
     Verify(Verify),
+    Analyse(Analyse),
+    Study(Study),
+    Make(Make),
 }
 
 /// The commands.
@@ -91,6 +124,9 @@ pub enum CommandName {
     Migrate,
     Advise,
     Verify,
+    Analyse,
+    Study,
+    Make,
 }
 
 static BOUND: [&str; 3] = ["CHECKERS", "ROUNDS", "POSITION"];
@@ -111,6 +147,14 @@ static VERIFY: [&str; 1] = ["FILE"];
 
 static VERIFY_OPTIONS: [&str; 1] = ["workers"];
 
+static ANALYSE: [&str; 2] = ["BASE", "RECORD"];
+
+static STUDY: [&str; 1] = ["RECORD"];
+
+static STUDY_OPTIONS: [&str; 2] = ["rounds", "workers"];
+
+static MAKE: [&str; 3] = ["NUMBER", "GAMES", "FILE"];
+
 static NO_OPTIONS: [&str; 0] = [];
 
 impl CommandName {
@@ -125,6 +169,9 @@ impl CommandName {
             "migrate" => Some(CommandName::Migrate),
             "advise" => Some(CommandName::Advise),
             "verify" => Some(CommandName::Verify),
+            "analyse" => Some(CommandName::Analyse),
+            "study" => Some(CommandName::Study),
+            "make" => Some(CommandName::Make),
             _ => None,
         }
     }
@@ -140,6 +187,9 @@ impl CommandName {
             CommandName::Migrate => MIGRATE.as_slice(),
             CommandName::Advise => ADVISE.as_slice(),
             CommandName::Verify => VERIFY.as_slice(),
+            CommandName::Analyse => ANALYSE.as_slice(),
+            CommandName::Study => STUDY.as_slice(),
+            CommandName::Make => MAKE.as_slice(),
         }
     }
 
@@ -151,7 +201,12 @@ impl CommandName {
             CommandName::Solve => SOLVE_OPTIONS.as_slice(),
             CommandName::Advise => ADVISE_OPTIONS.as_slice(),
             CommandName::Verify => VERIFY_OPTIONS.as_slice(),
-            CommandName::Bound | CommandName::Show | CommandName::Migrate => NO_OPTIONS.as_slice(),
+            CommandName::Study => STUDY_OPTIONS.as_slice(),
+            CommandName::Bound
+            | CommandName::Show
+            | CommandName::Migrate
+            | CommandName::Analyse
+            | CommandName::Make => NO_OPTIONS.as_slice(),
         }
     }
 }

@@ -1,14 +1,16 @@
 ghost use Rattle.word_forms.specs.Form.{Values};
 ghost use Rattle.word_forms.specs.Clap.{HasValues};
-ghost use Rattle.command_line.specs.Commands.{bound_values, solve_values, show_values, migrate_values, advise_values, command_values, verify_values};
+ghost use Rattle.command_line.specs.Commands.{bound_values, solve_values, show_values, migrate_values, advise_values, command_values, verify_values, analyse_values, study_values, make_values};
 ghost use Rattle.command_line.specs.Reading.{Gives};
 
-use crate::command::{Advise, Bound, Command, CommandName, Migrate, Show, Solve, Verify};
+use crate::command::{
+    Advise, Analyse, Bound, Command, CommandName, Make, Migrate, Show, Solve, Study, Verify,
+};
 use crate::stop::{WordsStop, bad_value};
 use crate::text::Text;
 use crate::values::{
-    MOST_CHECKERS, MOST_ROUNDS, MOST_WORKERS, USUAL_ROUNDS, file_name, kind_given, number_given,
-    number_or, other_name, stakes_or, text_given,
+    MOST_CHECKERS, MOST_GAMES, MOST_ROUNDS, MOST_WORKERS, USUAL_ROUNDS, file_name, kind_given,
+    long_number_given, number_given, number_or, other_name, stakes_or, text_given,
 };
 use clap::ArgMatches;
 use cube_actions::StakesName;
@@ -30,6 +32,9 @@ pub(crate) fn read_values(
         CommandName::Migrate => read_migrate(alloc, values),
         CommandName::Advise => read_advise(alloc, values),
         CommandName::Verify => read_verify(alloc, values),
+        CommandName::Analyse => read_analyse(alloc, values),
+        CommandName::Study => read_study(alloc, values),
+        CommandName::Make => read_make(alloc, values),
     }
 }
 
@@ -149,5 +154,63 @@ fn read_verify(alloc: Global, values: &ArgMatches<'_>) -> Result<Command, WordsS
     Ok(Command::Verify(Verify {
         file: Text::new(alloc, file)?,
         workers,
+    }))
+}
+
+fn read_analyse(alloc: Global, values: &ArgMatches<'_>) -> Result<Command, WordsStop>
+    ensures { (given : Values) → HasValues given values.now
+        → Gives (analyse_values given) result }
+{
+    let Some(base) = file_name(values.get_str("BASE")) else {
+        return Err(bad_value(1));
+    };
+    let Some(rec) = file_name(values.get_str("RECORD")) else {
+        return Err(bad_value(2));
+    };
+    Ok(Command::Analyse(Analyse {
+        base: Text::new(alloc, base)?,
+        rec: Text::new(alloc, rec)?,
+    }))
+}
+
+fn read_study(alloc: Global, values: &ArgMatches<'_>) -> Result<Command, WordsStop>
+    ensures { (given : Values) → HasValues given values.now
+        → Gives (study_values given) result }
+{
+    let Some(rec) = file_name(values.get_str("RECORD")) else {
+        return Err(bad_value(1));
+    };
+    let rounds = values.get_str("rounds");
+    let Some(rounds) = number_or(rounds, MOST_ROUNDS, USUAL_ROUNDS) else {
+        return Err(bad_value(2));
+    };
+    let workers = values.get_str("workers");
+    let Some(workers) = number_or(workers, MOST_WORKERS, 1) else {
+        return Err(bad_value(3));
+    };
+    Ok(Command::Study(Study {
+        rec: Text::new(alloc, rec)?,
+        rounds,
+        workers,
+    }))
+}
+
+fn read_make(alloc: Global, values: &ArgMatches<'_>) -> Result<Command, WordsStop>
+    ensures { (given : Values) → HasValues given values.now
+        → Gives (make_values given) result }
+{
+    let Some(number) = long_number_given(values.get_str("NUMBER")) else {
+        return Err(bad_value(1));
+    };
+    let Some(games) = number_given(values.get_str("GAMES"), MOST_GAMES) else {
+        return Err(bad_value(2));
+    };
+    let Some(file) = file_name(values.get_str("FILE")) else {
+        return Err(bad_value(3));
+    };
+    Ok(Command::Make(Make {
+        number,
+        games,
+        file: Text::new(alloc, file)?,
     }))
 }

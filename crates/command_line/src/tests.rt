@@ -201,3 +201,108 @@ fn advise_takes_a_kind_and_a_roll(rt: HostRuntime) -> Result<(), Fail> {
     }
     Ok(())
 }
+
+#[test]
+fn words_on_records_are_refused(rt: HostRuntime) -> Result<(), Fail> {
+    let cases: [(&[&str], WordsKind, u32); 22] = [
+        (&["analyse", "x"], WordsKind::Form, 0),
+        (&["analyse", "x", "y", "z"], WordsKind::Form, 0),
+        (&["analyse", "x", "y", "--rounds=3"], WordsKind::Form, 0),
+        (&["analyse", "x", "-y"], WordsKind::Word, 2),
+        (&["analyse", "x\0", "y\0"], WordsKind::Value, 1),
+        (&["analyse", "x", "y\0"], WordsKind::Value, 2),
+        (&["study"], WordsKind::Form, 0),
+        (&["study", "x", "y"], WordsKind::Form, 0),
+        (&["study", "x", "--stakes=money"], WordsKind::Form, 0),
+        (&["study", "x", "--workers"], WordsKind::Form, 0),
+        (&["study", "x\0", "--rounds=0"], WordsKind::Value, 1),
+        (&["study", "x", "--rounds", "4097"], WordsKind::Value, 2),
+        (
+            &["study", "--workers=65", "x", "--rounds=0"],
+            WordsKind::Value,
+            2,
+        ),
+        (&["study", "x", "--workers", "65"], WordsKind::Value, 3),
+        (&["make", "7", "20"], WordsKind::Form, 0),
+        (&["make", "7", "20", "x", "y"], WordsKind::Form, 0),
+        (&["make", "07", "0", "x"], WordsKind::Value, 1),
+        (
+            &["make", "18446744073709551616", "1", "x"],
+            WordsKind::Value,
+            1,
+        ),
+        (&["make", "+7", "20", "x"], WordsKind::Value, 1),
+        (&["make", "7", "0", "x\0"], WordsKind::Value, 2),
+        (&["make", "7", "1001", "x"], WordsKind::Value, 2),
+        (&["make", "7", "20", "x\0"], WordsKind::Value, 3),
+    ];
+    for (words, kind, place) in cases.iter() {
+        let found = refusal(rt.alloc(), words)?;
+        assert_eq!(rt; found, Some((*kind, *place)));
+    }
+    Ok(())
+}
+
+#[test]
+fn analyse_takes_two_names(rt: HostRuntime) -> Result<(), Fail> {
+    let words = owned(rt.alloc(), &["analyse", "j1", "g.rec"])?;
+    match read_words(rt.alloc(), words.as_slice()) {
+        Ok(Command::Analyse(asked)) => {
+            assert_eq!(rt; asked.base.as_str(), "j1");
+            assert_eq!(rt; asked.rec.as_str(), "g.rec");
+        }
+        _ => panic!(rt; "refused"),
+    }
+    Ok(())
+}
+
+#[test]
+fn study_has_usual_values(rt: HostRuntime) -> Result<(), Fail> {
+    let cases: [(&[&str], u32, u32); 3] = [
+        (&["study", "g.rec"], 64, 1),
+        (
+            &["study", "--workers", "64", "g.rec", "--rounds=4096"],
+            4096,
+            64,
+        ),
+        (&["study", "g.rec", "--rounds", "1"], 1, 1),
+    ];
+    for (words, rounds, workers) in cases.iter() {
+        let words = owned(rt.alloc(), words)?;
+        match read_words(rt.alloc(), words.as_slice()) {
+            Ok(Command::Study(asked)) => {
+                assert_eq!(rt; asked.rec.as_str(), "g.rec");
+                assert_eq!(rt; asked.rounds, *rounds);
+                assert_eq!(rt; asked.workers, *workers);
+            }
+            _ => panic!(rt; "refused"),
+        }
+    }
+    Ok(())
+}
+
+#[test]
+fn make_takes_any_number_of_64_bits(rt: HostRuntime) -> Result<(), Fail> {
+    let cases: [(&[&str], u64, u32); 4] = [
+        (&["make", "7", "20", "t.rec"], 7, 20),
+        (&["make", "0", "1", "t.rec"], 0, 1),
+        (&["make", "4294967296", "1000", "t.rec"], 4294967296, 1000),
+        (
+            &["make", "18446744073709551615", "1000", "t.rec"],
+            18446744073709551615,
+            1000,
+        ),
+    ];
+    for (words, number, games) in cases.iter() {
+        let words = owned(rt.alloc(), words)?;
+        match read_words(rt.alloc(), words.as_slice()) {
+            Ok(Command::Make(asked)) => {
+                assert_eq!(rt; asked.number, *number);
+                assert_eq!(rt; asked.games, *games);
+                assert_eq!(rt; asked.file.as_str(), "t.rec");
+            }
+            _ => panic!(rt; "refused"),
+        }
+    }
+    Ok(())
+}

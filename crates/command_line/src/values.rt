@@ -1,6 +1,6 @@
 ghost use Rattle.std.specs.Prelude.{◌≡◌, ◌==◌, ℕ, ◌≤◌, List, IfOk, IfSome, option_map};
 ghost use Rattle.std.specs.List.{list_any};
-ghost use Rattle.command_line.specs.Values.{number_within, number_given, number_or, stakes_named, stakes_or, kind_given, is_file_name, file_name, other_name};
+ghost use Rattle.command_line.specs.Values.{number_within, long_number, long_number_given, number_given, number_or, stakes_named, stakes_or, kind_given, is_file_name, file_name, other_name};
 ghost use Rattle.command_line.specs.Words.{is_option, is_faulty};
 
 use crate::text::Text;
@@ -14,11 +14,14 @@ pub const MOST_CHECKERS: u8 = 3;
 /// The most rounds.
 pub const MOST_ROUNDS: u32 = 4096;
 
-/// The rounds that `solve` makes where none are given.
+/// The rounds that are made where none are given.
 pub const USUAL_ROUNDS: u32 = 64;
 
 /// The most workers.
 pub const MOST_WORKERS: u32 = 64;
+
+/// The most games of a record that is made.
+pub const MOST_GAMES: u32 = 1000;
 
 /// The most bytes of a word.
 pub const LONGEST_WORD: usize = 4096;
@@ -39,6 +42,24 @@ pub(crate) fn number_within(word: &str, most: u32) -> Option<u32>
         Ok(number) if number >= 1 && number <= most => Some(number),
         _ => None,
     }
+}
+
+/// A number below 2^64, in decimal digits without a leading zero.
+fn long_number(word: &str) -> Option<u64>
+    ensures { result ≡ long_number word.now }
+{
+    let bytes = word.as_bytes();
+    if bytes.starts_with(b"+") || bytes.len() > 1 && bytes.starts_with(b"0") {
+        return None;
+    }
+    word.parse::<u64>().ok()
+}
+
+/// The number below 2^64 that is given.
+pub(crate) fn long_number_given(word: Option<&str>) -> Option<u64>
+    ensures { result ≡ long_number_given (option_map (λ w. w.now) word.entry) }
+{
+    long_number(word?)
 }
 
 /// The number that is given.

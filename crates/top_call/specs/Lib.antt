@@ -8,4 +8,5 @@ pub mod Shows
 pub mod Advises
 pub mod Headline
 pub mod Verifies
+pub mod Records
 pub mod Outcomes

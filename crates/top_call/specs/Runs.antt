@@ -5,7 +5,7 @@ use Rattle.hyper_outside.specs.declared.outside.Failed.{Failed}
 use Rattle.hyper_outside.specs.declared.outside.WordsKind.TheVariants.{Word}
 use Rattle.hyper_outside.specs.Sink.{Output, Puts}
 use Rattle.equity_report.specs.declared.refusal.Refusal.{Refusal}
-use Rattle.equity_report.specs.declared.refusal.Refusal.TheVariants.{Words, Missing, File, Read, Write, Memory, Base, Inconsistent}
+use Rattle.equity_report.specs.declared.refusal.Refusal.TheVariants.{Words, Missing, File, Record, Read, Write, Memory, Base, Inconsistent}
 use Rattle.equity_report.specs.Refusals.{status_of, refusal_text}
 use Rattle.top_call.specs.declared.task.Task.{Task}
 use Rattle.top_call.specs.declared.task.Task.TheVariants.{Bound, Solve, Show, Migrate, Advise, Verify}
@@ -41,6 +41,14 @@ IsOfShowing refusal = IsOfLoading refusal
 abbrev pub IsOfVerifying : Refusal → Type 0
 IsOfVerifying (Inconsistent unheld) = ⊤
 IsOfVerifying refusal = IsOfLoading refusal
+
+-- a refusal of a file that holds a recorded game: it isn't there, a line of it is wrong, or it couldn't be read, or there was no memory for it
+abbrev pub IsOfReplaying : Refusal → Type 0
+IsOfReplaying (Missing name) = ⊤
+IsOfReplaying (Record bad) = ⊤
+IsOfReplaying Read = ⊤
+IsOfReplaying Memory = ⊤
+IsOfReplaying _ = ⊥
 
 -- how a task may end
 abbrev pub EndsTask : Task → ℕ → Type 0

@@ -8,6 +8,7 @@ mod load;
 mod migrate;
 mod program;
 mod put;
+mod record;
 mod show;
 mod solve;
 mod task;
@@ -24,6 +25,7 @@ pub use advise_laws::{
 };
 pub use program::{refuse_unread, start};
 pub use put::DONE;
+pub use record::Replayed;
 pub use show::{Rows, Shown};
 pub use task::{AdviseTask, BoundTask, ShowTask, Task, read_task};
 pub use top::run;

@@ -69,6 +69,8 @@ fn place_of(command: CommandName, name: &str) -> Option<usize> {
         (CommandName::Advise, "kind") => Some(0),
         (CommandName::Advise, "roll") => Some(1),
         (CommandName::Verify, "workers") => Some(3),
+        (CommandName::Study, "rounds") => Some(2),
+        (CommandName::Study, "workers") => Some(3),
         _ => None,
     }
 }
@@ -167,6 +169,10 @@ fn bad_value(name: CommandName, all: &Given<'_>) -> u32 {
         CommandName::Migrate if first == second => 2,
         CommandName::Advise if !is_kind(kind) => 3,
         CommandName::Verify if !is_number(workers, 64) => 2,
+        CommandName::Study if !is_number(rounds, 4096) => 2,
+        CommandName::Study if !is_number(workers, 64) => 3,
+        CommandName::Make if first != Some("0") && !is_number(first, u32::MAX) => 1,
+        CommandName::Make if !is_number(second, 1000) => 2,
         _ => 0,
     }
 }
@@ -180,9 +186,9 @@ fn plain(name: CommandName, words: &[&str]) -> Option<(WordsKind, u32)> {
         }
     }
     let wanted = match name {
-        CommandName::Bound => 3,
-        CommandName::Solve | CommandName::Verify => 1,
-        CommandName::Show | CommandName::Migrate | CommandName::Advise => 2,
+        CommandName::Bound | CommandName::Make => 3,
+        CommandName::Solve | CommandName::Verify | CommandName::Study => 1,
+        CommandName::Show | CommandName::Migrate | CommandName::Advise | CommandName::Analyse => 2,
     };
     match words_given(words, name) {
         Some(all) if all.count == wanted => match bad_value(name, &all) {
@@ -207,11 +213,14 @@ fn random_lines_are_read_as_by_hand(rt: HostRuntime) -> Result<(), Fail> {
         ("migrate", CommandName::Migrate),
         ("advise", CommandName::Advise),
         ("verify", CommandName::Verify),
+        ("analyse", CommandName::Analyse),
+        ("study", CommandName::Study),
+        ("make", CommandName::Make),
     ];
     let mut seed: u32 = 12;
     for line in 0..800usize {
         seed = next(seed);
-        let (text, name) = names[line % 6];
+        let (text, name) = names[line % 9];
         let count = 1 + (seed >> 16) as usize % 5;
         let mut words = [text; 6];
         for i in 0..count {

@@ -17,3 +17,12 @@ returns-in-Advise c = λ given has. rw c.in-Advise.is (c.read_advise.ensures giv
 
 pub returns-in-Verify : goal.returns-in-Verify
 returns-in-Verify c = λ given has. rw c.in-Verify.is (c.read_verify.ensures given has)
+
+pub returns-in-Analyse : goal.returns-in-Analyse
+returns-in-Analyse c = λ given has. rw c.in-Analyse.is (c.read_analyse.ensures given has)
+
+pub returns-in-Study : goal.returns-in-Study
+returns-in-Study c = λ given has. rw c.in-Study.is (c.read_study.ensures given has)
+
+pub returns-in-Make : goal.returns-in-Make
+returns-in-Make c = λ given has. rw c.in-Make.is (c.read_make.ensures given has)
