@@ -4,7 +4,7 @@ use Rattle.equity_report.specs.declared.refusal.Refusal.{Refusal}
 use Rattle.equity_report.specs.declared.refusal.Refusal.TheVariants.{Words, Position, Missing, File, Read, Write, Memory, Base, Roll, Inconsistent, Record}
 use Rattle.equity_report.specs.Refusals.{status_of, refusal_text}
 use Rattle.top_call.specs.declared.task.Task.{Task}
-use Rattle.top_call.specs.declared.task.Task.TheVariants.{Bound, Solve, Show, Migrate, Advise, Verify}
+use Rattle.top_call.specs.declared.task.Task.TheVariants.{Bound, Solve, Show, Migrate, Advise, Verify, Make}
 use Rattle.top_call.specs.Runs.{Ends, EndsBy, EndsTask, EndsWriting, IsOfLoading, IsOfShowing, IsOfVerifying, IsStatus}
 
 -- status 8 is that of want of memory alone
@@ -37,6 +37,7 @@ task-status (Solve task) status ends = writing-status status ends
 task-status (Show task) status ends = by-status IsOfShowing status ends
 task-status (Migrate task) status ends = by-status IsOfLoading status ends
 task-status (Advise task) status ends = by-status IsOfShowing status ends
+task-status (Make task) status ends = writing-status status ends
 task-status (Verify task) status ends = by-status IsOfVerifying status ends
 
 -- however a run ends, its status is 0 or that of a refusal

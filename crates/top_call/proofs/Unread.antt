@@ -6,7 +6,7 @@ use Rattle.equity_report.specs.declared.refusal.Refusal.{Refusal}
 use Rattle.equity_report.specs.declared.refusal.Refusal.TheVariants.{Words, Position, Missing, File, Read, Write, Memory, Base, Roll, Inconsistent, Record}
 use Rattle.equity_report.specs.Refusals.{status_of, refusal_text}
 use Rattle.top_call.specs.declared.task.Task.{Task}
-use Rattle.top_call.specs.declared.task.Task.TheVariants.{Bound, Solve, Show, Migrate, Advise, Verify}
+use Rattle.top_call.specs.declared.task.Task.TheVariants.{Bound, Solve, Show, Migrate, Advise, Verify, Make}
 use Rattle.top_call.specs.Advises.{HasAdvised, MayRefuseAdvice}
 use Rattle.top_call.specs.Loads.{RefusesLoading}
 use Rattle.top_call.specs.Outcomes.{HasRun}
@@ -63,6 +63,10 @@ module _ (told : Bool) (before after : Contents) (old new : Output) (status : �
   unheld is put (Ok (Verify task)) =
       no-memory (HasVerified task told (before task.file)) (MayRefuseVerifying task.file told (before task.file)) old new
       (of-file told (before task.file) (RefusesVerifying task.file Memory) (λ _. tt) (None, tt)) status is put
+  unheld is put (Ok (Make task)) = record {
+    done = λ done. absurd (omega (arith, done, is));
+    stopped = λ write. absurd (omega (arith, write, is));
+  }
 
   refused : (expected : Result Task Refusal) (refusal : Refusal) → expected ≡ Err refusal → WasPut old new (refusal_text refusal) → Run expected
   refused expected refusal due put = subst Run (sym due) (λ _. put)

@@ -6,8 +6,9 @@ use Rattle.equity_report.specs.declared.refusal.Refusal.{Refusal}
 use Rattle.equity_report.specs.declared.refusal.Refusal.TheVariants.{Write}
 use Rattle.equity_report.specs.Refusals.{status_of, refusal_text}
 use Rattle.top_call.specs.declared.task.Task.{Task}
-use Rattle.top_call.specs.declared.task.Task.TheVariants.{Bound, Solve, Show, Migrate, Advise, Verify}
+use Rattle.top_call.specs.declared.task.Task.TheVariants.{Bound, Solve, Show, Migrate, Advise, Verify, Make}
 use Rattle.top_call.specs.Advises.{TellsAdvice}
+use Rattle.top_call.specs.Makes.{Makes}
 use Rattle.top_call.specs.Migrates.{Migrates}
 use Rattle.top_call.specs.Runs.{WasPut}
 use Rattle.top_call.specs.Shows.{TellsShown}
@@ -24,17 +25,20 @@ HasRun (Ok (Show task)) told before after old new status = TellsShown task told 
 HasRun (Ok (Migrate task)) told before after old new status = Migrates task told before after old new status
 HasRun (Ok (Advise task)) told before after old new status = TellsAdvice task told (before task.file) old new status
 HasRun (Ok (Verify task)) told before after old new status = TellsVerified task told (before task.file) old new status
+HasRun (Ok (Make task)) told before after old new status = Makes task told before after old new status
 HasRun (Err refusal) told before after old new status = status ≡ status_of refusal → WasPut old new (refusal_text refusal)
 
 -- no file changed but the one that is to be written
 abbrev pub KeepsFiles : Result Task Refusal → Contents → Contents → Type 0
 KeepsFiles (Ok (Solve task)) before after = KeepsOthers task.file before after
 KeepsFiles (Ok (Migrate task)) before after = KeepsOthers task.new before after
+KeepsFiles (Ok (Make task)) before after = KeepsOthers task.file before after
 KeepsFiles _ before after = SameFiles before after
 
 -- no call of the files was made that may change one
 abbrev pub LeavesFiles : Result Task Refusal → ℕ → Type 0
 LeavesFiles (Ok (Bound task)) status = ⊤
 LeavesFiles (Ok (Solve task)) status = (status ≢ 0) × (status ≢ status_of Write)
+LeavesFiles (Ok (Make task)) status = (status ≢ 0) × (status ≢ status_of Write)
 LeavesFiles (Ok _) status = ⊥
 LeavesFiles (Err refusal) status = ⊤

@@ -9,6 +9,7 @@ ghost use Rattle.top_call.specs.Tasks.{asked};
 
 use crate::advise::run_advise;
 use crate::bound::run_bound;
+use crate::make::run_make;
 use crate::migrate::run_migrate;
 use crate::put::refuse;
 use crate::show::run_show;
@@ -71,6 +72,7 @@ pub fn run<R: Threads + Sync, F: Files, O: Sink, G: Gate + Sync>(
         Ok(Task::Migrate(task)) => run_migrate(alloc, &task, files, out),
         Ok(Task::Advise(task)) => run_advise(alloc, &task, files, out),
         Ok(Task::Verify(task)) => run_verify(rt, alloc, &task, files, out),
+        Ok(Task::Make(task)) => run_make(rt, alloc, &task, files, out, gate),
         Err(refusal) => refuse(out, &refusal),
     }
 }
