@@ -29,23 +29,23 @@ some-status (Record bad) = λ e. absurd (omega (arith, e))
 
 -- a refusal of one of these kinds, which a failed write isn't, has another status than a failed write
 pub not-write : (IsOne : Refusal → Type 0) → (IsOne Write → ⊥) → (refusal : Refusal) → IsOne refusal → status_of refusal ≢ status_of Write
-not-write IsOne no (Words bad) is = λ e. absurd (omega (arith, e))
-not-write IsOne no (Position bad) is = λ e. absurd (omega (arith, e))
-not-write IsOne no (Missing name) is = λ e. absurd (omega (arith, e))
-not-write IsOne no (File bad) is = λ e. absurd (omega (arith, e))
-not-write IsOne no Read is = λ e. absurd (omega (arith, e))
-not-write IsOne no Write is = λ e. no is
-not-write IsOne no Memory is = λ e. absurd (omega (arith, e))
-not-write IsOne no (Base wanted found) is = λ e. absurd (omega (arith, e))
-not-write IsOne no (Roll bad) is = λ e. absurd (omega (arith, e))
-not-write IsOne no (Inconsistent unheld) is = λ e. absurd (omega (arith, e))
-not-write IsOne no (Record bad) is = λ e. absurd (omega (arith, e))
+not-write IsOne other (Words bad) is = λ e. absurd (omega (arith, e))
+not-write IsOne other (Position bad) is = λ e. absurd (omega (arith, e))
+not-write IsOne other (Missing name) is = λ e. absurd (omega (arith, e))
+not-write IsOne other (File bad) is = λ e. absurd (omega (arith, e))
+not-write IsOne other Read is = λ e. absurd (omega (arith, e))
+not-write IsOne other Write is = λ e. other is
+not-write IsOne other Memory is = λ e. absurd (omega (arith, e))
+not-write IsOne other (Base wanted found) is = λ e. absurd (omega (arith, e))
+not-write IsOne other (Roll bad) is = λ e. absurd (omega (arith, e))
+not-write IsOne other (Inconsistent unheld) is = λ e. absurd (omega (arith, e))
+not-write IsOne other (Record bad) is = λ e. absurd (omega (arith, e))
 
 -- what was put behind a text that failed
 pub failed-then : (old middle new : Output) (first second : List ℕ) (failed : Failed) → Puts {T = Unit {0}} old middle first (Err failed) → WasPut middle new second → FailedThenPut old new first second
 failed-then old middle new first second failed puts was = (middle, Err failed, search rules, puts, was)
 
-rose-later : (old middle new : Output) (first second : List ℕ) (failed : Failed) → Puts {T = Unit {0}} old middle first (Err failed) → WasPut middle new second → Rose old.faults new.faults
+pub rose-later : (old middle new : Output) (first second : List ℕ) (failed : Failed) → Puts {T = Unit {0}} old middle first (Err failed) → WasPut middle new second → Rose old.faults new.faults
 rose-later old middle new first second failed puts (answer, after) =
     let rose = puts.cause.failed in
     let later = after.cause.later in
@@ -57,7 +57,7 @@ module _ (HasFound : (List ℕ → Type 0) → Type 0) (Refuses : Refusal → Ty
   has-told text done puts found = record {
     told = λ _. found (IsPut old new) (all-told old.told new.told text done puts.gains);
     not_put = λ e. absurd (omega (arith, e));
-    refused = λ no _. absurd (no refl);
+    refused = λ done _. absurd (done refl);
     cause = λ e. absurd (omega (arith, e));
   }
 
@@ -67,18 +67,18 @@ module _ (HasFound : (List ℕ → Type 0) → Type 0) (Refuses : Refusal → Ty
   not-told middle text failed puts found status is was = record {
     told = λ e. absurd (omega (arith, e, is));
     not_put = λ _. found (λ first. FailedThenPut old new first (refusal_text Write)) (failed-then old middle new text (refusal_text Write) failed puts was);
-    refused = λ _ no. absurd (no is);
+    refused = λ _ write. absurd (write is);
     cause = λ _. rose-later old middle new text (refusal_text Write) failed puts was;
   }
 
   -- it was refused
   pub was-refused : (IsOne : Refusal → Type 0) → (IsOne Write → ⊥) → (refusal : Refusal) → IsOne refusal → Refuses refusal
       → (status : ℕ) → status ≡ status_of refusal → WasPut old new (refusal_text refusal) → Tells HasFound Refuses old new status
-  was-refused IsOne no refusal one due status is was = record {
+  was-refused IsOne other refusal one due status is was = record {
     told = λ e. absurd (some-status refusal (sym is ∙ e));
-    not_put = λ e. absurd (not-write IsOne no refusal one (sym is ∙ e));
+    not_put = λ e. absurd (not-write IsOne other refusal one (sym is ∙ e));
     refused = λ _ _. record { refusal = refusal; cause = due; line = was; is_status = is };
-    cause = λ e. absurd (not-write IsOne no refusal one (sym is ∙ e));
+    cause = λ e. absurd (not-write IsOne other refusal one (sym is ∙ e));
   }
 
   -- there was no memory for the words

@@ -23,8 +23,8 @@ returns-in-Ok-write_cube-clause-tells g c =
     (cube_text task.position found.kind.name found.advice) c.in-Ok-write_cube.field-0 c.in-Ok-write_cube.ensures
     (λ IsReport report. record { head = head; kind = found.kind; advice = found.advice; file = file; report = report })
 
-pub returns-clause-tells : goal.returns-clause-tells
-returns-clause-tells g c =
+pub returns-in-Err-write_cube-clause-tells : goal.returns-in-Err-write_cube-clause-tells
+returns-in-Err-write_cube-clause-tells g c =
     let task = c.args.task.now in
     let told = g.F.Files.tells c.args.files.now in
     let held = g.F.Files.held c.args.files.now task.file in

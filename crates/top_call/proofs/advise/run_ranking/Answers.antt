@@ -23,8 +23,8 @@ returns-in-Ok-write_ranking-clause-tells g c =
     (ranking_text task.position c.args.roll found.kind.name found.ranking) c.in-Ok-write_ranking.field-0 c.in-Ok-write_ranking.ensures
     (λ IsReport report. record { head = head; kind = found.kind; ranking = found.ranking; file = file; report = report })
 
-pub returns-clause-tells : goal.returns-clause-tells
-returns-clause-tells g c =
+pub returns-in-Err-write_ranking-clause-tells : goal.returns-in-Err-write_ranking-clause-tells
+returns-in-Err-write_ranking-clause-tells g c =
     let task = c.args.task.now in
     let told = g.F.Files.tells c.args.files.now in
     let held = g.F.Files.held c.args.files.now task.file in

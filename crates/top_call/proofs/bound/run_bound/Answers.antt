@@ -7,14 +7,6 @@ use Rattle.top_call.proofs.Enclosed.{report-truth}
 use Rattle.top_call.proofs.Telling.{all-told, failed-then, rose-later}
 use Rattle.top_call.proofs.bound.run_bound.Goals as goal
 
-pub returns-in-Err-pair_after-clause-tells : goal.returns-in-Err-pair_after-clause-tells
-returns-in-Err-pair_after-clause-tells g c = record {
-  report = λ done. absurd (omega (arith, done, c.refuse.ensures.status));
-  truth = λ done. absurd (omega (arith, done, c.refuse.ensures.status));
-  write = λ write. absurd (omega (arith, write, c.refuse.ensures.status));
-  cause = λ write. absurd (omega (arith, write, c.refuse.ensures.status));
-}
-
 pub returns-in-Ok-write_bound-clause-tells : goal.returns-in-Ok-write_bound-clause-tells
 returns-in-Ok-write_bound-clause-tells g c =
     let old = g.O.Sink.output c.args.out.now in
@@ -27,8 +19,8 @@ returns-in-Ok-write_bound-clause-tells g c =
       cause = λ write. absurd (omega (arith, write));
     }
 
-pub returns-clause-tells : goal.returns-clause-tells
-returns-clause-tells g c =
+pub returns-in-Err-clause-tells : goal.returns-in-Err-clause-tells
+returns-in-Err-clause-tells g c =
     let old = g.O.Sink.output c.args.out.now in
     let middle = g.O.Sink.output c.write_bound.new.out in
     let new = g.O.Sink.output c.refuse-in-Err.new.out in

@@ -37,8 +37,8 @@ returns-in-Err-clause-migrates g c =
 pub returns-in-Ok-write_base-clause-migrates : goal.returns-in-Ok-write_base-clause-migrates
 returns-in-Ok-write_base-clause-migrates g c =
     let read = of-file (g.F.Files.tells c.args.files.now) (g.F.Files.held c.args.files.now c.args.task.now.old) (λ file. AnswersBase file (Ok c.in-Ok.base))
-        (λ told. rw (c.as_str-old.ensures) at c.in-Ok.ensures.told told) c.in-Ok.ensures.read in
-    let writes = λ told. rw (c.as_str-new.ensures, c.head.ensures.head, c.words.ensures.words) at c.in-Ok-write_base.ensures.writes (subst IsTrue (sym c.in-Ok.ensures.tells) told) in
+    (λ told. rw (c.as_str-old.ensures) at c.in-Ok.ensures.told told) c.in-Ok.ensures.read in
+    let writes : IsTrue (g.F.Files.tells c.args.files.now) → g.F.Files.held c.write_base.new.files c.args.task.now.new ≡ Some (latest_file c.in-Ok.base) = λ told. rw (c.as_str-new.ensures, c.head.ensures.head, c.words.ensures.words) at c.in-Ok-write_base.ensures.writes (subst IsTrue (sym c.in-Ok.ensures.tells) told) in
     record {
       migrated = λ done. record {
         base = c.in-Ok.base;

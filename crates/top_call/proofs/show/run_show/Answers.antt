@@ -25,8 +25,8 @@ returns-in-Ok-write_shown-clause-tells g c =
     (shown_text task.position (game_told head) head.rounds rows) c.in-Ok-write_shown.field-0 (rw (of.game, of.rounds, c.as_slice-rows.ensures.value) at c.in-Ok-write_shown.ensures)
     (λ IsReport report. record { head = head; rows = rows; file = file; report = report })
 
-pub returns-clause-tells : goal.returns-clause-tells
-returns-clause-tells g c =
+pub returns-in-Err-write_shown-clause-tells : goal.returns-in-Err-write_shown-clause-tells
+returns-in-Err-write_shown-clause-tells g c =
     let task = c.args.task.now in
     let told = g.F.Files.tells c.args.files.now in
     let held = g.F.Files.held c.args.files.now task.file in

@@ -1,4 +1,4 @@
-use Rattle.std.proofs.Common.{◌≡◌, List, ℕ, [], Option, Some, inl, inr, sym, arith}
+use Rattle.std.proofs.Common.{◌≡◌, List, ℕ, [], IsTrue, Option, Some, inl, inr, sym, arith}
 use Rattle.std.proofs.lemmas.List.{append-nil}
 use Rattle.database_file.specs.Writing.{HoldsFront}
 use Rattle.top_call.specs.Solves.{solved_file}
@@ -8,15 +8,9 @@ use Rattle.top_call.proofs.solve.run_solve.Goals as goal
 all : (text : List ℕ) (held : Option (List ℕ)) → held ≡ Some text → HoldsFront [] text held
 all text held there = (text, [], sym (append-nil text), there)
 
-pub returns-in-Err-clause-solves : goal.returns-in-Err-clause-solves
-returns-in-Err-clause-solves g c = record {
-  solved = λ done. absurd (omega (arith, done, c.refuse.ensures.status));
-  stopped = λ stopped. absurd (omega (arith, stopped, c.refuse.ensures.status));
-}
-
 pub returns-in-Ok-write_base-clause-solves : goal.returns-in-Ok-write_base-clause-solves
 returns-in-Ok-write_base-clause-solves g c =
-    let writes = λ told. rw (c.as_str.ensures, c.head_of-head.ensures, c.words-words.ensures.words) at c.in-Ok-write_base.ensures.writes told in
+    let writes : IsTrue (g.F.Files.tells c.args.files.now) → g.F.Files.held c.write_base.new.files c.args.task.now.file ≡ Some (solved_file c.args.task.now c.in-Ok.closed) = λ told. rw (c.as_str.ensures, c.head_of-head.ensures, c.words-words.ensures.words) at c.in-Ok-write_base.ensures.writes told in
     record {
       solved = λ done. record {
         words = c.in-Ok.closed;
