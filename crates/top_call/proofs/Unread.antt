@@ -1,13 +1,14 @@
 -- What is known where the program's words are refused, or there was no memory for them.
-use Rattle.std.proofs.Common.{◌≡◌, ◌∙◌, ℕ, List, Bool, IsTrue, None, Result, Ok, Err, sym, subst, arith}
+use Rattle.std.proofs.Common.{◌≡◌, ◌∙◌, ℕ, List, Bool, IsTrue, None, Result, Ok, Err, inl, sym, subst, arith}
 use Rattle.hyper_outside.specs.Files.{Contents}
 use Rattle.hyper_outside.specs.Sink.{Output}
 use Rattle.equity_report.specs.declared.refusal.Refusal.{Refusal}
 use Rattle.equity_report.specs.declared.refusal.Refusal.TheVariants.{Words, Position, Missing, File, Read, Write, Memory, Base, Roll, Inconsistent, Record}
 use Rattle.equity_report.specs.Refusals.{status_of, refusal_text}
 use Rattle.top_call.specs.declared.task.Task.{Task}
-use Rattle.top_call.specs.declared.task.Task.TheVariants.{Bound, Solve, Show, Migrate, Advise, Verify}
+use Rattle.top_call.specs.declared.task.Task.TheVariants.{Bound, Solve, Show, Migrate, Advise, Verify, Analyse}
 use Rattle.top_call.specs.Advises.{HasAdvised, MayRefuseAdvice}
+use Rattle.top_call.specs.Analyses.{HasAnalysed, MayRefuseAnalysis}
 use Rattle.top_call.specs.Loads.{RefusesLoading}
 use Rattle.top_call.specs.Outcomes.{HasRun}
 use Rattle.top_call.specs.Runs.{IsDue, WasPut}
@@ -63,6 +64,7 @@ module _ (told : Bool) (before after : Contents) (old new : Output) (status : �
   unheld is put (Ok (Verify task)) =
       no-memory (HasVerified task told (before task.file)) (MayRefuseVerifying task.file told (before task.file)) old new
       (of-file told (before task.file) (RefusesVerifying task.file Memory) (λ _. tt) (None, tt)) status is put
+  unheld is put (Ok (Analyse task)) = no-memory (HasAnalysed task told before) (MayRefuseAnalysis task told before) old new (λ _. inl tt) status is put
 
   refused : (expected : Result Task Refusal) (refusal : Refusal) → expected ≡ Err refusal → WasPut old new (refusal_text refusal) → Run expected
   refused expected refusal due put = subst Run (sym due) (λ _. put)

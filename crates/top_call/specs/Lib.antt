@@ -9,4 +9,5 @@ pub mod Advises
 pub mod Headline
 pub mod Verifies
 pub mod Records
+pub mod Analyses
 pub mod Outcomes

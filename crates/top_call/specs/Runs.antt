@@ -8,7 +8,7 @@ use Rattle.equity_report.specs.declared.refusal.Refusal.{Refusal}
 use Rattle.equity_report.specs.declared.refusal.Refusal.TheVariants.{Words, Missing, File, Record, Read, Write, Memory, Base, Inconsistent}
 use Rattle.equity_report.specs.Refusals.{status_of, refusal_text}
 use Rattle.top_call.specs.declared.task.Task.{Task}
-use Rattle.top_call.specs.declared.task.Task.TheVariants.{Bound, Solve, Show, Migrate, Advise, Verify}
+use Rattle.top_call.specs.declared.task.Task.TheVariants.{Bound, Solve, Show, Migrate, Advise, Verify, Analyse}
 
 -- the task is the one that was asked for, or the refusal the one that is due, unless there was no memory
 abbrev pub IsDue : Result Task Refusal → Result Task Refusal → Type 0
@@ -50,6 +50,11 @@ IsOfReplaying Read = ⊤
 IsOfReplaying Memory = ⊤
 IsOfReplaying _ = ⊥
 
+-- a refusal of a recorded game that is to be judged by a file: of either file, or the file is of another game
+abbrev pub IsOfAnalysing : Refusal → Type 0
+IsOfAnalysing (Record bad) = ⊤
+IsOfAnalysing refusal = IsOfShowing refusal
+
 -- how a task may end
 abbrev pub EndsTask : Task → ℕ → Type 0
 EndsTask (Bound task) status = EndsWriting status
@@ -58,6 +63,7 @@ EndsTask (Show task) status = EndsBy IsOfShowing status
 EndsTask (Migrate task) status = EndsBy IsOfLoading status
 EndsTask (Advise task) status = EndsBy IsOfShowing status
 EndsTask (Verify task) status = EndsBy IsOfVerifying status
+EndsTask (Analyse task) status = EndsBy IsOfAnalysing status
 
 -- Where words are refused, the status is that of the refusal, or that of no memory if there was none.
 abbrev pub Ends : Result Task Refusal → ℕ → Type 0

@@ -18,3 +18,6 @@ advise_task-requires c = subst IsRightCommand c.in-Ok-Advise.field-0-is (command
 
 pub returns-in-Ok-Verify-clause-right : goal.returns-in-Ok-Verify-clause-right
 returns-in-Ok-Verify-clause-right c = subst IsRightCommand c.in-Ok-Verify.field-0-is (command-right (bytes_of c.args.words.now) c.in-Ok-Verify.field-0 c.in-Ok-Verify.ensures)
+
+pub returns-in-Ok-Analyse-clause-right : goal.returns-in-Ok-Analyse-clause-right
+returns-in-Ok-Analyse-clause-right c = subst IsRightCommand c.in-Ok-Analyse.field-0-is (command-right (bytes_of c.args.words.now) c.in-Ok-Analyse.field-0 c.in-Ok-Analyse.ensures)
