@@ -70,7 +70,7 @@ not-asked task None base refusal a w = absurd a
 not-asked task (Some bytes) base refusal a w = other-wanted task bytes base refusal a w
 
 -- the kinds of a header are those of the head's game
-same-kinds : (header : Header) (head : FileHead) → IsHeader header → head.name ≡ header.name → header.kinds ≡ kinds_of (game_in head)
+pub same-kinds : (header : Header) (head : FileHead) → IsHeader header → head.name ≡ header.name → header.kinds ≡ kinds_of (game_in head)
 same-kinds header head valid name = valid.kinds ∙ ap (λ (n : StakesName). length (names_of n)) (sym name) ∙ kinds-named head.name head.starts
 
 -- the state that is asked for is one of the header's game

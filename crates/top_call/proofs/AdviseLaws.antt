@@ -55,13 +55,13 @@ source_in bytes = paged_source (header_of_file bytes) true (Some bytes)
 abbrev pub told_in : List ℕ → Words
 told_in bytes = told_words (header_of_file bytes) (Some bytes)
 
-all-of : {X : Type 0} (P : X → Type 0) (xs : List X) → ((x : X) → Among x xs → P x) → All P xs
+pub all-of : {X : Type 0} (P : X → Type 0) (xs : List X) → ((x : X) → Among x xs → P x) → All P xs
 all-of P [] h i d below = absurd (omega arith)
 all-of P (x ∷ xs) h zero d below = h x (inl refl)
 all-of P (x ∷ xs) h (suc i) d below = all-of P xs (λ y m. h y (inr m)) i d (omega arith)
 
 -- a state without damage stands on a page without a flaw
-flawless : (flaw : Option Flaw) → option_map damage_of flaw ≡ None → flaw ≡ None
+pub flawless : (flaw : Option Flaw) → option_map damage_of flaw ≡ None → flaw ≡ None
 flawless None is = refl
 flawless (Some flaw) is = absurd (none-some (damage_of flaw) (sym is))
 
@@ -83,7 +83,7 @@ bad-page bytes states damage is = record {
 }
 
 -- what is sought is the same over words that give the same value
-pair-over : (sought : Sought) (source : Source) (noted u : Words) (pair : Bounds) → ((end : End) → sought.value end noted ≡ sought.value end u)
+pub pair-over : (sought : Sought) (source : Source) (noted u : Words) (pair : Bounds) → ((end : End) → sought.value end noted ≡ sought.value end u)
     → IsPairFor sought source noted pair → IsPairFor sought source u pair
 pair-over sought source noted u pair same is = record {
   in_order = is.in_order;
@@ -102,19 +102,16 @@ worth-same end kind u v q same = by_points (points q) refl where
   by_points None on = ap neg_ℤ (same (swap q) kind.next (record { goes_on = on; sides = refl; kind = refl }))
   by_points (Some won) over = refl
 
-module _ (bytes : List ℕ) (head : FileHead) (p : Placement) (k : ℕ) (valid : IsHeader (header_of_file bytes)) (game : IsGame (game_in head)) (checkers : (header_of_file bytes).checkers ≡ head.checkers) (kinds : (header_of_file bytes).kinds ≡ kinds_of (game_in head)) (state : IsState (game_in head) p k) where
-  of_file : (q : Placement) (j : ℕ) → IsState (game_in head) q j → IsStateOf (header_of_file bytes).checkers (header_of_file bytes).kinds q j
-  of_file q j is = record { position = is.position; many = is.many ∙ sym checkers; live = is.live; kind = subst (λ (n : ℕ). j < n) (sym kinds) is.kind }
-
+module _ (bytes : List ℕ) (head : FileHead) (valid : IsHeader (header_of_file bytes)) (checkers : (header_of_file bytes).checkers ≡ head.checkers) (kinds : (header_of_file bytes).kinds ≡ kinds_of (game_in head)) (u : Words) (have : HavePairsOf bytes u) where
   -- words that have the pairs of the right pages agree there with what is told
-  module _ (u : Words) (have : HavePairsOf bytes u) where
-    told-agrees : (end : End) (q : Placement) (j : ℕ) → IsState (game_in head) q j → flaw_at (header_of_file bytes) (Some bytes) q ≡ None → told_in bytes end q j ≡ u end q j
-    told-agrees end q j is page =
-        let there = of_file q j is in
-        told-right (header_of_file bytes) (Some bytes) end q j page ∙ word-among (header_of_file bytes) bytes end q j valid there ∙ sym (have end q j there page)
+  pub told-agrees : (end : End) (q : Placement) (j : ℕ) → IsState (game_in head) q j → flaw_at (header_of_file bytes) (Some bytes) q ≡ None → told_in bytes end q j ≡ u end q j
+  told-agrees end q j is page =
+      let there : IsStateOf (header_of_file bytes).checkers (header_of_file bytes).kinds q j = record { position = is.position; many = is.many ∙ sym checkers; live = is.live; kind = subst (λ (n : ℕ). j < n) (sym kinds) is.kind } in
+      told-right (header_of_file bytes) (Some bytes) end q j page ∙ word-among (header_of_file bytes) bytes end q j valid there ∙ sym (have end q j there page)
 
-    agrees : (states : States) → ((q : Placement) (j : ℕ) → states q j → IsState (game_in head) q j) → AreOnRightPages bytes states → (end : End) → AgreeOn states end (told_in bytes) u
-    agrees states are pages end q j is = told-agrees end q j (are q j is) (pages q j is)
+module _ (bytes : List ℕ) (head : FileHead) (p : Placement) (k : ℕ) (valid : IsHeader (header_of_file bytes)) (game : IsGame (game_in head)) (checkers : (header_of_file bytes).checkers ≡ head.checkers) (kinds : (header_of_file bytes).kinds ≡ kinds_of (game_in head)) (state : IsState (game_in head) p k) where
+  agrees : (u : Words) → HavePairsOf bytes u → (states : States) → ((q : Placement) (j : ℕ) → states q j → IsState (game_in head) q j) → AreOnRightPages bytes states → (end : End) → AgreeOn states end (told_in bytes) u
+  agrees u have states are pages end q j is = told-agrees bytes head valid checkers kinds u have end q j (are q j is) (pages q j is)
 
   -- what was looked up rests on right pages
   pair-pages : (sought : Sought) (pair : Bounds) → IsPairFor sought (source_in bytes) (told_in bytes) pair → AreOnRightPages bytes sought.states

@@ -11,3 +11,5 @@ mod Verified
 mod SolvedFiles
 mod Telling
 mod Unread
+mod AnalyseLaws
+mod AnalyseFiles

@@ -1,16 +1,18 @@
 -- What is known where the program's words are refused, or there was no memory for them.
-use Rattle.std.proofs.Common.{◌≡◌, ◌∙◌, ℕ, List, Bool, IsTrue, None, Result, Ok, Err, sym, subst, arith}
+use Rattle.std.proofs.Common.{◌≡◌, ◌∙◌, ℕ, List, Bool, IsTrue, None, Result, Ok, Err, inl, sym, subst, arith}
 use Rattle.hyper_outside.specs.Files.{Contents}
 use Rattle.hyper_outside.specs.Sink.{Output}
 use Rattle.equity_report.specs.declared.refusal.Refusal.{Refusal}
 use Rattle.equity_report.specs.declared.refusal.Refusal.TheVariants.{Words, Position, Missing, File, Read, Write, Memory, Base, Roll, Inconsistent, Record}
 use Rattle.equity_report.specs.Refusals.{status_of, refusal_text}
 use Rattle.top_call.specs.declared.task.Task.{Task}
-use Rattle.top_call.specs.declared.task.Task.TheVariants.{Bound, Solve, Show, Migrate, Advise, Verify, Make}
+use Rattle.top_call.specs.declared.task.Task.TheVariants.{Bound, Solve, Show, Migrate, Advise, Verify, Analyse, Study, Make}
 use Rattle.top_call.specs.Advises.{HasAdvised, MayRefuseAdvice}
+use Rattle.top_call.specs.Analyses.{HasAnalysed, MayRefuseAnalysis}
 use Rattle.top_call.specs.Loads.{RefusesLoading}
 use Rattle.top_call.specs.Outcomes.{HasRun}
 use Rattle.top_call.specs.Runs.{IsDue, WasPut}
+use Rattle.top_call.specs.Studies.{HasStudied, MayRefuseStudy}
 use Rattle.top_call.specs.Shows.{HasShown, RefusesShowing}
 use Rattle.top_call.specs.Verifies.{HasVerified, MayRefuseVerifying, RefusesVerifying}
 use Rattle.top_call.proofs.Loaded.{of-file}
@@ -63,10 +65,13 @@ module _ (told : Bool) (before after : Contents) (old new : Output) (status : �
   unheld is put (Ok (Verify task)) =
       no-memory (HasVerified task told (before task.file)) (MayRefuseVerifying task.file told (before task.file)) old new
       (of-file told (before task.file) (RefusesVerifying task.file Memory) (λ _. tt) (None, tt)) status is put
+  unheld is put (Ok (Study task)) =
+      no-memory (HasStudied task told (before task.rec)) (MayRefuseStudy task told (before task.rec)) old new (λ _. inl tt) status is put
   unheld is put (Ok (Make task)) = record {
     done = λ done. absurd (omega (arith, done, is));
     stopped = λ write. absurd (omega (arith, write, is));
   }
+  unheld is put (Ok (Analyse task)) = no-memory (HasAnalysed task told before) (MayRefuseAnalysis task told before) old new (λ _. inl tt) status is put
 
   refused : (expected : Result Task Refusal) (refusal : Refusal) → expected ≡ Err refusal → WasPut old new (refusal_text refusal) → Run expected
   refused expected refusal due put = subst Run (sym due) (λ _. put)

@@ -9,5 +9,7 @@ pub mod Advises
 pub mod Headline
 pub mod Verifies
 pub mod Records
+pub mod Studies
 pub mod Makes
+pub mod Analyses
 pub mod Outcomes

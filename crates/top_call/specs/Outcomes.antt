@@ -6,13 +6,15 @@ use Rattle.equity_report.specs.declared.refusal.Refusal.{Refusal}
 use Rattle.equity_report.specs.declared.refusal.Refusal.TheVariants.{Write}
 use Rattle.equity_report.specs.Refusals.{status_of, refusal_text}
 use Rattle.top_call.specs.declared.task.Task.{Task}
-use Rattle.top_call.specs.declared.task.Task.TheVariants.{Bound, Solve, Show, Migrate, Advise, Verify, Make}
+use Rattle.top_call.specs.declared.task.Task.TheVariants.{Bound, Solve, Show, Migrate, Advise, Verify, Analyse, Study, Make}
 use Rattle.top_call.specs.Advises.{TellsAdvice}
 use Rattle.top_call.specs.Makes.{Makes}
+use Rattle.top_call.specs.Analyses.{TellsAnalysis}
 use Rattle.top_call.specs.Migrates.{Migrates}
 use Rattle.top_call.specs.Runs.{WasPut}
 use Rattle.top_call.specs.Shows.{TellsShown}
 use Rattle.top_call.specs.Solves.{Solves}
+use Rattle.top_call.specs.Studies.{TellsStudy}
 use Rattle.top_call.specs.Truth.{TellsBound}
 use Rattle.top_call.specs.Verifies.{TellsVerified}
 
@@ -25,7 +27,9 @@ HasRun (Ok (Show task)) told before after old new status = TellsShown task told 
 HasRun (Ok (Migrate task)) told before after old new status = Migrates task told before after old new status
 HasRun (Ok (Advise task)) told before after old new status = TellsAdvice task told (before task.file) old new status
 HasRun (Ok (Verify task)) told before after old new status = TellsVerified task told (before task.file) old new status
+HasRun (Ok (Study task)) told before after old new status = TellsStudy task told (before task.rec) old new status
 HasRun (Ok (Make task)) told before after old new status = Makes task told before after old new status
+HasRun (Ok (Analyse task)) told before after old new status = TellsAnalysis task told before old new status
 HasRun (Err refusal) told before after old new status = status ≡ status_of refusal → WasPut old new (refusal_text refusal)
 
 -- no file changed but the one that is to be written

@@ -8,7 +8,7 @@ use Rattle.equity_report.specs.declared.refusal.Refusal.{Refusal}
 use Rattle.equity_report.specs.declared.refusal.Refusal.TheVariants.{Words, Missing, File, Record, Read, Write, Memory, Base, Inconsistent}
 use Rattle.equity_report.specs.Refusals.{status_of, refusal_text}
 use Rattle.top_call.specs.declared.task.Task.{Task}
-use Rattle.top_call.specs.declared.task.Task.TheVariants.{Bound, Solve, Show, Migrate, Advise, Verify, Make}
+use Rattle.top_call.specs.declared.task.Task.TheVariants.{Bound, Solve, Show, Migrate, Advise, Verify, Analyse, Study, Make}
 
 -- the task is the one that was asked for, or the refusal the one that is due, unless there was no memory
 abbrev pub IsDue : Result Task Refusal → Result Task Refusal → Type 0
@@ -50,6 +50,16 @@ IsOfReplaying Read = ⊤
 IsOfReplaying Memory = ⊤
 IsOfReplaying _ = ⊥
 
+-- a refusal of a recorded game that is to be judged by a file: of either file, or the file is of another game
+abbrev pub IsOfAnalysing : Refusal → Type 0
+IsOfAnalysing (Record bad) = ⊤
+IsOfAnalysing refusal = IsOfShowing refusal
+
+-- a refusal of a recorded game that is to be studied: of its file, or it is one of a match
+abbrev pub IsOfStudying : Refusal → Type 0
+IsOfStudying (Base wanted found) = ⊤
+IsOfStudying refusal = IsOfReplaying refusal
+
 -- how a task may end
 abbrev pub EndsTask : Task → ℕ → Type 0
 EndsTask (Bound task) status = EndsWriting status
@@ -58,6 +68,8 @@ EndsTask (Show task) status = EndsBy IsOfShowing status
 EndsTask (Migrate task) status = EndsBy IsOfLoading status
 EndsTask (Advise task) status = EndsBy IsOfShowing status
 EndsTask (Verify task) status = EndsBy IsOfVerifying status
+EndsTask (Analyse task) status = EndsBy IsOfAnalysing status
+EndsTask (Study task) status = EndsBy IsOfStudying status
 EndsTask (Make task) status = EndsWriting status
 
 -- Where words are refused, the status is that of the refusal, or that of no memory if there was none.

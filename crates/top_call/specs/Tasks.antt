@@ -8,7 +8,6 @@ use Rattle.roll_table.specs.declared.roll.BadRoll.{BadRoll}
 use Rattle.roll_table.specs.Rolls.{Dice, IsRoll}
 use Rattle.roll_table.specs.Text.{read_roll}
 use Rattle.hyper_outside.specs.declared.outside.BadWords.{BadWords}
-use Rattle.hyper_outside.specs.declared.outside.WordsKind.TheVariants as kinds
 use Rattle.cube_actions.specs.declared.name.StakesName.TheVariants.{Cubeless}
 use Rattle.command_line.specs.declared.command.Command.{Command}
 use Rattle.command_line.specs.declared.command.Command.TheVariants as commands
@@ -16,10 +15,11 @@ use Rattle.command_line.specs.declared.command.Bound.{Bound as BoundWords}
 use Rattle.command_line.specs.declared.command.Solve.{Solve as SolveTask}
 use Rattle.command_line.specs.declared.command.Migrate.{Migrate as MigrateTask}
 use Rattle.command_line.specs.declared.command.Verify.{Verify as VerifyTask}
+use Rattle.command_line.specs.declared.command.Analyse.{Analyse as AnalyseTask}
 use Rattle.command_line.specs.Words.{reading}
 use Rattle.command_line.specs.declared.command.Show.{Show as ShowWords}
 use Rattle.command_line.specs.declared.command.Advise.{Advise as AdviseWords}
-use Rattle.command_line.specs.Right.{IsName, IsRightMake, IsRightSolve, IsRightMigrate, IsRightVerify}
+use Rattle.command_line.specs.Right.{IsName, IsRightMake, IsRightStudy, IsRightSolve, IsRightMigrate, IsRightVerify, IsRightAnalyse}
 use Rattle.word_forms.specs.Clap.{bytes_of}
 use Rattle.cube_actions.specs.Stakes.{cubeless}
 use Rattle.turn_rule.specs.Turn.{rounds}
@@ -33,7 +33,7 @@ use Rattle.top_call.specs.declared.task.AdviseTask.{AdviseTask}
 use Rattle.top_call.specs.declared.task.BoundTask.{BoundTask}
 use Rattle.top_call.specs.declared.task.ShowTask.{ShowTask}
 use Rattle.top_call.specs.declared.task.Task.{Task}
-use Rattle.top_call.specs.declared.task.Task.TheVariants.{Bound, Solve, Show, Migrate, Advise, Verify, Make}
+use Rattle.top_call.specs.declared.task.Task.TheVariants.{Bound, Solve, Show, Migrate, Advise, Verify, Analyse, Study, Make}
 
 -- a game without a cube, by its checkers
 abbrev pub cubeless_game : ℕ → GameName
@@ -72,10 +72,6 @@ abbrev pub with_advised : AdviseWords → Result Placement BadPosition → Resul
 with_advised advise (Ok p) = with_roll advise p (roll_given advise.roll)
 with_advised advise (Err bad) = Err (Position bad)
 
--- the first word names no command that can be run
-abbrev pub unknown_command : BadWords
-unknown_command = record { kind = kinds.Command; place = 0 }
-
 abbrev pub with_words : Result Command BadWords → Result Task Refusal
 with_words (Ok (commands.Bound bound)) = with_position bound (read_position bound.position)
 with_words (Ok (commands.Solve solve)) = Ok (Solve solve)
@@ -83,8 +79,8 @@ with_words (Ok (commands.Show show)) = with_shown show (read_position show.posit
 with_words (Ok (commands.Migrate migrate)) = Ok (Migrate migrate)
 with_words (Ok (commands.Advise advise)) = with_advised advise (read_position advise.position)
 with_words (Ok (commands.Verify verify)) = Ok (Verify verify)
-with_words (Ok (commands.Analyse analyse)) = Err (Words unknown_command)
-with_words (Ok (commands.Study study)) = Err (Words unknown_command)
+with_words (Ok (commands.Analyse analyse)) = Ok (Analyse analyse)
+with_words (Ok (commands.Study study)) = Ok (Study study)
 with_words (Ok (commands.Make make)) = Ok (Make make)
 with_words (Err bad) = Err (Words bad)
 
@@ -125,4 +121,6 @@ IsRightTask (Show task) = IsRightShow task
 IsRightTask (Migrate task) = IsRightMigrate task
 IsRightTask (Advise task) = IsRightAdvise task
 IsRightTask (Verify task) = IsRightVerify task
+IsRightTask (Study task) = IsRightStudy task
 IsRightTask (Make task) = IsRightMake task
+IsRightTask (Analyse task) = IsRightAnalyse task

@@ -3,6 +3,8 @@
 
 mod advise;
 mod advise_laws;
+mod analyse;
+mod analyse_laws;
 mod bound;
 mod load;
 mod make;
@@ -12,6 +14,7 @@ mod put;
 mod record;
 mod show;
 mod solve;
+mod studying;
 mod task;
 #[cfg(test)]
 mod tests;
@@ -24,6 +27,7 @@ pub use advise_laws::{
     advice_from_a_solved_file_loses_at_most_its_printed_bounds, looked_up_advice_is_of_the_file,
     looked_up_rankings_are_of_the_file,
 };
+pub use analyse_laws::looked_up_analyses_are_of_the_file;
 pub use make::MadeRecord;
 pub use program::{refuse_unread, start};
 pub use put::DONE;

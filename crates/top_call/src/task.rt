@@ -6,11 +6,11 @@ ghost use Rattle.top_call.specs.Tasks.{IsRightTask, asked, fitting, roll_given, 
 ghost use Rattle.top_call.specs.Runs.{IsDue};
 
 use command_line::{
-    Advise, Bound, Command, Make, Migrate, Show, Solve, Text, Verify, WordsStop, read_words,
+    Advise, Analyse, Bound, Command, Make, Migrate, Show, Solve, Study, Text, Verify, WordsStop,
+    read_words,
 };
 use cube_actions::{KindName, StakesName};
 use equity_report::{GameName, Refusal, Wanted};
-use hyper_outside::{BadWords, WordsKind};
 use position_rank::{Position, read_position};
 use roll_table::{BadRoll, Roll};
 use std::alloc::Global;
@@ -51,14 +51,10 @@ pub enum Task {
     Migrate(Migrate),
     Advise(AdviseTask),
     Verify(Verify),
+    Analyse(Analyse),
+    Study(Study),
     Make(Make),
 }
-
-/// The first word names no command that can be run.
-const UNKNOWN_COMMAND: BadWords = BadWords {
-    kind: WordsKind::Command,
-    place: 0,
-};
 
 /// Reads the words, then a position, then a roll, and compares its number of checkers with that of the words.
 pub fn read_task(alloc: Global, words: &[String]) -> Result<Task, Refusal>
@@ -70,7 +66,8 @@ pub fn read_task(alloc: Global, words: &[String]) -> Result<Task, Refusal>
         Ok(Command::Solve(solve)) => Ok(Task::Solve(solve)),
         Ok(Command::Migrate(migrate)) => Ok(Task::Migrate(migrate)),
         Ok(Command::Verify(verify)) => Ok(Task::Verify(verify)),
-        Ok(Command::Analyse(_) | Command::Study(_)) => Err(Refusal::Words(UNKNOWN_COMMAND)),
+        Ok(Command::Analyse(analyse)) => Ok(Task::Analyse(analyse)),
+        Ok(Command::Study(study)) => Ok(Task::Study(study)),
         Ok(Command::Make(make)) => Ok(Task::Make(make)),
         Ok(Command::Show(show)) => show_task(show),
         Ok(Command::Advise(advise)) => advise_task(advise),

@@ -8,12 +8,14 @@ ghost use Rattle.top_call.specs.Runs.{Ends, WasPut};
 ghost use Rattle.top_call.specs.Tasks.{asked};
 
 use crate::advise::run_advise;
+use crate::analyse::run_analyse;
 use crate::bound::run_bound;
 use crate::make::run_make;
 use crate::migrate::run_migrate;
 use crate::put::refuse;
 use crate::show::run_show;
 use crate::solve::run_solve;
+use crate::studying::run_study;
 use crate::task::{Task, read_task};
 use crate::verify::run_verify;
 use hyper_outside::{Files, Gate, Sink};
@@ -30,13 +32,17 @@ use std::thread::Threads;
 /// with the cube, by the pairs of the file, whose header and pages are right as far as the advice rests on them; where the file's pairs enclose what
 /// their states are worth exactly in every game of enough turns, the best play, the offer and the answer lose, in every game of enough turns, at
 /// most the bound that is told with each. Of `verify` it is of a file whose words are consistent: whoever made it, they enclose every state in games of
-/// any number of turns, and what a choice loses over them encloses what it loses exactly.
+/// any number of turns, and what a choice loses over them encloses what it loses exactly. Of `analyse` it is of each decision of a recorded game that breaks
+/// no rule, with what it loses by the pairs of the file, whose header and pages are right as far as the losses rest on them, and of both players' totals;
+/// where the file's pairs enclose what their states are worth exactly in every game of enough turns, each loss encloses what its decision loses exactly, from
+/// one number of turns on for all of them.
 ///
 /// Else the line of one refusal was put, or a front of it where that failed, each only where the ones before don't come: 1 comes where the words are
 /// outside their form; 2 where a position's text is, or else a roll's; 10 where `bound` asks for another number of checkers than its position has; 3
-/// where a file that is to be read isn't there; 4 where it isn't a file of bounds, of `show` and `advise` up to its pages; 10 where these are asked for
-/// a position of another number of checkers, or `advise` for a kind that the game hasn't; 4 where the page of the position isn't right, or of `advise`
-/// that of a state on which the advice rests; 9 where the words of a file that `verify` checks aren't consistent, with the first that doesn't hold by
+/// where a record that is to be read isn't there; 5 where its file is too long, or a line of it is wrong, with the first; 10 where it is one of a match; 3
+/// where a file of bounds that is to be read isn't there; 4 where it isn't one, of `show`, `advise` and `analyse` up to its pages; 10 where these are asked
+/// for a position of another number of checkers, `advise` for a kind that the game hasn't, or `analyse` for a record of another game; 4 where the page of
+/// the position isn't right, or that of a state on which the advice or a loss rests; 9 where the words of a file that `verify` checks aren't consistent, with the first that doesn't hold by
 /// rising live rank, then by kind, the lower word before the upper one. 6 comes only where reading a file failed, 7 only where writing a file or the
 /// output failed, 8 where there was no memory. At 7 a front of the report may stand before the line, and the file in work holds what it held or a front
 /// of its text. At all others no file changed.
@@ -72,7 +78,9 @@ pub fn run<R: Threads + Sync, F: Files, O: Sink, G: Gate + Sync>(
         Ok(Task::Migrate(task)) => run_migrate(alloc, &task, files, out),
         Ok(Task::Advise(task)) => run_advise(alloc, &task, files, out),
         Ok(Task::Verify(task)) => run_verify(rt, alloc, &task, files, out),
+        Ok(Task::Study(task)) => run_study(rt, alloc, &task, files, out, gate),
         Ok(Task::Make(task)) => run_make(rt, alloc, &task, files, out, gate),
+        Ok(Task::Analyse(task)) => run_analyse(alloc, &task, files, out),
         Err(refusal) => refuse(out, &refusal),
     }
 }

@@ -21,3 +21,9 @@ returns-in-Ok-Verify-clause-right c = subst IsRightCommand c.in-Ok-Verify.field-
 
 pub returns-in-Ok-Make-clause-right : goal.returns-in-Ok-Make-clause-right
 returns-in-Ok-Make-clause-right c = subst IsRightCommand c.in-Ok-Make.field-0-is (command-right (bytes_of c.args.words.now) c.in-Ok-Make.field-0 c.in-Ok-Make.ensures)
+
+pub returns-in-Ok-Analyse-clause-right : goal.returns-in-Ok-Analyse-clause-right
+returns-in-Ok-Analyse-clause-right c = subst IsRightCommand c.in-Ok-Analyse.field-0-is (command-right (bytes_of c.args.words.now) c.in-Ok-Analyse.field-0 c.in-Ok-Analyse.ensures)
+
+pub returns-in-Ok-Study-clause-right : goal.returns-in-Ok-Study-clause-right
+returns-in-Ok-Study-clause-right c = subst IsRightCommand c.in-Ok-Study.field-0-is (command-right (bytes_of c.args.words.now) c.in-Ok-Study.field-0 c.in-Ok-Study.ensures)

@@ -1,7 +1,7 @@
 use Rattle.std.proofs.Common.{List, ℕ, Ok, Result, sym, subst, ◌∙◌, arith}
 use Rattle.equity_report.specs.declared.refusal.Refusal.{Refusal}
 use Rattle.top_call.specs.declared.task.Task.{Task}
-use Rattle.top_call.specs.declared.task.Task.TheVariants.{Bound, Solve, Show, Migrate, Advise, Verify}
+use Rattle.top_call.specs.declared.task.Task.TheVariants.{Bound, Solve, Show, Migrate, Advise, Verify, Analyse}
 use Rattle.top_call.specs.Outcomes.{HasRun}
 use Rattle.top_call.specs.Tasks.{asked}
 use Rattle.top_call.specs.Runs.{WasPut}
@@ -41,4 +41,16 @@ pub returns-in-Ok-Verify-clause-memory : goal.returns-in-Ok-Verify-clause-memory
 returns-in-Ok-Verify-clause-memory g c = λ e.
     let put = λ (text : List ℕ). WasPut (g.O.Sink.output c.args.out.now) (g.O.Sink.output c.run_verify.new.out) text in
     let refused = c.run_verify.ensures.tells.refused (λ done. absurd (omega (arith, done, e))) (λ write. absurd (omega (arith, write, e))) in
+    memory-text put refused.refusal (sym refused.is_status ∙ e) refused.line
+
+pub returns-in-Ok-Analyse-clause-memory : goal.returns-in-Ok-Analyse-clause-memory
+returns-in-Ok-Analyse-clause-memory g c = λ e.
+    let put = λ (text : List ℕ). WasPut (g.O.Sink.output c.args.out.now) (g.O.Sink.output c.run_analyse.new.out) text in
+    let refused = c.run_analyse.ensures.tells.refused (λ done. absurd (omega (arith, done, e))) (λ write. absurd (omega (arith, write, e))) in
+    memory-text put refused.refusal (sym refused.is_status ∙ e) refused.line
+
+pub returns-in-Ok-Study-clause-memory : goal.returns-in-Ok-Study-clause-memory
+returns-in-Ok-Study-clause-memory g c = λ e.
+    let put = λ (text : List ℕ). WasPut (g.O.Sink.output c.args.out.now) (g.O.Sink.output c.run_study.new.out) text in
+    let refused = c.run_study.ensures.tells.refused (λ done. absurd (omega (arith, done, e))) (λ write. absurd (omega (arith, write, e))) in
     memory-text put refused.refusal (sym refused.is_status ∙ e) refused.line

@@ -1,0 +1,80 @@
+ghost use Rattle.std.specs.Prelude.{◌≡◌, IsTrue, IfErr, Err};
+ghost use Rattle.hyper_outside.specs.Causes.{Rose};
+ghost use Rattle.hyper_outside.specs.Files.{SameFiles};
+ghost use Rattle.equity_report.specs.declared.refusal.Refusal.TheVariants.{Read};
+ghost use Rattle.equity_report.specs.Refusals.{status_of};
+ghost use Rattle.command_line.specs.Right.{IsRightStudy};
+ghost use Rattle.top_call.specs.Runs.{EndsBy, IsOfStudying};
+ghost use Rattle.top_call.specs.Studies.{AnswersStudy, TellsStudy};
+
+use crate::analyse::match_refusal;
+use crate::put::{DONE, refuse};
+use crate::record::{is_match, read_recorded};
+use command_line::Study;
+use equity_report::{Refusal, write_analysis};
+use hyper_outside::{Failed, Files, Gate, NoMemory, Sink};
+use record_analysis::Analysis;
+use record_study::study;
+use std::alloc::Global;
+use std::thread::Threads;
+
+/// What the decisions of a recorded game lose by what is solved for it, or what refuses that.
+fn study_recorded<R: Threads + Sync, F: Files, G: Gate + Sync>(
+    rt: &R,
+    alloc: Global,
+    task: &Study,
+    files: &mut F,
+    gate: &G,
+) -> Result<Analysis, Refusal>
+    requires { IsRightStudy task.now }
+    ensures told { AnswersStudy task.now (F.tells files.old)
+        (F.held files.old task.now.rec) result }
+    ensures same { IsTrue (F.tells files.old)
+        → SameFiles (F.held files.old) (F.held files.new) }
+    ensures cause { result ≡ Err Read
+        → Rose (F.read_faults files.old) (F.read_faults files.new) }
+    ensures kinds { IfErr result IsOfStudying }
+{
+    let replayed = match read_recorded(alloc, task.rec.as_str(), files) {
+        Ok(replayed) => replayed,
+        Err(refusal) => return Err(refusal),
+    };
+    let rec = replayed.rec;
+    if is_match(rec.stakes) {
+        return Err(match_refusal(&rec));
+    }
+    let decisions = replayed.decisions;
+    match study(rt, alloc, &rec, decisions, task.rounds, task.workers, gate) {
+        Ok(analysis) => Ok(analysis),
+        Err(NoMemory) => Err(Refusal::Memory),
+    }
+}
+
+/// Solves what a recorded game is played for, and puts what each of its decisions loses by that and each player's total, or a refusal where
+/// this can't be had or putting fails.
+pub(crate) fn run_study<R: Threads + Sync, F: Files, O: Sink, G: Gate + Sync>(
+    rt: &R,
+    alloc: Global,
+    task: &Study,
+    files: &mut F,
+    out: &mut O,
+    gate: &G,
+) -> u8
+    requires { IsRightStudy task.now }
+    ensures ends { EndsBy IsOfStudying result }
+    ensures tells { TellsStudy task.now (F.tells files.old) (F.held files.old task.now.rec)
+        (O.output out.old) (O.output out.new) result }
+    ensures read_cause { result ≡ status_of Read
+        → Rose (F.read_faults files.old) (F.read_faults files.new) }
+    ensures same { IsTrue (F.tells files.old)
+        → SameFiles (F.held files.old) (F.held files.new) }
+{
+    let analysis = match study_recorded(rt, alloc, task, files, gate) {
+        Ok(analysis) => analysis,
+        Err(refusal) => return refuse(out, &refusal),
+    };
+    match write_analysis(out, &analysis) {
+        Ok(()) => DONE,
+        Err(Failed) => refuse(out, &Refusal::Write),
+    }
+}
