@@ -12,6 +12,8 @@ use std::sync::atomic::{AtomicU64, Ordering};
 use std::test::Fail;
 use std::thread::Threads;
 
+mod drawn;
+
 /// How many bytes the file of one checker without a cube has.
 const SIZE: usize = 6138;
 
