@@ -6,7 +6,7 @@ ghost use Rattle.base_verify.specs.Columns.{AreColumnParts, ColumnsHold, HasRoom
 
 use column_turns::ColumnTurns;
 use directed_fixed::Pair;
-use hyper_outside::NoMemory;
+use hyper_outside::{Gate, NoMemory};
 use interval_words::Words;
 use std::alloc::Global;
 
@@ -50,11 +50,14 @@ fn column_holds(words: &Words, turns: &mut ColumnTurns, other: usize) -> bool
     true
 }
 
-/// Whether all words of the columns from one to before another hold. It asks for memory, and may
-/// answer `NoMemory`.
-pub(crate) fn columns_hold(
+/// Whether all words of the columns from one to before another hold. The worker of this number
+/// passes the gate before each column that it comes to. It asks for memory, and may answer
+/// `NoMemory`.
+pub(crate) fn columns_hold<G: Gate>(
     alloc: Global,
     words: &Words,
+    gate: &G,
+    worker: u32,
     from: usize,
     to: usize,
 ) -> Result<bool, NoMemory>
@@ -63,6 +66,7 @@ pub(crate) fn columns_hold(
 {
     let mut turns = ColumnTurns::new(alloc, words.checkers(), words.stakes())?;
     for other in from..to {
+        gate.pass(worker, other as u64);
         if !column_holds(words, &mut turns, other) {
             return Ok(false);
         }

@@ -1,15 +1,15 @@
-ghost use Rattle.std.specs.Prelude.{◌≡◌, ◌<◌, ◌≤◌, ◌*◌, ◌/◌, ◌^◌, ℕ, IfOk, IsTrue, OnOk};
+ghost use Rattle.std.specs.Prelude.{◌≡◌, ◌<◌, ◌≤◌, ◌+◌, ◌*◌, ◌/◌, ◌^◌, ℕ, IfOk, IsTrue, OnOk};
 ghost use Rattle.interval_words.specs.WordLists.{WordList};
 ghost use Rattle.base_verify.specs.Findings.{AlwaysEnclose, TellsConsistency};
 ghost use Rattle.position_rank.specs.Ranks.{layouts};
 ghost use Rattle.base_verify.specs.Checks.{AreParts, TellsAll};
-ghost use Rattle.base_verify.specs.Columns.{AreColumnParts, ColumnsHold};
+ghost use Rattle.base_verify.specs.Columns.{AreColumnParts, ColumnsHold, column_start};
 
 use crate::columns::{all_hold, columns_hold};
 use crate::finding::{Finding, VerifyStop};
 use crate::states::part_finding;
 use database_file::Base;
-use hyper_outside::NoMemory;
+use hyper_outside::{Gate, NoMemory};
 use interval_words::{Words, consistent_lists_enclose};
 use position_rank::layout_count;
 use std::alloc::{AllocError, Global};
@@ -28,45 +28,61 @@ fn part_start(count: u64, parts: usize, number: usize) -> u64
     count * number as u64 / parts as u64
 }
 
+/// Whether the words of one of so many parts of the columns hold, as the worker of its number checks
+/// them. Each column that it comes to passes the gate.
+fn part_holds<G: Gate>(
+    alloc: Global,
+    words: &Words,
+    parts: usize,
+    gate: &G,
+    number: usize,
+) -> Result<bool, NoMemory>
+    requires few { parts ≤ 64 }
+    requires number { number < parts }
+    ensures { IfOk result (λ held. IsTrue held → ColumnsHold words.now
+        (column_start words.now parts number) (column_start words.now parts (number + 1))) }
+{
+    let count = u64::from(layout_count(words.checkers()));
+    let from = part_start(count, parts, number) as usize;
+    let to = part_start(count, parts, number + 1) as usize;
+    columns_hold(alloc, words, gate, number as u32, from, to)
+}
+
 /// Whether the words of each of so many parts of the columns hold, each part in a thread of its own
 /// where one can be started, else in turn. The turns of a column are worked out together, which is
 /// much faster than to look at each position alone.
-fn check_in_parts<R: Threads + Sync>(
+fn check_in_parts<R: Threads + Sync, G: Gate + Sync>(
     rt: &R,
     alloc: Global,
     words: &Words,
     parts: usize,
+    gate: &G,
 ) -> Result<Vec<Result<bool, NoMemory>>, AllocError>
-    requires some { 0 < parts }
     requires few { parts ≤ 64 }
     ensures { IfOk result (λ told. AreColumnParts words.now parts told.items) }
 {
-    let count = u64::from(layout_count(words.checkers()));
     thread::map_indices(
         rt,
         alloc,
         parts,
-        &|number| {
-            let from = part_start(count, parts, number) as usize;
-            let to = part_start(count, parts, number + 1) as usize;
-            columns_hold(alloc, words, from, to)
-        },
+        &|number| part_holds(alloc, words, parts, gate, number),
     )
 }
 
-/// Whether all words hold, by so many parts.
-fn words_hold<R: Threads + Sync>(
+/// Whether all words hold, by so many parts. Each column that is come to passes the gate.
+fn words_hold<R: Threads + Sync, G: Gate + Sync>(
     rt: &R,
     alloc: Global,
     words: &Words,
     parts: usize,
+    gate: &G,
 ) -> Result<bool, NoMemory>
     requires some { 0 < parts }
     requires few { parts ≤ 64 }
     ensures { IfOk result (λ held. IsTrue held
         → ColumnsHold words.now 0 (layouts words.now.game.checkers)) }
 {
-    let told = check_in_parts(rt, alloc, words, parts)?;
+    let told = check_in_parts(rt, alloc, words, parts, gate)?;
     all_hold(&told)
 }
 
@@ -109,17 +125,18 @@ fn first_of(told: &[Option<Finding>]) -> Option<Finding>
 }
 
 /// Whether the words of a list are consistent, as `verify` tells it of a file.
-fn verify_words<R: Threads + Sync>(
+fn verify_words<R: Threads + Sync, G: Gate + Sync>(
     rt: &R,
     alloc: Global,
     words: &Words,
     workers: u32,
+    gate: &G,
 ) -> Result<(), VerifyStop>
     requires workers { (1 ≤ workers) × (workers ≤ 64) }
     ensures { TellsConsistency words.now result }
 {
     let parts = workers as usize;
-    if words_hold(rt, alloc, words, parts)? {
+    if words_hold(rt, alloc, words, parts, gate)? {
         return Ok(());
     }
     let told = find_in_parts(rt, alloc, words, parts)?;
@@ -134,12 +151,17 @@ fn verify_words<R: Threads + Sync>(
 /// than the turn over the file's words, and tells the first such word by rising live rank of its
 /// position, then by kind, the lower word before the upper one, with both values; so it is the same
 /// for each number of workers. Consistent words enclose every state. It asks for memory for the
-/// workers' columns alone, and may answer `NoMemory`. A no takes longer than a yes.
-pub fn verify<R: Threads + Sync>(
+/// workers' columns alone, and may answer `NoMemory`.
+///
+/// The words are checked column by column, a column for each layout of the other side, and a worker
+/// passes the gate before each column that it comes to. A yes comes after each column has passed
+/// once. A no takes longer: the first word is looked for after that, which passes no gate.
+pub fn verify<R: Threads + Sync, G: Gate + Sync>(
     rt: &R,
     alloc: Global,
     base: &Base,
     workers: u32,
+    gate: &G,
 ) -> Result<(), VerifyStop>
     requires workers { (1 ≤ workers) × (workers ≤ 64) }
     ensures told { TellsConsistency base.now.words result }
@@ -147,5 +169,5 @@ pub fn verify<R: Threads + Sync>(
 {
     base.words().right();
     consistent_lists_enclose();
-    verify_words(rt, alloc, base.words(), workers)
+    verify_words(rt, alloc, base.words(), workers, gate)
 }

@@ -2,14 +2,17 @@ use super::*;
 use arrayvec::ArrayVec;
 use database_file::{Base, load_base};
 use directed_fixed::End;
-use hyper_outside::MemFiles;
+use hyper_outside::{Gate, MemFiles, OpenGate};
 use move_rules::PlayList;
 use position_rank::print_position;
 use sha2::{Digest, Sha256};
 use std::alloc::Global;
 use std::process::Abort;
+use std::sync::atomic::{AtomicU64, Ordering};
 use std::test::Fail;
 use std::thread::Threads;
+
+mod drawn;
 
 /// How many bytes the file of one checker without a cube has.
 const SIZE: usize = 6138;
@@ -81,7 +84,7 @@ fn check<R: Abort + Threads + Sync>(
     found: Option<(&str, End, i64, i64)>,
 ) {
     assert!(rt; workers >= 1 && workers <= 64);
-    match verify(rt, alloc, base, workers) {
+    match verify(rt, alloc, base, workers, &OpenGate) {
         Ok(()) => assert!(rt; found.is_none()),
         Err(VerifyStop::NoMemory) => panic!(rt; "no memory"),
         Err(VerifyStop::Inconsistent(finding)) => {
@@ -151,6 +154,65 @@ fn a_unit_is_too_much(rt: HostRuntime) -> Result<(), Fail> {
         let base = base(&rt, rt.alloc(), &changes)?;
         check(&rt, rt.alloc(), &base, 1, found);
         check(&rt, rt.alloc(), &base, 3, found);
+    }
+    Ok(())
+}
+
+/// How many columns one checker a side has.
+const COLUMNS: usize = 26;
+
+/// Counts how often each column passes by one of so many workers, and what else passes.
+#[derive(Drop)]
+struct Counting {
+    workers: u32,
+    columns: Vec<AtomicU64>,
+    others: AtomicU64,
+}
+
+impl Gate for Counting {
+    fn pass(&self, worker: u32, block: u64) {
+        match self.columns.get(block as usize) {
+            Some(column) if worker < self.workers => {
+                column.fetch_add(1, Ordering::SeqCst);
+            }
+            _ => {
+                self.others.fetch_add(1, Ordering::SeqCst);
+            }
+        }
+    }
+}
+
+/// What so many workers pass while they find that words are consistent.
+fn passed<R: Abort + Threads + Sync>(
+    rt: &R,
+    alloc: Global,
+    base: &Base,
+    workers: u32,
+) -> Result<Counting, Fail> {
+    assert!(rt; workers >= 1 && workers <= 64);
+    let mut columns = Vec::new(alloc);
+    for _ in 0..COLUMNS {
+        columns.push(AtomicU64::new(0))?;
+    }
+    let gate = Counting {
+        workers,
+        columns,
+        others: AtomicU64::new(0),
+    };
+    assert!(rt; verify(rt, alloc, base, workers, &gate).is_ok());
+    Ok(gate)
+}
+
+#[test]
+fn each_column_passes_once(rt: HostRuntime) -> Result<(), Fail> {
+    let base = base(&rt, rt.alloc(), &[])?;
+    for workers in [1, 3, 64] {
+        let gate = passed(&rt, rt.alloc(), &base, workers)?;
+        assert_eq!(rt; gate.columns.len(), COLUMNS);
+        for column in &gate.columns {
+            assert_eq!(rt; column.load(Ordering::SeqCst), 1);
+        }
+        assert_eq!(rt; gate.others.load(Ordering::SeqCst), 0);
     }
     Ok(())
 }

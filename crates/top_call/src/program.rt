@@ -1,13 +1,16 @@
-ghost use Rattle.std.specs.Prelude.{◌≡◌, ◌⊎◌, IsTrue, IsFalse};
+ghost use Rattle.std.specs.Prelude.{◌≡◌, ◌⊎◌, ◌≤◌, IsTrue, IsFalse, length};
 ghost use Rattle.equity_report.specs.declared.refusal.Refusal.TheVariants.{Memory};
 ghost use Rattle.equity_report.specs.Refusals.{status_of, refusal_text};
 ghost use Rattle.top_call.specs.Runs.{IsStatus, WasPut, no_text};
+ghost use Rattle.top_call.specs.Tasks.{IsRightTask};
 
 use crate::put::refuse;
+use crate::record::read_recorded;
+use crate::task::{Task, read_task};
 use crate::top::run;
-use command_line::{Command, read_words};
+use database_file::open_paged;
 use equity_report::Refusal;
-use hyper_outside::{BadWords, RealFiles, RealSink, Sink, WordsKind};
+use hyper_outside::{BadWords, Files, RealFiles, RealSink, Sink, WordsKind};
 use position_rank::layout_count;
 use progress_line::ProgressGate;
 use std::alloc::Global;
@@ -49,23 +52,66 @@ pub fn refuse_unread<O: Sink>(out: &mut O, not_text: bool) -> u8
     }
 }
 
-/// A gate that tells how far a solve has come, where it is to show it and the words ask for one.
-fn gate_of<'a, R: Clock + Eprint>(
+/// How many columns a game of so many checkers a side has; none where there is no such game.
+fn columns_of(checkers: u8) -> u32 {
+    match checkers {
+        1..=3 => layout_count(checkers),
+        _ => 0,
+    }
+}
+
+/// How many columns the game of a file of bounds has; none where it can't be opened.
+fn base_columns<F: Files>(alloc: Global, name: &str, files: &mut F) -> u32 {
+    match open_paged(alloc, files, name, 1) {
+        Ok(base) => columns_of(base.head().checkers()),
+        Err(_) => 0,
+    }
+}
+
+/// How many columns the game of a record has; none where it is refused.
+fn record_columns<F: Files>(alloc: Global, name: &str, files: &mut F) -> u32
+    requires { length name.now ≤ 255 }
+{
+    match read_recorded(alloc, name, files) {
+        Ok(replayed) => columns_of(replayed.rec.checkers),
+        Err(_) => 0,
+    }
+}
+
+/// How many rounds over how many columns a task takes; none where that can't be told before it, or it takes no time.
+fn work_of<F: Files>(alloc: Global, task: &Task, files: &mut F) -> (u32, u32)
+    requires { IsRightTask task.now }
+{
+    match task {
+        Task::Solve(solve) => (solve.rounds, columns_of(solve.checkers)),
+        Task::Verify(verify) => (1, base_columns(alloc, verify.file.as_str(), files)),
+        Task::Study(study) => (
+            study.rounds,
+            record_columns(alloc, study.rec.as_str(), files),
+        ),
+        _ => (0, 0),
+    }
+}
+
+/// A gate that tells how far a run has come that solves or checks, where it is to show it.
+fn gate_of<'a, R: Clock + Eprint, F: Files>(
     rt: &'a R,
     alloc: Global,
     words: &[String],
+    files: &mut F,
     shows: bool,
 ) -> ProgressGate<'a, R> {
-    match read_words(alloc, words) {
-        Ok(Command::Solve(solve)) if shows => {
-            ProgressGate::new(rt, solve.rounds, layout_count(solve.checkers))
+    match read_task(alloc, words) {
+        Ok(task) if shows => {
+            let (rounds, columns) = work_of(alloc, &task, files);
+            ProgressGate::new(rt, rounds, columns)
         }
         _ => ProgressGate::new(rt, 0, 0),
     }
 }
 
-/// Runs the program on its own words, over standard output and real files, and answers the status with which it ends. Where it is to show it, a
-/// solve tells on standard error how far it has come. What its words are no contract can say; `run` and `refuse_unread` say what is done with
+/// Runs the program on its own words, over standard output and real files, and answers the status with which it ends. Where it is to show it, a run
+/// that solves or checks tells on standard error how far it has come, for which it reads the head of its file, or its record, once more. What its words are no contract can say; `run` and `refuse_unread` say what is done with
 /// them.
 pub fn start<R: Threads + Sync + Env + Print + Eprint + Clock + System + AllocGlobal>(
     rt: &R,
@@ -78,8 +124,9 @@ pub fn start<R: Threads + Sync + Env + Print + Eprint + Clock + System + AllocGl
     match words_of(rt) {
         Ok(words) => {
             let words = words.as_slice();
-            let gate = gate_of(rt, alloc, words, shows);
-            let status = run(rt, alloc, words, &mut RealFiles::new(rt), &mut out, &gate);
+            let mut files = RealFiles::new(rt);
+            let gate = gate_of(rt, alloc, words, &mut files, shows);
+            let status = run(rt, alloc, words, &mut files, &mut out, &gate);
             gate.end();
             status
         }

@@ -77,7 +77,7 @@ pub fn run<R: Threads + Sync, F: Files, O: Sink, G: Gate + Sync>(
         Ok(Task::Show(task)) => run_show(alloc, &task, files, out),
         Ok(Task::Migrate(task)) => run_migrate(alloc, &task, files, out),
         Ok(Task::Advise(task)) => run_advise(alloc, &task, files, out),
-        Ok(Task::Verify(task)) => run_verify(rt, alloc, &task, files, out),
+        Ok(Task::Verify(task)) => run_verify(rt, alloc, &task, files, out, gate),
         Ok(Task::Study(task)) => run_study(rt, alloc, &task, files, out, gate),
         Ok(Task::Make(task)) => run_make(rt, alloc, &task, files, out, gate),
         Ok(Task::Analyse(task)) => run_analyse(alloc, &task, files, out),

@@ -16,7 +16,7 @@ use base_verify::{Finding, VerifyStop, findings_tell_inconsistency, verify};
 use command_line::Verify;
 use database_file::{Base, load_base};
 use equity_report::{Refusal, Unheld, write_verified};
-use hyper_outside::{Failed, Files, Sink};
+use hyper_outside::{Failed, Files, Gate, Sink};
 use play_analyser::losses_enclose_regrets;
 use std::alloc::Global;
 use std::thread::Threads;
@@ -39,7 +39,13 @@ fn unheld_of(base: &Base, finding: &Finding) -> Unheld
 
 /// Nothing, where the words of a loaded file are consistent, else the refusal that tells the first one that doesn't hold. It asks for
 /// memory, and may answer that refusal.
-fn check<R: Threads + Sync>(rt: &R, alloc: Global, base: &Base, workers: u32) -> Result<(), Refusal>
+fn check<R: Threads + Sync, G: Gate + Sync>(
+    rt: &R,
+    alloc: Global,
+    base: &Base,
+    workers: u32,
+    gate: &G,
+) -> Result<(), Refusal>
     requires workers { (1 ≤ workers) × (workers ≤ 64) }
     ensures told { AnswersCheck base.now result }
     ensures kinds { IfErr result IsOfVerifying }
@@ -48,7 +54,7 @@ fn check<R: Threads + Sync>(rt: &R, alloc: Global, base: &Base, workers: u32) ->
     base.words().right();
     findings_tell_inconsistency();
     losses_enclose_regrets();
-    match verify(rt, alloc, base, workers) {
+    match verify(rt, alloc, base, workers, gate) {
         Ok(()) => Ok(()),
         Err(VerifyStop::Inconsistent(finding)) => {
             Err(Refusal::Inconsistent(unheld_of(base, &finding)))
@@ -58,11 +64,12 @@ fn check<R: Threads + Sync>(rt: &R, alloc: Global, base: &Base, workers: u32) ->
 }
 
 /// What a file holds whose words are consistent, or what refuses it: it can't be loaded, or they aren't.
-fn load_verified<R: Threads + Sync, F: Files>(
+fn load_verified<R: Threads + Sync, F: Files, G: Gate + Sync>(
     rt: &R,
     alloc: Global,
     task: &Verify,
     files: &mut F,
+    gate: &G,
 ) -> Result<Base, Refusal>
     requires { IsRightVerify task.now }
     ensures told { AnswersVerify task.now.file (F.tells files.old)
@@ -78,7 +85,7 @@ fn load_verified<R: Threads + Sync, F: Files>(
         Ok(base) => base,
         Err(stop) => return Err(refusal_of(stop, name)),
     };
-    match check(rt, alloc, &base, task.workers) {
+    match check(rt, alloc, &base, task.workers, gate) {
         Ok(()) => Ok(base),
         Err(refusal) => Err(refusal),
     }
@@ -94,12 +101,13 @@ fn report<O: Sink>(head: &Head, out: &mut O) -> Result<(), Failed>
 
 /// Loads a file, checks its words by some workers and puts the report, or a refusal where the file isn't right, its words aren't
 /// consistent, one of these fails or there is no memory.
-pub(crate) fn run_verify<R: Threads + Sync, F: Files, O: Sink>(
+pub(crate) fn run_verify<R: Threads + Sync, F: Files, O: Sink, G: Gate + Sync>(
     rt: &R,
     alloc: Global,
     task: &Verify,
     files: &mut F,
     out: &mut O,
+    gate: &G,
 ) -> u8
     requires { IsRightVerify task.now }
     ensures ends { EndsBy IsOfVerifying result }
@@ -110,7 +118,7 @@ pub(crate) fn run_verify<R: Threads + Sync, F: Files, O: Sink>(
     ensures same { IsTrue (F.tells files.old)
         → SameFiles (F.held files.old) (F.held files.new) }
 {
-    let base = match load_verified(rt, alloc, task, files) {
+    let base = match load_verified(rt, alloc, task, files, gate) {
         Ok(base) => base,
         Err(refusal) => return refuse(out, &refusal),
     };
