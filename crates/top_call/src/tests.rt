@@ -4,9 +4,11 @@ use std::alloc::{AllocError, Global};
 use std::test::Fail;
 
 mod advice;
+mod analyses;
 mod files;
 mod meeting;
 mod shows;
+mod studies;
 mod verifies;
 
 fn owned(alloc: Global, words: &[&str]) -> Result<Vec<String>, AllocError> {
