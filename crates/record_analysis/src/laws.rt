@@ -66,7 +66,8 @@ pub fn sure_sources_judge()
 /// what the decisions lose exactly, from the same number of turns on. So the analysis over sound words
 /// is true.
 pub fn analyses_enclose_what_is_lost()
-    ensures from { (game : Game) → IsGame game → (enough : ℕ) (u : Words) → AreSoundFrom game enough u
+    ensures from { (game : Game) → IsGame game
+        → (enough : ℕ) (u : Words) → AreSoundFrom game enough u
         → (decisions : List Decision) → All (IsDecisionOf game) decisions
         → (turns : ℕ) → enough ≤ turns
         → EncloseLosses game turns (analysis_of game.stakes u decisions) }

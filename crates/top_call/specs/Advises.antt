@@ -200,7 +200,15 @@ RefusesAdvice task _ _ = ⊥
 abbrev pub MayRefuseAdvice : AdviseTask → Bool → Option (List ℕ) → Refusal → Type 0
 MayRefuseAdvice task told held refusal = IsTrue told → RefusesAdvice task refusal held
 
--- how advising ends
+-- how ranking the plays of a roll ends
+abbrev pub TellsRanking : AdviseTask → Dice → Bool → Option (List ℕ) → Output → Output → ℕ → Type 0
+TellsRanking task roll told held = Tells (HasRanked task roll told held) (MayRefuseAdvice task told held)
+
+-- how advising on the cube ends
+abbrev pub TellsCube : AdviseTask → Bool → Option (List ℕ) → Output → Output → ℕ → Type 0
+TellsCube task told held = Tells (HasAdvisedCube task told held) (MayRefuseAdvice task told held)
+
+-- how advising ends, on plays or on the cube
 abbrev pub TellsAdvice : AdviseTask → Bool → Option (List ℕ) → Output → Output → ℕ → Type 0
 TellsAdvice task told held = Tells (HasAdvised task told held) (MayRefuseAdvice task told held)
 

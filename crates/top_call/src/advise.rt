@@ -12,8 +12,8 @@ ghost use Rattle.database_file.specs.Texts.{game_in};
 ghost use Rattle.equity_report.specs.declared.refusal.Refusal.TheVariants.{Read};
 ghost use Rattle.equity_report.specs.Refusals.{status_of};
 ghost use Rattle.top_call.specs.Tasks.{IsRightAdvise};
-ghost use Rattle.top_call.specs.Runs.{EndsBy, IsOfShowing, Tells};
-ghost use Rattle.top_call.specs.Advises.{AnswersAdvice, AnswersAsked, AnswersCube, AnswersOpened, AnswersRanked, AnswersRanking, CanBePlayed, HasAdvisedCube, HasRanked, MayRefuseAdvice, TellsAdvice};
+ghost use Rattle.top_call.specs.Runs.{EndsBy, IsOfShowing};
+ghost use Rattle.top_call.specs.Advises.{AnswersAdvice, AnswersAsked, AnswersCube, AnswersOpened, AnswersRanked, AnswersRanking, CanBePlayed, TellsAdvice, TellsCube, TellsRanking};
 
 use crate::advise_laws::{looked_up_advice_is_of_the_file, looked_up_rankings_are_of_the_file};
 use crate::load::{game_told, refusal_of};
@@ -247,8 +247,8 @@ fn run_ranking<F: Files, O: Sink>(
     requires right { IsRightAdvise task.now }
     requires roll { task.now.roll ≡ Some roll }
     ensures ends { EndsBy IsOfShowing result }
-    ensures tells { Tells (HasRanked task.now roll (F.tells files.old) (F.held files.old task.now.file))
-        (MayRefuseAdvice task.now (F.tells files.old) (F.held files.old task.now.file))
+    ensures tells { TellsRanking task.now roll
+        (F.tells files.old) (F.held files.old task.now.file)
         (O.output out.old) (O.output out.new) result }
     ensures read_cause { result ≡ status_of Read
         → Rose (F.read_faults files.old) (F.read_faults files.new) }
@@ -270,8 +270,7 @@ fn run_cube<F: Files, O: Sink>(alloc: Global, task: &AdviseTask, files: &mut F, 
     requires right { IsRightAdvise task.now }
     requires roll { task.now.roll ≡ None }
     ensures ends { EndsBy IsOfShowing result }
-    ensures tells { Tells (HasAdvisedCube task.now (F.tells files.old) (F.held files.old task.now.file))
-        (MayRefuseAdvice task.now (F.tells files.old) (F.held files.old task.now.file))
+    ensures tells { TellsCube task.now (F.tells files.old) (F.held files.old task.now.file)
         (O.output out.old) (O.output out.new) result }
     ensures read_cause { result ≡ status_of Read
         → Rose (F.read_faults files.old) (F.read_faults files.new) }

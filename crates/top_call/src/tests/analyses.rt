@@ -24,7 +24,8 @@ const FORCED_TEXT: &str = "1 5 A play 0.000000 0.000000\n\
 A decisions 1 loss 0.000000 0.000000\nB decisions 0 loss 0.000000 0.000000\n";
 
 // A game of a match of two points.
-pub(super) const IN_MATCH: &str = "hypergammon record 1\ncheckers 1\nstakes match 2\ngame 1 away 2 2\n\
+pub(super) const IN_MATCH: &str =
+    "hypergammon record 1\ncheckers 1\nstakes match 2\ngame 1 away 2 2\n\
 A 21 24/22 22/21\nB double\nA pass\nend B 1\nclose\n";
 
 // A game of two checkers.

@@ -39,11 +39,7 @@ const ROWS: [(&str, u8, &str); 5] = [
     (ONE_POINT, 5, "refused 5 record 15 score-wrong\n"),
     ("hypergammon record 2\n", 5, "refused 5 record 1 shape\n"),
     ("", 5, "refused 5 record 1 unended\n"),
-    (
-        BEAVERED,
-        0,
-        "A decisions 2 loss",
-    ),
+    (BEAVERED, 0, "A decisions 2 loss"),
 ];
 
 #[test]
@@ -84,9 +80,7 @@ fn what_is_made_can_be_studied(rt: HostRuntime) -> Result<(), Fail> {
     let Some(file) = files.held("seven.rec") else {
         panic!(rt; "no file");
     };
-    assert!(rt;
-        file.starts_with(b"hypergammon record 1\ncheckers 1\nstakes jacoby\ngame 1\n")
-    );
+    assert!(rt; file.starts_with(b"hypergammon record 1\ncheckers 1\nstakes jacoby\ngame 1\n"));
     assert!(rt; file.ends_with(b"\nclose\n"));
     let words = owned(alloc, &["study", "seven.rec", "--rounds", "8"])?;
     let mut told = MemSink::new(alloc);
