@@ -4,6 +4,7 @@ use std::alloc::{AllocError, Global};
 use std::test::Fail;
 
 mod advice;
+mod analyses;
 mod files;
 mod meeting;
 mod shows;

@@ -14,7 +14,7 @@ pub(super) fn ask<R: Threads + Sync>(
     words: &[&str],
 ) -> Result<(u8, HonestSink), Fail> {
     let words = owned(alloc, words)?;
-    let mut out = HonestSink::with_room(alloc, 512)?;
+    let mut out = HonestSink::with_room(alloc, 1024)?;
     let status = run(rt, alloc, words.as_slice(), files, &mut out, &OpenGate);
     Ok((status, out))
 }
