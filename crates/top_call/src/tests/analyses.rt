@@ -24,8 +24,7 @@ const FORCED_TEXT: &str = "1 5 A play 0.000000 0.000000\n\
 A decisions 1 loss 0.000000 0.000000\nB decisions 0 loss 0.000000 0.000000\n";
 
 // A game of a match of two points.
-pub(super) const IN_MATCH: &str =
-    "hypergammon record 1\ncheckers 1\nstakes match 2\ngame 1 away 2 2\n\
+pub(super) const IN_MATCH: &str = "hypergammon record 1\ncheckers 1\nstakes match 2\ngame 1 away 2 2\n\
 A 21 24/22 22/21\nB double\nA pass\nend B 1\nclose\n";
 
 // A game of two checkers.
@@ -179,44 +178,6 @@ fn a_record_that_is_too_long_is_not_read(rt: HostRuntime) -> Result<(), Fail> {
     let (status, out) = ask(&rt, alloc, &mut files, &["analyse", "x", "long"])?;
     assert_eq!(rt; status, 5);
     assert_eq!(rt; out.put_bytes(), "refused 5 record 0 too-long\n".as_bytes());
-    Ok(())
-}
-
-// The files' call that fails, the record, and the status: size and text of the record, and size, front and, where it counts, the page of the other
-// file are read.
-const FAULTS: [(u64, &str, u8); 11] = [
-    (1, "game", 6),
-    (2, "game", 6),
-    (3, "game", 6),
-    (4, "game", 6),
-    (5, "game", 6),
-    (6, "game", 0),
-    (1, "forced", 6),
-    (2, "forced", 6),
-    (3, "forced", 6),
-    (4, "forced", 6),
-    (5, "forced", 0),
-];
-
-#[test]
-fn a_failing_read_is_told_of_an_analysis(rt: HostRuntime) -> Result<(), Fail> {
-    let alloc = rt.alloc();
-    let made = solved(&rt, alloc)?;
-    let mut whole = Vec::new(alloc);
-    whole.extend_from_slice(made.held("j1").unwrap_or(b""))?;
-    for (call, name, answer) in FAULTS {
-        let mut files = MemFiles::new(alloc);
-        files.with_file("j1", &whole)?;
-        files.with_file("game", GAME.as_bytes())?;
-        files.with_file("forced", FORCED.as_bytes())?;
-        files.fail_call(call, 0)?;
-        let (status, out) = ask(&rt, alloc, &mut files, &["analyse", "j1", name])?;
-        assert_eq!(rt; status, answer);
-        if answer == 6 {
-            assert_eq!(rt; out.put_bytes(), "refused 6 read\n".as_bytes());
-        }
-        assert_eq!(rt; files.held("j1"), Some(whole.as_slice()));
-    }
     Ok(())
 }
 
