@@ -24,7 +24,8 @@ const FORCED_TEXT: &str = "1 5 A play 0.000000 0.000000\n\
 A decisions 1 loss 0.000000 0.000000\nB decisions 0 loss 0.000000 0.000000\n";
 
 // A game of a match of two points.
-pub(super) const IN_MATCH: &str = "hypergammon record 1\ncheckers 1\nstakes match 2\ngame 1 away 2 2\n\
+pub(super) const IN_MATCH: &str =
+    "hypergammon record 1\ncheckers 1\nstakes match 2\ngame 1 away 2 2\n\
 A 21 24/22 22/21\nB double\nA pass\nend B 1\nclose\n";
 
 // A game of two checkers.
@@ -164,6 +165,44 @@ fn a_damaged_page_counts_where_a_loss_rests_on_it(rt: HostRuntime) -> Result<(),
         out.put_bytes(),
         "refused 4 file page-digest 18126\n".as_bytes()
     );
+    Ok(())
+}
+
+// Without a cube. The last play can hit on its way or not, and by a file in which each position lies between a point lost and a point won it may lose
+// up to two points.
+const CHOSEN: &str = "hypergammon record 1\ncheckers 1\nstakes cubeless\ngame 1\n\
+A 65 24/18 18/13\nB 43 24/20 20/17\nA 51 13/8* 8/7\nstop\nclose\n";
+
+const CHOSEN_TEXT: &str = "1 5 A play 0.000000 0.000000\n1 6 B play 0.000000 0.000000\n\
+1 7 A play 0.000000 2.000000\n\
+A decisions 2 loss 0.000000 2.000000\nB decisions 1 loss 0.000000 0.000000\n";
+
+const READ: &str = "refused 6 read\n";
+
+// The files' call that fails, and what is put: size and text of the record, and size, front and page of the other file are read.
+const FAULTS: [(u64, &str); 6] = [
+    (1, READ),
+    (2, READ),
+    (3, READ),
+    (4, READ),
+    (5, READ),
+    (6, CHOSEN_TEXT),
+];
+
+#[test]
+fn a_failing_read_is_told_of_an_analysis(rt: HostRuntime) -> Result<(), Fail> {
+    let alloc = rt.alloc();
+    let whole = cubeless_text(alloc, 2)?;
+    for (call, text) in FAULTS {
+        let mut files = MemFiles::new(alloc);
+        files.with_file("c1", &whole)?;
+        files.with_file("game", CHOSEN.as_bytes())?;
+        files.fail_call(call, 0)?;
+        let (status, out) = ask(&rt, alloc, &mut files, &["analyse", "c1", "game"])?;
+        assert_eq!(rt; status, if text == READ { 6 } else { 0 });
+        assert_eq!(rt; out.put_bytes(), text.as_bytes());
+        assert_eq!(rt; files.held("c1"), Some(whole.as_slice()));
+    }
     Ok(())
 }
 

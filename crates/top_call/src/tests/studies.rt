@@ -25,12 +25,16 @@ fn a_recorded_game_is_studied(rt: HostRuntime) -> Result<(), Fail> {
     Ok(())
 }
 
-// A game with beavers in which the cube is offered as the mover has 17 of 36 rolls to win.
+// A game that is left after a beaver.
 const BEAVERED: &str = "hypergammon record 1\ncheckers 1\nstakes jacoby-beavers\ngame 1\n\
-A 21 24/22 22/21\nB double\nA pass\nend B 1\nclose\n";
+A 21 24/22 22/21\nB double\nA beaver\nstop\nclose\n";
 
-// The record, the words behind the command, the status, and what is put at the end.
-const ROWS: [(&str, u8, &str); 5] = [
+// The same by stakes that have no beavers.
+const UNBEAVERED: &str = "hypergammon record 1\ncheckers 1\nstakes jacoby\ngame 1\n\
+A 21 24/22 22/21\nB double\nA beaver\nstop\nclose\n";
+
+// The record, the status, and what is put or its first line.
+const ROWS: [(&str, u8, &str); 6] = [
     (
         IN_MATCH,
         10,
@@ -39,7 +43,8 @@ const ROWS: [(&str, u8, &str); 5] = [
     (ONE_POINT, 5, "refused 5 record 15 score-wrong\n"),
     ("hypergammon record 2\n", 5, "refused 5 record 1 shape\n"),
     ("", 5, "refused 5 record 1 unended\n"),
-    (BEAVERED, 0, "A decisions 2 loss"),
+    (UNBEAVERED, 5, "refused 5 record 7 illegal-cube\n"),
+    (BEAVERED, 0, "1 5 A play 0.000000 0.000000\n1 6 B offer "),
 ];
 
 #[test]
@@ -50,15 +55,84 @@ fn each_record_has_its_answer(rt: HostRuntime) -> Result<(), Fail> {
         files.with_file("game", text.as_bytes())?;
         let (status, out) = ask(&rt, alloc, &mut files, &["study", "game", "--rounds=2"])?;
         assert_eq!(rt; status, due, "at {told}");
-        let Ok(put) = std::str::from_utf8(out.put_bytes()) else {
-            panic!(rt; "no text");
-        };
-        assert!(rt; put.contains(told), "{put}");
+        assert!(rt; out.put_bytes().starts_with(told.as_bytes()));
+        if due != 0 {
+            assert_eq!(rt; out.put_bytes(), told.as_bytes());
+        }
     }
     let mut none = MemFiles::new(alloc);
     let (status, out) = ask(&rt, alloc, &mut none, &["study", "game"])?;
     assert_eq!(rt; status, 3);
     assert_eq!(rt; out.put_bytes(), "refused 3 missing game\n".as_bytes());
+    Ok(())
+}
+
+// Three decisions are told, a play and an offer and an answer, and then both totals.
+#[test]
+fn a_beaver_is_a_decision(rt: HostRuntime) -> Result<(), Fail> {
+    let alloc = rt.alloc();
+    let mut files = MemFiles::new(alloc);
+    files.with_file("game", BEAVERED.as_bytes())?;
+    let (_status, out) = ask(&rt, alloc, &mut files, &["study", "game", "--rounds=2"])?;
+    let Ok(text) = std::str::from_utf8(out.put_bytes()) else {
+        panic!(rt; "no text");
+    };
+    let fronts = [
+        "1 5 A play ",
+        "1 6 B offer ",
+        "1 7 A answer ",
+        "A decisions 2 loss ",
+        "B decisions 1 loss ",
+    ];
+    assert_eq!(rt; text.lines().count(), fronts.len());
+    for (line, front) in text.lines().zip(fronts) {
+        assert!(rt; line.starts_with(front), "{line}");
+    }
+    Ok(())
+}
+
+// The files' call that fails, and the status: the record's size and text are read, and no other file.
+const FAULTS: [(u64, u8); 3] = [(1, 6), (2, 6), (3, 0)];
+
+#[test]
+fn a_failing_read_is_told_of_a_study(rt: HostRuntime) -> Result<(), Fail> {
+    let alloc = rt.alloc();
+    for (call, due) in FAULTS {
+        let mut files = MemFiles::new(alloc);
+        files.with_file("game", BEAVERED.as_bytes())?;
+        files.fail_call(call, 0)?;
+        let (status, out) = ask(&rt, alloc, &mut files, &["study", "game", "--rounds=1"])?;
+        assert_eq!(rt; status, due);
+        if due == 6 {
+            assert_eq!(rt; out.put_bytes(), "refused 6 read\n".as_bytes());
+        }
+        assert_eq!(rt; files.held("game"), Some(BEAVERED.as_bytes()));
+    }
+    Ok(())
+}
+
+// The output's call that fails, after so many bytes, and what is put: each line of a decision is one call, and both totals are another.
+#[test]
+fn a_failing_output_is_told_of_a_study(rt: HostRuntime) -> Result<(), Fail> {
+    let alloc = rt.alloc();
+    let words = owned(alloc, &["study", "game", "--rounds=1"])?;
+    for call in 1..=4 {
+        let mut files = MemFiles::new(alloc);
+        files.with_file("game", BEAVERED.as_bytes())?;
+        let mut out = MemSink::new(alloc);
+        out.room(512)?;
+        out.fail_call(call, 2)?;
+        let status = run(
+            &rt,
+            alloc,
+            words.as_slice(),
+            &mut files,
+            &mut out,
+            &OpenGate,
+        );
+        assert_eq!(rt; status, 7);
+        assert!(rt; out.put_bytes().ends_with(b"refused 7 write\n"));
+    }
     Ok(())
 }
 
