@@ -15,11 +15,11 @@ use Rattle.hyper_outside.specs.declared.outside.WordsKind.TheVariants.{Word, For
 use Rattle.command_line.specs.declared.command.Command.TheVariants as command
 use Rattle.command_line.specs.declared.command.CommandName.{CommandName}
 use Rattle.command_line.specs.declared.command.CommandName.TheVariants as name
-use Rattle.command_line.specs.Values.{number_of, number_within, long_number_given, number_given, number_or, stakes_named, stakes_or, kind_given, is_file_name, file_name, other_name}
-use Rattle.command_line.specs.Commands.{Asked, checked, refused, bound_values, solve_values, show_values, migrate_values, advise_values, command_values, command_named, command_form, verify_values, analyse_values, study_values, make_values}
-use Rattle.command_line.specs.declared.values.TheConstants.{MOST_CHECKERS, MOST_GAMES, MOST_ROUNDS, MOST_WORKERS, USUAL_ROUNDS}
+use Rattle.command_line.specs.Values.{number_of, number_within, long_number_given, number_given, number_or, stakes_named, stakes_or, kind_given, is_name_within, name_within, file_name, other_name, prefix}
+use Rattle.command_line.specs.Commands.{Asked, checked, refused, bound_values, solve_values, show_values, migrate_values, advise_values, command_values, command_named, command_form, verify_values, ladder_values, analyse_values, study_values, make_values}
+use Rattle.command_line.specs.declared.values.TheConstants.{MOST_CHECKERS, MOST_GAMES, MOST_POINTS, MOST_ROUNDS, MOST_WORKERS, USUAL_POINTS, USUAL_ROUNDS}
 use Rattle.command_line.specs.Words.{is_faulty, place_at, form_reading, words_reading, reading}
-use Rattle.command_line.specs.Right.{IsName, IsRightCommand}
+use Rattle.command_line.specs.Right.{IsName, IsPrefix, IsRightCommand}
 
 abbrev bool_code : Bool → ℕ
 bool_code true = 1
@@ -103,11 +103,24 @@ or-stakes : (given : Option Bytes) → IfSome (stakes_or Jacoby given) IsNoMatch
 or-stakes None = no_match Jacoby refl
 or-stakes (Some word) = named-stakes word
 
+abbrev HasBytes : ℕ → Bytes → Type 0
+HasBytes most word = (1 ≤ length word) × (length word ≤ most)
+
+short : (most : ℕ) (given : Option Bytes) → IfSome (name_within most given) (HasBytes most)
+short most given = then-some (λ _. Unit {0}) (HasBytes most) _ given (any given) (λ word _. if-some (HasBytes most) (is_name_within most word) word (λ e.
+    let first = both (nat_le 1 (length word) && nat_le (length word) most) _ e in
+    let parts = both (nat_le 1 (length word)) (nat_le (length word) most) first.0 in
+    (leb-true 1 (length word) parts.0, leb-true (length word) most parts.1)))
+
+if-each : {X : Type 0} (P Q : X → Type 0) (o : Option X) → IfSome o P → ((x : X) → P x → Q x) → IfSome o Q
+if-each P Q None is each = tt
+if-each P Q (Some x) is each = each x is
+
 named : (given : Option Bytes) → IfSome (file_name given) IsName
-named given = then-some (λ _. Unit {0}) IsName _ given (any given) (λ word _. if-some IsName (is_file_name word) word (λ e.
-    let first = both (nat_le 1 (length word) && nat_le (length word) 255) _ e in
-    let parts = both (nat_le 1 (length word)) (nat_le (length word) 255) first.0 in
-    record { some = leb-true 1 (length word) parts.0; short = leb-true (length word) 255 parts.1 }))
+named given = if-each (HasBytes 255) IsName (name_within 255 given) (short 255 given) (λ word has. record { some = has.0; short = has.1 })
+
+prefixed : (given : Option Bytes) → IfSome (prefix given) IsPrefix
+prefixed given = if-each (HasBytes 240) IsPrefix (name_within 240 given) (short 240 given) (λ word has. record { some = has.0; short = has.1 })
 
 abbrev IsOther : Bytes → Bytes → Type 0
 IsOther old new = IsName new × (old ≢ new)
@@ -201,6 +214,28 @@ verify-right given =
     verify-from (file_name (value_of (codes "FILE") given)) (number_or MOST_WORKERS 1 workers)
     (named (value_of (codes "FILE") given)) (or-within MOST_WORKERS 1 workers (omega arith, omega arith))
 
+ladder-from : (prefix : Option Bytes) (checkers points rounds workers : Option ℕ) → IfSome prefix IsPrefix → IfSome checkers (Within MOST_CHECKERS) → IfSome points (Within MOST_POINTS) → IfSome rounds (Within MOST_ROUNDS) → IfSome workers (Within MOST_WORKERS) →
+    Right (checked 1 prefix (λ prefix. checked 2 checkers (λ checkers. checked 3 points (λ points. checked 4 rounds (λ rounds. checked 5 workers (λ workers.
+    Ok (command.Ladder (record { prefix = prefix; checkers = checkers; match_length = points; rounds = rounds; workers = workers }))))))))
+ladder-from None checkers points rounds workers name few short ended most = tt
+ladder-from (Some p) None points rounds workers name few short ended most = tt
+ladder-from (Some p) (Some c) None rounds workers name few short ended most = tt
+ladder-from (Some p) (Some c) (Some l) None workers name few short ended most = tt
+ladder-from (Some p) (Some c) (Some l) (Some r) None name few short ended most = tt
+ladder-from (Some p) (Some c) (Some l) (Some r) (Some w) name few short ended most =
+    record { prefix = name; some = few.0; few = few.1; point = short.0; points = short.1; begun = ended.0; ended = ended.1; one = most.0; most = most.1 }
+
+ladder-right : (given : Values) → Right (ladder_values given)
+ladder-right given =
+    let checkers = value_of (codes "checkers") given in
+    let points = value_of (codes "length") given in
+    let rounds = value_of (codes "rounds") given in
+    let workers = value_of (codes "workers") given in
+    ladder-from (prefix (value_of (codes "PREFIX") given)) (number_or MOST_CHECKERS MOST_CHECKERS checkers) (number_or MOST_POINTS USUAL_POINTS points)
+    (number_or MOST_ROUNDS USUAL_ROUNDS rounds) (number_or MOST_WORKERS 1 workers)
+    (prefixed (value_of (codes "PREFIX") given)) (or-within MOST_CHECKERS MOST_CHECKERS checkers (omega arith, omega arith)) (or-within MOST_POINTS USUAL_POINTS points (omega arith, omega arith))
+    (or-within MOST_ROUNDS USUAL_ROUNDS rounds (omega arith, omega arith)) (or-within MOST_WORKERS 1 workers (omega arith, omega arith))
+
 analyse-from : (base rec : Option Bytes) → IfSome base IsName → IfSome rec IsName →
     Right (checked 1 base (λ base. checked 2 rec (λ rec. Ok (command.Analyse (record { base = base; rec = rec })))))
 analyse-from None rec first second = tt
@@ -249,6 +284,7 @@ values-right name.Show given = show-right given
 values-right name.Migrate given = migrate-right given
 values-right name.Advise given = advise-right given
 values-right name.Verify given = verify-right given
+values-right name.Ladder given = ladder-right given
 values-right name.Analyse given = analyse-right given
 values-right name.Study given = study-right given
 values-right name.Make given = make-right given

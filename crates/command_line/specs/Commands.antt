@@ -8,11 +8,11 @@ use Rattle.hyper_outside.specs.declared.outside.WordsKind.TheVariants.{Value}
 use Rattle.cube_actions.specs.declared.name.StakesName.TheVariants.{Jacoby}
 use Rattle.word_forms.specs.Form.{Bytes, Form, Values, value_of}
 use Rattle.command_line.specs.declared.command.Command.{Command}
-use Rattle.command_line.specs.declared.command.Command.TheVariants.{Bound, Solve, Show, Migrate, Advise, Verify, Analyse, Study, Make}
+use Rattle.command_line.specs.declared.command.Command.TheVariants.{Bound, Solve, Show, Migrate, Advise, Verify, Ladder, Analyse, Study, Make}
 use Rattle.command_line.specs.declared.command.CommandName.{CommandName}
 use Rattle.command_line.specs.declared.command.CommandName.TheVariants as name
-use Rattle.command_line.specs.declared.values.TheConstants.{MOST_CHECKERS, MOST_GAMES, MOST_ROUNDS, MOST_WORKERS, USUAL_ROUNDS}
-use Rattle.command_line.specs.Values.{long_number_given, number_given, number_or, stakes_or, kind_given, file_name, other_name}
+use Rattle.command_line.specs.declared.values.TheConstants.{MOST_CHECKERS, MOST_GAMES, MOST_POINTS, MOST_ROUNDS, MOST_WORKERS, USUAL_POINTS, USUAL_ROUNDS}
+use Rattle.command_line.specs.Values.{long_number_given, number_given, number_or, stakes_or, kind_given, file_name, other_name, prefix}
 
 -- what right words ask for
 abbrev pub Asked : Type 0
@@ -89,6 +89,18 @@ verify_values given =
     checked 2 (number_or MOST_WORKERS 1 (value_of (codes "workers") given)) (λ workers.
     Ok (Verify (record { file = file; workers = workers }))))
 
+abbrev pub ladder_form : Form
+ladder_form = record { arguments = codes "PREFIX" ∷ []; options = codes "checkers" ∷ codes "length" ∷ codes "rounds" ∷ codes "workers" ∷ [] }
+
+abbrev pub ladder_values : Values → Result Asked BadWords
+ladder_values given =
+    checked 1 (prefix (value_of (codes "PREFIX") given)) (λ prefix.
+    checked 2 (number_or MOST_CHECKERS MOST_CHECKERS (value_of (codes "checkers") given)) (λ checkers.
+    checked 3 (number_or MOST_POINTS USUAL_POINTS (value_of (codes "length") given)) (λ points.
+    checked 4 (number_or MOST_ROUNDS USUAL_ROUNDS (value_of (codes "rounds") given)) (λ rounds.
+    checked 5 (number_or MOST_WORKERS 1 (value_of (codes "workers") given)) (λ workers.
+    Ok (Ladder (record { prefix = prefix; checkers = checkers; match_length = points; rounds = rounds; workers = workers })))))))
+
 abbrev pub analyse_form : Form
 analyse_form = record { arguments = codes "BASE" ∷ codes "RECORD" ∷ []; options = [] }
 
@@ -129,9 +141,10 @@ command_named word =
     else (if bytes_eq word (codes "migrate") then Some name.Migrate
     else (if bytes_eq word (codes "advise") then Some name.Advise
     else (if bytes_eq word (codes "verify") then Some name.Verify
+    else (if bytes_eq word (codes "ladder") then Some name.Ladder
     else (if bytes_eq word (codes "analyse") then Some name.Analyse
     else (if bytes_eq word (codes "study") then Some name.Study
-    else (if bytes_eq word (codes "make") then Some name.Make else None))))))))
+    else (if bytes_eq word (codes "make") then Some name.Make else None)))))))))
 
 abbrev pub command_form : CommandName → Form
 command_form name.Bound = bound_form
@@ -140,6 +153,7 @@ command_form name.Show = show_form
 command_form name.Migrate = migrate_form
 command_form name.Advise = advise_form
 command_form name.Verify = verify_form
+command_form name.Ladder = ladder_form
 command_form name.Analyse = analyse_form
 command_form name.Study = study_form
 command_form name.Make = make_form
@@ -151,6 +165,7 @@ command_values name.Show given = show_values given
 command_values name.Migrate given = migrate_values given
 command_values name.Advise given = advise_values given
 command_values name.Verify given = verify_values given
+command_values name.Ladder given = ladder_values given
 command_values name.Analyse given = analyse_values given
 command_values name.Study given = study_values given
 command_values name.Make given = make_values given

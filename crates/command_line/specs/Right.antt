@@ -10,16 +10,22 @@ use Rattle.command_line.specs.declared.command.Migrate.{Migrate as MigrateWords}
 use Rattle.command_line.specs.declared.command.Advise.{Advise as AdviseWords}
 use Rattle.command_line.specs.declared.command.Analyse.{Analyse as AnalyseWords}
 use Rattle.command_line.specs.declared.command.Command.{Command}
-use Rattle.command_line.specs.declared.command.Command.TheVariants.{Bound, Solve, Show, Migrate, Advise, Verify, Analyse, Study, Make}
+use Rattle.command_line.specs.declared.command.Command.TheVariants.{Bound, Solve, Show, Migrate, Advise, Verify, Ladder, Analyse, Study, Make}
+use Rattle.command_line.specs.declared.command.Ladder.{Ladder as LadderWords}
 use Rattle.command_line.specs.declared.command.Make.{Make as MakeWords}
 use Rattle.command_line.specs.declared.command.Study.{Study as StudyWords}
 use Rattle.command_line.specs.declared.command.Verify.{Verify as VerifyWords}
-use Rattle.command_line.specs.declared.values.TheConstants.{MOST_CHECKERS, MOST_GAMES, MOST_ROUNDS, MOST_WORKERS}
+use Rattle.command_line.specs.declared.values.TheConstants.{MOST_CHECKERS, MOST_GAMES, MOST_POINTS, MOST_ROUNDS, MOST_WORKERS}
 
 -- a file's name has 1 to 255 bytes
 pub record IsName (name : Bytes) : Type 0 where
   pub some : 1 ≤ length name
   pub short : length name ≤ 255
+
+-- what the names of a ladder's files begin with has 1 to 240 bytes
+pub record IsPrefix (prefix : Bytes) : Type 0 where
+  pub some : 1 ≤ length prefix
+  pub short : length prefix ≤ 240
 
 pub record IsRightBound (bound : BoundWords) : Type 0 where
   pub some : 1 ≤ bound.checkers
@@ -53,6 +59,17 @@ pub record IsRightVerify (verify : VerifyWords) : Type 0 where
   pub one : 1 ≤ verify.workers
   pub most : verify.workers ≤ MOST_WORKERS
 
+pub record IsRightLadder (ladder : LadderWords) : Type 0 where
+  pub prefix : IsPrefix ladder.prefix
+  pub some : 1 ≤ ladder.checkers
+  pub few : ladder.checkers ≤ MOST_CHECKERS
+  pub point : 1 ≤ ladder.match_length
+  pub points : ladder.match_length ≤ MOST_POINTS
+  pub begun : 1 ≤ ladder.rounds
+  pub ended : ladder.rounds ≤ MOST_ROUNDS
+  pub one : 1 ≤ ladder.workers
+  pub most : ladder.workers ≤ MOST_WORKERS
+
 pub record IsRightAnalyse (analyse : AnalyseWords) : Type 0 where
   pub base : IsName analyse.base
   pub rec : IsName analyse.rec
@@ -78,6 +95,7 @@ IsRightCommand (Show show) = IsRightShow show
 IsRightCommand (Migrate migrate) = IsRightMigrate migrate
 IsRightCommand (Advise advise) = IsRightAdvise advise
 IsRightCommand (Verify verify) = IsRightVerify verify
+IsRightCommand (Ladder ladder) = IsRightLadder ladder
 IsRightCommand (Analyse analyse) = IsRightAnalyse analyse
 IsRightCommand (Study study) = IsRightStudy study
 IsRightCommand (Make make) = IsRightMake make

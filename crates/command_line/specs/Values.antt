@@ -55,12 +55,20 @@ abbrev pub kind_given : Option Bytes → Option (Option KindName)
 kind_given None = Some None
 kind_given (Some word) = option_map (λ kind. Some kind) (read_name word)
 
--- 1 to 255 bytes, none of them 0
-abbrev pub is_file_name : Bytes → Bool
-is_file_name word = nat_le 1 (length word) && nat_le (length word) 255 && not (list_any (λ byte. byte == 0) word)
+-- 1 to so many bytes, none of them 0
+abbrev pub is_name_within : ℕ → Bytes → Bool
+is_name_within most word = nat_le 1 (length word) && nat_le (length word) most && not (list_any (λ byte. byte == 0) word)
+
+-- the name that is given, if it has at most so many bytes
+abbrev pub name_within : ℕ → Option Bytes → Option Bytes
+name_within most given = option_and_then (λ word. if is_name_within most word then Some word else None) given
 
 abbrev pub file_name : Option Bytes → Option Bytes
-file_name given = option_and_then (λ word. if is_file_name word then Some word else None) given
+file_name = name_within 255
+
+-- what the names of a ladder's files begin with
+abbrev pub prefix : Option Bytes → Option Bytes
+prefix = name_within 240
 
 -- a file's name that isn't this one
 abbrev pub other_name : Bytes → Option Bytes → Option Bytes

@@ -71,6 +71,21 @@ pub struct Verify {
     pub workers: u32,
 }
 
+/// A match whose scores are solved one by one, each written to a file of its own.
+#[derive(Drop)]
+pub struct Ladder {
+    /// What the names of the files begin with, 1 to 240 bytes.
+    pub prefix: Text,
+    /// 1 to 3 a side.
+    pub checkers: u8,
+    /// How many points the match is played to, 1 to 5.
+    pub match_length: u8,
+    /// 1 to 4096.
+    pub rounds: u32,
+    /// 1 to 64.
+    pub workers: u32,
+}
+
 /// A recorded game whose decisions are judged by a file.
 #[derive(Drop)]
 pub struct Analyse {
@@ -110,6 +125,7 @@ pub enum Command {
     Migrate(Migrate),
     Advise(Advise),
     Verify(Verify),
+    Ladder(Ladder),
     Analyse(Analyse),
     Study(Study),
     Make(Make),
@@ -124,6 +140,7 @@ pub enum CommandName {
     Migrate,
     Advise,
     Verify,
+    Ladder,
     Analyse,
     Study,
     Make,
@@ -147,6 +164,10 @@ static VERIFY: [&str; 1] = ["FILE"];
 
 static VERIFY_OPTIONS: [&str; 1] = ["workers"];
 
+static LADDER: [&str; 1] = ["PREFIX"];
+
+static LADDER_OPTIONS: [&str; 4] = ["checkers", "length", "rounds", "workers"];
+
 static ANALYSE: [&str; 2] = ["BASE", "RECORD"];
 
 static STUDY: [&str; 1] = ["RECORD"];
@@ -169,6 +190,7 @@ impl CommandName {
             "migrate" => Some(CommandName::Migrate),
             "advise" => Some(CommandName::Advise),
             "verify" => Some(CommandName::Verify),
+            "ladder" => Some(CommandName::Ladder),
             "analyse" => Some(CommandName::Analyse),
             "study" => Some(CommandName::Study),
             "make" => Some(CommandName::Make),
@@ -187,6 +209,7 @@ impl CommandName {
             CommandName::Migrate => MIGRATE.as_slice(),
             CommandName::Advise => ADVISE.as_slice(),
             CommandName::Verify => VERIFY.as_slice(),
+            CommandName::Ladder => LADDER.as_slice(),
             CommandName::Analyse => ANALYSE.as_slice(),
             CommandName::Study => STUDY.as_slice(),
             CommandName::Make => MAKE.as_slice(),
@@ -201,6 +224,7 @@ impl CommandName {
             CommandName::Solve => SOLVE_OPTIONS.as_slice(),
             CommandName::Advise => ADVISE_OPTIONS.as_slice(),
             CommandName::Verify => VERIFY_OPTIONS.as_slice(),
+            CommandName::Ladder => LADDER_OPTIONS.as_slice(),
             CommandName::Study => STUDY_OPTIONS.as_slice(),
             CommandName::Bound
             | CommandName::Show

@@ -1,16 +1,17 @@
 ghost use Rattle.word_forms.specs.Form.{Values};
 ghost use Rattle.word_forms.specs.Clap.{HasValues};
-ghost use Rattle.command_line.specs.Commands.{bound_values, solve_values, show_values, migrate_values, advise_values, command_values, verify_values, analyse_values, study_values, make_values};
+ghost use Rattle.command_line.specs.Commands.{bound_values, solve_values, show_values, migrate_values, advise_values, command_values, verify_values, ladder_values, analyse_values, study_values, make_values};
 ghost use Rattle.command_line.specs.Reading.{Gives};
 
 use crate::command::{
-    Advise, Analyse, Bound, Command, CommandName, Make, Migrate, Show, Solve, Study, Verify,
+    Advise, Analyse, Bound, Command, CommandName, Ladder, Make, Migrate, Show, Solve, Study, Verify,
 };
 use crate::stop::{WordsStop, bad_value};
 use crate::text::Text;
 use crate::values::{
-    MOST_CHECKERS, MOST_GAMES, MOST_ROUNDS, MOST_WORKERS, USUAL_ROUNDS, file_name, kind_given,
-    long_number_given, number_given, number_or, other_name, stakes_or, text_given,
+    MOST_CHECKERS, MOST_GAMES, MOST_POINTS, MOST_ROUNDS, MOST_WORKERS, USUAL_POINTS, USUAL_ROUNDS,
+    file_name, kind_given, long_number_given, number_given, number_or, other_name, prefix,
+    stakes_or, text_given,
 };
 use clap::ArgMatches;
 use cube_actions::StakesName;
@@ -32,6 +33,7 @@ pub(crate) fn read_values(
         CommandName::Migrate => read_migrate(alloc, values),
         CommandName::Advise => read_advise(alloc, values),
         CommandName::Verify => read_verify(alloc, values),
+        CommandName::Ladder => read_ladder(alloc, values),
         CommandName::Analyse => read_analyse(alloc, values),
         CommandName::Study => read_study(alloc, values),
         CommandName::Make => read_make(alloc, values),
@@ -153,6 +155,37 @@ fn read_verify(alloc: Global, values: &ArgMatches<'_>) -> Result<Command, WordsS
     };
     Ok(Command::Verify(Verify {
         file: Text::new(alloc, file)?,
+        workers,
+    }))
+}
+
+fn read_ladder(alloc: Global, values: &ArgMatches<'_>) -> Result<Command, WordsStop>
+    ensures { (given : Values) → HasValues given values.now
+        → Gives (ladder_values given) result }
+{
+    let Some(prefix) = prefix(values.get_str("PREFIX")) else {
+        return Err(bad_value(1));
+    };
+    let most = MOST_CHECKERS as u32;
+    let Some(checkers) = number_or(values.get_str("checkers"), most, most) else {
+        return Err(bad_value(2));
+    };
+    let Some(points) = number_or(values.get_str("length"), MOST_POINTS, USUAL_POINTS) else {
+        return Err(bad_value(3));
+    };
+    let given = values.get_str("rounds");
+    let Some(rounds) = number_or(given, MOST_ROUNDS, USUAL_ROUNDS) else {
+        return Err(bad_value(4));
+    };
+    let word = values.get_str("workers");
+    let Some(workers) = number_or(word, MOST_WORKERS, 1) else {
+        return Err(bad_value(5));
+    };
+    Ok(Command::Ladder(Ladder {
+        prefix: Text::new(alloc, prefix)?,
+        checkers: checkers as u8,
+        match_length: points as u8,
+        rounds,
         workers,
     }))
 }

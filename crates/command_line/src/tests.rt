@@ -203,6 +203,92 @@ fn advise_takes_a_kind_and_a_roll(rt: HostRuntime) -> Result<(), Fail> {
 }
 
 #[test]
+fn words_of_ladder_are_refused(rt: HostRuntime) -> Result<(), Fail> {
+    let cases: [(&[&str], WordsKind, u32); 13] = [
+        (&["ladder"], WordsKind::Form, 0),
+        (&["ladder", "x", "y"], WordsKind::Form, 0),
+        (&["ladder", "x", "--stakes=money"], WordsKind::Form, 0),
+        (&["ladder", "x", "--length"], WordsKind::Form, 0),
+        (&["ladder", "x", "-l", "3"], WordsKind::Word, 2),
+        (&["ladder", "x\0", "--checkers=4"], WordsKind::Value, 1),
+        (
+            &["ladder", "x", "--length=6", "--checkers=4"],
+            WordsKind::Value,
+            2,
+        ),
+        (
+            &["ladder", "x", "--rounds=0", "--length=6"],
+            WordsKind::Value,
+            3,
+        ),
+        (&["ladder", "x", "--length", "0"], WordsKind::Value, 3),
+        (&["ladder", "x", "--length", "03"], WordsKind::Value, 3),
+        (
+            &["ladder", "--workers=65", "x", "--rounds", "4097"],
+            WordsKind::Value,
+            4,
+        ),
+        (&["ladder", "x", "--workers", "65"], WordsKind::Value, 5),
+        (&["ladder", "x", "--workers", "0"], WordsKind::Value, 5),
+    ];
+    for (words, kind, place) in cases.iter() {
+        let found = refusal(rt.alloc(), words)?;
+        assert_eq!(rt; found, Some((*kind, *place)));
+    }
+    Ok(())
+}
+
+#[test]
+fn a_prefix_has_at_most_240_bytes(rt: HostRuntime) -> Result<(), Fail> {
+    let mut prefix = String::new(rt.alloc());
+    for _ in 0..240 {
+        prefix.push('x')?;
+    }
+    let longest = refusal(rt.alloc(), &["ladder", prefix.as_str()])?;
+    assert_eq!(rt; longest, None);
+    prefix.push('x')?;
+    let longer = refusal(rt.alloc(), &["ladder", prefix.as_str()])?;
+    assert_eq!(rt; longer, Some((WordsKind::Value, 1)));
+    Ok(())
+}
+
+#[test]
+fn ladder_has_usual_values(rt: HostRuntime) -> Result<(), Fail> {
+    let cases: [(&[&str], (u8, u8, u32, u32)); 2] = [
+        (&["ladder", "L"], (3, 3, 64, 1)),
+        (
+            &[
+                "ladder",
+                "--length",
+                "5",
+                "--checkers=1",
+                "L",
+                "--rounds=4",
+                "--workers=2",
+            ],
+            (1, 5, 4, 2),
+        ),
+    ];
+    for (words, numbers) in cases.iter() {
+        let words = owned(rt.alloc(), words)?;
+        match read_words(rt.alloc(), words.as_slice()) {
+            Ok(Command::Ladder(asked)) => {
+                assert_eq!(rt; asked.prefix.as_str(), "L");
+                let found = (
+                    asked.checkers,
+                    asked.match_length,
+                    asked.rounds,
+                    asked.workers,
+                );
+                assert_eq!(rt; found, *numbers);
+            }
+            _ => panic!(rt; "refused"),
+        }
+    }
+    Ok(())
+}
+
+#[test]
 fn words_on_records_are_refused(rt: HostRuntime) -> Result<(), Fail> {
     let cases: [(&[&str], WordsKind, u32); 22] = [
         (&["analyse", "x"], WordsKind::Form, 0),

@@ -1,6 +1,6 @@
 ghost use Rattle.std.specs.Prelude.{◌≡◌, ◌==◌, ℕ, ◌≤◌, List, IfOk, IfSome, option_map};
 ghost use Rattle.std.specs.List.{list_any};
-ghost use Rattle.command_line.specs.Values.{number_within, long_number, long_number_given, number_given, number_or, stakes_named, stakes_or, kind_given, is_file_name, file_name, other_name};
+ghost use Rattle.command_line.specs.Values.{number_within, long_number, long_number_given, number_given, number_or, stakes_named, stakes_or, kind_given, is_name_within, name_within, file_name, other_name, prefix};
 ghost use Rattle.command_line.specs.Words.{is_option, is_faulty};
 
 use crate::text::Text;
@@ -8,7 +8,7 @@ use cube_actions::{KindName, StakesName};
 use hyper_outside::NoMemory;
 use std::alloc::Global;
 
-/// The most checkers per side, and those that `solve` takes where none are given.
+/// The most checkers per side, and those that `solve` and `ladder` take where none are given.
 pub const MOST_CHECKERS: u8 = 3;
 
 /// The most rounds.
@@ -20,6 +20,12 @@ pub const USUAL_ROUNDS: u32 = 64;
 /// The most workers.
 pub const MOST_WORKERS: u32 = 64;
 
+/// The most points to which a match is played.
+pub const MOST_POINTS: u32 = 5;
+
+/// The points of a match where none are given.
+pub const USUAL_POINTS: u32 = 3;
+
 /// The most games of a record that is made.
 pub const MOST_GAMES: u32 = 1000;
 
@@ -28,6 +34,9 @@ pub const LONGEST_WORD: usize = 4096;
 
 /// The most bytes of a file's name.
 pub const LONGEST_NAME: usize = 255;
+
+/// The most bytes of what the names of a ladder's files begin with.
+pub const LONGEST_PREFIX: usize = 240;
 
 /// A number from 1 to this limit, in decimal digits without a leading zero.
 pub(crate) fn number_within(word: &str, most: u32) -> Option<u32>
@@ -125,11 +134,11 @@ pub(crate) fn text_given(alloc: Global, word: Option<&str>) -> Result<Option<Tex
     }
 }
 
-/// Whether it is 1 to 255 bytes, none of them 0.
-fn is_file_name(bytes: &[u8]) -> bool
-    ensures { result ≡ is_file_name bytes.now }
+/// Whether it is 1 to so many bytes, none of them 0.
+fn is_name_within(bytes: &[u8], most: usize) -> bool
+    ensures { result ≡ is_name_within most bytes.now }
 {
-    if bytes.is_empty() || bytes.len() > LONGEST_NAME {
+    if bytes.is_empty() || bytes.len() > most {
         return false;
     }
     !has_zero(bytes)
@@ -141,17 +150,33 @@ fn has_zero(bytes: &[u8]) -> bool
     bytes.iter().any(|byte| *byte == 0)
 }
 
+/// The name that is given, if it has at most so many bytes.
+fn name_within<'a>(word: Option<&'a str>, most: usize) -> Option<&'a str>
+    ensures { option_map (λ w. w.now) result
+        ≡ name_within most (option_map (λ w. w.now) word.entry) }
+{
+    let word = word?;
+    if is_name_within(word.as_bytes(), most) {
+        Some(word)
+    } else {
+        None
+    }
+}
+
 /// The file's name that is given.
 pub(crate) fn file_name<'a>(word: Option<&'a str>) -> Option<&'a str>
     ensures { option_map (λ w. w.now) result
         ≡ file_name (option_map (λ w. w.now) word.entry) }
 {
-    let word = word?;
-    if is_file_name(word.as_bytes()) {
-        Some(word)
-    } else {
-        None
-    }
+    name_within(word, LONGEST_NAME)
+}
+
+/// What is given that the names of a ladder's files begin with.
+pub(crate) fn prefix<'a>(word: Option<&'a str>) -> Option<&'a str>
+    ensures { option_map (λ w. w.now) result
+        ≡ prefix (option_map (λ w. w.now) word.entry) }
+{
+    name_within(word, LONGEST_PREFIX)
 }
 
 /// The file's name that is given, if it isn't this one.

@@ -12,7 +12,7 @@ struct Given<'a> {
     options: [Option<&'a str>; 4],
 }
 
-const WORDS: [&str; 38] = [
+const WORDS: [&str; 40] = [
     "1",
     "2",
     "3",
@@ -36,6 +36,8 @@ const WORDS: [&str; 38] = [
     "--stakes=money-beavers",
     "--rounds=16",
     "--workers=65",
+    "--length",
+    "--length=6",
     "--kind",
     "--kind=mine",
     "--kind=near:1:far",
@@ -69,6 +71,10 @@ fn place_of(command: CommandName, name: &str) -> Option<usize> {
         (CommandName::Advise, "kind") => Some(0),
         (CommandName::Advise, "roll") => Some(1),
         (CommandName::Verify, "workers") => Some(3),
+        (CommandName::Ladder, "checkers") => Some(0),
+        (CommandName::Ladder, "length") => Some(1),
+        (CommandName::Ladder, "rounds") => Some(2),
+        (CommandName::Ladder, "workers") => Some(3),
         (CommandName::Study, "rounds") => Some(2),
         (CommandName::Study, "workers") => Some(3),
         _ => None,
@@ -159,6 +165,7 @@ fn bad_value(name: CommandName, all: &Given<'_>) -> u32 {
     let [first, second, _, _] = all.arguments;
     let [checkers, stakes, rounds, workers] = all.options;
     let kind = checkers;
+    let points = stakes;
     match name {
         CommandName::Bound if !is_number(first, 3) => 1,
         CommandName::Bound if !is_number(second, 4096) => 2,
@@ -169,6 +176,10 @@ fn bad_value(name: CommandName, all: &Given<'_>) -> u32 {
         CommandName::Migrate if first == second => 2,
         CommandName::Advise if !is_kind(kind) => 3,
         CommandName::Verify if !is_number(workers, 64) => 2,
+        CommandName::Ladder if !is_number(checkers, 3) => 2,
+        CommandName::Ladder if !is_number(points, 5) => 3,
+        CommandName::Ladder if !is_number(rounds, 4096) => 4,
+        CommandName::Ladder if !is_number(workers, 64) => 5,
         CommandName::Study if !is_number(rounds, 4096) => 2,
         CommandName::Study if !is_number(workers, 64) => 3,
         CommandName::Make if first != Some("0") && !is_number(first, u32::MAX) => 1,
@@ -187,7 +198,7 @@ fn plain(name: CommandName, words: &[&str]) -> Option<(WordsKind, u32)> {
     }
     let wanted = match name {
         CommandName::Bound | CommandName::Make => 3,
-        CommandName::Solve | CommandName::Verify | CommandName::Study => 1,
+        CommandName::Solve | CommandName::Verify | CommandName::Ladder | CommandName::Study => 1,
         CommandName::Show | CommandName::Migrate | CommandName::Advise | CommandName::Analyse => 2,
     };
     match words_given(words, name) {
@@ -213,6 +224,7 @@ fn random_lines_are_read_as_by_hand(rt: HostRuntime) -> Result<(), Fail> {
         ("migrate", CommandName::Migrate),
         ("advise", CommandName::Advise),
         ("verify", CommandName::Verify),
+        ("ladder", CommandName::Ladder),
         ("analyse", CommandName::Analyse),
         ("study", CommandName::Study),
         ("make", CommandName::Make),
@@ -220,12 +232,12 @@ fn random_lines_are_read_as_by_hand(rt: HostRuntime) -> Result<(), Fail> {
     let mut seed: u32 = 12;
     for line in 0..800usize {
         seed = next(seed);
-        let (text, name) = names[line % 9];
+        let (text, name) = names[line % 10];
         let count = 1 + (seed >> 16) as usize % 5;
         let mut words = [text; 6];
         for i in 0..count {
             seed = next(seed);
-            words[i + 1] = WORDS[(seed >> 16) as usize % 38];
+            words[i + 1] = WORDS[(seed >> 16) as usize % 40];
         }
         let expected = plain(name, &words[1..count + 1]);
         let found = refusal(rt.alloc(), &words[..count + 1])?;

@@ -18,6 +18,9 @@ returns-in-Advise c = λ given has. rw c.in-Advise.is (c.read_advise.ensures giv
 pub returns-in-Verify : goal.returns-in-Verify
 returns-in-Verify c = λ given has. rw c.in-Verify.is (c.read_verify.ensures given has)
 
+pub returns-in-Ladder : goal.returns-in-Ladder
+returns-in-Ladder c = λ given has. rw c.in-Ladder.is (c.read_ladder.ensures given has)
+
 pub returns-in-Analyse : goal.returns-in-Analyse
 returns-in-Analyse c = λ given has. rw c.in-Analyse.is (c.read_analyse.ensures given has)
 
