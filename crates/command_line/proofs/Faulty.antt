@@ -1,12 +1,9 @@
 -- Words that can't stand in any command.
-use Rattle.std.proofs.Common.{◌≡◌, ◌∙◌, ℕ, ◌==◌, ◌&&◌, ◌||◌, Bool, cond, true, false, not, List, [], ◌∷◌, length, map, codes, Some, None, refl, sym, ap, nat_eq, nat_lt, eqb, true≢false, string_bytes, inl, inr, ◌≤◌, ◌<◌, ◌+◌, suc, arith, is_some, lt-ltb}
+use Rattle.std.proofs.Common.{◌≡◌, ◌==◌, ◌&&◌, ◌||◌, Bool, cond, true, false, not, List, [], ◌∷◌, length, codes, None, refl, sym, ap, nat_eq, nat_lt, eqb, true≢false, inl, inr, ◌≤◌, ◌+◌, arith, is_some, lt-ltb}
 use Rattle.std.specs.List.{list_any, position, position_or_len, prefix_len, starts_with, ends_with}
 use Rattle.std.proofs.lemmas.Bool.{cases_lt, ne_eqb}
 use Rattle.std.proofs.lemmas.Bool.Decides.{eqb_tells}
 use Rattle.std.specs.Str.{bytes_eq}
-use Rattle.std.specs.Option.{option_map_or}
-use Rattle.std.specs.declared.string.String.{String}
-use Rattle.std.specs.declared.alloc.Global.{Global}
 use Rattle.word_forms.specs.Form.{Bytes, is_misread}
 use Rattle.command_line.specs.Words.{is_faulty, is_option}
 use Rattle.command_line.specs.declared.values.TheConstants.{LONGEST_WORD}
