@@ -8,7 +8,7 @@ use Rattle.turn_rule.specs.declared.game.Game.{Game}
 use Rattle.interval_words.specs.WordLists.{WordList, list_of, words_in_list}
 use Rattle.match_scores.specs.Openings.{start_over}
 use Rattle.match_scores.specs.Ladders.{score_at, with_pair, game_at, AreWordsOf}
-use Rattle.match_scores.specs.Keepers.{Keeper, IsForSame, CountsOn, MayKeep, IsKeeperFor, HasKept, IsSolvedSoFar, IsWholeLadder}
+use Rattle.match_scores.specs.Keepers.{Keeper, IsForSame, CountsOn, KeptOneMore, MayKeep, IsKeeperFor, HasKept, IsSolvedSoFar, IsWholeLadder}
 use Rattle.match_scores.proofs.OpeningSums.{GoOn}
 use Rattle.match_scores.proofs.Places.{place-first}
 use Rattle.match_scores.proofs.OneScore.{LeadDown}
@@ -21,14 +21,13 @@ covers-next starts score more is =
     let first = place-first starts.match_length (length starts.pairs) more in
     subst (Covers starts) (sym is) (record { listed = omega (arith, first, more); held = first })
 
-pub may-keep : GoOn → LeadDown → AreScores → (checkers r : ℕ) → 1 ≤ checkers → checkers ≤ 3 → (starts : StartPairs) → AreStarts starts → (keeper : Keeper) → IsSolvedSoFar checkers starts.match_length r starts → IsKeeperFor checkers starts.match_length r keeper → HasKept (length starts.pairs) keeper
+pub may-keep : GoOn → LeadDown → AreScores → (checkers r : ℕ) → 1 ≤ checkers → checkers ≤ 3 → (starts : StartPairs) → AreStarts starts → (keeper : Keeper) → IsSolvedSoFar checkers starts.match_length r starts → IsKeeperFor checkers starts.match_length r keeper → HasKept starts keeper
     → length starts.pairs < length (ladder starts.match_length) → (score : MatchScore) → score ≡ score_at starts.match_length (length starts.pairs) → (words : WordList) → AreWordsOf checkers r score starts words → MayKeep keeper score starts words
 may-keep goes down scores checkers r low high starts valid keeper so_far it kept more score is words closed = record {
   works = kept.works;
-  of_length = sym it.of_length;
-  before = sym kept.many_kept;
-  more = rw (it.of_length, kept.many_kept) more;
-  is_next = rw (it.of_length, kept.many_kept) is;
+  before = sym kept.held;
+  more = more;
+  is_next = is;
   closed = rw (it.of_checkers, it.of_rounds) closed;
   earlier = rw (it.of_checkers, it.of_rounds) (so_far.solved.0, solved-ladder goes down scores checkers r low high starts valid so_far.solved.0 so_far.solved.1);
 }
@@ -44,6 +43,16 @@ solved-more checkers r starts score words pair more so_far is closed start added
     let next = solved-next checkers r starts so_far.solved.0 words so_far.solved.1 closed' in
     subst (λ (s : StartPairs). IsSolvedSoFar checkers starts.match_length r s) (sym (added ∙ ap (with_pair starts) start'))
     (record { of_length = refl; solved = (and_then so_far.solved.0 count words, next) })
+
+-- the keeper has the start pair that is added too
+pub kept-more : (starts more : StartPairs) (pair : Bounds) (score : MatchScore) (words : WordList) (old new : Keeper) → HasKept starts old → KeptOneMore score words old new
+    → pair ≡ start_over words.game.checkers (words_in_list words) score → more ≡ with_pair starts pair → HasKept more new
+kept-more starts more pair score words old new kept more_kept start added = record {
+  works = more_kept.goes_on ∙ kept.works;
+  held = more_kept.one_more
+      ∙ (ap (λ (s : StartPairs). with_pair s (start_over words.game.checkers (words_in_list words) score)) kept.held
+      ∙ (ap (with_pair starts) (sym start) ∙ sym added));
+}
 
 pub one-more : (starts more : StartPairs) (pair : Bounds) → more ≡ with_pair starts pair → length more.pairs ≡ length starts.pairs + 1
 one-more starts more pair added = ap (λ (s : StartPairs). length s.pairs) added ∙ length-append starts.pairs (pair ∷ [])

@@ -1,13 +1,13 @@
 -- Places of scores in the ladder of a match.
-use Rattle.std.proofs.Common.{◌≡◌, ◌<◌, ◌≤◌, ℕ, Bool, true, false, not, List, length, get_or, inl, inr, refl, sym, arith}
-use Rattle.std.proofs.lemmas.Bool.{cases_lt}
+use Rattle.std.proofs.Common.{◌≡◌, ◌≢◌, ◌<◌, ◌≤◌, ◌∙◌, ℕ, Bool, true, false, not, List, length, get_or, inl, inr, refl, sym, ap, subst, arith}
+use Rattle.std.proofs.lemmas.Bool.{cases_lt, false≢true}
 use Rattle.std.proofs.lemmas.Bool.Decides.{nat_tests}
 use Rattle.std.proofs.lemmas.List.Sums.{prefix_len_passes, prefix_len_stops}
-use Rattle.std.specs.List.{position_or_len}
+use Rattle.std.specs.List.{position_or_len, AllPairs}
 use Rattle.cube_actions.specs.declared.phase.Phase.{Phase}
 use Rattle.cube_actions.specs.declared.phase.Phase.TheVariants.{Normal, Crawford, Post}
-use Rattle.cube_actions.specs.Scores.{MatchScore, last_game, same_score, same_phase}
-use Rattle.cube_actions.specs.Ladder.{ladder}
+use Rattle.cube_actions.specs.Scores.{MatchScore, is_crawford, last_game, same_score, same_phase}
+use Rattle.cube_actions.specs.Ladder.{ladder, ScoreComesBefore}
 use Rattle.cube_actions.specs.Starts.{ladder_place}
 use Rattle.match_scores.specs.Ladders.{score_at}
 
@@ -54,3 +54,24 @@ place-first match_length place here =
       no : (b : Bool) → b ≡ true → not b ≡ true → ⊥
       no true h k = absurd (grind arith)
       no false h k = absurd (grind arith)
+
+-- ---- no score stands twice in a ladder
+
+before-none : (score : MatchScore) → ScoreComesBefore score score → ⊥
+before-none score (inl less) = omega (arith, less)
+before-none score (inr (inl same)) = let less = same.1 in omega (arith, less)
+before-none score (inr (inr same)) = false≢true (ap is_crawford (sym same.2 ∙ same.3))
+
+pub apart-later : (match_length : ℕ) → AllPairs ScoreComesBefore (ladder match_length) → (i j : ℕ) → i < j → j < length (ladder match_length) → score_at match_length i ≢ score_at match_length j
+apart-later match_length order i j less here same =
+    before-none (score_at match_length j) (subst (λ (score : MatchScore). ScoreComesBefore score (score_at match_length j)) same (order i j last_game less here))
+
+-- a score's own place is where it is found
+pub place-of : (match_length : ℕ) → AllPairs ScoreComesBefore (ladder match_length) → (place : ℕ) → place < length (ladder match_length) → ladder_place match_length (score_at match_length place) ≡ place
+place-of match_length order place here =
+    let found = ladder_place match_length (score_at match_length place) in
+    let first = place-first match_length place here in
+    elim (cases_lt found place) [
+      | inl earlier ↦ absurd (apart-later match_length order found place earlier here (score-found match_length (score_at match_length place) (omega (arith, earlier, here))))
+      | inr not_earlier ↦ omega (arith, first, not_earlier)
+    ]

@@ -199,25 +199,25 @@ solved-ladder goes down scores checkers r low high starts valid words solved = r
 
 -- ---- one score more
 
--- the same words, but for one place
-pub and_then : (ℕ → WordList) → ℕ → WordList → ℕ → WordList
+-- the same, but for one place
+pub and_then : {A : Type 0} → (ℕ → A) → ℕ → A → ℕ → A
 and_then words count next place = cond (eqb place count) next (words place)
 
-and_then-last : (words : ℕ → WordList) (count : ℕ) (next : WordList) → and_then words count next count ≡ next
+pub and_then-last : {A : Type 0} (words : ℕ → A) (count : ℕ) (next : A) → and_then words count next count ≡ next
 unfolding and_then
 and_then-last words count next = let same : eqb count count ≡ true = grind (arith, nat_tests) in rw same refl
 
-and_then-before : (words : ℕ → WordList) (count : ℕ) (next : WordList) (place : ℕ) → place < count → and_then words count next place ≡ words place
+pub and_then-before : {A : Type 0} (words : ℕ → A) (count : ℕ) (next : A) (place : ℕ) → place < count → and_then words count next place ≡ words place
 unfolding and_then
 and_then-before words count next place less = let apart : eqb place count ≡ false = grind (arith, nat_tests) in rw apart refl
 
 pair-before : (starts : StartPairs) (pair : Bounds) (place : ℕ) → place < length starts.pairs → pair_at (with_pair starts pair) place ≡ pair_at starts place
 pair-before starts pair place here = get_or_append_left starts.pairs (pair ∷ []) nothing place here
 
-till-same : (starts : StartPairs) (pair : Bounds) (place : ℕ) → place ≤ length starts.pairs → starts_till (with_pair starts pair) place ≡ starts_till starts place
+pub till-same : (starts : StartPairs) (pair : Bounds) (place : ℕ) → place ≤ length starts.pairs → starts_till (with_pair starts pair) place ≡ starts_till starts place
 till-same starts pair place here = ap (λ (pairs : List Bounds). record starts { pairs = pairs }) (take-append-le place starts.pairs (pair ∷ []) here)
 
-all-taken : (starts : StartPairs) → starts_till starts (length starts.pairs) ≡ starts
+pub all-taken : (starts : StartPairs) → starts_till starts (length starts.pairs) ≡ starts
 all-taken starts = ap (λ (pairs : List Bounds). record starts { pairs = pairs }) (take_all (length starts.pairs) starts.pairs (omega arith))
 
 pub solved-next : (checkers r : ℕ) (starts : StartPairs) (words : ℕ → WordList) (next : WordList) → IsSolved checkers r starts words → AreWordsOf checkers r (score_at starts.match_length (length starts.pairs)) starts next

@@ -1,21 +1,21 @@
 -- A keeper of the scores of a ladder: it takes each as it is solved.
-use Rattle.std.specs.Prelude.{◌≡◌, ◌≤◌, ◌<◌, ◌+◌, ◌⊎◌, ℕ, Bool, true, false, length, Result, OnOk, OnErr, IsErrOf, ◌↔◌}
+use Rattle.std.specs.Prelude.{◌≡◌, ◌≤◌, ◌<◌, ◌⊎◌, ℕ, Bool, true, false, [], length, Result, OnOk, OnErr, IsErrOf, ◌↔◌}
 use Rattle.cube_actions.specs.Scores.{MatchScore}
 use Rattle.cube_actions.specs.Ladder.{ladder}
 use Rattle.cube_actions.specs.Starts.{StartPairs}
 use Rattle.hyper_outside.specs.Causes.{Rose}
-use Rattle.interval_words.specs.WordLists.{WordList}
-use Rattle.match_scores.specs.Ladders.{score_at, AreWordsOf, IsSolved, IsLadder}
+use Rattle.interval_words.specs.WordLists.{WordList, words_in_list}
+use Rattle.match_scores.specs.Openings.{start_over}
+use Rattle.match_scores.specs.Ladders.{score_at, with_pair, AreWordsOf, IsSolved, IsLadder}
 use Rattle.match_scores.specs.declared.ladder.LadderStop.{LadderStop}
 use Rattle.match_scores.specs.declared.ladder.LadderStop.TheVariants.{Keep}
 
--- What contracts see of a keeper: which ladder it is for, how many scores it has kept, whether it has failed, and how often the calls of the
--- outside have failed by which it may, the one kind and the other.
+-- What contracts see of a keeper: the checkers and the rounds of the ladder that it is for, the length of the match with the start pairs of the
+-- scores that it has kept, whether it has failed, and how often the calls of the outside have failed by which it may, the one kind and the other.
 pub record Keeper : Type 0 where
   pub checkers : ℕ
-  pub match_length : ℕ
   pub rounds : ℕ
-  pub kept : ℕ
+  pub starts : StartPairs
   pub failed : Bool
   pub write_faults : ℕ
   pub put_faults : ℕ
@@ -23,7 +23,7 @@ pub record Keeper : Type 0 where
 -- the same ladder
 pub record IsForSame (old new : Keeper) : Type 0 where
   pub checkers : new.checkers ≡ old.checkers
-  pub match_length : new.match_length ≡ old.match_length
+  pub match_length : new.starts.match_length ≡ old.starts.match_length
   pub rounds : new.rounds ≡ old.rounds
 
 -- no count of faults falls
@@ -35,45 +35,48 @@ pub record CountsOn (old new : Keeper) : Type 0 where
 abbrev pub EitherRose : Keeper → Keeper → Type 0
 EitherRose old new = Rose old.write_faults new.write_faults ⊎ Rose old.put_faults new.put_faults
 
--- one score more is kept, and the keeper hasn't failed
-pub record KeptOneMore (old new : Keeper) : Type 0 where
-  pub one_more : new.kept ≡ old.kept + 1
+-- the score is kept too, with the start pair of these words of its game, and the keeper hasn't failed
+pub record KeptOneMore (score : MatchScore) (words : WordList) (old new : Keeper) : Type 0 where
+  pub one_more : new.starts ≡ with_pair old.starts (start_over words.game.checkers (words_in_list words) score)
   pub goes_on : new.failed ≡ old.failed
 
--- no score is kept, the keeper has failed, and one of the counts rose
+-- the score isn't kept, the keeper has failed, and one of the counts rose
 pub record HasFailed (old new : Keeper) : Type 0 where
-  pub none : new.kept ≡ old.kept
+  pub none : new.starts ≡ old.starts
   pub failed : new.failed ≡ true
   pub cause : EitherRose old new
 
--- a score was handed to a keeper
-pub record Keeps {E : Type 0} (old new : Keeper) (result : Result Unit E) : Type 0 where
+-- a score was handed to a keeper, with words of its game
+pub record Keeps {E : Type 0} (score : MatchScore) (words : WordList) (old new : Keeper) (result : Result Unit E) : Type 0 where
   pub same : IsForSame old new
   pub counts : CountsOn old new
-  pub ok : OnOk result (KeptOneMore old new)
+  pub ok : OnOk result (KeptOneMore score words old new)
   pub err : OnErr result (HasFailed old new)
 
 -- A score may be handed to a keeper that hasn't failed: the next one of its ladder, with the start pairs of all scores before it, and with words of
 -- its game for these, closed after the rounds that the keeper is for. What is told of the ladder is true of the scores before it.
 pub record MayKeep (keeper : Keeper) (score : MatchScore) (starts : StartPairs) (words : WordList) : Type 0 where
   pub works : keeper.failed ≡ false
-  pub of_length : starts.match_length ≡ keeper.match_length
-  pub before : length starts.pairs ≡ keeper.kept
-  pub more : keeper.kept < length (ladder keeper.match_length)
-  pub is_next : score ≡ score_at keeper.match_length keeper.kept
+  pub before : starts ≡ keeper.starts
+  pub more : length starts.pairs < length (ladder starts.match_length)
+  pub is_next : score ≡ score_at starts.match_length (length starts.pairs)
   pub closed : AreWordsOf keeper.checkers keeper.rounds score starts words
   pub earlier : (words_before : ℕ → WordList) × IsLadder keeper.checkers keeper.rounds starts words_before
 
 -- a keeper for a ladder of so many checkers, points and rounds
 pub record IsKeeperFor (checkers match_length r : ℕ) (keeper : Keeper) : Type 0 where
   pub of_checkers : keeper.checkers ≡ checkers
-  pub of_length : keeper.match_length ≡ match_length
+  pub of_length : keeper.starts.match_length ≡ match_length
   pub of_rounds : keeper.rounds ≡ r
 
--- it hasn't failed, and has kept so many scores
-pub record HasKept (many : ℕ) (keeper : Keeper) : Type 0 where
+-- it hasn't failed, and these are the start pairs of the scores that it has kept
+pub record HasKept (starts : StartPairs) (keeper : Keeper) : Type 0 where
   pub works : keeper.failed ≡ false
-  pub many_kept : keeper.kept ≡ many
+  pub held : keeper.starts ≡ starts
+
+-- before the first score
+abbrev pub no_pairs : ℕ → StartPairs
+no_pairs match_length = record { match_length = match_length; pairs = [] }
 
 -- the first scores of a ladder are solved, and these are their start pairs
 pub record IsSolvedSoFar (checkers match_length r : ℕ) (starts : StartPairs) : Type 0 where

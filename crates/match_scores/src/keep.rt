@@ -13,14 +13,21 @@ pub trait Keep {
     /// What no call changes, beside the ladder that it is for.
     ghost stays: { Self → Stays };
 
-    /// Which ladder it is for, how many scores it has kept, whether it has failed, and how often the calls of the outside
-    /// have failed by which it may.
+    /// The type of what is known of the moment at which an implementation was made.
+    ghost Past: { Type 0 } = { Unit {0} };
+
+    /// What holds of an implementation that was made at such a moment, whatever scores it has taken since.
+    ghost since: { Past → Self → Type 0 };
+
+    /// Which ladder it is for, the start pairs of the scores that it has kept, whether it has failed, and how often the calls
+    /// of the outside have failed by which it may.
     ghost keeper: { Self → Keeper };
 
     /// Takes the next score of the ladder, with the start pairs of the scores before it and the words of its game. After
     /// `Failed`, which comes only where one of the counts of faults rose, the score isn't kept, and no other may follow.
     fn keep(&mut self, score: Score, starts: &Starts, words: &Closed) -> Result<(), Failed>
         requires { MayKeep (keeper self.old) score starts.now words.now }
-        ensures keeps { Keeps (keeper self.old) (keeper self.new) result }
-        ensures stays { stays self.new ≡ stays self.old };
+        ensures keeps { Keeps score words.now (keeper self.old) (keeper self.new) result }
+        ensures stays { stays self.new ≡ stays self.old }
+        ensures since { (past : Past) → since past self.old → since past self.new };
 }

@@ -2,7 +2,7 @@ ghost use Rattle.std.specs.Prelude.{◌≡◌, ◌<◌, ◌≤◌, ◌+◌, leng
 ghost use Rattle.cube_actions.specs.Ladder.{ladder};
 ghost use Rattle.cube_actions.specs.Starts.{Covers};
 ghost use Rattle.cube_actions.specs.declared.name.StakesName.TheVariants.{Match};
-ghost use Rattle.match_scores.specs.Keepers.{IsKeeperFor, HasKept, IsSolvedSoFar, HandsOver, IsWholeLadder};
+ghost use Rattle.match_scores.specs.Keepers.{IsKeeperFor, HasKept, IsSolvedSoFar, HandsOver, IsWholeLadder, no_pairs};
 ghost use Rattle.match_scores.specs.Ladders.{score_at, AreWordsOf};
 
 use crate::keep::Keep;
@@ -68,16 +68,17 @@ fn take_score<R: Threads + Sync, G: Gate + Sync, K: Keep>(
     requires workers { (1 ≤ workers) × (workers ≤ 64) }
     requires so_far { IsSolvedSoFar checkers starts.old.match_length rounds starts.old }
     requires keeper { IsKeeperFor checkers starts.old.match_length rounds (K.keeper keep.old) }
-    requires kept { HasKept (length starts.old.pairs) (K.keeper keep.old) }
+    requires kept { HasKept starts.old (K.keeper keep.old) }
     requires more { length starts.old.pairs < length (ladder starts.old.match_length) }
     requires next { score ≡ score_at starts.old.match_length (length starts.old.pairs) }
     ensures so_far { IsSolvedSoFar checkers starts.old.match_length rounds starts.new }
     ensures added { OnOk result (length starts.new.pairs ≡ length starts.old.pairs + 1) }
-    ensures kept { OnOk result (HasKept (length starts.new.pairs) (K.keeper keep.new)) }
+    ensures kept { OnOk result (HasKept starts.new (K.keeper keep.new)) }
     ensures stopped { OnErr result
-        ((K.keeper keep.new).kept ≡ (K.keeper keep.old).kept) }
+        ((K.keeper keep.new).starts ≡ (K.keeper keep.old).starts) }
     ensures hands { HandsOver (K.keeper keep.old) (K.keeper keep.new) result }
     ensures stays { K.stays keep.new ≡ K.stays keep.old }
+    ensures since { (past : K.Past) → K.since past keep.old → K.since past keep.new }
 {
     opening_plays_go_on();
     wins_lead_down_the_ladder();
@@ -118,12 +119,13 @@ pub fn solve_ladder<R: Threads + Sync, G: Gate + Sync, K: Keep>(
     requires rounds { (1 ≤ rounds) × (rounds ≤ 4096) }
     requires workers { (1 ≤ workers) × (workers ≤ 64) }
     requires keeper { IsKeeperFor checkers match_length rounds (K.keeper keep.old) }
-    requires fresh { HasKept 0 (K.keeper keep.old) }
+    requires fresh { HasKept (no_pairs match_length) (K.keeper keep.old) }
     ensures whole { IfOk result (IsWholeLadder checkers match_length rounds) }
-    ensures kept { OnOk result (HasKept (length (ladder match_length)) (K.keeper keep.new)) }
-    ensures some { (K.keeper keep.new).kept ≤ length (ladder match_length) }
+    ensures kept { IfOk result (λ starts. HasKept starts (K.keeper keep.new)) }
+    ensures some { length (K.keeper keep.new).starts.pairs ≤ length (ladder match_length) }
     ensures hands { HandsOver (K.keeper keep.old) (K.keeper keep.new) result }
     ensures stays { K.stays keep.new ≡ K.stays keep.old }
+    ensures since { (past : K.Past) → K.since past keep.old → K.since past keep.new }
 {
     opening_plays_go_on();
     wins_lead_down_the_ladder();

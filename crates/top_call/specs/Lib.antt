@@ -2,6 +2,7 @@ pub mod Tasks
 pub mod Runs
 pub mod Truth
 pub mod Solves
+pub mod Ladders
 pub mod Loads
 pub mod Migrates
 pub mod Shows

@@ -3,11 +3,12 @@ use Rattle.std.specs.Prelude.{◌≡◌, ◌≢◌, ℕ, Bool, Result, Ok, Err, 
 use Rattle.hyper_outside.specs.Files.{Contents, KeepsOthers, SameFiles}
 use Rattle.hyper_outside.specs.Sink.{Output}
 use Rattle.equity_report.specs.declared.refusal.Refusal.{Refusal}
-use Rattle.equity_report.specs.declared.refusal.Refusal.TheVariants.{Write}
+use Rattle.equity_report.specs.declared.refusal.Refusal.TheVariants.{Memory, Write}
 use Rattle.equity_report.specs.Refusals.{status_of, refusal_text}
 use Rattle.top_call.specs.declared.task.Task.{Task}
-use Rattle.top_call.specs.declared.task.Task.TheVariants.{Bound, Solve, Show, Migrate, Advise, Verify, Analyse, Study, Make}
+use Rattle.top_call.specs.declared.task.Task.TheVariants.{Bound, Solve, Show, Migrate, Advise, Verify, Ladder, Analyse, Study, Make}
 use Rattle.top_call.specs.Advises.{TellsAdvice}
+use Rattle.top_call.specs.Ladders.{KeepsAllBut, SolvesLadder, scores_in}
 use Rattle.top_call.specs.Makes.{Makes}
 use Rattle.top_call.specs.Analyses.{TellsAnalysis}
 use Rattle.top_call.specs.Migrates.{Migrates}
@@ -27,17 +28,31 @@ HasRun (Ok (Show task)) told before after old new status = TellsShown task told 
 HasRun (Ok (Migrate task)) told before after old new status = Migrates task told before after old new status
 HasRun (Ok (Advise task)) told before after old new status = TellsAdvice task told (before task.file) old new status
 HasRun (Ok (Verify task)) told before after old new status = TellsVerified task told (before task.file) old new status
+HasRun (Ok (Ladder task)) told before after old new status = SolvesLadder task told before after old new status
 HasRun (Ok (Study task)) told before after old new status = TellsStudy task told (before task.rec) old new status
 HasRun (Ok (Make task)) told before after old new status = Makes task told before after old new status
 HasRun (Ok (Analyse task)) told before after old new status = TellsAnalysis task told before old new status
 HasRun (Err refusal) told before after old new status = status ≡ status_of refusal → WasPut old new (refusal_text refusal)
 
--- no file changed but the one that is to be written
+-- no file changed but the one that is to be written, or those of the scores of a ladder
 abbrev pub KeepsFiles : Result Task Refusal → Contents → Contents → Type 0
 KeepsFiles (Ok (Solve task)) before after = KeepsOthers task.file before after
 KeepsFiles (Ok (Migrate task)) before after = KeepsOthers task.new before after
 KeepsFiles (Ok (Make task)) before after = KeepsOthers task.file before after
+KeepsFiles (Ok (Ladder task)) before after = KeepsAllBut task (scores_in task) before after
 KeepsFiles _ before after = SameFiles before after
+
+-- A run that is refused, and not for a failed write, changed no file. A ladder keeps those of the scores that were solved before there was no
+-- memory; which these are stands with what it has done.
+abbrev pub KeepsRefused : Result Task Refusal → Contents → Contents → Type 0
+KeepsRefused (Ok (Ladder task)) before after = KeepsAllBut task (scores_in task) before after
+KeepsRefused _ before after = SameFiles before after
+
+-- Where there was no memory, the line of that refusal was put; of a ladder it stands behind the lines of the scores that were solved, as is said
+-- with what it has done.
+abbrev pub TellsMemory : Result Task Refusal → Output → Output → Type 0
+TellsMemory (Ok (Ladder task)) old new = ⊤
+TellsMemory _ old new = WasPut old new (refusal_text Memory)
 
 -- no call of the files was made that may change one
 abbrev pub LeavesFiles : Result Task Refusal → ℕ → Type 0

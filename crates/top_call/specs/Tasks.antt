@@ -14,12 +14,13 @@ use Rattle.command_line.specs.declared.command.Command.TheVariants as commands
 use Rattle.command_line.specs.declared.command.Bound.{Bound as BoundWords}
 use Rattle.command_line.specs.declared.command.Solve.{Solve as SolveTask}
 use Rattle.command_line.specs.declared.command.Migrate.{Migrate as MigrateTask}
+use Rattle.command_line.specs.declared.command.Ladder.{Ladder as LadderTask}
 use Rattle.command_line.specs.declared.command.Verify.{Verify as VerifyTask}
 use Rattle.command_line.specs.declared.command.Analyse.{Analyse as AnalyseTask}
 use Rattle.command_line.specs.Words.{reading}
 use Rattle.command_line.specs.declared.command.Show.{Show as ShowWords}
 use Rattle.command_line.specs.declared.command.Advise.{Advise as AdviseWords}
-use Rattle.command_line.specs.Right.{IsName, IsRightMake, IsRightStudy, IsRightSolve, IsRightMigrate, IsRightVerify, IsRightAnalyse}
+use Rattle.command_line.specs.Right.{IsName, IsRightMake, IsRightStudy, IsRightSolve, IsRightMigrate, IsRightVerify, IsRightLadder, IsRightAnalyse}
 use Rattle.word_forms.specs.Clap.{bytes_of}
 use Rattle.cube_actions.specs.Stakes.{cubeless}
 use Rattle.turn_rule.specs.Turn.{rounds}
@@ -33,7 +34,7 @@ use Rattle.top_call.specs.declared.task.AdviseTask.{AdviseTask}
 use Rattle.top_call.specs.declared.task.BoundTask.{BoundTask}
 use Rattle.top_call.specs.declared.task.ShowTask.{ShowTask}
 use Rattle.top_call.specs.declared.task.Task.{Task}
-use Rattle.top_call.specs.declared.task.Task.TheVariants.{Bound, Solve, Show, Migrate, Advise, Verify, Analyse, Study, Make}
+use Rattle.top_call.specs.declared.task.Task.TheVariants.{Bound, Solve, Show, Migrate, Advise, Verify, Ladder, Analyse, Study, Make}
 
 -- a game without a cube, by its checkers
 abbrev pub cubeless_game : ℕ → GameName
@@ -79,6 +80,7 @@ with_words (Ok (commands.Show show)) = with_shown show (read_position show.posit
 with_words (Ok (commands.Migrate migrate)) = Ok (Migrate migrate)
 with_words (Ok (commands.Advise advise)) = with_advised advise (read_position advise.position)
 with_words (Ok (commands.Verify verify)) = Ok (Verify verify)
+with_words (Ok (commands.Ladder ladder)) = Ok (Ladder ladder)
 with_words (Ok (commands.Analyse analyse)) = Ok (Analyse analyse)
 with_words (Ok (commands.Study study)) = Ok (Study study)
 with_words (Ok (commands.Make make)) = Ok (Make make)
@@ -121,6 +123,7 @@ IsRightTask (Show task) = IsRightShow task
 IsRightTask (Migrate task) = IsRightMigrate task
 IsRightTask (Advise task) = IsRightAdvise task
 IsRightTask (Verify task) = IsRightVerify task
+IsRightTask (Ladder task) = IsRightLadder task
 IsRightTask (Study task) = IsRightStudy task
 IsRightTask (Make task) = IsRightMake task
 IsRightTask (Analyse task) = IsRightAnalyse task

@@ -6,6 +6,8 @@ mod advise_laws;
 mod analyse;
 mod analyse_laws;
 mod bound;
+mod ladder;
+mod ladder_keep;
 mod load;
 mod make;
 mod migrate;
@@ -28,6 +30,7 @@ pub use advise_laws::{
     looked_up_rankings_are_of_the_file,
 };
 pub use analyse_laws::looked_up_analyses_are_of_the_file;
+pub use ladder_keep::LadderKeep;
 pub use make::MadeRecord;
 pub use program::{refuse_unread, start};
 pub use put::DONE;

@@ -6,8 +6,8 @@ ghost use Rattle.top_call.specs.Tasks.{IsRightTask, asked, fitting, roll_given, 
 ghost use Rattle.top_call.specs.Runs.{IsDue};
 
 use command_line::{
-    Advise, Analyse, Bound, Command, Make, Migrate, Show, Solve, Study, Text, Verify, WordsStop,
-    read_words,
+    Advise, Analyse, Bound, Command, Ladder, Make, Migrate, Show, Solve, Study, Text, Verify,
+    WordsStop, read_words,
 };
 use cube_actions::{KindName, StakesName};
 use equity_report::{GameName, Refusal, Wanted};
@@ -51,6 +51,7 @@ pub enum Task {
     Migrate(Migrate),
     Advise(AdviseTask),
     Verify(Verify),
+    Ladder(Ladder),
     Analyse(Analyse),
     Study(Study),
     Make(Make),
@@ -66,6 +67,7 @@ pub fn read_task(alloc: Global, words: &[String]) -> Result<Task, Refusal>
         Ok(Command::Solve(solve)) => Ok(Task::Solve(solve)),
         Ok(Command::Migrate(migrate)) => Ok(Task::Migrate(migrate)),
         Ok(Command::Verify(verify)) => Ok(Task::Verify(verify)),
+        Ok(Command::Ladder(ladder)) => Ok(Task::Ladder(ladder)),
         Ok(Command::Analyse(analyse)) => Ok(Task::Analyse(analyse)),
         Ok(Command::Study(study)) => Ok(Task::Study(study)),
         Ok(Command::Make(make)) => Ok(Task::Make(make)),

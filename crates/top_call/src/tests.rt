@@ -6,6 +6,7 @@ use std::test::Fail;
 mod advice;
 mod analyses;
 mod files;
+mod ladders;
 mod meeting;
 mod shows;
 mod studies;

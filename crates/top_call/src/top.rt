@@ -1,15 +1,15 @@
 ghost use Rattle.std.specs.Prelude.{◌≡◌, ◌≢◌, ◌⊎◌, IsTrue};
 ghost use Rattle.hyper_outside.specs.Causes.{Rose};
-ghost use Rattle.hyper_outside.specs.Files.{SameFiles};
 ghost use Rattle.equity_report.specs.declared.refusal.Refusal.TheVariants.{Memory, Read, Write};
-ghost use Rattle.equity_report.specs.Refusals.{status_of, refusal_text};
-ghost use Rattle.top_call.specs.Outcomes.{HasRun, KeepsFiles, LeavesFiles};
-ghost use Rattle.top_call.specs.Runs.{Ends, WasPut};
+ghost use Rattle.equity_report.specs.Refusals.{status_of};
+ghost use Rattle.top_call.specs.Outcomes.{HasRun, KeepsFiles, KeepsRefused, LeavesFiles, TellsMemory};
+ghost use Rattle.top_call.specs.Runs.{Ends};
 ghost use Rattle.top_call.specs.Tasks.{asked};
 
 use crate::advise::run_advise;
 use crate::analyse::run_analyse;
 use crate::bound::run_bound;
+use crate::ladder::run_ladder;
 use crate::make::run_make;
 use crate::migrate::run_migrate;
 use crate::put::refuse;
@@ -59,7 +59,7 @@ pub fn run<R: Threads + Sync, F: Files, O: Sink, G: Gate + Sync>(
         (F.held files.old) (F.held files.new)
         (O.output out.old) (O.output out.new) result }
     ensures memory { result ≡ status_of Memory
-        → WasPut (O.output out.old) (O.output out.new) (refusal_text Memory) }
+        → TellsMemory (asked words.now) (O.output out.old) (O.output out.new) }
     ensures cause { result ≡ status_of Write
         → Rose (F.write_faults files.old) (F.write_faults files.new)
         ⊎ Rose (O.output out.old).faults (O.output out.new).faults }
@@ -68,7 +68,7 @@ pub fn run<R: Threads + Sync, F: Files, O: Sink, G: Gate + Sync>(
     ensures kept { IsTrue (F.tells files.old)
         → KeepsFiles (asked words.now) (F.held files.old) (F.held files.new) }
     ensures refused_files { result ≢ 0 → result ≢ status_of Write → IsTrue (F.tells files.old)
-        → SameFiles (F.held files.old) (F.held files.new) }
+        → KeepsRefused (asked words.now) (F.held files.old) (F.held files.new) }
     ensures untouched { LeavesFiles (asked words.now) result → files.new ≡ files.old }
 {
     match read_task(alloc, words) {
@@ -78,6 +78,7 @@ pub fn run<R: Threads + Sync, F: Files, O: Sink, G: Gate + Sync>(
         Ok(Task::Migrate(task)) => run_migrate(alloc, &task, files, out),
         Ok(Task::Advise(task)) => run_advise(alloc, &task, files, out),
         Ok(Task::Verify(task)) => run_verify(rt, alloc, &task, files, out, gate),
+        Ok(Task::Ladder(task)) => run_ladder(rt, alloc, &task, files, out, gate),
         Ok(Task::Study(task)) => run_study(rt, alloc, &task, files, out, gate),
         Ok(Task::Make(task)) => run_make(rt, alloc, &task, files, out, gate),
         Ok(Task::Analyse(task)) => run_analyse(alloc, &task, files, out),

@@ -1,4 +1,4 @@
-use Rattle.std.proofs.Common.{◌∙◌, refl}
+use Rattle.std.proofs.Common.{◌∙◌, refl, sym}
 use Rattle.match_scores.proofs.Handing.{solved-none, none-held, same-keeper, same-counts, all-held, whole-ladder}
 use Rattle.match_scores.proofs.ladder.solve_ladder.Goals as goal
 
@@ -9,10 +9,11 @@ loop-score-init g c =
       so_far = solved-none c.args.checkers c.args.match_length c.args.rounds c.new-starts.result c.new-starts.ensures;
       many = none-held c.args.match_length c.new-starts.result c.new-starts.ensures;
       for_ladder = c.requires.keeper;
-      kept = c.requires.fresh;
+      kept = record { works = c.requires.fresh.works; held = c.requires.fresh.held ∙ sym c.new-starts.ensures };
       same = same-keeper keeper;
       counts = same-counts keeper;
       stays = refl;
+      since = λ past holds. holds;
     }
 
 pub returns-clause-whole : goal.returns-clause-whole

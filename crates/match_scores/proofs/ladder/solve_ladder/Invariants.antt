@@ -11,8 +11,9 @@ invariant-loop-score g l =
       so_far : IsSolvedSoFar l.checkers l.match_length l.rounds l.starts;
       many : length l.starts.pairs ≡ l.score-index;
       for_ladder : IsKeeperFor l.checkers l.match_length l.rounds keeper;
-      kept : HasKept l.score-index keeper;
+      kept : HasKept l.starts keeper;
       same : IsForSame at_first keeper;
       counts : CountsOn at_first keeper;
       stays : g.K.Keep.stays l.keep ≡ g.K.Keep.stays l.fn.keep;
+      since : (past : g.K.Keep.Past) → g.K.Keep.since past l.fn.keep → g.K.Keep.since past l.keep;
     }

@@ -1,4 +1,4 @@
-use Rattle.match_scores.proofs.Handing.{covers-next, may-keep, solved-more}
+use Rattle.match_scores.proofs.Handing.{covers-next, kept-more, may-keep, solved-more}
 use Rattle.match_scores.proofs.ladder.take_score.Goals as goal
 
 pub solve_score-requires-clause-covered : goal.solve_score-requires-clause-covered
@@ -12,3 +12,7 @@ keep-requires g c =
 pub returns-clause-so_far : goal.returns-clause-so_far
 returns-clause-so_far g c =
     solved-more c.args.checkers c.args.rounds c.args.starts.now c.args.score c.in-Ok.closed c.start_pair.result c.add.new.self c.requires.so_far c.requires.next c.in-Ok.ensures.words (rw c.words.ensures.words at c.start_pair.ensures.start) c.add.ensures
+
+pub returns-clause-kept : goal.returns-clause-kept
+returns-clause-kept g c =
+    kept-more c.args.starts.now c.add.new.self c.start_pair.result c.args.score c.in-Ok.closed (g.K.Keep.keeper c.args.keep.now) (g.K.Keep.keeper c.keep.new.self) c.requires.kept _ (rw c.words.ensures.words at c.start_pair.ensures.start) c.add.ensures
