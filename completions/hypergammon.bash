@@ -2,7 +2,7 @@
 
 _hypergammon() {
     local word=${COMP_WORDS[COMP_CWORD]} before=${COMP_WORDS[COMP_CWORD-1]} command=${COMP_WORDS[1]}
-    local commands='bound solve show migrate advise verify analyse study make help'
+    local commands='bound solve show migrate advise verify ladder analyse study make help'
     local stakes='cubeless money jacoby money-beavers jacoby-beavers'
     COMPREPLY=()
     if [ "$COMP_CWORD" -eq 1 ]; then
@@ -38,6 +38,20 @@ _hypergammon() {
                 *)
                     if [[ $word == -* ]]; then
                         mapfile -t COMPREPLY < <(compgen -W '--kind --roll' -- "$word")
+                    else
+                        mapfile -t COMPREPLY < <(compgen -f -- "$word")
+                    fi
+                    ;;
+            esac
+            ;;
+        ladder)
+            case $before in
+                --checkers) mapfile -t COMPREPLY < <(compgen -W '1 2 3' -- "$word") ;;
+                --length) mapfile -t COMPREPLY < <(compgen -W '1 2 3 4 5' -- "$word") ;;
+                --rounds | --workers) ;;
+                *)
+                    if [[ $word == -* ]]; then
+                        mapfile -t COMPREPLY < <(compgen -W '--checkers --length --rounds --workers' -- "$word")
                     else
                         mapfile -t COMPREPLY < <(compgen -f -- "$word")
                     fi

@@ -13,3 +13,5 @@ mod Telling
 mod Unread
 mod AnalyseLaws
 mod AnalyseFiles
+mod ScoreFiles
+mod LadderSteps

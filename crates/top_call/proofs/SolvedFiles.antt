@@ -38,7 +38,7 @@ abbrev number_of : Version → ℕ
 number_of One = 1
 number_of Two = 2
 
-two-takes : (stakes : StakesName) → TakesStakes Two stakes
+pub two-takes : (stakes : StakesName) → TakesStakes Two stakes
 two-takes stakes is = absurd (omega (arith, ap number_of is))
 
 -- the head that a solve writes

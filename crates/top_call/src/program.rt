@@ -1,4 +1,5 @@
 ghost use Rattle.std.specs.Prelude.{◌≡◌, ◌⊎◌, ◌≤◌, IsTrue, IsFalse, length};
+ghost use Rattle.command_line.specs.Right.{IsRightLadder};
 ghost use Rattle.equity_report.specs.declared.refusal.Refusal.TheVariants.{Memory};
 ghost use Rattle.equity_report.specs.Refusals.{status_of, refusal_text};
 ghost use Rattle.top_call.specs.Runs.{IsStatus, WasPut, no_text};
@@ -8,6 +9,8 @@ use crate::put::refuse;
 use crate::record::read_recorded;
 use crate::task::{Task, read_task};
 use crate::top::run;
+use command_line::Ladder;
+use cube_actions::ladder;
 use database_file::open_paged;
 use equity_report::Refusal;
 use hyper_outside::{BadWords, Files, RealFiles, RealSink, Sink, WordsKind};
@@ -78,12 +81,21 @@ fn record_columns<F: Files>(alloc: Global, name: &str, files: &mut F) -> u32
     }
 }
 
+/// How many rounds all scores of a ladder take together.
+fn ladder_rounds(task: &Ladder) -> u32
+    requires { IsRightLadder task.now }
+{
+    let scores = ladder(task.match_length);
+    scores.len() as u32 * task.rounds
+}
+
 /// How many rounds over how many columns a task takes; none where that can't be told before it, or it takes no time.
 fn work_of<F: Files>(alloc: Global, task: &Task, files: &mut F) -> (u32, u32)
     requires { IsRightTask task.now }
 {
     match task {
         Task::Solve(solve) => (solve.rounds, columns_of(solve.checkers)),
+        Task::Ladder(task) => (ladder_rounds(task), columns_of(task.checkers)),
         Task::Verify(verify) => (1, base_columns(alloc, verify.file.as_str(), files)),
         Task::Study(study) => (
             study.rounds,

@@ -27,7 +27,9 @@ use std::thread::Threads;
 /// At status 0 the report was put. Of `bound` it is of a pair that encloses what the position is worth exactly in every game of at least as many
 /// turns as there were rounds, however its unfinished end is scored. After `solve` the file holds, for each state, a pair at least as tight as the asked
 /// number of rounds and, in every game of enough turns, however its unfinished end is scored, enclosing what the state is worth exactly, for every
-/// number of workers and every gate; no other file changed. Of `show` it is of the position's pairs in the file, whose header and page are right.
+/// number of workers and every gate; no other file changed. After `ladder` each file is of a score of the match, with the start pairs of the scores before
+/// it, and each line has the start pair and the widest pair of its file's words; from one number of turns on for all of them, however unfinished games are
+/// scored, these words enclose the game of their score with the exact payoffs of the match, and start pairs the exact starts. Of `show` it is of the position's pairs in the file, whose header and page are right.
 /// After `migrate` the new file holds the old one's head and words, all of which were right. Of `advise` it is of the plays of a roll, or of what to do
 /// with the cube, by the pairs of the file, whose header and pages are right as far as the advice rests on them; where the file's pairs enclose what
 /// their states are worth exactly in every game of enough turns, the best play, the offer and the answer lose, in every game of enough turns, at
@@ -45,7 +47,8 @@ use std::thread::Threads;
 /// the position isn't right, or that of a state on which the advice or a loss rests; 9 where the words of a file that `verify` checks aren't consistent, with the first that doesn't hold by
 /// rising live rank, then by kind, the lower word before the upper one. 6 comes only where reading a file failed, 7 only where writing a file or the
 /// output failed, 8 where there was no memory. At 7 a front of the report may stand before the line, and the file in work holds what it held or a front
-/// of its text. At all others no file changed.
+/// of its text; of `ladder` that is the file of the score in work, and those of the scores before it are whole. At all others no file changed, but that at
+/// 8 the files of the scores that a `ladder` has solved stay, and their lines stand before that of the refusal.
 pub fn run<R: Threads + Sync, F: Files, O: Sink, G: Gate + Sync>(
     rt: &R,
     alloc: Global,

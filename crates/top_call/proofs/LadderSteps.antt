@@ -1,0 +1,232 @@
+-- One score more of a ladder, or one that failed.
+use Rattle.std.proofs.Common.{◌≡◌, ◌≢◌, ◌∙◌, ◌≤◌, ◌<◌, ◌+◌, ◌⊎◌, ℕ, ℤ, zero, suc, Bool, cond, eqb, true, false, IsTrue, List, [], ◌∷◌, ◌++◌, length, length-append, Option, Some, None, Ok, Err, inl, inr, refl, sym, ap, subst, arith}
+use Rattle.std.specs.List.{AllPairs}
+use Rattle.std.proofs.lemmas.Bool.{cases_lt}
+use Rattle.std.proofs.lemmas.List.{append-nil, append_assoc}
+use Rattle.hyper_outside.specs.declared.outside.Failed.{Failed}
+use Rattle.hyper_outside.specs.Files.{Contents, KeepsOthers}
+use Rattle.hyper_outside.specs.Sink.{Output, Puts}
+use Rattle.directed_fixed.specs.Bounds.{Bounds}
+use Rattle.cube_actions.specs.Ladder.{ladder, ScoreComesBefore}
+use Rattle.cube_actions.specs.Scores.{MatchScore}
+use Rattle.cube_actions.specs.Starts.{StartPairs, AreStarts}
+use Rattle.turn_rule.specs.declared.game.Game.{Game}
+use Rattle.cube_actions.specs.declared.name.StakesName.TheVariants.{Match}
+use Rattle.interval_words.specs.WordLists.{WordList, AreRight, IsWidest, words_in_list}
+use Rattle.match_scores.specs.Openings.{start_over}
+use Rattle.word_pages.specs.declared.version.Version.TheVariants.{Two}
+use Rattle.base_head.specs.Heads.{IsHead}
+use Rattle.database_file.specs.Texts.{IsText, AreWordsOf as AreFileWords}
+use Rattle.match_scores.specs.Keepers.{no_pairs}
+use Rattle.match_scores.proofs.Places.{place-of}
+use Rattle.command_line.specs.Right.{IsRightLadder}
+use Rattle.match_scores.specs.Ladders.{score_at, starts_till, with_pair, AreWordsOf, IsSolved, IsSolvedAt, IsLadder}
+use Rattle.match_scores.proofs.WholeLadder.{AreScores, and_then, and_then-before, and_then-last, till-same, all-taken, solved-next}
+use Rattle.database_file.specs.Writing.{HoldsFront, Writes}
+use Rattle.command_line.specs.declared.command.Ladder.{Ladder}
+use Rattle.top_call.specs.Ladders.{AreScoresSolved, HasKeptSince, HasSolvedScores, HaveFiles, IsInWork, IsScoreSolved, KeepsAllBut, LadderPast, SolvedScore, file_of, lines_of, score_bytes, score_file, score_head, score_line, score_of, scores_in}
+use Rattle.top_call.specs.Runs.{IsPut, IsTold}
+use Rattle.top_call.proofs.ScoreFiles.{files-apart}
+use Rattle.top_call.proofs.SolvedFiles.{two-takes}
+use Rattle.top_call.proofs.Telling.{all-told}
+
+-- ---- what was put
+
+told-both : (a b c : Option (List ℕ)) (first second : List ℕ) → IsTold a b first → IsTold b c second → IsTold a c (first ++ second)
+told-both None b c first second p q = subst (λ (o : Option (List ℕ)). IsTold o c second) p q
+told-both (Some old) b c first second p q =
+    subst (λ (o : Option (List ℕ)). IsTold o c second) p q ∙ ap (λ (bytes : List ℕ). Some bytes) (append_assoc old first second)
+
+-- one text behind another
+pub put-both : (old middle new : Output) (first second : List ℕ) → IsPut old middle first → IsPut middle new second → IsPut old new (first ++ second)
+put-both old middle new first second p q = told-both old.told middle.told new.told first second p q
+
+nothing-told : (a : Option (List ℕ)) → IsTold a a []
+nothing-told None = refl
+nothing-told (Some old) = ap (λ (bytes : List ℕ). Some bytes) (sym (append-nil old))
+
+pub nothing-put : (old : Output) → IsPut old old []
+nothing-put old = nothing-told old.told
+
+-- ---- lines of the same scores
+
+same-lines : (task : Ladder) (scores others : ℕ → SolvedScore) (many : ℕ) → ((place : ℕ) → place < many → others place ≡ scores place) → lines_of task others many ≡ lines_of task scores many
+same-lines task scores others zero same = refl
+same-lines task scores others (suc many) same =
+    rw (same-lines task scores others many (λ place earlier. same place (omega (arith, earlier))), same many (omega arith)) refl
+
+-- ---- the law on ladders
+
+abbrev pub LadderLaw : Type 0
+LadderLaw =
+    (checkers r : ℕ) → 1 ≤ checkers → checkers ≤ 3 → (starts : StartPairs) → AreStarts starts → (words : ℕ → WordList) → IsSolved checkers r starts words → IsLadder checkers r starts words
+
+-- it is of the words at each place alone
+solved-same : (checkers r : ℕ) (starts : StartPairs) (words others : ℕ → WordList) → ((place : ℕ) → others place ≡ words place) → IsSolved checkers r starts words → IsSolved checkers r starts others
+solved-same checkers r starts words others same solved place here = subst (λ (w : WordList). IsSolvedAt checkers r starts place w) (sym (same place)) (solved place here)
+
+solved-next-of : (checkers r n : ℕ) (starts : StartPairs) (words : ℕ → WordList) (next : WordList) → starts.match_length ≡ n → IsSolved checkers r starts words → AreWordsOf checkers r (score_at n (length starts.pairs)) starts next
+    → IsSolved checkers r (with_pair starts (start_over checkers (words_in_list next) (score_at n (length starts.pairs)))) (and_then words (length starts.pairs) next)
+solved-next-of checkers r n starts words next is solved closed =
+    let count = length starts.pairs in
+    subst (λ (m : ℕ). AreWordsOf checkers r (score_at m count) starts next
+    → IsSolved checkers r (with_pair starts (start_over checkers (words_in_list next) (score_at m count))) (and_then words count next)) is
+    (λ here. solved-next checkers r starts words next solved here) closed
+
+-- ---- what a score's words are
+
+pub head-valid : (task : Ladder) → IsRightLadder task → (starts : StartPairs) → AreStarts starts → AllPairs ScoreComesBefore (ladder starts.match_length) → (score : MatchScore)
+    → length starts.pairs < length (ladder starts.match_length) → score ≡ score_at starts.match_length (length starts.pairs) → IsHead (score_head task score starts)
+head-valid task right starts valid order score more is =
+    let place = place-of starts.match_length order (length starts.pairs) more in
+    record {
+      some = right.some;
+      few = right.few;
+      begun = right.begun;
+      ended = right.ended;
+      valid = valid;
+      starts = rw is (record { listed = omega (arith, place, more); held = sym place });
+    }
+
+pub file-words : (task : Ladder) (score : MatchScore) (starts : StartPairs) (words : WordList) → AreWordsOf task.checkers task.rounds score starts words → AreFileWords (score_head task score starts) words
+file-words task score starts words closed = record { game = closed.game; rounds = closed.rounds }
+
+pub score-solved : (task : Ladder) (score : MatchScore) (starts : StartPairs) (words : WordList) (widest : ℤ) → IsHead (score_head task score starts) → AreWordsOf task.checkers task.rounds score starts words → AreRight words → IsWidest words widest
+    → IsScoreSolved task score starts (record { words = words; widest = widest })
+score-solved task score starts words widest valid closed right is_widest = record {
+  closed = closed;
+  text = record { valid = valid; takes = two-takes (Match score); fitting = file-words task score starts words closed; right = right; text = refl };
+  widest = is_widest;
+}
+
+words-of : (b : Bool) (next score : SolvedScore) → (cond b next score).words ≡ cond b next.words score.words
+words-of true next score = refl
+words-of false next score = refl
+
+and_then-words : (scores : ℕ → SolvedScore) (count : ℕ) (next : SolvedScore) (place : ℕ) → (and_then scores count next place).words ≡ and_then (λ p. (scores p).words) count next.words place
+unfolding and_then
+and_then-words scores count next place = words-of (eqb place count) next (scores place)
+
+-- ---- one score more, or one that failed
+
+module _ (task : Ladder) (right : IsRightLadder task) (law : LadderLaw) (in_match : AreScores) (order : AllPairs ScoreComesBefore (ladder task.match_length)) where
+  apart : (i j : ℕ) → i < j → j < scores_in task → file_of task i ≢ file_of task j
+  apart = files-apart task right.point right.points in_match order
+
+  module _ (starts : StartPairs) (scores : ℕ → SolvedScore) (solved : AreScoresSolved task starts scores) (next : SolvedScore) (more : length starts.pairs < scores_in task) (is : IsScoreSolved task (score_of task (length starts.pairs)) starts next) where
+    abbrev longer : StartPairs
+    longer = with_pair starts (start_over task.checkers (words_in_list next.words) (score_of task (length starts.pairs)))
+
+    abbrev with_next : ℕ → SolvedScore
+    with_next = and_then scores (length starts.pairs) next
+
+    one_more : length longer.pairs ≡ suc (length starts.pairs)
+    one_more = length-append starts.pairs _
+
+    same-till : (place : ℕ) → place ≤ length starts.pairs → starts_till longer place ≡ starts_till starts place
+    same-till place here = till-same starts _ place here
+
+    at-last : (P : ℕ → Type 0) → P (length starts.pairs) → (place : ℕ) → place < length longer.pairs → length starts.pairs ≤ place → P place
+    at-last P p place here last = subst P (omega (arith, here, last, one_more)) p
+
+    before-next : (place : ℕ) → place < length starts.pairs → with_next place ≡ scores place
+    before-next place earlier = and_then-before scores (length starts.pairs) next place earlier
+
+    last-next : with_next (length starts.pairs) ≡ next
+    last-next = and_then-last scores (length starts.pairs) next
+
+    each-more : (place : ℕ) → place < length longer.pairs → IsScoreSolved task (score_of task place) (starts_till longer place) (with_next place)
+    each-more place here = elim (cases_lt place (length starts.pairs)) [
+      | inl earlier ↦ rw (same-till place (omega (arith, earlier)), before-next place earlier) (solved.each place earlier)
+      | inr last ↦ at-last (λ p. IsScoreSolved task (score_of task p) (starts_till longer p) (with_next p)) (rw (same-till (length starts.pairs) (omega arith), all-taken starts, last-next) is) place here last
+    ]
+
+    ladder-more : AreStarts longer → IsLadder task.checkers task.rounds longer (λ place. (with_next place).words)
+    ladder-more valid =
+        law task.checkers task.rounds right.some right.few longer valid (λ place. (with_next place).words)
+        (solved-same task.checkers task.rounds longer (and_then (λ place. (scores place).words) (length starts.pairs) next.words) (λ place. (with_next place).words)
+        (and_then-words scores (length starts.pairs) next)
+        (solved-next-of task.checkers task.rounds task.match_length starts (λ place. (scores place).words) next.words solved.of_length solved.solved.solved is.closed))
+
+    lines-more : lines_of task with_next (length longer.pairs) ≡ lines_of task scores (length starts.pairs) ++ score_line task (score_of task (length starts.pairs)) next.words next.widest
+    lines-more = rw (one_more, same-lines task scores with_next (length starts.pairs) before-next, last-next) refl
+
+    scores-more : AreStarts longer → AreScoresSolved task longer with_next
+    scores-more valid = record {
+      of_length = solved.of_length;
+      some = omega (arith, one_more, more);
+      each = each-more;
+      solved = ladder-more valid;
+    }
+      where
+        length-same : longer.match_length ≡ task.match_length
+            length-same = solved.of_length
+
+    module _ (after later : Contents) (kept : KeepsOthers (file_of task (length starts.pairs)) after later) where
+      files-stay : HaveFiles task starts scores after → HaveFiles task starts scores later
+      files-stay files place here = kept (file_of task place) (apart place (length starts.pairs) here more) ∙ files place here
+
+      files-more : HaveFiles task starts scores after → later (file_of task (length starts.pairs)) ≡ Some (score_bytes task (score_of task (length starts.pairs)) starts next.words) → HaveFiles task longer with_next later
+      files-more files written place here = elim (cases_lt place (length starts.pairs)) [
+        | inl earlier ↦ rw (same-till place (omega (arith, earlier)), before-next place earlier) (files-stay files place earlier)
+        | inr last ↦ at-last (λ p. later (file_of task p) ≡ Some (score_bytes task (score_of task p) (starts_till longer p) (with_next p).words)) (rw (same-till (length starts.pairs) (omega arith), all-taken starts, last-next) written) place here last
+      ]
+
+      others-more : (before : Contents) → KeepsAllBut task (length starts.pairs) before after → KeepsAllBut task (suc (length starts.pairs)) before later
+      others-more before others name other =
+          kept name (other (length starts.pairs) (omega arith)) ∙ others name (λ place earlier. other place (omega (arith, earlier)))
+
+  -- the next score is kept too
+  pub kept-next : (past : LadderPast) (starts : StartPairs) (after later : Contents) (middle new : Output) → HasKeptSince past task starts false after middle
+      → length starts.pairs < scores_in task → (next : SolvedScore) → IsScoreSolved task (score_of task (length starts.pairs)) starts next
+      → (IsTrue past.told → KeepsOthers (file_of task (length starts.pairs)) after later)
+      → (IsTrue past.told → later (file_of task (length starts.pairs)) ≡ Some (score_bytes task (score_of task (length starts.pairs)) starts next.words))
+      → IsPut middle new (score_line task (score_of task (length starts.pairs)) next.words next.widest)
+      → AreStarts (with_pair starts (start_over task.checkers (words_in_list next.words) (score_of task (length starts.pairs))))
+      → HasKeptSince past task (with_pair starts (start_over task.checkers (words_in_list next.words) (score_of task (length starts.pairs)))) false later new
+  kept-next past starts after later middle new since more next is kept written line valid =
+      let had = since.0 in
+      let scores = had.scores in
+      let lines = put-both past.old middle new _ _ had.lines line in (
+        record {
+          scores = and_then scores (length starts.pairs) next;
+          solved = scores-more starts scores had.solved next more is valid;
+          files = λ told. files-more starts scores had.solved next more is after later (kept told) (had.files told) (written told);
+          lines = subst (IsPut past.old new) (sym (lines-more starts scores had.solved next more is)) lines;
+        },
+        λ told. subst (λ (n : ℕ). KeepsAllBut task n past.before later) (sym (one_more starts scores had.solved next more is))
+            (others-more starts scores had.solved next more is after later (kept told) past.before (since.1 told)),
+      )
+
+  -- writing the file of the next score failed, or its line
+  pub not-kept : (past : LadderPast) (starts : StartPairs) (after later : Contents) (middle new : Output) → HasKeptSince past task starts false after middle
+      → length starts.pairs < scores_in task → (next : SolvedScore) → IsScoreSolved task (score_of task (length starts.pairs)) starts next
+      → (IsTrue past.told → KeepsOthers (file_of task (length starts.pairs)) after later)
+      → (IsTrue past.told → (later (file_of task (length starts.pairs)) ≡ after (file_of task (length starts.pairs)))
+      ⊎ HoldsFront [] (score_bytes task (score_of task (length starts.pairs)) starts next.words) (later (file_of task (length starts.pairs))))
+      → ((new ≡ middle) ⊎ ((failed : Failed) × Puts {T = Unit {0}} middle new (score_line task (score_of task (length starts.pairs)) next.words next.widest) (Err failed)))
+      → HasKeptSince past task starts true later new
+  not-kept past starts after later middle new since more next is kept writes line =
+      let had = since.0 in
+      let scores = had.scores in (
+        record {
+          scores = scores;
+          solved = had.solved;
+          files = λ told. files-stay starts scores had.solved next more is after later (kept told) (had.files told);
+          lines = (
+            middle,
+            had.lines,
+            record {
+              more = more;
+              score = next;
+              solved = is;
+              file = λ told. elim (writes told) [
+                | inl same ↦ inl (same ∙ since.1 told (file_of task (length starts.pairs)) (λ place earlier equal. apart place (length starts.pairs) earlier more (sym equal)))
+                | inr front ↦ inr front
+              ];
+              line = line;
+            },
+          );
+        },
+        λ told. others-more starts scores had.solved next more is after later (kept told) past.before (since.1 told),
+      )
