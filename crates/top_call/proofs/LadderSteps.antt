@@ -1,5 +1,5 @@
 -- One score more of a ladder, or one that failed.
-use Rattle.std.proofs.Common.{◌≡◌, ◌≢◌, ◌∙◌, ◌≤◌, ◌<◌, ◌+◌, ◌⊎◌, ℕ, ℤ, zero, suc, Bool, cond, eqb, true, false, IsTrue, List, [], ◌∷◌, ◌++◌, length, length-append, Option, Some, None, Ok, Err, inl, inr, refl, sym, ap, subst, arith}
+use Rattle.std.proofs.Common.{◌≡◌, ◌≢◌, ◌∙◌, ◌≤◌, ◌<◌, ◌+◌, ◌⊎◌, ℕ, ℤ, pos, zero, suc, Bool, cond, eqb, true, false, IsTrue, List, [], ◌∷◌, ◌++◌, length, length-append, Option, Some, None, Ok, Err, inl, inr, refl, sym, ap, subst, arith}
 use Rattle.std.specs.List.{AllPairs}
 use Rattle.std.proofs.lemmas.Bool.{cases_lt}
 use Rattle.std.proofs.lemmas.List.{append-nil, append_assoc}
@@ -8,11 +8,11 @@ use Rattle.hyper_outside.specs.Files.{Contents, KeepsOthers}
 use Rattle.hyper_outside.specs.Sink.{Output, Puts}
 use Rattle.directed_fixed.specs.Bounds.{Bounds}
 use Rattle.cube_actions.specs.Ladder.{ladder, ScoreComesBefore}
-use Rattle.cube_actions.specs.Scores.{MatchScore}
+use Rattle.cube_actions.specs.Scores.{MatchScore, last_game}
 use Rattle.cube_actions.specs.Starts.{StartPairs, AreStarts}
 use Rattle.turn_rule.specs.declared.game.Game.{Game}
 use Rattle.cube_actions.specs.declared.name.StakesName.TheVariants.{Match}
-use Rattle.interval_words.specs.WordLists.{WordList, AreRight, IsWidest, words_in_list}
+use Rattle.interval_words.specs.WordLists.{WordList, AreRight, IsWidest, list_of, words_in_list}
 use Rattle.match_scores.specs.Openings.{start_over}
 use Rattle.word_pages.specs.declared.version.Version.TheVariants.{Two}
 use Rattle.base_head.specs.Heads.{IsHead}
@@ -20,7 +20,7 @@ use Rattle.database_file.specs.Texts.{IsText, AreWordsOf as AreFileWords}
 use Rattle.match_scores.specs.Keepers.{no_pairs}
 use Rattle.match_scores.proofs.Places.{place-of}
 use Rattle.command_line.specs.Right.{IsRightLadder}
-use Rattle.match_scores.specs.Ladders.{score_at, starts_till, with_pair, AreWordsOf, IsSolved, IsSolvedAt, IsLadder}
+use Rattle.match_scores.specs.Ladders.{score_at, starts_till, with_pair, game_at, AreWordsOf, IsSolved, IsSolvedAt, IsLadder}
 use Rattle.match_scores.proofs.WholeLadder.{AreScores, and_then, and_then-before, and_then-last, till-same, all-taken, solved-next}
 use Rattle.database_file.specs.Writing.{HoldsFront, Writes}
 use Rattle.command_line.specs.declared.command.Ladder.{Ladder}
@@ -107,6 +107,34 @@ and_then-words : (scores : ℕ → SolvedScore) (count : ℕ) (next : SolvedScor
 unfolding and_then
 and_then-words scores count next place = words-of (eqb place count) next (scores place)
 
+-- ---- before the first score
+
+no_score : Ladder → SolvedScore
+no_score task = record { words = list_of (game_at task.checkers last_game (no_pairs task.match_length)) task.rounds []; widest = pos 0 }
+
+none-solved : (task : Ladder) → AreScoresSolved task (no_pairs task.match_length) (λ place. no_score task)
+none-solved task = record {
+  of_length = refl;
+  some = omega arith;
+  each = λ place here. absurd (omega (arith, here));
+  solved = record {
+    solved = λ place here. absurd (omega (arith, here));
+    true_from = (0, λ turns enough ends are place here. absurd (omega (arith, here)));
+    tight = λ place here. absurd (omega (arith, here));
+  };
+}
+
+pub nothing-since : (past : LadderPast) (task : Ladder) (after : Contents) → ((name : List ℕ) → after name ≡ past.before name) → HasKeptSince past task (no_pairs task.match_length) false after past.old
+nothing-since past task after same = (
+  record {
+    scores = λ place. no_score task;
+    solved = none-solved task;
+    files = λ told place here. absurd (omega (arith, here));
+    lines = nothing-put past.old;
+  },
+  λ told name other. same name,
+)
+
 -- ---- one score more, or one that failed
 
 module _ (task : Ladder) (right : IsRightLadder task) (law : LadderLaw) (in_match : AreScores) (order : AllPairs ScoreComesBefore (ladder task.match_length)) where
@@ -174,7 +202,8 @@ module _ (task : Ladder) (right : IsRightLadder task) (law : LadderLaw) (in_matc
 
       others-more : (before : Contents) → KeepsAllBut task (length starts.pairs) before after → KeepsAllBut task (suc (length starts.pairs)) before later
       others-more before others name other =
-          kept name (other (length starts.pairs) (omega arith)) ∙ others name (λ place earlier. other place (omega (arith, earlier)))
+          kept name (λ same. other (length starts.pairs, omega arith, more, same))
+          ∙ others name (λ first. other (first.0, (let earlier = first.1 in omega (arith, earlier)), first.2, first.3))
 
   -- the next score is kept too
   pub kept-next : (past : LadderPast) (starts : StartPairs) (after later : Contents) (middle new : Output) → HasKeptSince past task starts false after middle
@@ -221,7 +250,7 @@ module _ (task : Ladder) (right : IsRightLadder task) (law : LadderLaw) (in_matc
               score = next;
               solved = is;
               file = λ told. elim (writes told) [
-                | inl same ↦ inl (same ∙ since.1 told (file_of task (length starts.pairs)) (λ place earlier equal. apart place (length starts.pairs) earlier more (sym equal)))
+                | inl same ↦ inl (same ∙ since.1 told (file_of task (length starts.pairs)) (λ first. apart first.0 (length starts.pairs) first.1 more (sym first.3)))
                 | inr front ↦ inr front
               ];
               line = line;

@@ -15,3 +15,5 @@ mod AnalyseLaws
 mod AnalyseFiles
 mod ScoreFiles
 mod LadderSteps
+mod LadderEnds
+mod LadderKeeping

@@ -1,12 +1,12 @@
 -- What is known where the program's words are refused, or there was no memory for them.
 use Rattle.std.proofs.Common.{◌≡◌, ◌∙◌, ℕ, List, Bool, IsTrue, None, Result, Ok, Err, inl, sym, subst, arith}
-use Rattle.hyper_outside.specs.Files.{Contents}
+use Rattle.hyper_outside.specs.Files.{Contents, SameFiles}
 use Rattle.hyper_outside.specs.Sink.{Output}
 use Rattle.equity_report.specs.declared.refusal.Refusal.{Refusal}
 use Rattle.equity_report.specs.declared.refusal.Refusal.TheVariants.{Words, Position, Missing, File, Read, Write, Memory, Base, Roll, Inconsistent, Record}
 use Rattle.equity_report.specs.Refusals.{status_of, refusal_text}
 use Rattle.top_call.specs.declared.task.Task.{Task}
-use Rattle.top_call.specs.declared.task.Task.TheVariants.{Bound, Solve, Show, Migrate, Advise, Verify, Analyse, Study, Make}
+use Rattle.top_call.specs.declared.task.Task.TheVariants.{Bound, Solve, Show, Migrate, Advise, Verify, Ladder, Analyse, Study, Make}
 use Rattle.top_call.specs.Advises.{HasAdvised, MayRefuseAdvice}
 use Rattle.top_call.specs.Analyses.{HasAnalysed, MayRefuseAnalysis}
 use Rattle.top_call.specs.Loads.{RefusesLoading}
@@ -15,6 +15,9 @@ use Rattle.top_call.specs.Runs.{IsDue, WasPut}
 use Rattle.top_call.specs.Studies.{HasStudied, MayRefuseStudy}
 use Rattle.top_call.specs.Shows.{HasShown, RefusesShowing}
 use Rattle.top_call.specs.Verifies.{HasVerified, MayRefuseVerifying, RefusesVerifying}
+use Rattle.match_scores.specs.Keepers.{no_pairs}
+use Rattle.top_call.proofs.LadderEnds.{run-out}
+use Rattle.top_call.proofs.LadderSteps.{nothing-since}
 use Rattle.top_call.proofs.Loaded.{of-file}
 use Rattle.top_call.proofs.Telling.{no-memory}
 
@@ -32,7 +35,7 @@ of_memory W (Inconsistent unheld) e w = absurd (omega arith)
 of_memory W (Record bad) e w = absurd (omega arith)
 
 -- where there was no memory for the words, nothing is known of what they ask for
-module _ (told : Bool) (before after : Contents) (old new : Output) (status : ℕ) where
+module _ (told : Bool) (before after : Contents) (same : SameFiles before after) (old new : Output) (status : ℕ) where
   abbrev Run : Result Task Refusal → Type 0
   Run expected = HasRun expected told before after old new status
 
@@ -70,6 +73,12 @@ module _ (told : Bool) (before after : Contents) (old new : Output) (status : �
   unheld is put (Ok (Make task)) = record {
     done = λ done. absurd (omega (arith, done, is));
     stopped = λ write. absurd (omega (arith, write, is));
+  }
+  unheld is put (Ok (Ladder task)) = record {
+    solved = λ done. absurd (omega (arith, done, is));
+    stopped = λ write. absurd (omega (arith, write, is));
+    out_of_memory = λ memory. run-out task told before after old old new (no_pairs task.match_length)
+        (nothing-since (record { told = told; before = before; old = old }) task after same) put;
   }
   unheld is put (Ok (Analyse task)) = no-memory (HasAnalysed task told before) (MayRefuseAnalysis task told before) old new (λ _. inl tt) status is put
 

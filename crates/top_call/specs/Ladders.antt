@@ -54,9 +54,13 @@ score_of task place = score_at task.match_length place
 abbrev pub file_of : Ladder → ℕ → List ℕ
 file_of task place = score_file task.prefix (score_of task place)
 
+-- this is the name of the file of one of the first so many scores
+abbrev pub IsFileOfFirst : Ladder → ℕ → List ℕ → Type 0
+IsFileOfFirst task many name = (place : ℕ) × (place < many) × (place < scores_in task) × (name ≡ file_of task place)
+
 -- no file changed but those of the first so many scores
 abbrev pub KeepsAllBut : Ladder → ℕ → Contents → Contents → Type 0
-KeepsAllBut task many before after = (name : List ℕ) → ((place : ℕ) → place < many → name ≢ file_of task place) → after name ≡ before name
+KeepsAllBut task many before after = (name : List ℕ) → (IsFileOfFirst task many name → ⊥) → after name ≡ before name
 
 -- the words of a score that was solved, and how wide their widest pair is
 pub record SolvedScore : Type 0 where

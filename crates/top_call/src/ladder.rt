@@ -1,11 +1,11 @@
-ghost use Rattle.std.specs.Prelude.{◌≡◌, ◌≤◌, ◌⊎◌, Err};
+ghost use Rattle.std.specs.Prelude.{◌≡◌, ◌≤◌, ◌⊎◌, Err, IsTrue};
 ghost use Rattle.hyper_outside.specs.Causes.{Rose};
 ghost use Rattle.hyper_outside.specs.Sink.{Puts};
 ghost use Rattle.match_scores.specs.declared.ladder.LadderStop.TheVariants.{Keep};
 ghost use Rattle.equity_report.specs.declared.refusal.Refusal.TheVariants.{Write};
 ghost use Rattle.equity_report.specs.Refusals.{status_of, refusal_text};
 ghost use Rattle.command_line.specs.Right.{IsRightLadder};
-ghost use Rattle.top_call.specs.Ladders.{SolvesLadder, SolvesScores, end_line};
+ghost use Rattle.top_call.specs.Ladders.{KeepsAllBut, SolvesLadder, SolvesScores, end_line, scores_in};
 ghost use Rattle.top_call.specs.Runs.{EndsWriting, FailedThenPut, IsPut};
 
 use crate::ladder_keep::LadderKeep;
@@ -92,6 +92,8 @@ pub(crate) fn run_ladder<R: Threads + Sync, F: Files, O: Sink, G: Gate + Sync>(
     ensures cause { result ≡ status_of Write
         → Rose (F.write_faults files.old) (F.write_faults files.new)
         ⊎ Rose (O.output out.old).faults (O.output out.new).faults }
+    ensures others { IsTrue (F.tells files.old)
+        → KeepsAllBut task.now (scores_in task.now) (F.held files.old) (F.held files.new) }
 {
     match solve_scores(rt, alloc, task, files, out, gate) {
         Ok(_) => tell_end(task, out),

@@ -194,3 +194,74 @@ fn no_other_file_changes(rt: HostRuntime) -> Result<(), Fail> {
     assert_eq!(rt; files.held("L.1.2.c").map(|file| file.len()), Some(12158));
     Ok(())
 }
+
+// What the near side has before the first play of a game of a match to three points with one checker a side, in units of 10^-9 of the match: as a
+// plain program in floating point finds it, which repeats turns over all positions until nothing changes.
+const STARTS: [(&str, i64); 7] = [
+    ("1.1.p", 0),
+    ("1.2.p", 0),
+    ("1.2.c", 0),
+    ("1.3.c", 455_064_132),
+    ("2.2.n", 0),
+    ("2.3.n", 122_514_962),
+    ("3.3.n", 0),
+];
+
+#[test]
+fn starts_enclose_what_a_plain_program_finds(rt: HostRuntime) -> Result<(), Fail> {
+    let alloc = rt.alloc();
+    let mut files = MemFiles::new(alloc);
+    files.room(7, 206_000)?;
+    let words = [
+        "ladder",
+        "m",
+        "--checkers=1",
+        "--rounds=12",
+        "--workers=2",
+    ];
+    let (status, out) = ask(&rt, alloc, &mut files, &words)?;
+    assert_eq!(rt; status, 0);
+    let text = str::from_utf8(out.put_bytes()).unwrap_or("");
+    assert_eq!(rt; line_count(text), 8);
+    for (line, (score, start)) in text.lines().zip(STARTS) {
+        let Some((lower, upper)) = start_in(line, score) else {
+            panic!(rt; "{line}");
+        };
+        assert!(rt; lower.saturating_mul(1000) <= start, "{line}");
+        assert!(rt; start <= upper.saturating_mul(1000), "{line}");
+        assert!(rt; upper.saturating_sub(lower) < 20_000, "{line}");
+    }
+    Ok(())
+}
+
+/// Solves a match of so many points whole, and answers how many lines were put.
+fn lines_of(
+    rt: &HostRuntime,
+    words: &[&str],
+    names: usize,
+    bytes: usize,
+) -> Result<(u8, usize), Fail> {
+    let alloc = rt.alloc();
+    let mut files = MemFiles::new(alloc);
+    files.room(names, bytes)?;
+    let words = owned(alloc, words)?;
+    let mut out = HonestSink::with_room(alloc, 4096)?;
+    let status = run(rt, alloc, words.as_slice(), &mut files, &mut out, &OpenGate);
+    let text = str::from_utf8(out.put_bytes()).unwrap_or("");
+    Ok((status, line_count(text)))
+}
+
+#[test]
+fn longer_matches_are_solved(rt: HostRuntime) -> Result<(), Fail> {
+    let one = [
+        "ladder",
+        "five",
+        "--checkers=1",
+        "--length=5",
+        "--rounds=2",
+    ];
+    assert_eq!(rt; lines_of(&rt, &one, 18, 900_000)?, (0, 19));
+    let two = ["ladder", "two", "--checkers=2", "--rounds=1", "--workers=2"];
+    assert_eq!(rt; lines_of(&rt, &two, 7, 36_300_000)?, (0, 8));
+    Ok(())
+}

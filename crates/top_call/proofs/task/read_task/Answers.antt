@@ -19,6 +19,9 @@ advise_task-requires c = subst IsRightCommand c.in-Ok-Advise.field-0-is (command
 pub returns-in-Ok-Verify-clause-right : goal.returns-in-Ok-Verify-clause-right
 returns-in-Ok-Verify-clause-right c = subst IsRightCommand c.in-Ok-Verify.field-0-is (command-right (bytes_of c.args.words.now) c.in-Ok-Verify.field-0 c.in-Ok-Verify.ensures)
 
+pub returns-in-Ok-Ladder-clause-right : goal.returns-in-Ok-Ladder-clause-right
+returns-in-Ok-Ladder-clause-right c = subst IsRightCommand c.in-Ok-Ladder.field-0-is (command-right (bytes_of c.args.words.now) c.in-Ok-Ladder.field-0 c.in-Ok-Ladder.ensures)
+
 pub returns-in-Ok-Make-clause-right : goal.returns-in-Ok-Make-clause-right
 returns-in-Ok-Make-clause-right c = subst IsRightCommand c.in-Ok-Make.field-0-is (command-right (bytes_of c.args.words.now) c.in-Ok-Make.field-0 c.in-Ok-Make.ensures)
 

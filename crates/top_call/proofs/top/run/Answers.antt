@@ -1,4 +1,4 @@
-use Rattle.std.proofs.Common.{List, ℕ, Ok, Result, sym, subst, ◌∙◌, arith}
+use Rattle.std.proofs.Common.{List, ℕ, Ok, Result, refl, sym, subst, ◌∙◌, arith}
 use Rattle.equity_report.specs.declared.refusal.Refusal.{Refusal}
 use Rattle.top_call.specs.declared.task.Task.{Task}
 use Rattle.top_call.specs.declared.task.Task.TheVariants.{Bound, Solve, Show, Migrate, Advise, Verify, Analyse}
@@ -11,7 +11,7 @@ use Rattle.top_call.proofs.top.run.Goals as goal
 
 pub returns-in-Err-clause-has_run : goal.returns-in-Err-clause-has_run
 returns-in-Err-clause-has_run g c =
-    unread (g.F.Files.tells c.args.files.now) (g.F.Files.held c.args.files.now) (g.F.Files.held c.args.files.now) (g.O.Sink.output c.args.out.now) (g.O.Sink.output c.refuse.new.out) c.refuse.result
+    unread (g.F.Files.tells c.args.files.now) (g.F.Files.held c.args.files.now) (g.F.Files.held c.args.files.now) (λ name. refl) (g.O.Sink.output c.args.out.now) (g.O.Sink.output c.refuse.new.out) c.refuse.result
     (asked c.args.words.now) c.in-Err.refusal c.in-Err.ensures.due c.refuse.ensures.status c.refuse.ensures.told
 
 pub returns-in-Err-clause-memory : goal.returns-in-Err-clause-memory

@@ -1,0 +1,90 @@
+-- What a keeper does with a score that it may keep.
+use Rattle.std.proofs.Common.{◌≡◌, ◌∙◌, ◌≤◌, ◌<◌, ◌⊎◌, ℕ, ℤ, true, false, IsTrue, List, [], length, Option, Some, Ok, Err, inl, inr, sym, ap, subst, arith}
+use Rattle.std.specs.List.{AllPairs}
+use Rattle.std.proofs.lemmas.List.{append-nil}
+use Rattle.hyper_outside.specs.declared.outside.Failed.{Failed}
+use Rattle.hyper_outside.specs.Files.{Contents, KeepsOthers}
+use Rattle.hyper_outside.specs.Sink.{Output, Puts}
+use Rattle.directed_fixed.specs.Bounds.{Bounds}
+use Rattle.cube_actions.specs.Ladder.{ladder, ScoreComesBefore}
+use Rattle.cube_actions.specs.Scores.{MatchScore}
+use Rattle.cube_actions.specs.Starts.{StartPairs, AreStarts}
+use Rattle.turn_rule.specs.declared.game.Game.{Game}
+use Rattle.interval_words.specs.WordLists.{WordList, AreRight, IsWidest, words_in_list}
+use Rattle.match_scores.specs.Keepers.{Keeper, MayKeep}
+use Rattle.match_scores.specs.Ladders.{score_at, with_pair, AreWordsOf}
+use Rattle.match_scores.specs.Openings.{start_over}
+use Rattle.match_scores.proofs.WholeLadder.{AreScores}
+use Rattle.database_file.specs.Writing.{HoldsFront, Writes}
+use Rattle.command_line.specs.declared.command.Ladder.{Ladder}
+use Rattle.command_line.specs.Right.{IsRightLadder}
+use Rattle.equity_report.specs.Ladder.{ladder_score_text}
+use Rattle.top_call.specs.Ladders.{HasKeptSince, IsScoreSolved, LadderPast, SolvedScore, file_of, score_bytes, score_file, score_line, score_of, scores_in}
+use Rattle.top_call.specs.Runs.{IsPut}
+use Rattle.top_call.proofs.LadderSteps.{LadderLaw, head-valid, kept-next, not-kept, score-solved}
+
+-- the scores of each match stand in order
+abbrev pub AreInOrder : Type 0
+AreInOrder = (match_length : ℕ) → 1 ≤ match_length → match_length ≤ 5 → AllPairs ScoreComesBefore (ladder match_length)
+
+-- a whole text is a front of it
+pub all-of : (text : List ℕ) (held : Option (List ℕ)) → held ≡ Some text → HoldsFront [] text held
+all-of text held there = (text, [], sym (append-nil text), there)
+
+module _ (task : Ladder) (right : IsRightLadder task) (law : LadderLaw) (in_match : AreScores) (order : AreInOrder)
+    (past : LadderPast) (own given : StartPairs) (score : MatchScore) (words : WordList) (widest : ℤ) (pair : Bounds)
+    (same : given ≡ own) (valid : AreStarts given) (more : length given.pairs < length (ladder given.match_length)) (is_next : score ≡ score_at given.match_length (length given.pairs))
+    (closed : AreWordsOf task.checkers task.rounds score given words) (are_right : AreRight words) (is_widest : IsWidest words widest)
+    (start : pair ≡ start_over words.game.checkers (words_in_list words) score)
+    (after : Contents) (middle : Output) (since : HasKeptSince past task own false after middle) where
+  abbrev next : SolvedScore
+  next = record { words = words; widest = widest }
+
+  of_length : own.match_length ≡ task.match_length
+  of_length = since.0.solved.of_length
+
+  next-is : score ≡ score_of task (length own.pairs)
+  next-is = is_next ∙ (ap (λ (s : StartPairs). score_at s.match_length (length s.pairs)) same ∙ ap (λ (n : ℕ). score_at n (length own.pairs)) of_length)
+
+  at-own : (P : StartPairs → MatchScore → Type 0) → P given score → P own (score_of task (length own.pairs))
+  at-own P p = subst (λ (s : StartPairs). P s (score_of task (length own.pairs))) same (subst (λ (sc : MatchScore). P given sc) next-is p)
+
+  more-own : length own.pairs < scores_in task
+  more-own =
+      subst (λ (n : ℕ). length own.pairs < length (ladder n)) of_length
+      (subst (λ (s : StartPairs). length s.pairs < length (ladder s.match_length)) same more)
+
+  solved : IsScoreSolved task score given next
+  solved = score-solved task score given words widest (head-valid task right given valid (order given.match_length valid.from valid.to) score more is_next) closed are_right is_widest
+
+  solved-own : IsScoreSolved task (score_of task (length own.pairs)) own next
+  solved-own = at-own (λ s sc. IsScoreSolved task sc s next) solved
+
+  pair-is : pair ≡ start_over task.checkers (words_in_list words) score
+  pair-is = start ∙ ap (λ (n : ℕ). start_over n (words_in_list words) score) (ap (λ (g : Game). g.checkers) closed.game)
+
+  module _ (later : Contents) (new : Output) (kept : IsTrue past.told → KeepsOthers (score_file task.prefix score) after later) where
+    kept-own : IsTrue past.told → KeepsOthers (file_of task (length own.pairs)) after later
+    kept-own told = at-own (λ s sc. KeepsOthers (score_file task.prefix sc) after later) (kept told)
+
+    -- its file was written and its line was put
+    pub keeps : (IsTrue past.told → later (score_file task.prefix score) ≡ Some (score_bytes task score given words))
+        → IsPut middle new (ladder_score_text score pair widest) → (longer : StartPairs) → longer ≡ with_pair own pair → AreStarts longer → HasKeptSince past task longer false later new
+    keeps written line longer added are_starts =
+        let line' : IsPut middle new (score_line task (score_of task (length own.pairs)) words widest) =
+              at-own (λ s sc. IsPut middle new (score_line task sc words widest)) (subst (λ (p : Bounds). IsPut middle new (ladder_score_text score p widest)) pair-is line) in
+        let pair' : pair ≡ start_over task.checkers (words_in_list words) (score_of task (length own.pairs)) = at-own (λ s sc. pair ≡ start_over task.checkers (words_in_list words) sc) pair-is in
+        let longer' : longer ≡ with_pair own (start_over task.checkers (words_in_list words) (score_of task (length own.pairs))) = added ∙ ap (with_pair own) pair' in
+        subst (λ (s : StartPairs). HasKeptSince past task s false later new) (sym longer')
+        (kept-next task right law in_match (order task.match_length right.point right.points) past own after later middle new since more-own next solved-own kept-own
+        (λ told. at-own (λ s sc. later (score_file task.prefix sc) ≡ Some (score_bytes task sc s words)) (written told))
+        line' (subst AreStarts longer' are_starts))
+
+    -- writing its file failed, or putting its line
+    pub fails : (IsTrue past.told → (later (score_file task.prefix score) ≡ after (score_file task.prefix score)) ⊎ HoldsFront [] (score_bytes task score given words) (later (score_file task.prefix score)))
+        → ((new ≡ middle) ⊎ ((failed : Failed) × Puts {T = Unit {0}} middle new (ladder_score_text score pair widest) (Err failed))) → HasKeptSince past task own true later new
+    fails writes line =
+        not-kept task right law in_match (order task.match_length right.point right.points) past own after later middle new since more-own next solved-own kept-own
+        (λ told. at-own (λ s sc. (later (score_file task.prefix sc) ≡ after (score_file task.prefix sc)) ⊎ HoldsFront [] (score_bytes task sc s words) (later (score_file task.prefix sc))) (writes told))
+        (at-own (λ s sc. (new ≡ middle) ⊎ ((failed : Failed) × Puts {T = Unit {0}} middle new (score_line task sc words widest) (Err failed)))
+        (subst (λ (p : Bounds). (new ≡ middle) ⊎ ((failed : Failed) × Puts {T = Unit {0}} middle new (ladder_score_text score p widest) (Err failed))) pair-is line))
