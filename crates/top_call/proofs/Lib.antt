@@ -13,3 +13,4 @@ mod Telling
 mod Unread
 mod AnalyseLaws
 mod AnalyseFiles
+mod Written

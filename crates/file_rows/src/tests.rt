@@ -1,0 +1,5 @@
+mod meeting;
+mod migrates;
+mod shows;
+mod solves;
+mod words;
