@@ -28,7 +28,8 @@ fn position_holds(words: &Words, turns: &ColumnTurns, i: usize) -> bool
     let position = turns.position(i);
     let square = position.square_rank();
     for kind in 0..turns.kinds() {
-        if !is_no_tighter(words.pair_by_square(&position, square, kind), turns.pair(i, kind)) {
+        let stored = words.pair_by_square(&position, square, kind);
+        if !is_no_tighter(stored, turns.pair(i, kind)) {
             return false;
         }
     }
