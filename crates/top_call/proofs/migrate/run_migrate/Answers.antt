@@ -1,4 +1,4 @@
-use Rattle.std.proofs.Common.{◌≡◌, ◌⊎◌, ◌∙◌, List, ℕ, [], Option, Some, IsTrue, Ok, inl, inr, sym, subst, refl, arith}
+use Rattle.std.proofs.Common.{◌≡◌, ◌⊎◌, ◌∙◌, List, ℕ, [], Option, Some, IsTrue, Ok, inl, inr, sym, subst, arith}
 use Rattle.database_file.specs.Bases.{AnswersBase}
 use Rattle.database_file.specs.Writing.{HoldsFront}
 use Rattle.top_call.specs.Loads.{RefusesLoading}
