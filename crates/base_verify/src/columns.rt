@@ -26,8 +26,10 @@ fn position_holds(words: &Words, turns: &ColumnTurns, i: usize) -> bool
     ensures { IsTrue result → PositionHolds words.now (position_in turns.now i) }
 {
     let position = turns.position(i);
+    let square = position.square_rank();
     for kind in 0..turns.kinds() {
-        if !is_no_tighter(words.pair(&position, kind), turns.pair(i, kind)) {
+        let stored = words.pair_by_square(&position, square, kind);
+        if !is_no_tighter(stored, turns.pair(i, kind)) {
             return false;
         }
     }

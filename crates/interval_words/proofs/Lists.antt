@@ -33,6 +33,15 @@ module _ (bound : ℤ) (list : List ℕ) (state : ℕ) where
   unfolding value_of
   pair-is lower upper low high = λ i. record { lower = low i; upper = high i }
 
+-- a word in range stands for a value
+pub value-small : (word : ℕ) → IsWithinUnits (pos (2 ^ 36)) (value_of word) → IsWithinUnits (pos (2 ^ 56)) (pos word -ℤ pos (2 ^ 36))
+unfolding value_of
+value-small word is = record { from = omega (arith, ints, is.from); to = omega (arith, ints, is.to) }
+
+pub value-read : (word : ℕ) (value : ℤ) → value ≡ pos word -ℤ pos (2 ^ 36) → value ≡ value_of word
+unfolding value_of
+value-read word value is = is
+
 -- the widest pair of the states before one
 pub record AreWidths (list : List ℕ) (states : ℕ) (widest : ℤ) : Type 0 where
   pub each : (n : ℕ) → n < states → width (pair_at list n) ≤ℤ widest

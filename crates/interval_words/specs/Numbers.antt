@@ -25,9 +25,13 @@ word_of Upper state = 2 * state + 1
 unfoldable pub value_of : ℕ → ℤ
 value_of word = pos word -ℤ WORD_OFFSET
 
+-- what a word of the state with this number stands for
+abbrev pub value_in : List ℕ → End → ℕ → ℤ
+value_in list end state = value_of (slice_index list (word_of end state))
+
 -- the words of a list
 abbrev pub words_of : ℕ → List ℕ → Words
-words_of kinds list end p k = value_of (slice_index list (word_of end (state_of kinds p k)))
+words_of kinds list end p k = value_in list end (state_of kinds p k)
 
 -- the tighter of two values
 abbrev pub tightest : End → ℤ → ℤ → ℤ
@@ -42,5 +46,5 @@ tightest_word Upper a b = min a b
 -- two words for each of so many states, whose values are the bound on both sides of 0
 pub record AreBoundWords (bound : ℤ) (states : ℕ) (list : List ℕ) : Type 0 where
   pub long : length list ≡ 2 * states
-  pub lower : (state : ℕ) → state < states → value_of (slice_index list (word_of Lower state)) ≡ neg_ℤ bound
-  pub upper : (state : ℕ) → state < states → value_of (slice_index list (word_of Upper state)) ≡ bound
+  pub lower : (state : ℕ) → state < states → value_in list Lower state ≡ neg_ℤ bound
+  pub upper : (state : ℕ) → state < states → value_in list Upper state ≡ bound

@@ -1,5 +1,5 @@
 -- Words that stand in a list.
-use Rattle.std.specs.Prelude.{◌≡◌, ◌<◌, ℕ, ℤ, ◌-ℤ◌, ◌≤ℤ◌, List, length, slice_index, true, None}
+use Rattle.std.specs.Prelude.{◌≡◌, ◌<◌, ℕ, ℤ, ◌-ℤ◌, ◌≤ℤ◌, List, length, true, None}
 use Rattle.directed_fixed.specs.declared.bounds.End.TheVariants.{Lower, Upper}
 use Rattle.directed_fixed.specs.Bounds.{Bounds, IsWithin}
 use Rattle.turn_rule.specs.Games.{kinds_of}
@@ -8,7 +8,7 @@ use Rattle.turn_rule.specs.Turn.{Words, rounds}
 use Rattle.turn_rule.specs.Truth.{AreSound, AreConsistent}
 use Rattle.turn_rule.specs.Looks.{Source}
 use Rattle.turn_rule.specs.declared.game.Game.{Game}
-use Rattle.interval_words.specs.Numbers.{states_in, word_of, words_of, value_of}
+use Rattle.interval_words.specs.Numbers.{states_in, words_of, value_in}
 use Rattle.interval_words.specs.Core.{words_in}
 
 -- the words of a game after some rounds, two for each state by its number, the lower one first
@@ -27,8 +27,8 @@ words_in_list words = words_of (kinds_of words.game) words.list
 -- both words of the state with this number
 abbrev pub pair_at : List ℕ → ℕ → Bounds
 pair_at list state = record {
-  lower = value_of (slice_index list (word_of Lower state));
-  upper = value_of (slice_index list (word_of Upper state));
+  lower = value_in list Lower state;
+  upper = value_in list Upper state;
 }
 
 abbrev pub width : Bounds → ℤ

@@ -1,15 +1,17 @@
 ghost use Rattle.std.specs.Prelude.{◌≡◌, ◌<◌, ◌≤◌, ◌+◌, ◌*◌, ◌^◌, ◌↔◌, ℕ, pos, ◌≤ℤ◌, IsSome, IfSome, IsTrue, length};
-ghost use Rattle.directed_fixed.specs.Bounds.{IsWithin};
+ghost use Rattle.position_rank.specs.Ranks.{square_rank_of};
+ghost use Rattle.directed_fixed.specs.Bounds.{IsWithin, IsWithinUnits};
 ghost use Rattle.directed_fixed.specs.declared.word.TheConstants.{WORD_OFFSET};
 ghost use Rattle.turn_rule.specs.Games.{IsGame, game_of};
 ghost use Rattle.turn_rule.specs.Looks.{AreStakesOf};
 ghost use Rattle.turn_rule.specs.States.{IsState, AreWithin, pair_of};
+ghost use Rattle.interval_words.specs.Numbers.{value_in, word_of};
 ghost use Rattle.interval_words.specs.WordLists.{WordList, AreRight, AreClosed, IsWidest, list_of, states_of, words_in_list, pair_at, source_of};
 
 use crate::live_index::LiveIndex;
-use crate::number::{state_count, state_number};
+use crate::number::{state_count, state_number_at};
 use cube_actions::Stakes;
-use directed_fixed::{Fixed, Pair, from_word};
+use directed_fixed::{End, Fixed, Pair, from_word};
 use hyper_outside::LookStop;
 use position_rank::Position;
 use std::marker::Model;
@@ -51,6 +53,30 @@ fn pair_of_list(list: &[u64], state: usize, bound: Fixed) -> Option<Pair>
         return None;
     }
     Some(Pair::new(from_word(lower, bound)?, from_word(upper, bound)?))
+}
+
+/// Where a word of the state with this number stands in a list.
+#[inline]
+fn place_in_list(list: &[u64], end: End, state: usize) -> usize
+    requires { 2 * state + 1 < length list.now }
+    ensures place { result ≡ word_of end state }
+    ensures inside { result < length list.now }
+{
+    match end {
+        End::Lower => 2 * state,
+        End::Upper => 2 * state + 1,
+    }
+}
+
+/// What a word of the state with this number stands for, where it is in range.
+#[inline]
+fn value_in_list(list: &[u64], end: End, state: usize) -> Fixed
+    requires state { 2 * state + 1 < length list.now }
+    requires within { IsWithinUnits WORD_OFFSET (value_in list.now end state) }
+    ensures { result ≡ value_in list.now end state }
+{
+    let place = place_in_list(list, end, state);
+    Fixed::of_word(list[place])
 }
 
 /// Whether the words of so many states are in range, the lower ones at most the upper ones.
@@ -171,8 +197,32 @@ impl Words {
         ensures pair { result ≡ pair_of (words_in_list self.now) position.now kind }
         ensures within { IsWithin self.now.game.stakes.bound result }
     {
-        let state = state_number(&self.index, &self.stakes, position, kind);
+        self.pair_by_square(position, position.square_rank(), kind)
+    }
+
+    /// `pair` of a position whose square rank is at hand.
+    #[inline]
+    pub fn pair_by_square(&self, position: &Position, square: u64, kind: usize) -> Pair
+        requires state { IsState self.now.game position.now kind }
+        requires square { square ≡ square_rank_of position.now }
+        ensures pair { result ≡ pair_of (words_in_list self.now) position.now kind }
+        ensures within { IsWithin self.now.game.stakes.bound result }
+    {
+        let state = state_number_at(&self.index, &self.stakes, position, square, kind);
         self.pair_at(state as usize)
+    }
+
+    /// One word of a state, whose position's square rank is at hand.
+    #[inline]
+    fn word_at(&self, end: End, position: &Position, square: u64, kind: usize) -> Fixed
+        requires state { IsState self.now.game position.now kind }
+        requires square { square ≡ square_rank_of position.now }
+        ensures { result ≡ words_in_list self.now end position.now kind }
+    {
+        // Right words stand for values.
+        self.right();
+        let state = state_number_at(&self.index, &self.stakes, position, square, kind);
+        value_in_list(&self.list, end, state as usize)
     }
 
     /// The greatest upper minus lower word of a state.
@@ -266,12 +316,32 @@ impl Pairs for WordsReader<'_> {
 
     #[inline]
     fn lower_of(&mut self, position: &Position, kind: usize) -> Result<Fixed, LookStop> {
-        Ok(self.words.pair(position, kind).lower())
+        self.lower_at(position, position.square_rank(), kind)
+    }
+
+    #[inline]
+    fn lower_at(
+        &mut self,
+        position: &Position,
+        square: u64,
+        kind: usize,
+    ) -> Result<Fixed, LookStop> {
+        Ok(self.words.word_at(End::Lower, position, square, kind))
     }
 
     #[inline]
     fn upper_of(&mut self, position: &Position, kind: usize) -> Result<Fixed, LookStop> {
-        Ok(self.words.pair(position, kind).upper())
+        self.upper_at(position, position.square_rank(), kind)
+    }
+
+    #[inline]
+    fn upper_at(
+        &mut self,
+        position: &Position,
+        square: u64,
+        kind: usize,
+    ) -> Result<Fixed, LookStop> {
+        Ok(self.words.word_at(End::Upper, position, square, kind))
     }
 
     ghost floor_within = { λ reader _. reader.within };

@@ -1,5 +1,5 @@
 -- What is advised from a file, and what refuses it.
-use Rattle.std.proofs.Common.{◌≡◌, ◌≢◌, ◌∙◌, ◌<◌, ℕ, true, List, sum, length, Option, Some, None, Ok, Err, Result, inl, inr, refl, sym, ap, subst, arith}
+use Rattle.std.proofs.Common.{◌≡◌, ◌∙◌, ◌<◌, ℕ, true, List, length, Option, Some, None, Ok, Err, Result, inl, inr, refl, sym, ap, subst}
 use Rattle.std.specs.Option.{option_map}
 use Rattle.roll_table.specs.Rolls.{Dice, IsRoll}
 use Rattle.cube_actions.specs.declared.name.StakesName.{StakesName}
@@ -27,7 +27,6 @@ use Rattle.database_file.specs.Texts.{game_in}
 use Rattle.database_file.proofs.Bases.{kinds-named}
 use Rattle.equity_report.specs.declared.refusal.Refusal.{Refusal}
 use Rattle.equity_report.specs.declared.refusal.Refusal.TheVariants.{Words, Position, Missing, File, Read, Write, Memory, Base, Roll, Inconsistent, Record}
-use Rattle.equity_report.specs.declared.refusal.Wanted.TheVariants.{Checkers, Kind}
 use Rattle.top_call.specs.declared.advise.AskedKind.{AskedKind}
 use Rattle.top_call.specs.declared.task.AdviseTask.{AdviseTask}
 use Rattle.top_call.specs.Loads.{TellsStop}

@@ -1,5 +1,5 @@
 -- What is looked up in a file is of its right pages, and so of all words that have the pairs of these.
-use Rattle.std.proofs.Common.{◌≡◌, ◌∙◌, ◌<◌, ℕ, zero, suc, ℤ, List, [], ◌∷◌, length, map, true, IsTrue, All, Option, Some, None, inl, inr, refl, sym, ap, subst, arith, neg_ℤ}
+use Rattle.std.proofs.Common.{◌≡◌, ◌∙◌, ◌<◌, ℕ, zero, suc, ℤ, List, [], ◌∷◌, map, true, All, Option, Some, None, inl, inr, refl, sym, ap, subst, arith, neg_ℤ}
 use Rattle.std.specs.Option.{option_map}
 use Rattle.std.specs.Prelude.{unwrap_or}
 use Rattle.std.proofs.lemmas.Option.{none-some}
@@ -18,9 +18,9 @@ use Rattle.directed_fixed.specs.Bounds.{Bounds, IsNoLooser, at, other}
 use Rattle.cube_actions.specs.declared.kind.Double.{Double}
 use Rattle.cube_actions.specs.declared.kind.Kind.{Kind}
 use Rattle.cube_actions.specs.declared.kind.Taken.{Taken}
-use Rattle.cube_actions.specs.Stakes.{Terms, kind_at}
+use Rattle.cube_actions.specs.Stakes.{kind_at}
 use Rattle.turn_rule.specs.Games.{IsGame, kinds_of}
-use Rattle.turn_rule.specs.Turn.{Words, win, if_won, worth, roll_value}
+use Rattle.turn_rule.specs.Turn.{Words, win, if_won, worth}
 use Rattle.turn_rule.specs.Looks.{Damage, HasDamage, IsLeft, IsPairFor, IsRollPair, MayFollow, MayFollowTurn, Source, Sought, States, of_roll}
 use Rattle.turn_rule.specs.Following.{AgreeOn}
 use Rattle.turn_rule.specs.Found.{of_play}
@@ -38,13 +38,11 @@ use Rattle.word_pages.specs.declared.flaws.Flaw.{Flaw}
 use Rattle.base_head.specs.Fronts.{bad_of}
 use Rattle.base_head.specs.Heads.{FileHead, stakes_of}
 use Rattle.base_head.specs.Headers.{IsHeader}
-use Rattle.base_head.specs.declared.header.Header.{Header}
 use Rattle.database_file.specs.Faults.{header_of_file}
 use Rattle.database_file.specs.Paged.{damage_of, flaw_at, paged_source, told_words}
 use Rattle.database_file.specs.Texts.{game_in}
 use Rattle.database_file.proofs.PagedLooks.{told-right}
 use Rattle.database_file.proofs.PageWords.{word-among}
-use Rattle.equity_report.specs.declared.refusal.Refusal.{Refusal}
 use Rattle.equity_report.specs.declared.refusal.Refusal.TheVariants.{File}
 use Rattle.top_call.specs.Advises.{AreOnRightPages, HavePairsOf, IsOnBadPage}
 

@@ -1,8 +1,7 @@
 -- What is analysed by a file, and what refuses it.
-use Rattle.std.proofs.Common.{◌≡◌, ◌∙◌, List, ℕ, Bool, true, false, IsTrue, map, All, Option, Some, None, Ok, Err, Result, inl, inr, refl, sym, ap, subst}
+use Rattle.std.proofs.Common.{◌≡◌, ◌∙◌, List, ℕ, true, false, map, All, Option, Some, None, Ok, Err, inl, inr, refl, sym, ap, subst}
 use Rattle.std.specs.Option.{option_map}
 use Rattle.std.proofs.lemmas.List.Elements.{All-map}
-use Rattle.hyper_outside.specs.Files.{Contents}
 use Rattle.hyper_outside.specs.declared.outside.LookStop.{LookStop}
 use Rattle.hyper_outside.specs.declared.outside.LookStop.TheVariants as looks
 use Rattle.cube_actions.specs.Stakes.{Terms, bound_of}
@@ -27,16 +26,15 @@ use Rattle.database_file.specs.Paged.{paged_source, told_words}
 use Rattle.database_file.specs.PagedFiles.{PagedFile}
 use Rattle.database_file.specs.Texts.{game_in}
 use Rattle.database_file.proofs.Bases.{bound-named}
-use Rattle.command_line.specs.declared.command.Analyse.{Analyse}
 use Rattle.equity_report.specs.declared.text.GameName.{GameName}
 use Rattle.equity_report.specs.declared.refusal.Refusal.{Refusal}
 use Rattle.equity_report.specs.declared.refusal.Refusal.TheVariants.{Missing, File, Read, Memory, Base}
 use Rattle.equity_report.specs.declared.refusal.Wanted.TheVariants.{Fits}
 use Rattle.top_call.specs.declared.record.Replayed.{Replayed}
-use Rattle.top_call.specs.Advises.{AnswersSought, OfHeld}
-use Rattle.top_call.specs.Analyses.{AnswersAnalysis, AnswersDecisions, AnswersJudging, IsGameOf, IsOpenedFor, JudgesRecord, MayFollowDecisions, RefusesJudging, RefusesOpening}
+use Rattle.top_call.specs.Advises.{OfHeld}
+use Rattle.top_call.specs.Analyses.{AnswersDecisions, IsGameOf, IsOpenedFor, JudgesRecord, MayFollowDecisions, RefusesJudging, RefusesOpening}
 use Rattle.top_call.specs.Loads.{TellsStop, game_told}
-use Rattle.top_call.specs.Records.{HoldsRecord, IsRightReplayed, game_recorded}
+use Rattle.top_call.specs.Records.{IsRightReplayed, game_recorded}
 use Rattle.top_call.specs.Runs.{IsOfShowing}
 use Rattle.top_call.specs.Shows.{look_refusal}
 use Rattle.top_call.proofs.AdviseFiles.{same-kinds}

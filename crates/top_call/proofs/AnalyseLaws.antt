@@ -26,7 +26,7 @@ use Rattle.game_record.specs.declared.record.RecordStakes.TheVariants.{Cubeless,
 use Rattle.move_rules.specs.Listing.{Among}
 use Rattle.turn_rule.specs.declared.game.Game.{Game}
 use Rattle.turn_rule.specs.Following.{AgreeOn}
-use Rattle.turn_rule.specs.Games.{IsGame, kinds_of}
+use Rattle.turn_rule.specs.Games.{IsGame}
 use Rattle.turn_rule.specs.Looks.{AreStakesOf, IsPairFor, Source}
 use Rattle.turn_rule.specs.States.{AreNoLooser, IsState}
 use Rattle.turn_rule.specs.Turn.{Words}
@@ -38,18 +38,16 @@ use Rattle.play_analyser.specs.Regrets.{loss_of}
 use Rattle.play_analyser.specs.Sought.{MayFollowChoice, of_loss}
 use Rattle.play_analyser.proofs.Tighter.{loss-of-tighter}
 use Rattle.record_analysis.specs.Analyses.{unjudged}
-use Rattle.record_analysis.specs.Judging.{CanBeJudged, Judges, JudgesAll, MayFollowSome, of_decision}
+use Rattle.record_analysis.specs.Judging.{CanBeJudged, JudgesAll, of_decision}
 use Rattle.record_analysis.specs.Truth.{IsDecisionOf}
 use Rattle.record_analysis.specs.declared.analysis.Judged.{Judged}
 use Rattle.base_head.specs.Heads.{FileHead, stakes_named, stakes_of}
-use Rattle.base_head.specs.Headers.{IsHeader}
 use Rattle.database_file.specs.Faults.{header_of_file}
 use Rattle.database_file.specs.Paged.{flaw_at}
 use Rattle.database_file.specs.Texts.{game_in}
-use Rattle.top_call.specs.declared.record.Replayed.{Replayed}
 use Rattle.top_call.specs.Advises.{AreOnRightPages, HavePairsOf}
 use Rattle.top_call.specs.Analyses.{IsGameOf, IsOpenedFor, MayFollowDecisions}
-use Rattle.top_call.specs.Records.{IsRightReplayed, stakes_recorded}
+use Rattle.top_call.specs.Records.{stakes_recorded}
 use Rattle.top_call.proofs.AdviseLaws.{flawless, pair-over, source_in, told-agrees, told_in}
 
 -- ---- decisions of a record outside a match

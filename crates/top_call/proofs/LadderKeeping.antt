@@ -1,7 +1,6 @@
 -- What a keeper does with a score that it may keep.
-use Rattle.std.proofs.Common.{◌≡◌, ◌∙◌, ◌≤◌, ◌<◌, ◌⊎◌, ℕ, ℤ, true, false, IsTrue, List, [], length, Option, Some, Ok, Err, inl, inr, sym, ap, subst, arith}
+use Rattle.std.proofs.Common.{◌≡◌, ◌∙◌, ◌≤◌, ◌<◌, ◌⊎◌, ℕ, ℤ, true, false, IsTrue, List, [], length, Some, Ok, Err, inl, inr, sym, ap, subst, arith}
 use Rattle.std.specs.List.{AllPairs}
-use Rattle.std.proofs.lemmas.List.{append-nil}
 use Rattle.hyper_outside.specs.declared.outside.Failed.{Failed}
 use Rattle.hyper_outside.specs.Files.{Contents, KeepsOthers}
 use Rattle.hyper_outside.specs.Sink.{Output, Puts}
@@ -26,10 +25,6 @@ use Rattle.top_call.proofs.LadderSteps.{LadderLaw, head-valid, kept-next, not-ke
 -- the scores of each match stand in order
 abbrev pub AreInOrder : Type 0
 AreInOrder = (match_length : ℕ) → 1 ≤ match_length → match_length ≤ 5 → AllPairs ScoreComesBefore (ladder match_length)
-
--- a whole text is a front of it
-pub all-of : (text : List ℕ) (held : Option (List ℕ)) → held ≡ Some text → HoldsFront [] text held
-all-of text held there = (text, [], sym (append-nil text), there)
 
 module _ (task : Ladder) (right : IsRightLadder task) (law : LadderLaw) (in_match : AreScores) (order : AreInOrder)
     (past : LadderPast) (own given : StartPairs) (score : MatchScore) (words : WordList) (widest : ℤ) (pair : Bounds)
@@ -72,7 +67,7 @@ module _ (task : Ladder) (right : IsRightLadder task) (law : LadderLaw) (in_matc
         → IsPut middle new (ladder_score_text score pair widest) → (longer : StartPairs) → longer ≡ with_pair own pair → AreStarts longer → HasKeptSince past task longer false later new
     keeps written line longer added are_starts =
         let line' : IsPut middle new (score_line task (score_of task (length own.pairs)) words widest) =
-              at-own (λ s sc. IsPut middle new (score_line task sc words widest)) (subst (λ (p : Bounds). IsPut middle new (ladder_score_text score p widest)) pair-is line) in
+        at-own (λ s sc. IsPut middle new (score_line task sc words widest)) (subst (λ (p : Bounds). IsPut middle new (ladder_score_text score p widest)) pair-is line) in
         let pair' : pair ≡ start_over task.checkers (words_in_list words) (score_of task (length own.pairs)) = at-own (λ s sc. pair ≡ start_over task.checkers (words_in_list words) sc) pair-is in
         let longer' : longer ≡ with_pair own (start_over task.checkers (words_in_list words) (score_of task (length own.pairs))) = added ∙ ap (with_pair own) pair' in
         subst (λ (s : StartPairs). HasKeptSince past task s false later new) (sym longer')

@@ -13,6 +13,7 @@ mod Telling
 mod Unread
 mod AnalyseLaws
 mod AnalyseFiles
+mod Written
 mod ScoreFiles
 mod LadderSteps
 mod LadderEnds

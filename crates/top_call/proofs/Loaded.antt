@@ -1,5 +1,5 @@
 -- What is known of a file that was loaded, or wasn't.
-use Rattle.std.proofs.Common.{◌≡◌, List, ℕ, Bool, true, false, IsTrue, Option, Some, None, Result, Ok, Err, refl, sym, subst}
+use Rattle.std.proofs.Common.{◌≡◌, List, ℕ, Bool, true, false, IsTrue, Option, Some, None, Err, refl, sym, subst}
 use Rattle.std.specs.Option.{option_map}
 use Rattle.std.proofs.lemmas.Bool.{false≢true}
 use Rattle.arrayvec.specs.ArrayString.{ArrayString}

@@ -27,7 +27,7 @@ use Rattle.database_file.proofs.PageWords.{word-among}
 use Rattle.equity_report.specs.declared.files.KindRow.{KindRow}
 use Rattle.equity_report.specs.declared.text.GameName.{GameName}
 use Rattle.equity_report.specs.declared.refusal.Refusal.{Refusal}
-use Rattle.equity_report.specs.declared.refusal.Refusal.TheVariants.{Words as BadWords, Position, Missing, File, Read, Write, Memory, Base, Roll, Inconsistent, Record}
+use Rattle.equity_report.specs.declared.refusal.Refusal.TheVariants.{Missing, File, Read, Memory, Base}
 use Rattle.equity_report.specs.declared.refusal.Wanted.TheVariants.{Checkers}
 use Rattle.top_call.specs.declared.task.ShowTask.{ShowTask}
 use Rattle.top_call.specs.Loads.{TellsStop, game_told}

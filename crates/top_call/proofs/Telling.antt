@@ -1,12 +1,12 @@
 -- How a command ends that only reads, by what was found and what was put.
-use Rattle.std.proofs.Common.{◌≡◌, ◌≢◌, ◌∙◌, ℕ, List, Option, Some, None, Ok, Err, refl, sym, arith, rules}
+use Rattle.std.proofs.Common.{◌≡◌, ◌≢◌, ◌∙◌, ℕ, List, Option, Some, None, Ok, Err, inr, refl, sym, arith, rules}
 use Rattle.hyper_outside.specs.Causes.{Rose}
 use Rattle.hyper_outside.specs.Sink.{Gains, Output, Puts}
 use Rattle.hyper_outside.specs.declared.outside.Failed.{Failed}
 use Rattle.equity_report.specs.declared.refusal.Refusal.{Refusal}
 use Rattle.equity_report.specs.declared.refusal.Refusal.TheVariants.{Words, Position, Missing, File, Read, Write, Memory, Base, Roll, Inconsistent, Record}
 use Rattle.equity_report.specs.Refusals.{status_of, refusal_text}
-use Rattle.top_call.specs.Runs.{IsTold, IsPut, FailedThenPut, Tells, WasPut, WasRefused}
+use Rattle.top_call.specs.Runs.{EndsReport, IsTold, IsPut, FailedThenPut, Tells, WasPut}
 
 -- a text that gained what was put is put
 pub all-told : (old new : Option (List ℕ)) (text : List ℕ) (done : Unit {0}) → Gains {E = Failed} old new text (Ok done) → IsTold old new text
@@ -50,6 +50,15 @@ rose-later old middle new first second failed puts (answer, after) =
     let rose = puts.cause.failed in
     let later = after.cause.later in
     omega (arith, rose, later)
+
+-- putting the report failed, and then the refusal was put
+pub report-failed : (text : List ℕ) (old middle new : Output) (status : ℕ) (failed : Failed) → Puts {T = Unit {0}} old middle text (Err failed) → WasPut middle new (refusal_text Write) → status ≡ status_of Write → EndsReport text old new status
+report-failed text old middle new status failed puts was is = record {
+  ends = inr is;
+  report = λ done. absurd (some-status Write (sym is ∙ done));
+  write = λ _. failed-then old middle new text (refusal_text Write) failed puts was;
+  cause = λ _. rose-later old middle new text (refusal_text Write) failed puts was;
+}
 
 module _ (HasFound : (List ℕ → Type 0) → Type 0) (Refuses : Refusal → Type 0) (old new : Output) where
   -- the report was put of what was found

@@ -1,25 +1,20 @@
 -- What is advised from a file that was solved.
-use Rattle.std.proofs.Common.{◌≡◌, ◌≢◌, ◌∙◌, ℕ, List, [], Option, Some, None, true, refl, sym, ap, subst, arith}
+use Rattle.std.proofs.Common.{◌≡◌, ◌≢◌, ◌∙◌, ℕ, List, Option, Some, None, true, refl, sym, ap, subst, arith}
 use Rattle.roll_table.specs.Rolls.{Dice}
-use Rattle.position_rank.specs.Placement.{Placement}
-use Rattle.directed_fixed.specs.declared.bounds.End.{End}
 use Rattle.cube_actions.specs.Scores.{MatchScore}
 use Rattle.cube_actions.specs.Starts.{AreStarts}
 use Rattle.cube_actions.specs.declared.name.StakesName.{StakesName}
 use Rattle.cube_actions.specs.declared.name.StakesName.TheVariants.{Cubeless, Money, Jacoby, MoneyBeavers, JacobyBeavers, Match}
 use Rattle.hyper_outside.specs.Sink.{Output}
 use Rattle.turn_rule.specs.Games.{kinds_of}
-use Rattle.turn_rule.specs.Turn.{Words}
 use Rattle.turn_rule.specs.Truth.{AreSound}
 use Rattle.turn_rule.specs.declared.game.Game.{Game}
-use Rattle.interval_words.specs.Numbers.{words_of}
 use Rattle.interval_words.specs.WordLists.{WordList, words_in_list}
 use Rattle.play_analyser.specs.Advised.{ActionLosesAtMost, FirstLosesAtMost}
 use Rattle.word_pages.specs.declared.version.Version.{Version}
 use Rattle.word_pages.specs.declared.version.Version.TheVariants.{Two}
-use Rattle.base_head.specs.Fronts.{head_in}
 use Rattle.base_head.specs.Heads.{AreStartsOf, FileHead, IsHead, no_starts}
-use Rattle.database_file.specs.Bases.{IsBaseOf, base_with, words_of_file}
+use Rattle.database_file.specs.Bases.{IsBaseOf, words_of_file}
 use Rattle.database_file.specs.Faults.{header_of_file, whole}
 use Rattle.database_file.specs.FileBases.{FileBase}
 use Rattle.database_file.specs.Texts.{IsText, game_in}
@@ -29,7 +24,7 @@ use Rattle.top_call.specs.declared.advise.AskedKind.{AskedKind}
 use Rattle.top_call.specs.declared.task.AdviseTask.{AdviseTask}
 use Rattle.top_call.specs.Runs.{IsPut}
 use Rattle.top_call.specs.Solves.{AreSolved, HasSolved, head_of, solved_file}
-use Rattle.top_call.specs.Advises.{Advises, HasAdvised, HasAdvisedOn, HavePairsOf, InTheEnd, IsKindAsked, IsStateIn, OfHeld, Ranks}
+use Rattle.top_call.specs.Advises.{HasAdvised, HasAdvisedOn, HavePairsOf, InTheEnd, IsKindAsked, IsStateIn}
 use Rattle.top_call.specs.Headline.{PrintsGoodAdvice, PrintsGoodFor}
 
 no-starts-of : (name : StakesName) → ((score : MatchScore) → name ≢ Match score) → AreStartsOf name no_starts

@@ -1,9 +1,9 @@
 -- What is known of words that were checked, and of a file that wasn't found to be consistent.
-use Rattle.std.proofs.Common.{◌≡◌, List, ℕ, neg_ℤ, Bool, IsTrue, Option, Some, None, Result, Ok, Err, sym, ap, subst, arith}
+use Rattle.std.proofs.Common.{List, ℕ, neg_ℤ, Option, Ok, Err, ap, arith}
 use Rattle.position_rank.specs.Placement.{Placement}
 use Rattle.directed_fixed.specs.declared.bounds.End.TheVariants.{Lower, Upper}
 use Rattle.turn_rule.specs.declared.game.Game.{Game}
-use Rattle.turn_rule.specs.Games.{IsGame, kinds_of}
+use Rattle.turn_rule.specs.Games.{kinds_of}
 use Rattle.turn_rule.specs.States.{IsState}
 use Rattle.turn_rule.specs.Turn.{Words}
 use Rattle.turn_rule.specs.Exact.{Scoring}
@@ -22,7 +22,7 @@ use Rattle.base_verify.specs.Findings.{AlwaysEnclose}
 use Rattle.equity_report.specs.declared.refusal.Refusal.{Refusal}
 use Rattle.equity_report.specs.declared.refusal.Refusal.TheVariants.{Words as BadWords, Position, Missing, File, Read, Write, Memory, Base, Roll, Inconsistent, Record}
 use Rattle.equity_report.specs.Refusals.{status_of}
-use Rattle.top_call.specs.Loads.{OfFile, RefusesLoading}
+use Rattle.top_call.specs.Loads.{RefusesLoading}
 use Rattle.top_call.specs.Verifies.{AnswersCheck, AreVerified, LossesEnclose, RefusesVerifying}
 
 -- an unfinished end that lies in the pair of its own state lies within the bound

@@ -42,11 +42,11 @@ KeepsFiles (Ok (Make task)) before after = KeepsOthers task.file before after
 KeepsFiles (Ok (Ladder task)) before after = KeepsAllBut task (scores_in task) before after
 KeepsFiles _ before after = SameFiles before after
 
--- A run that is refused, and not for a failed write, changed no file. A ladder keeps those of the scores that were solved before there was no
--- memory; which these are stands with what it has done.
-abbrev pub KeepsRefused : Result Task Refusal → Contents → Contents → Type 0
-KeepsRefused (Ok (Ladder task)) before after = KeepsAllBut task (scores_in task) before after
-KeepsRefused _ before after = SameFiles before after
+-- Where there was no memory, no file changed, but that a ladder keeps those of the scores that it has solved; which these are is said with what it
+-- has done.
+abbrev pub KeepsWithoutMemory : Result Task Refusal → Contents → Contents → Type 0
+KeepsWithoutMemory (Ok (Ladder task)) before after = KeepsAllBut task (scores_in task) before after
+KeepsWithoutMemory _ before after = SameFiles before after
 
 -- Where there was no memory, the line of that refusal was put; of a ladder it stands behind the lines of the scores that were solved, as is said
 -- with what it has done.

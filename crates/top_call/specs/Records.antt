@@ -1,5 +1,5 @@
 -- What is known of a file that holds a recorded game.
-use Rattle.std.specs.Prelude.{◌≡◌, ◌⊎◌, ◌≤◌, ℕ, ◌==◌, List, length, Bool, IsTrue, All, Option, Some, None, Result, Ok, Err, if◌then◌else◌, ⊤}
+use Rattle.std.specs.Prelude.{◌≡◌, ◌⊎◌, ◌≤◌, ℕ, List, length, Bool, IsTrue, All, Option, Some, None, Result, Ok, Err, ⊤}
 use Rattle.cube_actions.specs.declared.name.StakesName.{StakesName}
 use Rattle.game_record.specs.Faults.{IsBad}
 use Rattle.game_record.specs.Kinds.{game_stakes}

@@ -99,6 +99,14 @@ abbrev pub FailedThenPut : Output → Output → List ℕ → List ℕ → Type 
 FailedThenPut old new first second =
     (middle : Output) × (answer : Result (Unit {0}) Failed) × IsErr answer × Puts old middle first answer × WasPut middle new second
 
+-- How a report ends that is put last: at 0 it was put; at 7 putting it failed, where the output's count of faults rose, and then the line of
+-- that refusal was put.
+pub record EndsReport (text : List ℕ) (old new : Output) (status : ℕ) : Type 0 where
+  pub ends : (status ≡ 0) ⊎ (status ≡ status_of Write)
+  pub report : status ≡ 0 → IsPut old new text
+  pub write : status ≡ status_of Write → FailedThenPut old new text (refusal_text Write)
+  pub cause : status ≡ status_of Write → Rose old.faults new.faults
+
 -- A run was refused: a refusal was due, its line was put, and the status is its.
 pub record WasRefused (Refuses : Refusal → Type 0) (old new : Output) (status : ℕ) : Type 0 where
   pub refusal : Refusal

@@ -12,11 +12,6 @@ use Rattle.cube_actions.specs.declared.name.StakesName.TheVariants.{Cubeless}
 use Rattle.command_line.specs.declared.command.Command.{Command}
 use Rattle.command_line.specs.declared.command.Command.TheVariants as commands
 use Rattle.command_line.specs.declared.command.Bound.{Bound as BoundWords}
-use Rattle.command_line.specs.declared.command.Solve.{Solve as SolveTask}
-use Rattle.command_line.specs.declared.command.Migrate.{Migrate as MigrateTask}
-use Rattle.command_line.specs.declared.command.Ladder.{Ladder as LadderTask}
-use Rattle.command_line.specs.declared.command.Verify.{Verify as VerifyTask}
-use Rattle.command_line.specs.declared.command.Analyse.{Analyse as AnalyseTask}
 use Rattle.command_line.specs.Words.{reading}
 use Rattle.command_line.specs.declared.command.Show.{Show as ShowWords}
 use Rattle.command_line.specs.declared.command.Advise.{Advise as AdviseWords}

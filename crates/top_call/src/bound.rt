@@ -1,11 +1,11 @@
-ghost use Rattle.std.specs.Prelude.{◌≡◌, ◌⊎◌, IfOk};
+ghost use Rattle.std.specs.Prelude.{◌≡◌, IfOk};
 ghost use Rattle.cube_actions.specs.Stakes.{cubeless};
 ghost use Rattle.turn_rule.specs.Turn.{rounds};
 ghost use Rattle.turn_rule.specs.States.{pair_of};
-ghost use Rattle.equity_report.specs.declared.refusal.Refusal.TheVariants.{Memory, Write};
+ghost use Rattle.equity_report.specs.declared.refusal.Refusal.TheVariants.{Memory};
 ghost use Rattle.equity_report.specs.Refusals.{status_of, refusal_text};
 ghost use Rattle.top_call.specs.Tasks.{IsRightBound};
-ghost use Rattle.top_call.specs.Runs.{WasPut};
+ghost use Rattle.top_call.specs.Runs.{EndsWriting, WasPut};
 ghost use Rattle.top_call.specs.Truth.{TellsBound};
 
 use crate::put::{DONE, refuse};
@@ -34,7 +34,7 @@ fn pair_after(alloc: Global, task: &BoundTask) -> Result<Pair, NoMemory>
 /// Puts the task's report, or a refusal where that fails or there is no memory.
 pub(crate) fn run_bound<O: Sink>(alloc: Global, task: &BoundTask, out: &mut O) -> u8
     requires { IsRightBound task.now }
-    ensures ends { (result ≡ 0) ⊎ (result ≡ status_of Write) ⊎ (result ≡ status_of Memory) }
+    ensures ends { EndsWriting result }
     ensures tells { TellsBound task.now (O.output out.old) (O.output out.new) result }
     ensures memory { result ≡ status_of Memory
         → WasPut (O.output out.old) (O.output out.new) (refusal_text Memory) }

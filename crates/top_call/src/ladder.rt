@@ -1,12 +1,11 @@
 ghost use Rattle.std.specs.Prelude.{◌≡◌, ◌≤◌, ◌⊎◌, Err, IsTrue};
 ghost use Rattle.hyper_outside.specs.Causes.{Rose};
-ghost use Rattle.hyper_outside.specs.Sink.{Puts};
 ghost use Rattle.match_scores.specs.declared.ladder.LadderStop.TheVariants.{Keep};
 ghost use Rattle.equity_report.specs.declared.refusal.Refusal.TheVariants.{Write};
-ghost use Rattle.equity_report.specs.Refusals.{status_of, refusal_text};
+ghost use Rattle.equity_report.specs.Refusals.{status_of};
 ghost use Rattle.command_line.specs.Right.{IsRightLadder};
 ghost use Rattle.top_call.specs.Ladders.{KeepsAllBut, SolvesLadder, SolvesScores, end_line, scores_in};
-ghost use Rattle.top_call.specs.Runs.{EndsWriting, FailedThenPut, IsPut};
+ghost use Rattle.top_call.specs.Runs.{EndsReport, EndsWriting};
 
 use crate::ladder_keep::LadderKeep;
 use crate::put::{DONE, refuse};
@@ -55,13 +54,7 @@ fn solve_scores<R: Threads + Sync, F: Files, O: Sink, G: Gate + Sync>(
 
 /// Puts the last line of a ladder, or a refusal where that fails.
 fn tell_end<O: Sink>(task: &Ladder, out: &mut O) -> u8
-    ensures ends { (result ≡ 0) ⊎ (result ≡ status_of Write) }
-    ensures report { result ≡ 0
-        → IsPut (O.output out.old) (O.output out.new) (end_line task.now) }
-    ensures write { result ≡ status_of Write → FailedThenPut (O.output out.old) (O.output out.new)
-        (end_line task.now) (refusal_text Write) }
-    ensures cause { result ≡ status_of Write
-        → Rose (O.output out.old).faults (O.output out.new).faults }
+    ensures { EndsReport (end_line task.now) (O.output out.old) (O.output out.new) result }
 {
     match write_ladder_end(
         out,

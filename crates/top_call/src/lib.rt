@@ -18,8 +18,6 @@ mod show;
 mod solve;
 mod studying;
 mod task;
-#[cfg(test)]
-mod tests;
 mod top;
 mod verify;
 mod verify_laws;

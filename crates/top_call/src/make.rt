@@ -1,4 +1,4 @@
-ghost use Rattle.std.specs.Prelude.{◌≡◌, ◌≢◌, ◌⊎◌, ◌≤◌, IsTrue, IfOk, count_by, length};
+ghost use Rattle.std.specs.Prelude.{◌≡◌, ◌⊎◌, ◌≤◌, IsTrue, IfOk, count_by, length};
 ghost use Rattle.hyper_outside.specs.Causes.{HasCause, Rose};
 ghost use Rattle.hyper_outside.specs.Files.{KeepsOthers};
 ghost use Rattle.hyper_outside.specs.Sink.{Puts};
@@ -8,7 +8,7 @@ ghost use Rattle.equity_report.specs.declared.refusal.Refusal.TheVariants.{Memor
 ghost use Rattle.equity_report.specs.Refusals.{status_of, refusal_text};
 ghost use Rattle.command_line.specs.Right.{IsRightMake};
 ghost use Rattle.top_call.specs.Makes.{IsMadeFor, Makes, made_report};
-ghost use Rattle.top_call.specs.Runs.{EndsWriting, FailedThenPut, IsPut, WasPut};
+ghost use Rattle.top_call.specs.Runs.{EndsReport, EndsWriting, WasPut};
 
 use crate::put::{DONE, refuse};
 use command_line::Make;
@@ -90,13 +90,8 @@ fn report<O: Sink>(made: &MadeRecord, out: &mut O) -> Result<(), Failed>
 /// Puts the report, or a refusal where that fails.
 fn tell<O: Sink>(made: &MadeRecord, out: &mut O) -> u8
     requires { length made.now.text.items ≤ 1048576 }
-    ensures ends { (result ≡ 0) ⊎ (result ≡ status_of Write) }
-    ensures report { result ≡ 0
-        → IsPut (O.output out.old) (O.output out.new) (made_report made.now) }
-    ensures write { result ≡ status_of Write → FailedThenPut (O.output out.old) (O.output out.new)
-        (made_report made.now) (refusal_text Write) }
-    ensures cause { result ≡ status_of Write
-        → Rose (O.output out.old).faults (O.output out.new).faults }
+    ensures { EndsReport (made_report made.now)
+        (O.output out.old) (O.output out.new) result }
 {
     match report(made, out) {
         Ok(()) => DONE,

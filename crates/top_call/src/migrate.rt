@@ -3,10 +3,10 @@ ghost use Rattle.hyper_outside.specs.Causes.{Rose};
 ghost use Rattle.hyper_outside.specs.Files.{KeepsOthers, SameFiles};
 ghost use Rattle.hyper_outside.specs.Sink.{Puts};
 ghost use Rattle.equity_report.specs.declared.refusal.Refusal.TheVariants.{Read, Write};
-ghost use Rattle.equity_report.specs.Refusals.{status_of, refusal_text};
+ghost use Rattle.equity_report.specs.Refusals.{status_of};
 ghost use Rattle.command_line.specs.Right.{IsRightMigrate};
 ghost use Rattle.top_call.specs.Migrates.{Migrates, migrated_report};
-ghost use Rattle.top_call.specs.Runs.{EndsBy, FailedThenPut, IsOfLoading, IsPut};
+ghost use Rattle.top_call.specs.Runs.{EndsBy, EndsReport, IsOfLoading};
 
 use crate::load::{game_told, refusal_of};
 use crate::put::{DONE, refuse};
@@ -37,13 +37,8 @@ fn report<O: Sink>(task: &Migrate, head: &Head, out: &mut O) -> Result<(), Faile
 /// Puts the report, or a refusal where that fails.
 fn tell<O: Sink>(task: &Migrate, head: &Head, out: &mut O) -> u8
     requires { IsRightMigrate task.now }
-    ensures ends { (result ≡ 0) ⊎ (result ≡ status_of Write) }
-    ensures report { result ≡ 0
-        → IsPut (O.output out.old) (O.output out.new) (migrated_report task.now head.now) }
-    ensures write { result ≡ status_of Write → FailedThenPut (O.output out.old) (O.output out.new)
-        (migrated_report task.now head.now) (refusal_text Write) }
-    ensures cause { result ≡ status_of Write
-        → Rose (O.output out.old).faults (O.output out.new).faults }
+    ensures { EndsReport (migrated_report task.now head.now)
+        (O.output out.old) (O.output out.new) result }
 {
     match report(task, head, out) {
         Ok(()) => DONE,

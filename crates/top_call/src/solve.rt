@@ -5,7 +5,7 @@ ghost use Rattle.hyper_outside.specs.Sink.{Puts};
 ghost use Rattle.equity_report.specs.declared.refusal.Refusal.TheVariants.{Memory, Write};
 ghost use Rattle.equity_report.specs.Refusals.{status_of, refusal_text};
 ghost use Rattle.command_line.specs.Right.{IsRightSolve};
-ghost use Rattle.top_call.specs.Runs.{FailedThenPut, IsPut, WasPut};
+ghost use Rattle.top_call.specs.Runs.{EndsReport, EndsWriting, WasPut};
 ghost use Rattle.top_call.specs.Solves.{AreSolved, Solves, head_of, solved_report};
 
 use crate::put::{DONE, refuse};
@@ -75,13 +75,8 @@ fn report<O: Sink>(task: &Solve, widest: Fixed, out: &mut O) -> Result<(), Faile
 /// Puts the report, or a refusal where that fails.
 fn tell<O: Sink>(task: &Solve, widest: Fixed, out: &mut O) -> u8
     requires { IsRightSolve task.now }
-    ensures ends { (result ≡ 0) ⊎ (result ≡ status_of Write) }
-    ensures report { result ≡ 0
-        → IsPut (O.output out.old) (O.output out.new) (solved_report task.now widest) }
-    ensures write { result ≡ status_of Write → FailedThenPut (O.output out.old) (O.output out.new)
-        (solved_report task.now widest) (refusal_text Write) }
-    ensures cause { result ≡ status_of Write
-        → Rose (O.output out.old).faults (O.output out.new).faults }
+    ensures { EndsReport (solved_report task.now widest)
+        (O.output out.old) (O.output out.new) result }
 {
     match report(task, widest, out) {
         Ok(()) => DONE,
@@ -99,7 +94,7 @@ pub(crate) fn run_solve<R: Threads + Sync, F: Files, O: Sink, G: Gate + Sync>(
     gate: &G,
 ) -> u8
     requires { IsRightSolve task.now }
-    ensures ends { (result ≡ 0) ⊎ (result ≡ status_of Write) ⊎ (result ≡ status_of Memory) }
+    ensures ends { EndsWriting result }
     ensures solves { Solves task.now (F.tells files.old) (F.held files.old) (F.held files.new)
         (O.output out.old) (O.output out.new) result }
     ensures cause { result ≡ status_of Write

@@ -1,8 +1,9 @@
 ghost use Rattle.std.specs.Prelude.{◌≡◌, ◌≢◌, ◌⊎◌, IsTrue};
 ghost use Rattle.hyper_outside.specs.Causes.{Rose};
+ghost use Rattle.hyper_outside.specs.Files.{SameFiles};
 ghost use Rattle.equity_report.specs.declared.refusal.Refusal.TheVariants.{Memory, Read, Write};
 ghost use Rattle.equity_report.specs.Refusals.{status_of};
-ghost use Rattle.top_call.specs.Outcomes.{HasRun, KeepsFiles, KeepsRefused, LeavesFiles, TellsMemory};
+ghost use Rattle.top_call.specs.Outcomes.{HasRun, KeepsFiles, KeepsWithoutMemory, LeavesFiles, TellsMemory};
 ghost use Rattle.top_call.specs.Runs.{Ends};
 ghost use Rattle.top_call.specs.Tasks.{asked};
 
@@ -24,31 +25,50 @@ use std::thread::Threads;
 
 /// Runs the program on the words after its name, over these files, this output and this gate, and answers its status.
 ///
-/// At status 0 the report was put. Of `bound` it is of a pair that encloses what the position is worth exactly in every game of at least as many
-/// turns as there were rounds, however its unfinished end is scored. After `solve` the file holds, for each state, a pair at least as tight as the asked
-/// number of rounds and, in every game of enough turns, however its unfinished end is scored, enclosing what the state is worth exactly, for every
-/// number of workers and every gate; no other file changed. After `ladder` each file is of a score of the match, with the start pairs of the scores before
-/// it, and each line has the start pair and the widest pair of its file's words; from one number of turns on for all of them, however unfinished games are
-/// scored, these words enclose the game of their score with the exact payoffs of the match, and start pairs the exact starts. Of `show` it is of the position's pairs in the file, whose header and page are right.
-/// After `migrate` the new file holds the old one's head and words, all of which were right. Of `advise` it is of the plays of a roll, or of what to do
-/// with the cube, by the pairs of the file, whose header and pages are right as far as the advice rests on them; where the file's pairs enclose what
-/// their states are worth exactly in every game of enough turns, the best play, the offer and the answer lose, in every game of enough turns, at
-/// most the bound that is told with each. Of `verify` it is of a file whose words are consistent: whoever made it, they enclose every state in games of
-/// any number of turns, and what a choice loses over them encloses what it loses exactly. Of `analyse` it is of each decision of a recorded game that breaks
-/// no rule, with what it loses by the pairs of the file, whose header and pages are right as far as the losses rest on them, and of both players' totals;
-/// where the file's pairs enclose what their states are worth exactly in every game of enough turns, each loss encloses what its decision loses exactly, from
-/// one number of turns on for all of them.
+/// At status 0 the report was put.
 ///
-/// Else the line of one refusal was put, or a front of it where that failed, each only where the ones before don't come: 1 comes where the words are
-/// outside their form; 2 where a position's text is, or else a roll's; 10 where `bound` asks for another number of checkers than its position has; 3
-/// where a record that is to be read isn't there; 5 where its file is too long, or a line of it is wrong, with the first; 10 where it is one of a match; 3
-/// where a file of bounds that is to be read isn't there; 4 where it isn't one, of `show`, `advise` and `analyse` up to its pages; 10 where these are asked
-/// for a position of another number of checkers, `advise` for a kind that the game hasn't, or `analyse` for a record of another game; 4 where the page of
-/// the position isn't right, or that of a state on which the advice or a loss rests; 9 where the words of a file that `verify` checks aren't consistent, with the first that doesn't hold by
-/// rising live rank, then by kind, the lower word before the upper one. 6 comes only where reading a file failed, 7 only where writing a file or the
-/// output failed, 8 where there was no memory. At 7 a front of the report may stand before the line, and the file in work holds what it held or a front
-/// of its text; of `ladder` that is the file of the score in work, and those of the scores before it are whole. At all others no file changed, but that at
-/// 8 the files of the scores that a `ladder` has solved stay, and their lines stand before that of the refusal.
+/// - `bound`: of a pair that encloses what the position is worth exactly in every game of at least as many turns as there were
+///   rounds, however its unfinished end is scored.
+/// - `solve`: the file holds, for each state, a pair at least as tight as the asked number of rounds and, in every game of enough
+///   turns, however its unfinished end is scored, enclosing what the state is worth exactly, for every number of workers and every
+///   gate; no other file changed.
+/// - `ladder`: each file is of a score of the match, with the start pairs of the scores before it, and each line has the start pair and
+///   the width of the widest pair of its file's words. From one number of turns on for all of them, however unfinished games are
+///   scored, the words enclose the game of their score with the exact payoffs of the match, and the start pairs the exact starts; all
+///   are at least as tight as the asked rounds from plain starts. No other file changed.
+/// - `show`: of the position's pairs in the file, whose header and page are right.
+/// - `migrate`: the new file holds the old one's head and words, all of which were right.
+/// - `advise`: of the plays of a roll, or of what to do with the cube, by the pairs of the file, whose header and pages are right as
+///   far as the advice rests on them. Where the file's pairs enclose what their states are worth exactly in every game of enough
+///   turns, the best play, the offer and the answer lose, in every game of enough turns, at most the bound that is told with each.
+/// - `verify`: of a file whose words are consistent. Whoever made it, they enclose every state in games of any number of turns, and
+///   what a choice loses over them encloses what it loses exactly.
+/// - `analyse`: of each decision of a recorded game that breaks no rule, with what it loses by the pairs of the file, whose header
+///   and pages are right as far as the losses rest on them, and of both players' totals. Where the file's pairs enclose what their
+///   states are worth exactly in every game of enough turns, each loss encloses what its decision loses exactly, from one number of
+///   turns on for all of them.
+/// - `study`: of the same losses by pairs that are solved for the record, at least as tight as after the asked rounds. Each encloses
+///   what its decision loses exactly, from one number of turns on, with nothing asked of a file.
+/// - `make`: of a record that is drawn from a number and breaks no rule, with both players' totals after eight rounds. The file
+///   holds its text, and no other changed.
+///
+/// Else the line of one refusal was put, or a front of it where that failed, each only where the ones before don't come:
+///
+/// 1. 1 comes where the words are outside their form.
+/// 2. 2 where a position's text is, or else a roll's; 10 where `bound` asks for another number of checkers than its position has.
+/// 3. Of a record that is to be read: 3 where it isn't there; 5 where its file is too long, or a line of it is wrong, with the
+///    first; 10 where it is one of a match.
+/// 4. Of a file of bounds that is to be read: 3 where it isn't there; 4 where it isn't one, of `show`, `advise` and `analyse` up to
+///    its pages; 10 where these are asked for a position of another number of checkers, `advise` for a kind that the game hasn't, or
+///    `analyse` for a record of another game; 4 where the page of the position isn't right, or that of a state on which the advice
+///    or a loss rests.
+/// 5. 9 where the words of a file that `verify` checks aren't consistent, with the first that doesn't hold by rising live rank, then
+///    by kind, the lower word before the upper one.
+///
+/// 6 comes only where reading a file failed, 7 only where writing a file or the output failed, 8 where there was no memory. At 7 a
+/// front of the report may stand before the line, and the file in work holds what it held or a front of its text; of `ladder` that is
+/// the file of one score, and those of the scores before it are whole. At all others no file changed, but that at 8 the files of the
+/// scores that a `ladder` has solved stay, and their lines stand before that of the refusal.
 pub fn run<R: Threads + Sync, F: Files, O: Sink, G: Gate + Sync>(
     rt: &R,
     alloc: Global,
@@ -70,8 +90,10 @@ pub fn run<R: Threads + Sync, F: Files, O: Sink, G: Gate + Sync>(
         → Rose (F.read_faults files.old) (F.read_faults files.new) }
     ensures kept { IsTrue (F.tells files.old)
         → KeepsFiles (asked words.now) (F.held files.old) (F.held files.new) }
-    ensures refused_files { result ≢ 0 → result ≢ status_of Write → IsTrue (F.tells files.old)
-        → KeepsRefused (asked words.now) (F.held files.old) (F.held files.new) }
+    ensures refused_files { result ≢ 0 → result ≢ status_of Write → result ≢ status_of Memory
+        → IsTrue (F.tells files.old) → SameFiles (F.held files.old) (F.held files.new) }
+    ensures memory_files { result ≡ status_of Memory → IsTrue (F.tells files.old)
+        → KeepsWithoutMemory (asked words.now) (F.held files.old) (F.held files.new) }
     ensures untouched { LeavesFiles (asked words.now) result → files.new ≡ files.old }
 {
     match read_task(alloc, words) {

@@ -1,4 +1,4 @@
-use Rattle.std.proofs.Common.{◌≡◌, List, ℕ, true, IsTrue, Option, None, Ok, Err, sym, subst}
+use Rattle.std.proofs.Common.{List, ℕ, true, IsTrue, Option, None, Ok, Err, sym, subst}
 use Rattle.turn_rule.specs.Looks.{MayFollowTurn}
 use Rattle.play_analyser.specs.Advice.{IsCubeAdvice}
 use Rattle.base_head.specs.Heads.{stakes_of}

@@ -1,4 +1,4 @@
-use Rattle.std.proofs.Common.{◌≡◌, List, ℕ, true, IsTrue, Option, Some, Ok, Err, sym, subst}
+use Rattle.std.proofs.Common.{List, ℕ, true, IsTrue, Option, Some, Ok, Err, sym, subst}
 use Rattle.std.specs.Prelude.{IfSome}
 use Rattle.roll_table.specs.Rolls.{Dice, IsRoll}
 use Rattle.play_analyser.specs.Rankings.{IsRanking, MayFollowRoll}

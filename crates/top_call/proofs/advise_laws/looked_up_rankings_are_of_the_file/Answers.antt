@@ -1,4 +1,4 @@
-use Rattle.std.proofs.Common.{Some, refl}
+use Rattle.std.proofs.Common.{refl}
 use Rattle.base_head.specs.Heads.{stakes_of}
 use Rattle.database_file.specs.Texts.{game_in}
 use Rattle.top_call.proofs.AdviseLaws.{ranking-agrees, ranking-over, ranking-pages, source_in}

@@ -1,5 +1,5 @@
 use Rattle.base_head.specs.Heads.{stakes_of}
-use Rattle.cube_actions.specs.Stakes.{IsValid, Terms}
+use Rattle.cube_actions.specs.Stakes.{IsValid}
 use Rattle.database_file.specs.Paged.{source_of}
 use Rattle.std.proofs.Common.{◌≡◌, ◌∙◌, ap, subst}
 use Rattle.top_call.proofs.AnalyseFiles.{unjudged-can}

@@ -3,7 +3,7 @@ use Rattle.base_head.specs.declared.header.Header.{Header}
 use Rattle.database_file.specs.Paged.{paged_source, told_words}
 use Rattle.record_analysis.specs.Analyses.{unjudged}
 use Rattle.record_analysis.specs.Judging.{JudgesAll}
-use Rattle.std.proofs.Common.{◌≡◌, ◌∙◌, List, ℕ, true, IsTrue, Option, None, Ok, Err, map, sym, subst}
+use Rattle.std.proofs.Common.{◌∙◌, List, ℕ, true, IsTrue, Option, None, Ok, Err, map, sym, subst}
 use Rattle.top_call.proofs.AdviseFiles.{same-sought}
 use Rattle.top_call.proofs.AnalyseFiles.{not-judged, record-judged}
 use Rattle.top_call.proofs.analyse.judge_by.Goals as goal

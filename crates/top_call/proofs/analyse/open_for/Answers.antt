@@ -1,7 +1,7 @@
 use Rattle.base_head.specs.Heads.{FileHead}
 use Rattle.database_file.specs.Texts.{game_in}
 use Rattle.equity_report.specs.declared.text.GameName.{GameName}
-use Rattle.std.proofs.Common.{◌≡◌, ◌∙◌, ap, subst, sym}
+use Rattle.std.proofs.Common.{◌∙◌, ap, subst, sym}
 use Rattle.std.proofs.lemmas.Bool.{false≢true}
 use Rattle.top_call.proofs.AnalyseFiles.{another-game, base-not-opened, opened-for, opening-kind}
 use Rattle.top_call.proofs.analyse.open_for.Goals as goal

@@ -1,5 +1,4 @@
-use Rattle.std.proofs.Common.{refl, arith}
-use Rattle.equity_report.specs.Reports.{bound_text}
+use Rattle.std.proofs.Common.{arith}
 use Rattle.equity_report.specs.declared.refusal.Refusal.TheVariants.{Write}
 use Rattle.equity_report.specs.Refusals.{refusal_text}
 use Rattle.top_call.specs.Tasks.{bound_report}

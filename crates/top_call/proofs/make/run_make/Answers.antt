@@ -1,11 +1,6 @@
-use Rattle.std.proofs.Common.{◌≡◌, List, ℕ, [], IsTrue, Option, Some, inl, inr, sym, arith}
-use Rattle.std.proofs.lemmas.List.{append-nil}
-use Rattle.database_file.specs.Writing.{HoldsFront}
+use Rattle.std.proofs.Common.{◌≡◌, IsTrue, Some, inl, inr, arith}
+use Rattle.top_call.proofs.Written.{whole-front}
 use Rattle.top_call.proofs.make.run_make.Goals as goal
-
--- a whole text is a front of it
-all : (text : List ℕ) (held : Option (List ℕ)) → held ≡ Some text → HoldsFront [] text held
-all text held there = (text, [], sym (append-nil text), there)
 
 pub returns-in-Ok-write_text-clause-makes : goal.returns-in-Ok-write_text-clause-makes
 returns-in-Ok-write_text-clause-makes g c =
@@ -20,7 +15,7 @@ returns-in-Ok-write_text-clause-makes g c =
       stopped = λ stopped. record {
         made = c.in-Ok.made;
         is_made = c.in-Ok.ensures.made;
-        file = λ told. inr (all c.in-Ok.made.text.items (g.F.Files.held c.write_text.new.files c.args.task.now.file) (writes told));
+        file = λ told. inr (whole-front c.in-Ok.made.text.items (g.F.Files.held c.write_text.new.files c.args.task.now.file) (writes told));
         line = inr (c.tell.ensures.write stopped);
       };
     }

@@ -1,5 +1,4 @@
-use Rattle.std.proofs.Common.{◌≡◌, ◌⊎◌, ◌∙◌, List, ℕ, [], Option, Some, IsTrue, Ok, inl, inr, sym, subst, refl, arith}
-use Rattle.std.proofs.lemmas.List.{append-nil}
+use Rattle.std.proofs.Common.{◌≡◌, ◌⊎◌, ◌∙◌, List, ℕ, [], Option, Some, IsTrue, Ok, inl, inr, sym, subst, arith}
 use Rattle.database_file.specs.Bases.{AnswersBase}
 use Rattle.database_file.specs.Writing.{HoldsFront}
 use Rattle.top_call.specs.Loads.{RefusesLoading}
@@ -7,11 +6,8 @@ use Rattle.top_call.specs.Migrates.{latest_file}
 use Rattle.top_call.specs.Runs.{IsOfLoading}
 use Rattle.top_call.proofs.Loaded.{loading-kind, not-loaded, of-file}
 use Rattle.top_call.proofs.Telling.{not-write, some-status}
+use Rattle.top_call.proofs.Written.{whole-front}
 use Rattle.top_call.proofs.migrate.run_migrate.Goals as goal
-
--- a whole text is a front of it
-all : (text : List ℕ) (held : Option (List ℕ)) → held ≡ Some text → HoldsFront [] text held
-all text held there = (text, [], sym (append-nil text), there)
 
 pub returns-in-Err-clause-migrates : goal.returns-in-Err-clause-migrates
 returns-in-Err-clause-migrates g c =
@@ -49,7 +45,7 @@ returns-in-Ok-write_base-clause-migrates g c =
       stopped = λ stopped. record {
         base = c.in-Ok.base;
         read = read;
-        file = λ told. inr (all (latest_file c.in-Ok.base) (g.F.Files.held c.write_base.new.files c.args.task.now.new) (writes told));
+        file = λ told. inr (whole-front (latest_file c.in-Ok.base) (g.F.Files.held c.write_base.new.files c.args.task.now.new) (writes told));
         line = inr (rw (c.head-in-Ok-write_base.ensures.head) at c.tell.ensures.write stopped);
       };
       refused = λ done write. elim c.tell.ensures.ends [

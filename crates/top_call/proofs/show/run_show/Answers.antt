@@ -1,4 +1,4 @@
-use Rattle.std.proofs.Common.{◌≡◌, IsTrue, List, ℕ}
+use Rattle.std.proofs.Common.{IsTrue}
 use Rattle.equity_report.specs.Files.{shown_text}
 use Rattle.top_call.specs.Loads.{game_told}
 use Rattle.top_call.specs.Runs.{IsOfShowing}

@@ -1,12 +1,7 @@
-use Rattle.std.proofs.Common.{◌≡◌, List, ℕ, [], IsTrue, Option, Some, inl, inr, sym, arith}
-use Rattle.std.proofs.lemmas.List.{append-nil}
-use Rattle.database_file.specs.Writing.{HoldsFront}
+use Rattle.std.proofs.Common.{◌≡◌, IsTrue, Some, inl, inr, arith}
 use Rattle.top_call.specs.Solves.{solved_file}
+use Rattle.top_call.proofs.Written.{whole-front}
 use Rattle.top_call.proofs.solve.run_solve.Goals as goal
-
--- a whole text is a front of it
-all : (text : List ℕ) (held : Option (List ℕ)) → held ≡ Some text → HoldsFront [] text held
-all text held there = (text, [], sym (append-nil text), there)
 
 pub returns-in-Ok-write_base-clause-solves : goal.returns-in-Ok-write_base-clause-solves
 returns-in-Ok-write_base-clause-solves g c =
@@ -23,7 +18,7 @@ returns-in-Ok-write_base-clause-solves g c =
       stopped = λ stopped. record {
         words = c.in-Ok.closed;
         solved = c.in-Ok.ensures;
-        file = λ told. inr (all (solved_file c.args.task.now c.in-Ok.closed) (g.F.Files.held c.write_base.new.files c.args.task.now.file) (writes told));
+        file = λ told. inr (whole-front (solved_file c.args.task.now c.in-Ok.closed) (g.F.Files.held c.write_base.new.files c.args.task.now.file) (writes told));
         line = inr (c.widest.result, rw c.words-words.ensures.words at c.widest.ensures, c.tell.ensures.write stopped);
       };
     }

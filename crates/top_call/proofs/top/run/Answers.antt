@@ -1,8 +1,4 @@
-use Rattle.std.proofs.Common.{List, ℕ, Ok, Result, refl, sym, subst, ◌∙◌, arith}
-use Rattle.equity_report.specs.declared.refusal.Refusal.{Refusal}
-use Rattle.top_call.specs.declared.task.Task.{Task}
-use Rattle.top_call.specs.declared.task.Task.TheVariants.{Bound, Solve, Show, Migrate, Advise, Verify, Analyse}
-use Rattle.top_call.specs.Outcomes.{HasRun}
+use Rattle.std.proofs.Common.{List, ℕ, refl, sym, ◌∙◌, arith}
 use Rattle.top_call.specs.Tasks.{asked}
 use Rattle.top_call.specs.Runs.{WasPut}
 use Rattle.top_call.proofs.Refused.{memory-text}

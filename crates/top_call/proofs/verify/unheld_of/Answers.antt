@@ -1,12 +1,11 @@
 use Rattle.std.proofs.Common.{◌≡◌, ◌∙◌, ◌<◌, Some, refl, ap, sym, subst, length}
 use Rattle.std.specs.Prelude.{slice_get}
 use Rattle.cube_actions.specs.declared.name.StakesName.{StakesName}
-use Rattle.cube_actions.specs.declared.name.KindName.{KindName}
 use Rattle.cube_actions.specs.Names.{names_of}
 use Rattle.cube_actions.specs.Stakes.{Terms}
 use Rattle.turn_rule.specs.declared.game.Game.{Game}
 use Rattle.turn_rule.specs.Games.{kinds_of}
-use Rattle.base_head.specs.Heads.{FileHead, stakes_of}
+use Rattle.base_head.specs.Heads.{stakes_of}
 use Rattle.top_call.proofs.LookedUp.{name-of-stakes}
 use Rattle.top_call.proofs.verify.unheld_of.Goals as goal
 

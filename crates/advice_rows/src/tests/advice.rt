@@ -1,7 +1,5 @@
-use super::files::{ask, cubeless_text};
-use super::owned;
-use crate::run;
-use hyper_outside::{MemFiles, MemSink, OpenGate};
+use hyper_outside::MemFiles;
+use memory_runs::{ask, ask_failing, cubeless_text};
 use std::test::Fail;
 
 // Words that solve a game, each within a second.
@@ -195,20 +193,9 @@ fn a_failing_output_is_told_of_advice(rt: HostRuntime) -> Result<(), Fail> {
     let alloc = rt.alloc();
     let whole = cubeless_text(alloc, 2)?;
     for words in [CUBE.as_slice(), PLAY.as_slice()] {
-        let words = owned(alloc, words)?;
         let mut files = MemFiles::new(alloc);
         files.with_file("c1", &whole)?;
-        let mut out = MemSink::new(alloc);
-        out.room(256)?;
-        out.fail_call(1, 8)?;
-        let status = run(
-            &rt,
-            alloc,
-            words.as_slice(),
-            &mut files,
-            &mut out,
-            &OpenGate,
-        );
+        let (status, out) = ask_failing(&rt, alloc, &mut files, words, 1, 8)?;
         assert_eq!(rt; status, 7);
         assert_eq!(rt; out.put_bytes(), "positionrefused 7 write\n".as_bytes());
     }

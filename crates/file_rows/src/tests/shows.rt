@@ -1,5 +1,5 @@
-use super::files::{ask, cubeless_text};
 use hyper_outside::MemFiles;
+use memory_runs::{ask, cubeless_text};
 use std::test::Fail;
 
 // Words that solve a game, each within a second.

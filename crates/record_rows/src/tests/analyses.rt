@@ -1,7 +1,6 @@
-use super::files::{ask, cubeless_text};
-use super::owned;
-use crate::run;
-use hyper_outside::{MemFiles, MemSink, OpenGate};
+use super::tells_lines;
+use hyper_outside::MemFiles;
+use memory_runs::{ask, ask_failing, cubeless_text};
 use std::alloc::Global;
 use std::test::Fail;
 use std::thread::Threads;
@@ -84,14 +83,7 @@ fn a_recorded_game_is_analysed(rt: HostRuntime) -> Result<(), Fail> {
     let mut files = solved(&rt, alloc)?;
     let (status, out) = ask(&rt, alloc, &mut files, &["analyse", "j1", "game"])?;
     assert_eq!(rt; status, 0);
-    let Ok(text) = std::str::from_utf8(out.put_bytes()) else {
-        panic!(rt; "no text");
-    };
-    assert_eq!(rt; text.lines().count(), LINES.len());
-    for (line, (front, end)) in text.lines().zip(LINES) {
-        assert!(rt; line.starts_with(front), "{line}");
-        assert!(rt; line.ends_with(end), "{line}");
-    }
+    assert!(rt; tells_lines(out.put_bytes(), &LINES));
     Ok(())
 }
 
@@ -235,19 +227,9 @@ const STOPS: [(u64, u8, &str); 3] = [
 fn a_failing_output_is_told_of_an_analysis(rt: HostRuntime) -> Result<(), Fail> {
     let alloc = rt.alloc();
     let mut files = solved(&rt, alloc)?;
-    let words = owned(alloc, &["analyse", "j1", "forced"])?;
     for (call, answer, text) in STOPS {
-        let mut out = MemSink::new(alloc);
-        out.room(256)?;
-        out.fail_call(call, 8)?;
-        let status = run(
-            &rt,
-            alloc,
-            words.as_slice(),
-            &mut files,
-            &mut out,
-            &OpenGate,
-        );
+        let words = ["analyse", "j1", "forced"];
+        let (status, out) = ask_failing(&rt, alloc, &mut files, &words, call, 8)?;
         assert_eq!(rt; status, answer);
         assert_eq!(rt; out.put_bytes(), text.as_bytes());
     }

@@ -1,9 +1,7 @@
 ghost use Rattle.std.specs.Prelude.{◌≡◌, ◌<◌, IfOk, length};
 
-use super::files::ask;
-use super::owned;
-use crate::run;
-use hyper_outside::{Gate, HonestSink, MemFiles};
+use hyper_outside::{Gate, MemFiles};
+use memory_runs::{ask, ask_at};
 use std::alloc::{AllocError, Global};
 use std::sync::atomic::{AtomicU64, Ordering};
 use std::test::Fail;
@@ -74,12 +72,13 @@ impl Gate for Meeting {
     }
 }
 
-const SOLVE: [&str; 5] = [
+const SOLVE: [&str; 6] = [
     "solve",
     "g2",
     "--checkers=1",
     "--stakes=cubeless",
     "--rounds=1",
+    "--workers=2",
 ];
 
 // Whoever has block 1 waits there until the other has swept all others: so it comes last, and one worker passes one block. From `12 / 1`
@@ -90,12 +89,9 @@ const SOLVE: [&str; 5] = [
 fn two_at_once_solve(rt: HostRuntime) -> Result<(), Fail> {
     let alloc = rt.alloc();
     let gate = Meeting::new(alloc)?;
-    let mut words = owned(alloc, &SOLVE)?;
-    words.push(String::from_str(alloc, "--workers=2")?)?;
     let mut files = MemFiles::new(alloc);
     files.room(1, 10_000)?;
-    let mut out = HonestSink::with_room(alloc, 512)?;
-    let status = run(&rt, alloc, words.as_slice(), &mut files, &mut out, &gate);
+    let (status, _out) = ask_at(&rt, alloc, &mut files, &SOLVE, &gate)?;
     assert_eq!(rt; status, 0);
     assert_eq!(rt; gate.gave_up.load(Ordering::SeqCst), 0);
     let fewer = gate.came(0).min(gate.came(1));

@@ -1,8 +1,7 @@
 use super::analyses::{GAME, IN_MATCH, LINES, ONE_POINT};
-use super::files::ask;
-use super::owned;
-use crate::run;
-use hyper_outside::{MemFiles, MemSink, OpenGate};
+use super::tells_lines;
+use hyper_outside::MemFiles;
+use memory_runs::{ask, ask_failing};
 use std::test::Fail;
 
 // The game is solved by eight rounds and four workers on the way, and no file of bounds is there.
@@ -14,14 +13,7 @@ fn a_recorded_game_is_studied(rt: HostRuntime) -> Result<(), Fail> {
     let words = ["study", "game", "--rounds", "8", "--workers=4"];
     let (status, out) = ask(&rt, alloc, &mut files, &words)?;
     assert_eq!(rt; status, 0);
-    let Ok(text) = std::str::from_utf8(out.put_bytes()) else {
-        panic!(rt; "no text");
-    };
-    assert_eq!(rt; text.lines().count(), LINES.len());
-    for (line, (front, end)) in text.lines().zip(LINES) {
-        assert!(rt; line.starts_with(front), "{line}");
-        assert!(rt; line.ends_with(end), "{line}");
-    }
+    assert!(rt; tells_lines(out.put_bytes(), &LINES));
     Ok(())
 }
 
@@ -74,20 +66,14 @@ fn a_beaver_is_a_decision(rt: HostRuntime) -> Result<(), Fail> {
     let mut files = MemFiles::new(alloc);
     files.with_file("game", BEAVERED.as_bytes())?;
     let (_status, out) = ask(&rt, alloc, &mut files, &["study", "game", "--rounds=2"])?;
-    let Ok(text) = std::str::from_utf8(out.put_bytes()) else {
-        panic!(rt; "no text");
-    };
-    let fronts = [
-        "1 5 A play ",
-        "1 6 B offer ",
-        "1 7 A answer ",
-        "A decisions 2 loss ",
-        "B decisions 1 loss ",
+    let lines = [
+        ("1 5 A play ", ""),
+        ("1 6 B offer ", ""),
+        ("1 7 A answer ", ""),
+        ("A decisions 2 loss ", ""),
+        ("B decisions 1 loss ", ""),
     ];
-    assert_eq!(rt; text.lines().count(), fronts.len());
-    for (line, front) in text.lines().zip(fronts) {
-        assert!(rt; line.starts_with(front), "{line}");
-    }
+    assert!(rt; tells_lines(out.put_bytes(), &lines));
     Ok(())
 }
 
@@ -115,21 +101,11 @@ fn a_failing_read_is_told_of_a_study(rt: HostRuntime) -> Result<(), Fail> {
 #[test]
 fn a_failing_output_is_told_of_a_study(rt: HostRuntime) -> Result<(), Fail> {
     let alloc = rt.alloc();
-    let words = owned(alloc, &["study", "game", "--rounds=1"])?;
     for call in 1..=4 {
         let mut files = MemFiles::new(alloc);
         files.with_file("game", BEAVERED.as_bytes())?;
-        let mut out = MemSink::new(alloc);
-        out.room(512)?;
-        out.fail_call(call, 2)?;
-        let status = run(
-            &rt,
-            alloc,
-            words.as_slice(),
-            &mut files,
-            &mut out,
-            &OpenGate,
-        );
+        let words = ["study", "game", "--rounds=1"];
+        let (status, out) = ask_failing(&rt, alloc, &mut files, &words, call, 2)?;
         assert_eq!(rt; status, 7);
         assert!(rt; out.put_bytes().ends_with(b"refused 7 write\n"));
     }
@@ -156,17 +132,8 @@ fn what_is_made_can_be_studied(rt: HostRuntime) -> Result<(), Fail> {
     };
     assert!(rt; file.starts_with(b"hypergammon record 1\ncheckers 1\nstakes jacoby\ngame 1\n"));
     assert!(rt; file.ends_with(b"\nclose\n"));
-    let words = owned(alloc, &["study", "seven.rec", "--rounds", "8"])?;
-    let mut told = MemSink::new(alloc);
-    told.room(10_000)?;
-    let studied = run(
-        &rt,
-        alloc,
-        words.as_slice(),
-        &mut files,
-        &mut told,
-        &OpenGate,
-    );
+    let words = ["study", "seven.rec", "--rounds", "8"];
+    let (studied, told) = ask(&rt, alloc, &mut files, &words)?;
     assert_eq!(rt; studied, 0);
     assert!(rt; told.put_bytes().ends_with(totals.as_bytes()));
     Ok(())
@@ -195,20 +162,10 @@ fn a_record_that_cant_be_written_is_told(rt: HostRuntime) -> Result<(), Fail> {
 #[test]
 fn a_report_that_cant_be_put_is_told(rt: HostRuntime) -> Result<(), Fail> {
     let alloc = rt.alloc();
-    let words = owned(alloc, &["make", "7", "1", "r"])?;
     let mut files = MemFiles::new(alloc);
     files.room(1, 20_000)?;
-    let mut out = MemSink::new(alloc);
-    out.room(256)?;
-    out.fail_call(1, 5)?;
-    let status = run(
-        &rt,
-        alloc,
-        words.as_slice(),
-        &mut files,
-        &mut out,
-        &OpenGate,
-    );
+    let words = ["make", "7", "1", "r"];
+    let (status, out) = ask_failing(&rt, alloc, &mut files, &words, 1, 5)?;
     assert_eq!(rt; status, 7);
     assert_eq!(rt; out.put_bytes(), "made refused 7 write\n".as_bytes());
     assert!(rt; files.held("r").is_some());

@@ -1,62 +1,6 @@
-use super::owned;
-use crate::run;
-use hyper_outside::{HonestSink, MemFiles, OpenGate};
-use sha2::{Digest, Sha256};
-use std::alloc::Global;
+use hyper_outside::MemFiles;
+use memory_runs::{ask, cubeless_text};
 use std::test::Fail;
-use std::thread::Threads;
-
-/// Answers the words over these files: the status, and what was put.
-pub(super) fn ask<R: Threads + Sync>(
-    rt: &R,
-    alloc: Global,
-    files: &mut MemFiles,
-    words: &[&str],
-) -> Result<(u8, HonestSink), Fail> {
-    let words = owned(alloc, words)?;
-    let mut out = HonestSink::with_room(alloc, 1024)?;
-    let status = run(rt, alloc, words.as_slice(), files, &mut out, &OpenGate);
-    Ok((status, out))
-}
-
-/// Adds bytes and their digest.
-fn seal(bytes: &[u8], out: &mut Vec<u8>) -> Result<(), Fail> {
-    out.extend_from_slice(bytes)?;
-    out.extend_from_slice(&Sha256::digest(bytes))?;
-    Ok(())
-}
-
-/// The first 64 bytes of a file of one checker a side without a cube, after 8 rounds.
-fn header(alloc: Global, version: u8) -> Result<Vec<u8>, Fail> {
-    let mut head = Vec::new(alloc);
-    head.extend_from_slice(b"HYPGAMMN\0\0\0")?;
-    head.push(version)?;
-    head.extend_from_slice(b"\0\0\0\x01")?;
-    head.extend_from_slice(&[0; 20])?;
-    head.extend_from_slice(b"\0\0\0\x01\0\0\0\x08")?;
-    head.extend_from_slice(&[0; 10])?;
-    head.extend_from_slice(b"\x02\x59")?;
-    head.extend_from_slice(&[0; 8])?;
-    Ok(head)
-}
-
-/// Such a file, as the format says: of each position the word of a point lost and that of a point won.
-pub(super) fn cubeless_text(alloc: Global, version: u8) -> Result<Vec<u8>, Fail> {
-    let words: [&[u8]; 2] = if version == 1 {
-        [b"\0\0\0\x0f\0\0\0\0", b"\0\0\0\x11\0\0\0\0"]
-    } else {
-        [b"\x0f\0\0\0\0", b"\x11\0\0\0\0"]
-    };
-    let mut page = Vec::new(alloc);
-    for _ in 0..601 {
-        page.extend_from_slice(words[0])?;
-        page.extend_from_slice(words[1])?;
-    }
-    let mut text = Vec::new(alloc);
-    seal(&header(alloc, version)?, &mut text)?;
-    seal(&page, &mut text)?;
-    Ok(text)
-}
 
 const MIGRATE: [&str; 3] = ["migrate", "old", "new"];
 

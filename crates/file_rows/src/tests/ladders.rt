@@ -1,8 +1,6 @@
 //! Matches that are solved score by score.
-use super::files::ask;
-use super::owned;
-use crate::run;
-use hyper_outside::{HonestSink, MemFiles, MemSink, OpenGate};
+use hyper_outside::MemFiles;
+use memory_runs::{ask, ask_failing};
 use std::alloc::Global;
 use std::test::Fail;
 
@@ -154,7 +152,6 @@ const FAILED_PUTS: [(u64, usize, &str); 4] = [
 #[test]
 fn a_failing_line_leaves_the_file_of_its_score(rt: HostRuntime) -> Result<(), Fail> {
     let alloc = rt.alloc();
-    let words = owned(alloc, &TO_TWO)?;
     for (put, there, end) in FAILED_PUTS {
         let mut files = room_for_two(alloc)?;
         let mut out = MemSink::new(alloc);
@@ -212,13 +209,7 @@ fn starts_enclose_what_a_plain_program_finds(rt: HostRuntime) -> Result<(), Fail
     let alloc = rt.alloc();
     let mut files = MemFiles::new(alloc);
     files.room(7, 206_000)?;
-    let words = [
-        "ladder",
-        "m",
-        "--checkers=1",
-        "--rounds=12",
-        "--workers=2",
-    ];
+    let words = ["ladder", "m", "--checkers=1", "--rounds=12", "--workers=2"];
     let (status, out) = ask(&rt, alloc, &mut files, &words)?;
     assert_eq!(rt; status, 0);
     let text = str::from_utf8(out.put_bytes()).unwrap_or("");
@@ -244,22 +235,14 @@ fn lines_of(
     let alloc = rt.alloc();
     let mut files = MemFiles::new(alloc);
     files.room(names, bytes)?;
-    let words = owned(alloc, words)?;
-    let mut out = HonestSink::with_room(alloc, 4096)?;
-    let status = run(rt, alloc, words.as_slice(), &mut files, &mut out, &OpenGate);
+    let (status, out) = ask(rt, alloc, &mut files, words)?;
     let text = str::from_utf8(out.put_bytes()).unwrap_or("");
     Ok((status, line_count(text)))
 }
 
 #[test]
 fn longer_matches_are_solved(rt: HostRuntime) -> Result<(), Fail> {
-    let one = [
-        "ladder",
-        "five",
-        "--checkers=1",
-        "--length=5",
-        "--rounds=2",
-    ];
+    let one = ["ladder", "five", "--checkers=1", "--length=5", "--rounds=2"];
     assert_eq!(rt; lines_of(&rt, &one, 18, 900_000)?, (0, 19));
     let two = ["ladder", "two", "--checkers=2", "--rounds=1", "--workers=2"];
     assert_eq!(rt; lines_of(&rt, &two, 7, 36_300_000)?, (0, 8));

@@ -1,8 +1,6 @@
 //! Files whose words are checked: solved ones, ones of the widest pairs, and ones with a word that is too tight.
-use super::files::ask;
-use super::owned;
-use crate::run;
-use hyper_outside::{MemFiles, MemSink, OpenGate};
+use hyper_outside::MemFiles;
+use memory_runs::{ask, ask_failing};
 use sha2::{Digest, Sha256};
 use std::alloc::Global;
 use std::test::Fail;
@@ -177,18 +175,8 @@ fn a_failing_output_is_told(rt: HostRuntime) -> Result<(), Fail> {
         ("c1", 10, 7, "consistentrefused 7 write\n"),
         ("no", 9, 9, "refused 9"),
     ] {
-        let words = owned(alloc, &["verify", name])?;
-        let mut out = MemSink::new(alloc);
-        out.room(256)?;
-        out.fail_call(1, prefix)?;
-        let status = run(
-            &rt,
-            alloc,
-            words.as_slice(),
-            &mut files,
-            &mut out,
-            &OpenGate,
-        );
+        let words = ["verify", name];
+        let (status, out) = ask_failing(&rt, alloc, &mut files, &words, 1, prefix)?;
         assert_eq!(rt; status, answer);
         assert_eq!(rt; out.put_bytes(), line.as_bytes());
     }

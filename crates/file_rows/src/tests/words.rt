@@ -1,24 +1,7 @@
-use super::*;
-use hyper_outside::{HonestFiles, HonestSink, MemFiles, MemSink, OpenGate};
-use std::alloc::{AllocError, Global};
+use hyper_outside::{HonestSink, MemFiles};
+use memory_runs::{ask, ask_failing};
 use std::test::Fail;
-
-mod advice;
-mod analyses;
-mod files;
-mod ladders;
-mod meeting;
-mod shows;
-mod studies;
-mod verifies;
-
-fn owned(alloc: Global, words: &[&str]) -> Result<Vec<String>, AllocError> {
-    let mut all = Vec::new(alloc);
-    for word in words {
-        all.push(String::from_str(alloc, word)?)?;
-    }
-    Ok(all)
-}
+use top_call::refuse_unread;
 
 // The words, the status, and all that is put.
 const ROWS: [(&[&str], u8, &str); 38] = [
@@ -27,11 +10,7 @@ const ROWS: [(&[&str], u8, &str); 38] = [
         0,
         "position 24 / 24\nrounds 1\nalone -2.833334 3.000000 -12169074006 12884901888\n",
     ),
-    (
-        &["bound", "1", "1", "1 / 1"],
-        0,
-        "position 1 / 1\nrounds 1\nalone 2.000000 2.000000 8589934592 8589934592\n",
-    ),
+    (&BOUND, 0, BOUNDED),
     (
         &["bound", "1", "16", "1 / 1"],
         0,
@@ -146,53 +125,32 @@ const ROWS: [(&[&str], u8, &str); 38] = [
 fn each_line_has_its_answer(rt: HostRuntime) -> Result<(), Fail> {
     let alloc = rt.alloc();
     for (words, status, text) in ROWS {
-        let words = owned(alloc, words)?;
         let mut files = MemFiles::new(alloc);
-        let mut out = HonestSink::with_room(alloc, 256)?;
-        let answer = run(
-            &rt,
-            alloc,
-            words.as_slice(),
-            &mut files,
-            &mut out,
-            &OpenGate,
-        );
+        let (answer, out) = ask(&rt, alloc, &mut files, words)?;
         assert_eq!(rt; answer, status, "at {text}");
         assert_eq!(rt; out.put_bytes(), text.as_bytes());
     }
     Ok(())
 }
 
-// A put that fails at each call in turn, after so many bytes.
+// The words, the output's call that fails, after how many bytes, the status, and what is put.
+const PUTS: [(&[&str], u64, usize, u8, &str); 3] = [
+    (&BOUND, 1, 8, 7, "positionrefused 7 write\n"),
+    (&["fly"], 1, 7, 1, "refused"),
+    (&BOUND, 2, 0, 0, BOUNDED),
+];
+
+const BOUND: [&str; 4] = ["bound", "1", "1", "1 / 1"];
+
+const BOUNDED: &str = "position 1 / 1\nrounds 1\nalone 2.000000 2.000000 8589934592 8589934592\n";
+
 #[test]
 fn a_failing_output_is_told(rt: HostRuntime) -> Result<(), Fail> {
     let alloc = rt.alloc();
-    let right = owned(alloc, &["bound", "1", "1", "1 / 1"])?;
-    let wrong = owned(alloc, &["fly"])?;
-    let cases: [(&[String], u64, usize, u8, &str); 3] = [
-        (right.as_slice(), 1, 8, 7, "positionrefused 7 write\n"),
-        (wrong.as_slice(), 1, 7, 1, "refused"),
-        (
-            right.as_slice(),
-            2,
-            0,
-            0,
-            "position 1 / 1\nrounds 1\nalone 2.000000 2.000000 8589934592 8589934592\n",
-        ),
-    ];
-    for (words, call, prefix, status, text) in cases {
-        let mut out = MemSink::new(alloc);
-        out.room(256)?;
-        out.fail_call(call, prefix)?;
-        let answer = run(
-            &rt,
-            alloc,
-            words,
-            &mut MemFiles::new(alloc),
-            &mut out,
-            &OpenGate,
-        );
-        assert_eq!(rt; answer, status);
+    for (words, call, prefix, answer, text) in PUTS {
+        let mut files = MemFiles::new(alloc);
+        let (status, out) = ask_failing(&rt, alloc, &mut files, words, call, prefix)?;
+        assert_eq!(rt; status, answer);
         assert_eq!(rt; out.put_bytes(), text.as_bytes());
     }
     Ok(())
@@ -206,83 +164,5 @@ fn unread_words_are_told_apart(rt: HostRuntime) -> Result<(), Fail> {
     assert_eq!(rt; out.put_bytes(), "".as_bytes());
     assert_eq!(rt; refuse_unread(&mut out, true), 1);
     assert_eq!(rt; out.put_bytes(), "refused 1 words word 0\n".as_bytes());
-    Ok(())
-}
-
-// A game of one checker, and what is said of it. How wide the widest pair is no one reckoned by hand.
-const SOLVE: [&str; 8] = [
-    "solve",
-    "c1",
-    "--checkers=1",
-    "--stakes",
-    "cubeless",
-    "--rounds",
-    "8",
-    "--workers=4",
-];
-
-fn solve_words(alloc: Global) -> Result<Vec<String>, AllocError> {
-    owned(alloc, &SOLVE)
-}
-
-#[test]
-fn a_game_is_solved(rt: HostRuntime) -> Result<(), Fail> {
-    let alloc = rt.alloc();
-    let words = solve_words(alloc)?;
-    let mut files = HonestFiles::with_room(alloc, 1, 10_000)?;
-    let mut out = HonestSink::with_room(alloc, 256)?;
-    assert_eq!(rt;
-        run(
-            &rt,
-            alloc,
-            words.as_slice(),
-            &mut files,
-            &mut out,
-            &OpenGate
-        ),
-        0
-    );
-    let put = out.put_bytes();
-    assert!(rt;
-        put.starts_with(
-            b"solved checkers 1 stakes cubeless rounds 8 workers 4\npositions 601 kinds 1 widest "
-        )
-    );
-    assert!(rt; put.ends_with(b"\nfile c1 bytes 6138\n"));
-    let Some(file) = files.held("c1") else {
-        panic!(rt; "no file");
-    };
-    assert_eq!(rt; file.len(), 6138);
-    assert!(rt; file.starts_with(b"HYPGAMMN\0\0\0\x02\0\0\0\x01"));
-    // The pair of `1 / 1`: every play wins a gammon.
-    assert_eq!(rt; &file[96..106], b"\x12\0\0\0\0\x12\0\0\0\0".as_slice());
-    Ok(())
-}
-
-// The files' call that fails, how many bytes it still adds, and how many the file then has. With the first the file is as it was.
-const STOPS: [(u64, usize, usize); 4] = [(1, 0, 3), (2, 10, 10), (3, 5, 101), (4, 7, 6113)];
-
-#[test]
-fn a_failing_file_is_told(rt: HostRuntime) -> Result<(), Fail> {
-    let alloc = rt.alloc();
-    let words = solve_words(alloc)?;
-    for (call, prefix, length) in STOPS {
-        let mut files = MemFiles::new(alloc);
-        files.with_file("c1", b"old")?;
-        files.room(0, 10_000)?;
-        files.fail_call(call, prefix)?;
-        let mut out = HonestSink::with_room(alloc, 256)?;
-        let status = run(
-            &rt,
-            alloc,
-            words.as_slice(),
-            &mut files,
-            &mut out,
-            &OpenGate,
-        );
-        assert_eq!(rt; status, 7);
-        assert_eq!(rt; out.put_bytes(), "refused 7 write\n".as_bytes());
-        assert_eq!(rt; files.held("c1").map(|file| file.len()), Some(length));
-    }
     Ok(())
 }

@@ -1,0 +1,2 @@
+mod advice;
+mod verifies;

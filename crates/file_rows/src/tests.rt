@@ -1,0 +1,6 @@
+mod ladders;
+mod meeting;
+mod migrates;
+mod shows;
+mod solves;
+mod words;

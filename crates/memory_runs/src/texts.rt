@@ -1,0 +1,43 @@
+use hyper_outside::NoMemory;
+use sha2::{Digest, Sha256};
+use std::alloc::Global;
+
+/// Adds bytes and their digest.
+fn seal(bytes: &[u8], out: &mut Vec<u8>) -> Result<(), NoMemory> {
+    out.extend_from_slice(bytes)?;
+    out.extend_from_slice(&Sha256::digest(bytes))?;
+    Ok(())
+}
+
+/// Its first 64 bytes.
+fn header(alloc: Global, version: u8) -> Result<Vec<u8>, NoMemory> {
+    let mut head = Vec::new(alloc);
+    head.extend_from_slice(b"HYPGAMMN\0\0\0")?;
+    head.push(version)?;
+    head.extend_from_slice(b"\0\0\0\x01")?;
+    head.extend_from_slice(&[0; 20])?;
+    head.extend_from_slice(b"\0\0\0\x01\0\0\0\x08")?;
+    head.extend_from_slice(&[0; 10])?;
+    head.extend_from_slice(b"\x02\x59")?;
+    head.extend_from_slice(&[0; 8])?;
+    Ok(head)
+}
+
+/// A file of one checker a side without a cube after 8 rounds, as the format of this version says: of each position the word of
+/// a point lost and that of a point won.
+pub fn cubeless_text(alloc: Global, version: u8) -> Result<Vec<u8>, NoMemory> {
+    let words: [&[u8]; 2] = if version == 1 {
+        [b"\0\0\0\x0f\0\0\0\0", b"\0\0\0\x11\0\0\0\0"]
+    } else {
+        [b"\x0f\0\0\0\0", b"\x11\0\0\0\0"]
+    };
+    let mut page = Vec::new(alloc);
+    for _ in 0..601 {
+        page.extend_from_slice(words[0])?;
+        page.extend_from_slice(words[1])?;
+    }
+    let mut text = Vec::new(alloc);
+    seal(&header(alloc, version)?, &mut text)?;
+    seal(&page, &mut text)?;
+    Ok(text)
+}

@@ -1,0 +1,5 @@
+//! Runs on recorded games, each with the status and the bytes that are due.
+#![tactic(auto)]
+
+#[cfg(test)]
+mod tests;
