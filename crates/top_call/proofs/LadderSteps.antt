@@ -186,9 +186,6 @@ module _ (task : Ladder) (right : IsRightLadder task) (law : LadderLaw) (in_matc
       each = each-more;
       solved = ladder-more valid;
     }
-      where
-        length-same : longer.match_length ≡ task.match_length
-            length-same = solved.of_length
 
     module _ (after later : Contents) (kept : KeepsOthers (file_of task (length starts.pairs)) after later) where
       files-stay : HaveFiles task starts scores after → HaveFiles task starts scores later

@@ -1,3 +1,5 @@
+use Rattle.std.proofs.Common.{rules}
+use Rattle.match_scores.specs.Keepers.{KeptOneMore}
 use Rattle.match_scores.proofs.Handing.{covers-next, kept-more, may-keep, solved-more}
 use Rattle.match_scores.proofs.ladder.take_score.Goals as goal
 
@@ -15,4 +17,6 @@ returns-clause-so_far g c =
 
 pub returns-clause-kept : goal.returns-clause-kept
 returns-clause-kept g c =
-    kept-more c.args.starts.now c.add.new.self c.start_pair.result c.args.score c.in-Ok.closed (g.K.Keep.keeper c.args.keep.now) (g.K.Keep.keeper c.keep.new.self) c.requires.kept _ (rw c.words.ensures.words at c.start_pair.ensures.start) c.add.ensures
+    let more : KeptOneMore c.args.score c.in-Ok.closed (g.K.Keep.keeper c.args.keep.now) (g.K.Keep.keeper c.keep.new.self) = search rules in
+    kept-more c.args.starts.now c.add.new.self c.start_pair.result c.args.score c.in-Ok.closed (g.K.Keep.keeper c.args.keep.now) (g.K.Keep.keeper c.keep.new.self) c.requires.kept more
+    (rw c.words.ensures.words at c.start_pair.ensures.start) c.add.ensures
