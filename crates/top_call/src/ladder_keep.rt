@@ -129,6 +129,8 @@ impl<'a, F: Files, O: Sink> Keep for LadderKeep<'a, F, O> {
         write_score(self.files, self.task, score, starts, words)?;
         write_ladder_score(self.out, score, start, widest)?;
         self.starts.add(start);
+        // They still are.
+        let _added = self.starts.match_length();
         self.failed = false;
         Ok(())
     }
