@@ -62,8 +62,8 @@ LadderLaw =
     (checkers r : ℕ) → 1 ≤ checkers → checkers ≤ 3 → (starts : StartPairs) → AreStarts starts → (words : ℕ → WordList) → IsSolved checkers r starts words → IsLadder checkers r starts words
 
 -- it is of the words at each place alone
-solved-same : (checkers r : ℕ) (starts : StartPairs) (words others : ℕ → WordList) → ((place : ℕ) → others place ≡ words place) → IsSolved checkers r starts words → IsSolved checkers r starts others
-solved-same checkers r starts words others same solved place here = subst (λ (w : WordList). IsSolvedAt checkers r starts place w) (sym (same place)) (solved place here)
+solved-same : (checkers r : ℕ) (starts : StartPairs) (words others : ℕ → WordList) → ((place : ℕ) → place < length starts.pairs → others place ≡ words place) → IsSolved checkers r starts words → IsSolved checkers r starts others
+solved-same checkers r starts words others same solved place here = subst (λ (w : WordList). IsSolvedAt checkers r starts place w) (sym (same place here)) (solved place here)
 
 solved-next-of : (checkers r n : ℕ) (starts : StartPairs) (words : ℕ → WordList) (next : WordList) → starts.match_length ≡ n → IsSolved checkers r starts words → AreWordsOf checkers r (score_at n (length starts.pairs)) starts next
     → IsSolved checkers r (with_pair starts (start_over checkers (words_in_list next) (score_at n (length starts.pairs)))) (and_then words (length starts.pairs) next)
@@ -98,14 +98,6 @@ score-solved task score starts words widest valid closed right is_widest = recor
   text = record { valid = valid; takes = two-takes (Match score); fitting = file-words task score starts words closed; right = right; text = refl };
   widest = is_widest;
 }
-
-words-of : (b : Bool) (next score : SolvedScore) → (cond b next score).words ≡ cond b next.words score.words
-words-of true next score = refl
-words-of false next score = refl
-
-and_then-words : (scores : ℕ → SolvedScore) (count : ℕ) (next : SolvedScore) (place : ℕ) → (and_then scores count next place).words ≡ and_then (λ p. (scores p).words) count next.words place
-unfolding and_then
-and_then-words scores count next place = words-of (eqb place count) next (scores place)
 
 -- ---- before the first score
 
@@ -148,8 +140,11 @@ module _ (task : Ladder) (right : IsRightLadder task) (law : LadderLaw) (in_matc
     abbrev with_next : ℕ → SolvedScore
     with_next = and_then scores (length starts.pairs) next
 
+    many_more : length longer.pairs ≡ length starts.pairs + 1
+    many_more = length-append starts.pairs _
+
     one_more : length longer.pairs ≡ suc (length starts.pairs)
-    one_more = length-append starts.pairs _
+    one_more = omega (arith, many_more)
 
     same-till : (place : ℕ) → place ≤ length starts.pairs → starts_till longer place ≡ starts_till starts place
     same-till place here = till-same starts _ place here
@@ -169,11 +164,18 @@ module _ (task : Ladder) (right : IsRightLadder task) (law : LadderLaw) (in_matc
       | inr last ↦ at-last (λ p. IsScoreSolved task (score_of task p) (starts_till longer p) (with_next p)) (rw (same-till (length starts.pairs) (omega arith), all-taken starts, last-next) is) place here last
     ]
 
+    words-more : (place : ℕ) → place < length longer.pairs → (with_next place).words ≡ and_then (λ p. (scores p).words) (length starts.pairs) next.words place
+    words-more place here = elim (cases_lt place (length starts.pairs)) [
+      | inl earlier ↦ ap (λ (n : SolvedScore). n.words) (before-next place earlier) ∙ sym (and_then-before (λ p. (scores p).words) (length starts.pairs) next.words place earlier)
+      | inr last ↦ at-last (λ p. (with_next p).words ≡ and_then (λ q. (scores q).words) (length starts.pairs) next.words p)
+          (ap (λ (n : SolvedScore). n.words) last-next ∙ sym (and_then-last (λ p. (scores p).words) (length starts.pairs) next.words)) place here last
+    ]
+
     ladder-more : AreStarts longer → IsLadder task.checkers task.rounds longer (λ place. (with_next place).words)
     ladder-more valid =
         law task.checkers task.rounds right.some right.few longer valid (λ place. (with_next place).words)
         (solved-same task.checkers task.rounds longer (and_then (λ place. (scores place).words) (length starts.pairs) next.words) (λ place. (with_next place).words)
-        (and_then-words scores (length starts.pairs) next)
+        words-more
         (solved-next-of task.checkers task.rounds task.match_length starts (λ place. (scores place).words) next.words solved.of_length solved.solved.solved is.closed))
 
     lines-more : lines_of task with_next (length longer.pairs) ≡ lines_of task scores (length starts.pairs) ++ score_line task (score_of task (length starts.pairs)) next.words next.widest
@@ -191,16 +193,23 @@ module _ (task : Ladder) (right : IsRightLadder task) (law : LadderLaw) (in_matc
       files-stay : HaveFiles task starts scores after → HaveFiles task starts scores later
       files-stay files place here = kept (file_of task place) (apart place (length starts.pairs) here more) ∙ files place here
 
+      with-bytes : (place : ℕ) (given : StartPairs) (score : SolvedScore) → starts_till longer place ≡ given → with_next place ≡ score → later (file_of task place) ≡ Some (score_bytes task (score_of task place) given score.words)
+          → later (file_of task place) ≡ Some (score_bytes task (score_of task place) (starts_till longer place) (with_next place).words)
+      with-bytes place given score same_starts same_score there =
+          subst (λ (s : StartPairs). later (file_of task place) ≡ Some (score_bytes task (score_of task place) s (with_next place).words)) (sym same_starts)
+          (subst (λ (n : SolvedScore). later (file_of task place) ≡ Some (score_bytes task (score_of task place) given n.words)) (sym same_score) there)
+
       files-more : HaveFiles task starts scores after → later (file_of task (length starts.pairs)) ≡ Some (score_bytes task (score_of task (length starts.pairs)) starts next.words) → HaveFiles task longer with_next later
       files-more files written place here = elim (cases_lt place (length starts.pairs)) [
-        | inl earlier ↦ rw (same-till place (omega (arith, earlier)), before-next place earlier) (files-stay files place earlier)
-        | inr last ↦ at-last (λ p. later (file_of task p) ≡ Some (score_bytes task (score_of task p) (starts_till longer p) (with_next p).words)) (rw (same-till (length starts.pairs) (omega arith), all-taken starts, last-next) written) place here last
+        | inl earlier ↦ with-bytes place (starts_till starts place) (scores place) (same-till place (omega (arith, earlier))) (before-next place earlier) (files-stay files place earlier)
+        | inr last ↦ at-last (λ p. later (file_of task p) ≡ Some (score_bytes task (score_of task p) (starts_till longer p) (with_next p).words))
+            (with-bytes (length starts.pairs) starts next (same-till (length starts.pairs) (omega arith) ∙ all-taken starts) last-next written) place here last
       ]
 
-      others-more : (before : Contents) → KeepsAllBut task (length starts.pairs) before after → KeepsAllBut task (suc (length starts.pairs)) before later
-      others-more before others name other =
-          kept name (λ same. other (length starts.pairs, omega arith, more, same))
-          ∙ others name (λ first. other (first.0, (let earlier = first.1 in omega (arith, earlier)), first.2, first.3))
+      others-more : (many : ℕ) → many ≡ length starts.pairs + 1 → (before : Contents) → KeepsAllBut task (length starts.pairs) before after → KeepsAllBut task many before later
+      others-more many is_more before others name other =
+          kept name (λ same. other (length starts.pairs, omega (arith, is_more), more, same))
+          ∙ others name (λ first. other (first.0, (let earlier = first.1 in omega (arith, earlier, is_more)), first.2, first.3))
 
   -- the next score is kept too
   pub kept-next : (past : LadderPast) (starts : StartPairs) (after later : Contents) (middle new : Output) → HasKeptSince past task starts false after middle
@@ -220,8 +229,7 @@ module _ (task : Ladder) (right : IsRightLadder task) (law : LadderLaw) (in_matc
           files = λ told. files-more starts scores had.solved next more is after later (kept told) (had.files told) (written told);
           lines = subst (IsPut past.old new) (sym (lines-more starts scores had.solved next more is)) lines;
         },
-        λ told. subst (λ (n : ℕ). KeepsAllBut task n past.before later) (sym (one_more starts scores had.solved next more is))
-            (others-more starts scores had.solved next more is after later (kept told) past.before (since.1 told)),
+        λ told. others-more starts scores had.solved next more is after later (kept told) _ (many_more starts scores had.solved next more is) past.before (since.1 told),
       )
 
   -- writing the file of the next score failed, or its line
@@ -254,5 +262,5 @@ module _ (task : Ladder) (right : IsRightLadder task) (law : LadderLaw) (in_matc
             },
           );
         },
-        λ told. others-more starts scores had.solved next more is after later (kept told) past.before (since.1 told),
+        λ told. others-more starts scores had.solved next more is after later (kept told) (length starts.pairs + 1) refl past.before (since.1 told),
       )

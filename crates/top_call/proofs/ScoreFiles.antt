@@ -24,7 +24,7 @@ text-is score is =
     let needs = is.needs in
     rw (decimal_digit score.near (omega (arith, needs.in_order, needs.to)), decimal_digit score.far (omega (arith, needs.to))) refl
 
-number_of : Phase → ℕ
+abbrev number_of : Phase → ℕ
 number_of Normal = 110
 number_of Crawford = 99
 number_of Post = 112
