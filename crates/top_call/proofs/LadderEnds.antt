@@ -1,14 +1,18 @@
 -- How solving a ladder ends, by what was done when its scores were.
-use Rattle.std.proofs.Common.{◌≡◌, ◌≤◌, ◌<◌, ◌+◌, ◌⊎◌, ℕ, Bool, true, false, IsTrue, length, inl, inr, refl, subst, arith}
+use Rattle.std.proofs.Common.{◌≡◌, ◌∙◌, ◌≤◌, ◌<◌, ◌+◌, ◌⊎◌, ℕ, Bool, true, false, IsTrue, List, length, Result, Ok, Err, inl, inr, refl, sym, ap, subst, arith}
+use Rattle.std.specs.Prelude.{IfOk, IsErrOf, ◌↔◌}
 use Rattle.hyper_outside.specs.Files.{Contents}
 use Rattle.hyper_outside.specs.Sink.{Output}
 use Rattle.cube_actions.specs.Starts.{StartPairs}
+use Rattle.match_scores.specs.declared.ladder.LadderStop.{LadderStop}
+use Rattle.match_scores.specs.declared.ladder.LadderStop.TheVariants.{Keep, NoMemory}
+use Rattle.match_scores.specs.Keepers.{Keeper, HasKept, IsWholeLadder, no_pairs}
 use Rattle.command_line.specs.declared.command.Ladder.{Ladder}
 use Rattle.equity_report.specs.declared.refusal.Refusal.TheVariants.{Memory, Write}
-use Rattle.equity_report.specs.Refusals.{status_of, refusal_text}
-use Rattle.top_call.specs.Ladders.{HasKeptSince, HasRunOut, HasSolvedLadder, HasStoppedLadder, KeepsAllBut, LadderPast, SolvesLadder, end_line, scores_in}
+use Rattle.equity_report.specs.Refusals.{refusal_text}
+use Rattle.top_call.specs.Ladders.{HasKeptSince, HasRunOut, HasSolvedLadder, HasStoppedLadder, KeepsAllBut, LadderPast, SolvesScores, end_line, scores_in}
 use Rattle.top_call.specs.Runs.{FailedThenPut, IsPut, WasPut}
-use Rattle.top_call.proofs.LadderSteps.{put-both}
+use Rattle.top_call.proofs.LadderSteps.{nothing-since, put-both}
 
 -- no file changed but those of the ladder's scores, if only some of them did
 pub all-kept : (task : Ladder) (many : ℕ) (before after : Contents) → KeepsAllBut task many before after → KeepsAllBut task (scores_in task) before after
@@ -16,6 +20,43 @@ all-kept task many before after kept name other = kept name (λ first. other (fi
 
 one-more-kept : (task : Ladder) (many : ℕ) (before after : Contents) → KeepsAllBut task many before after → KeepsAllBut task (many + 1) before after
 one-more-kept task many before after kept name other = kept name (λ first. other (first.0, (let earlier = first.1 in omega (arith, earlier)), first.2, first.3))
+
+-- a keeper that has kept nothing yet
+pub begun : (past : LadderPast) (task own : Ladder) (starts : StartPairs) (failed : Bool) (after : Contents) (new : Output) → own ≡ task → starts ≡ no_pairs task.match_length → failed ≡ false → new ≡ past.old → ((name : List ℕ) → after name ≡ past.before name)
+    → HasKeptSince past own starts failed after new
+begun past task own starts failed after new same_task none works same_out same =
+    subst (λ (t : Ladder). HasKeptSince past t starts failed after new) (sym same_task)
+    (subst (λ (s : StartPairs). HasKeptSince past task s failed after new) (sym none)
+    (subst (λ (b : Bool). HasKeptSince past task (no_pairs task.match_length) b after new) (sym works)
+    (subst (λ (o : Output). HasKeptSince past task (no_pairs task.match_length) false after o) (sym same_out) (nothing-since past task after same))))
+
+abbrev stop-number : {T : Type 0} → Result T LadderStop → ℕ
+stop-number (Ok x) = 0
+stop-number (Err Keep) = 1
+stop-number (Err NoMemory) = 2
+
+not-failed : (failed : Bool) → (failed ≡ true → ⊥) → failed ≡ false
+not-failed true not = absurd (not refl)
+not-failed false not = refl
+
+-- what was done when solving the scores ended, by what the keeper has then
+pub scores-ended : (past : LadderPast) (task : Ladder) (keeper : Keeper) (after : Contents) (new : Output) (result : Result StartPairs LadderStop)
+    → HasKeptSince past task keeper.starts keeper.failed after new → (IsErrOf result Keep ↔ (keeper.failed ≡ true)) → IfOk result (λ starts. HasKept starts keeper) → IfOk result (IsWholeLadder task.checkers task.match_length task.rounds)
+    → SolvesScores past task after new result
+scores-ended past task keeper after new (Ok starts) since hands kept whole = (
+  keeper.starts,
+  subst (λ (b : Bool). HasKeptSince past task keeper.starts b after new) kept.works since,
+  ap (λ (s : StartPairs). length s.pairs) kept.held ∙ whole.whole,
+)
+scores-ended past task keeper after new (Err Keep) since hands kept whole = (
+  keeper.starts,
+  subst (λ (b : Bool). HasKeptSince past task keeper.starts b after new) (hands.0 refl) since,
+)
+scores-ended past task keeper after new (Err NoMemory) since hands kept whole = (
+  keeper.starts,
+  subst (λ (b : Bool). HasKeptSince past task keeper.starts b after new)
+      (not-failed keeper.failed (λ failed. let same : 2 ≡ 1 = ap (λ (r : Result StartPairs LadderStop). stop-number r) (hands.1 failed) in omega (arith, same))) since,
+)
 
 module _ (task : Ladder) (told : Bool) (before after : Contents) (old middle new : Output) (starts : StartPairs) where
   abbrev past : LadderPast
