@@ -10,7 +10,7 @@ use Rattle.top_call.specs.declared.task.Task.TheVariants.{Bound, Solve, Show, Mi
 use Rattle.top_call.specs.Advises.{HasAdvised, MayRefuseAdvice}
 use Rattle.top_call.specs.Analyses.{HasAnalysed, MayRefuseAnalysis}
 use Rattle.top_call.specs.Loads.{RefusesLoading}
-use Rattle.top_call.specs.Outcomes.{HasRun}
+use Rattle.top_call.specs.Outcomes.{HasRun, TellsMemory}
 use Rattle.top_call.specs.Runs.{IsDue, WasPut}
 use Rattle.top_call.specs.Studies.{HasStudied, MayRefuseStudy}
 use Rattle.top_call.specs.Shows.{HasShown, RefusesShowing}
@@ -33,6 +33,20 @@ of_memory W (Base wanted found) e w = absurd (omega arith)
 of_memory W (Roll bad) e w = absurd (omega arith)
 of_memory W (Inconsistent unheld) e w = absurd (omega arith)
 of_memory W (Record bad) e w = absurd (omega arith)
+
+-- where the line alone was put, it is told that there was no memory, whatever is asked for
+pub memory-told : (expected : Result Task Refusal) (old new : Output) → WasPut old new (refusal_text Memory) → TellsMemory expected old new
+memory-told (Ok (Bound task)) old new put = put
+memory-told (Ok (Solve task)) old new put = put
+memory-told (Ok (Show task)) old new put = put
+memory-told (Ok (Migrate task)) old new put = put
+memory-told (Ok (Advise task)) old new put = put
+memory-told (Ok (Verify task)) old new put = put
+memory-told (Ok (Ladder task)) old new put = tt
+memory-told (Ok (Analyse task)) old new put = put
+memory-told (Ok (Study task)) old new put = put
+memory-told (Ok (Make task)) old new put = put
+memory-told (Err refusal) old new put = put
 
 -- where there was no memory for the words, nothing is known of what they ask for
 module _ (told : Bool) (before after : Contents) (same : SameFiles before after) (old new : Output) (status : ℕ) where

@@ -2,7 +2,7 @@ use Rattle.std.proofs.Common.{List, ℕ, refl, sym, ◌∙◌, arith}
 use Rattle.top_call.specs.Tasks.{asked}
 use Rattle.top_call.specs.Runs.{WasPut}
 use Rattle.top_call.proofs.Refused.{memory-text}
-use Rattle.top_call.proofs.Unread.{unread}
+use Rattle.top_call.proofs.Unread.{memory-told, unread}
 use Rattle.top_call.proofs.top.run.Goals as goal
 
 pub returns-in-Err-clause-has_run : goal.returns-in-Err-clause-has_run
@@ -13,40 +13,40 @@ returns-in-Err-clause-has_run g c =
 pub returns-in-Err-clause-memory : goal.returns-in-Err-clause-memory
 returns-in-Err-clause-memory g c =
     let put = λ (text : List ℕ). WasPut (g.O.Sink.output c.args.out.now) (g.O.Sink.output c.refuse.new.out) text in
-    λ e. memory-text put c.in-Err.refusal (sym c.refuse.ensures.status ∙ e) c.refuse.ensures.told
+    λ e. memory-told (asked c.args.words.now) _ _ (memory-text put c.in-Err.refusal (sym c.refuse.ensures.status ∙ e) c.refuse.ensures.told)
 
 pub returns-in-Ok-Show-clause-memory : goal.returns-in-Ok-Show-clause-memory
 returns-in-Ok-Show-clause-memory g c = λ e.
     let put = λ (text : List ℕ). WasPut (g.O.Sink.output c.args.out.now) (g.O.Sink.output c.run_show.new.out) text in
     let refused = c.run_show.ensures.tells.refused (λ done. absurd (omega (arith, done, e))) (λ write. absurd (omega (arith, write, e))) in
-    memory-text put refused.refusal (sym refused.is_status ∙ e) refused.line
+    memory-told (asked c.args.words.now) _ _ (memory-text put refused.refusal (sym refused.is_status ∙ e) refused.line)
 
 pub returns-in-Ok-Migrate-clause-memory : goal.returns-in-Ok-Migrate-clause-memory
 returns-in-Ok-Migrate-clause-memory g c = λ e.
     let put = λ (text : List ℕ). WasPut (g.O.Sink.output c.args.out.now) (g.O.Sink.output c.run_migrate.new.out) text in
     let refused = c.run_migrate.ensures.migrates.refused (λ done. absurd (omega (arith, done, e))) (λ write. absurd (omega (arith, write, e))) in
-    memory-text put refused.refusal (sym refused.is_status ∙ e) refused.line
+    memory-told (asked c.args.words.now) _ _ (memory-text put refused.refusal (sym refused.is_status ∙ e) refused.line)
 
 pub returns-in-Ok-Advise-clause-memory : goal.returns-in-Ok-Advise-clause-memory
 returns-in-Ok-Advise-clause-memory g c = λ e.
     let put = λ (text : List ℕ). WasPut (g.O.Sink.output c.args.out.now) (g.O.Sink.output c.run_advise.new.out) text in
     let refused = c.run_advise.ensures.tells.refused (λ done. absurd (omega (arith, done, e))) (λ write. absurd (omega (arith, write, e))) in
-    memory-text put refused.refusal (sym refused.is_status ∙ e) refused.line
+    memory-told (asked c.args.words.now) _ _ (memory-text put refused.refusal (sym refused.is_status ∙ e) refused.line)
 
 pub returns-in-Ok-Verify-clause-memory : goal.returns-in-Ok-Verify-clause-memory
 returns-in-Ok-Verify-clause-memory g c = λ e.
     let put = λ (text : List ℕ). WasPut (g.O.Sink.output c.args.out.now) (g.O.Sink.output c.run_verify.new.out) text in
     let refused = c.run_verify.ensures.tells.refused (λ done. absurd (omega (arith, done, e))) (λ write. absurd (omega (arith, write, e))) in
-    memory-text put refused.refusal (sym refused.is_status ∙ e) refused.line
+    memory-told (asked c.args.words.now) _ _ (memory-text put refused.refusal (sym refused.is_status ∙ e) refused.line)
 
 pub returns-in-Ok-Analyse-clause-memory : goal.returns-in-Ok-Analyse-clause-memory
 returns-in-Ok-Analyse-clause-memory g c = λ e.
     let put = λ (text : List ℕ). WasPut (g.O.Sink.output c.args.out.now) (g.O.Sink.output c.run_analyse.new.out) text in
     let refused = c.run_analyse.ensures.tells.refused (λ done. absurd (omega (arith, done, e))) (λ write. absurd (omega (arith, write, e))) in
-    memory-text put refused.refusal (sym refused.is_status ∙ e) refused.line
+    memory-told (asked c.args.words.now) _ _ (memory-text put refused.refusal (sym refused.is_status ∙ e) refused.line)
 
 pub returns-in-Ok-Study-clause-memory : goal.returns-in-Ok-Study-clause-memory
 returns-in-Ok-Study-clause-memory g c = λ e.
     let put = λ (text : List ℕ). WasPut (g.O.Sink.output c.args.out.now) (g.O.Sink.output c.run_study.new.out) text in
     let refused = c.run_study.ensures.tells.refused (λ done. absurd (omega (arith, done, e))) (λ write. absurd (omega (arith, write, e))) in
-    memory-text put refused.refusal (sym refused.is_status ∙ e) refused.line
+    memory-told (asked c.args.words.now) _ _ (memory-text put refused.refusal (sym refused.is_status ∙ e) refused.line)
