@@ -1,5 +1,5 @@
 -- What a keeper does with a score that it may keep.
-use Rattle.std.proofs.Common.{◌≡◌, ◌∙◌, ◌≤◌, ◌<◌, ◌⊎◌, ℕ, ℤ, true, false, IsTrue, List, [], length, Some, Ok, Err, inl, inr, sym, ap, subst, arith}
+use Rattle.std.proofs.Common.{◌≡◌, ◌∙◌, ◌≤◌, ◌<◌, ◌⊎◌, ℕ, ℤ, true, false, IsTrue, [], length, Some, Err, sym, ap, subst}
 use Rattle.std.specs.List.{AllPairs}
 use Rattle.hyper_outside.specs.declared.outside.Failed.{Failed}
 use Rattle.hyper_outside.specs.Files.{Contents, KeepsOthers}
@@ -10,11 +10,10 @@ use Rattle.cube_actions.specs.Scores.{MatchScore}
 use Rattle.cube_actions.specs.Starts.{StartPairs, AreStarts}
 use Rattle.turn_rule.specs.declared.game.Game.{Game}
 use Rattle.interval_words.specs.WordLists.{WordList, AreRight, IsWidest, words_in_list}
-use Rattle.match_scores.specs.Keepers.{Keeper, MayKeep}
 use Rattle.match_scores.specs.Ladders.{score_at, with_pair, AreWordsOf}
 use Rattle.match_scores.specs.Openings.{start_over}
 use Rattle.match_scores.proofs.WholeLadder.{AreScores}
-use Rattle.database_file.specs.Writing.{HoldsFront, Writes}
+use Rattle.database_file.specs.Writing.{HoldsFront}
 use Rattle.command_line.specs.declared.command.Ladder.{Ladder}
 use Rattle.command_line.specs.Right.{IsRightLadder}
 use Rattle.equity_report.specs.Ladder.{ladder_score_text}

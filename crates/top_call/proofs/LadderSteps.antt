@@ -1,34 +1,30 @@
 -- One score more of a ladder, or one that failed.
-use Rattle.std.proofs.Common.{◌≡◌, ◌≢◌, ◌∙◌, ◌≤◌, ◌<◌, ◌+◌, ◌⊎◌, ℕ, ℤ, pos, zero, suc, Bool, cond, eqb, true, false, IsTrue, List, [], ◌∷◌, ◌++◌, length, length-append, Option, Some, None, Ok, Err, inl, inr, refl, sym, ap, subst, arith}
+use Rattle.std.proofs.Common.{◌≡◌, ◌≢◌, ◌∙◌, ◌≤◌, ◌<◌, ◌+◌, ◌⊎◌, ℕ, ℤ, pos, zero, suc, true, false, IsTrue, List, [], ◌++◌, length, length-append, Option, Some, None, Err, inl, inr, refl, sym, ap, subst, arith}
 use Rattle.std.specs.List.{AllPairs}
 use Rattle.std.proofs.lemmas.Bool.{cases_lt}
 use Rattle.std.proofs.lemmas.List.{append-nil, append_assoc}
 use Rattle.hyper_outside.specs.declared.outside.Failed.{Failed}
 use Rattle.hyper_outside.specs.Files.{Contents, KeepsOthers}
 use Rattle.hyper_outside.specs.Sink.{Output, Puts}
-use Rattle.directed_fixed.specs.Bounds.{Bounds}
 use Rattle.cube_actions.specs.Ladder.{ladder, ScoreComesBefore}
 use Rattle.cube_actions.specs.Scores.{MatchScore, last_game}
 use Rattle.cube_actions.specs.Starts.{StartPairs, AreStarts}
-use Rattle.turn_rule.specs.declared.game.Game.{Game}
 use Rattle.cube_actions.specs.declared.name.StakesName.TheVariants.{Match}
 use Rattle.interval_words.specs.WordLists.{WordList, AreRight, IsWidest, list_of, words_in_list}
 use Rattle.match_scores.specs.Openings.{start_over}
-use Rattle.word_pages.specs.declared.version.Version.TheVariants.{Two}
 use Rattle.base_head.specs.Heads.{IsHead}
-use Rattle.database_file.specs.Texts.{IsText, AreWordsOf as AreFileWords}
+use Rattle.database_file.specs.Texts.{AreWordsOf as AreFileWords}
 use Rattle.match_scores.specs.Keepers.{no_pairs}
 use Rattle.match_scores.proofs.Places.{place-of}
 use Rattle.command_line.specs.Right.{IsRightLadder}
 use Rattle.match_scores.specs.Ladders.{score_at, starts_till, with_pair, game_at, AreWordsOf, IsSolved, IsSolvedAt, IsLadder}
 use Rattle.match_scores.proofs.WholeLadder.{AreScores, and_then, and_then-before, and_then-last, till-same, all-taken, solved-next}
-use Rattle.database_file.specs.Writing.{HoldsFront, Writes}
+use Rattle.database_file.specs.Writing.{HoldsFront}
 use Rattle.command_line.specs.declared.command.Ladder.{Ladder}
-use Rattle.top_call.specs.Ladders.{AreScoresSolved, HasKeptSince, HasSolvedScores, HaveFiles, IsInWork, IsScoreSolved, KeepsAllBut, LadderPast, SolvedScore, file_of, lines_of, score_bytes, score_file, score_head, score_line, score_of, scores_in}
+use Rattle.top_call.specs.Ladders.{AreScoresSolved, HasKeptSince, HaveFiles, IsScoreSolved, KeepsAllBut, LadderPast, SolvedScore, file_of, lines_of, score_bytes, score_head, score_line, score_of, scores_in}
 use Rattle.top_call.specs.Runs.{IsPut, IsTold}
 use Rattle.top_call.proofs.ScoreFiles.{files-apart}
 use Rattle.top_call.proofs.SolvedFiles.{two-takes}
-use Rattle.top_call.proofs.Telling.{all-told}
 
 -- ---- what was put
 

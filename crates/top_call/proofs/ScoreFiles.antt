@@ -1,7 +1,6 @@
 -- No two scores of a ladder have files of one name.
-use Rattle.std.proofs.Common.{◌≡◌, ◌≢◌, ◌∙◌, ◌≤◌, ◌<◌, ◌+◌, ℕ, List, [], ◌∷◌, ◌++◌, codes, length, get_or, inl, inr, refl, sym, ap, arith}
+use Rattle.std.proofs.Common.{◌≡◌, ◌≢◌, ◌∙◌, ◌≤◌, ◌<◌, ◌+◌, ℕ, List, ◌∷◌, ◌++◌, codes, get_or, refl, sym, ap, arith}
 use Rattle.std.specs.List.{AllPairs}
-use Rattle.std.proofs.lemmas.Bool.{cases_lt}
 use Rattle.std.proofs.lemmas.Fmt.{decimal_digit}
 use Rattle.std.proofs.lemmas.List.{append_cancel_left}
 use Rattle.cube_actions.specs.declared.phase.Phase.{Phase}
@@ -12,7 +11,7 @@ use Rattle.cube_actions.specs.Scores.{MatchScore, IsScore}
 use Rattle.match_scores.proofs.Places.{apart-later}
 use Rattle.match_scores.proofs.WholeLadder.{AreScores, score-valid}
 use Rattle.command_line.specs.declared.command.Ladder.{Ladder}
-use Rattle.top_call.specs.Ladders.{file_of, score_file, score_of, scores_in}
+use Rattle.top_call.specs.Ladders.{file_of, score_of, scores_in}
 
 -- the bytes of a score's text
 short : ℕ → ℕ → Phase → List ℕ

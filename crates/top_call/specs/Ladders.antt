@@ -1,5 +1,5 @@
 -- What solving a match leaves, score by score in the order of its ladder.
-use Rattle.std.specs.Prelude.{◌≡◌, ◌≢◌, ◌≤◌, ◌<◌, ◌+◌, ◌⊎◌, ℕ, zero, suc, ℤ, List, [], ◌++◌, length, codes, Bool, true, false, IsTrue, Some, Result, Ok, Err}
+use Rattle.std.specs.Prelude.{◌≡◌, ◌≤◌, ◌<◌, ◌+◌, ◌⊎◌, ℕ, zero, suc, ℤ, List, [], ◌++◌, length, codes, Bool, true, false, IsTrue, Some, Result, Ok, Err}
 use Rattle.std.specs.Borrow.{GName}
 use Rattle.hyper_outside.specs.declared.outside.Failed.{Failed}
 use Rattle.hyper_outside.specs.Files.{Contents}

@@ -1,5 +1,5 @@
 use Rattle.std.proofs.Common.{inl, inr, arith}
-use Rattle.top_call.proofs.LadderEnds.{all-kept, end-stopped, run-out, score-stopped, whole-solved}
+use Rattle.top_call.proofs.LadderEnds.{end-stopped, whole-solved}
 use Rattle.top_call.proofs.ladder.run_ladder.Goals as goal
 
 pub returns-in-Ok-clause-solves : goal.returns-in-Ok-clause-solves
