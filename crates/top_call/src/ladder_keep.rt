@@ -119,8 +119,8 @@ impl<'a, F: Files, O: Sink> Keep for LadderKeep<'a, F, O> {
         ladders_are_exact();
         solved_ladders_are_true_and_tight();
         let words = words.words();
-        // The words are right, and the start pairs those of a match.
         words.right();
+        // What `match_length` ensures says that the start pairs are those of a match.
         let _length = starts.match_length();
         let start = start_pair(score, words);
         let widest = words.widest();
