@@ -1,4 +1,3 @@
-mod ladders;
 mod meeting;
 mod migrates;
 mod shows;

@@ -1,8 +1,8 @@
-//! Matches that are solved score by score.
 use hyper_outside::MemFiles;
 use memory_runs::{ask, ask_failing};
 use std::alloc::Global;
 use std::test::Fail;
+use std::thread::Threads;
 
 const TO_TWO: [&str; 10] = [
     "ladder",
@@ -154,17 +154,7 @@ fn a_failing_line_leaves_the_file_of_its_score(rt: HostRuntime) -> Result<(), Fa
     let alloc = rt.alloc();
     for (put, there, end) in FAILED_PUTS {
         let mut files = room_for_two(alloc)?;
-        let mut out = MemSink::new(alloc);
-        out.room(1024)?;
-        out.fail_call(put, 5)?;
-        let status = run(
-            &rt,
-            alloc,
-            words.as_slice(),
-            &mut files,
-            &mut out,
-            &OpenGate,
-        );
+        let (status, out) = ask_failing(&rt, alloc, &mut files, &TO_TWO, put, 5)?;
         assert_eq!(rt; status, 7);
         for (i, (name, length)) in FILES.iter().enumerate() {
             let expected = if i < there { Some(*length) } else { None };
@@ -226,13 +216,13 @@ fn starts_enclose_what_a_plain_program_finds(rt: HostRuntime) -> Result<(), Fail
 }
 
 /// Solves a match of so many points whole, and answers how many lines were put.
-fn lines_of(
-    rt: &HostRuntime,
+fn lines_of<R: Threads + Sync>(
+    rt: &R,
+    alloc: Global,
     words: &[&str],
     names: usize,
     bytes: usize,
 ) -> Result<(u8, usize), Fail> {
-    let alloc = rt.alloc();
     let mut files = MemFiles::new(alloc);
     files.room(names, bytes)?;
     let (status, out) = ask(rt, alloc, &mut files, words)?;
@@ -242,9 +232,10 @@ fn lines_of(
 
 #[test]
 fn longer_matches_are_solved(rt: HostRuntime) -> Result<(), Fail> {
+    let alloc = rt.alloc();
     let one = ["ladder", "five", "--checkers=1", "--length=5", "--rounds=2"];
-    assert_eq!(rt; lines_of(&rt, &one, 18, 900_000)?, (0, 19));
+    assert_eq!(rt; lines_of(&rt, alloc, &one, 18, 900_000)?, (0, 19));
     let two = ["ladder", "two", "--checkers=2", "--rounds=1", "--workers=2"];
-    assert_eq!(rt; lines_of(&rt, &two, 7, 36_300_000)?, (0, 8));
+    assert_eq!(rt; lines_of(&rt, alloc, &two, 7, 36_300_000)?, (0, 8));
     Ok(())
 }
