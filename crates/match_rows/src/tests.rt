@@ -166,18 +166,23 @@ fn a_failing_line_leaves_the_file_of_its_score(rt: HostRuntime) -> Result<(), Fa
     Ok(())
 }
 
+// Files that are none of the match.
+const OTHERS: [(&str, &[u8]); 2] = [("L", b"kept"), ("L.1.2.p", b"kept too")];
+
 #[test]
 fn no_other_file_changes(rt: HostRuntime) -> Result<(), Fail> {
     let alloc = rt.alloc();
     let mut files = MemFiles::new(alloc);
-    files.with_file("L", b"kept")?;
-    files.with_file("L.1.2.p", b"kept too")?;
+    for (name, text) in OTHERS {
+        files.with_file(name, text)?;
+    }
     files.with_file("L.1.2.c", b"old")?;
     files.room(3, 61_000)?;
     let (status, _out) = ask(&rt, alloc, &mut files, &TO_TWO)?;
     assert_eq!(rt; status, 0);
-    assert_eq!(rt; files.held("L"), Some(b"kept".as_slice()));
-    assert_eq!(rt; files.held("L.1.2.p"), Some(b"kept too".as_slice()));
+    for (name, text) in OTHERS {
+        assert_eq!(rt; files.held(name), Some(text));
+    }
     assert_eq!(rt; files.held("L.1.2.c").map(|file| file.len()), Some(12158));
     Ok(())
 }
