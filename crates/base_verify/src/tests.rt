@@ -65,10 +65,14 @@ fn text(changes: &[Change]) -> ArrayVec<u8, SIZE> {
 }
 
 /// The base of such a file.
-fn base(rt: &impl Abort, alloc: Global, changes: &[Change]) -> Result<Base, Fail> {
+fn base<R: Abort + Threads + Sync>(
+    rt: &R,
+    alloc: Global,
+    changes: &[Change],
+) -> Result<Base, Fail> {
     let mut files = MemFiles::new(alloc);
     files.with_file("base", text(changes).as_slice())?;
-    let Ok(base) = load_base(alloc, &mut files, "base") else {
+    let Ok(base) = load_base(rt, alloc, &mut files, "base", 1) else {
         panic!(rt; "it was not loaded");
     };
     Ok(base)

@@ -1,4 +1,5 @@
 pub mod Bases
+pub mod Batches
 pub mod FileTexts
 pub mod FrontBytes
 pub mod KeptPages

@@ -2,7 +2,7 @@
 use Rattle.std.proofs.Common.{◌≡◌, ◌∙◌, ℕ, zero, suc, ◌+◌, ◌*◌, ◌-◌, ◌<◌, ◌≤◌, List, ◌++◌, length, take, drop, Option, None, Some, is_none, Result, Ok, Err, IsErrAnd, length-append, length-drop, refl, sym, ap, ap₂, subst, arith}
 use Rattle.std.proofs.Math.Nat.{le-div_iff_mul-le, mul-le-mul_left, suc-mul}
 use Rattle.std.proofs.Math.Seq.{drop-append_seam, drop-nil}
-use Rattle.std.proofs.lemmas.Bool.{false≢true, leb-true}
+use Rattle.std.proofs.lemmas.Bool.{false≢true}
 use Rattle.std.proofs.lemmas.List.{drop-append-le, drop-drop, length-take, take-append-le}
 use Rattle.std.specs.Option.{option_or}
 use Rattle.hyper_outside.specs.Files.{bytes_from}
@@ -14,11 +14,12 @@ use Rattle.word_pages.specs.Pages.{page_size, page_flaw}
 use Rattle.word_pages.specs.Loads.{AnswersPage}
 use Rattle.word_pages.proofs.PageFlaws.{page_flaw-take}
 use Rattle.word_pages.proofs.Texts.{words_of-take}
-use Rattle.word_pages.proofs.Within.{is_well, none_or, or_none}
+use Rattle.word_pages.proofs.Within.{or_none}
 use Rattle.database_file.specs.declared.pages.Pages.{Pages}
 use Rattle.database_file.specs.declared.pages.PagesStop.{PagesStop}
-use Rattle.database_file.specs.declared.pages.PagesStop.TheVariants.{BadPage, NoMemory, ReadFault}
-use Rattle.database_file.specs.Pages.{AddsPage, AnswersPages, first_flaw, first_words, flaw_in, flaw_on, page_count, page_words, place_of, stopped_by, whole_page, words_on}
+use Rattle.database_file.specs.declared.pages.PagesStop.TheVariants.{ReadFault}
+use Rattle.database_file.specs.Batches.{AreRead}
+use Rattle.database_file.specs.Pages.{AddsPage, first_flaw, first_words, flaw_in, flaw_on, page_count, page_words, place_of, stopped_by, whole_page, words_on}
 
 -- the bytes behind others
 pub bytes_behind : (at more : ℕ) (file : Option (List ℕ)) → bytes_from (at + more) file ≡ drop more (bytes_from at file)
@@ -62,13 +63,8 @@ fault_only (reading.BadPage flaw) (Err given) same is = grind (arith, same, is)
 
 -- ---- the first pages
 
--- the first n pages have no flaw, and these are their words
-pub record AreRead (pages : Pages) (bytes : List ℕ) (n : ℕ) (list : List ℕ) : Type 0 where
-  pub right : first_flaw pages bytes n ≡ None
-  pub words : list ≡ first_words pages bytes n
-
 -- no page is longer than a whole one
-page_fits : (pages : Pages) (page : ℕ) → page_size pages.version (words_on pages page) ≤ whole_page pages
+pub page_fits : (pages : Pages) (page : ℕ) → page_size pages.version (words_on pages page) ≤ whole_page pages
 page_fits pages page =
     let few : words_on pages page ≤ pages.size = omega arith in
     omega (arith, mul-le-mul_left (word_size pages.version) few)
@@ -117,26 +113,10 @@ one_more pages n next bytes words new is read added = subst (λ (n : ℕ). AreRe
 })
 
 -- a page behind which there is another one is a whole one
-is_whole : (pages : Pages) (page : ℕ) → 0 < pages.size → suc page < page_count pages → words_on pages page ≡ pages.size
+pub is_whole : (pages : Pages) (page : ℕ) → 0 < pages.size → suc page < page_count pages → words_on pages page ≡ pages.size
 is_whole pages page some more =
     let fill = (le-div_iff_mul-le {k = pages.size} {x = suc (suc page)} {y = pages.count + (pages.size - 1)} some).0 more in
     omega (arith, fill, suc-mul (suc page) pages.size, suc-mul page pages.size)
-
--- where it is right, so many bytes were there
-pub long_enough : (pages : Pages) (page : ℕ) (before part : List ℕ) → 0 < pages.size → length before ≡ page * whole_page pages
-    → length part ≤ page_size pages.version (words_on pages page) → flaw_on pages (before ++ part) page ≡ None
-    → (page + 1 < page_count pages → length (before ++ part) ≡ (page + 1) * whole_page pages)
-long_enough pages page before part some long few right more =
-    let n = words_on pages page in
-    let there : List ℕ = drop (page * whole_page pages) (before ++ part) in
-    let behind = stands_behind before part (page * whole_page pages) long in
-    let ends = leb-true (page_size pages.version n) (length there) (is_well _ _ _ (none_or _ _ right).0) in
-    let next : (page + 1) * whole_page pages ≡ suc page * whole_page pages = ap (λ k. k * whole_page pages) (one page) in
-    let whole = ap (page_size pages.version) (is_whole pages page some (omega (arith, more))) in
-    omega (arith, long, few, ends, whole, ap (λ (bytes : List ℕ). length bytes) behind, length-append before part, suc-mul page (whole_page pages), next)
-  where
-    one : (page : ℕ) → page + 1 ≡ suc page
-    one page = omega arith
 
 -- what is written to the front of a buffer leaves its length
 pub kept : {A : Type 0} (len : ℕ) (new old items : List A) → len ≡ length items → length new ≡ length old → length old ≡ length items → length (take len (new ++ drop (length new) items)) ≡ length items
@@ -165,14 +145,7 @@ flaw-stays pages bytes n (suc m) flaw is = ap (λ k. first_flaw pages bytes k) (
     one_more : (n m : ℕ) → suc m + n ≡ suc (m + n)
     one_more n m = omega arith
 
-flaw-is : (pages : Pages) (bytes words : List ℕ) (page : ℕ) (flaw : Flaw) → page < page_count pages → AreRead pages bytes page words → flaw_on pages bytes page ≡ Some flaw → flaw_in pages bytes ≡ Some flaw
+pub flaw-is : (pages : Pages) (bytes words : List ℕ) (page : ℕ) (flaw : Flaw) → page < page_count pages → AreRead pages bytes page words → flaw_on pages bytes page ≡ Some flaw → flaw_in pages bytes ≡ Some flaw
 flaw-is pages bytes words page flaw there read is =
     let left : (page_count pages - suc page) + suc page ≡ page_count pages = omega (arith, there) in
     ap (λ k. first_flaw pages bytes k) (sym left) ∙ flaw-stays pages bytes (suc page) (page_count pages - suc page) flaw (or-some _ _ flaw read.right is)
-
--- where a page stops the reading, all pages are answered
-pub answers_stop : (U : Type 0) (pages : Pages) (bytes words new : List ℕ) (page : ℕ) (stop : PagesStop) → page < page_count pages → AreRead pages bytes page words
-    → AddsPage {T = U} pages page bytes words new (Err stop) → AnswersPages pages bytes (Err stop)
-answers_stop U pages bytes words new page (BadPage flaw) there read told = flaw-is pages bytes words page flaw there read told
-answers_stop U pages bytes words new page ReadFault there read told = told
-answers_stop U pages bytes words new page NoMemory there read told = told

@@ -1,4 +1,5 @@
 pub mod Bases
+pub mod Batches
 pub mod Faults
 pub mod FileBases
 pub mod Opened

@@ -1,6 +1,7 @@
 //! Files of bounds: their text, which is written and read.
 #![tactic(auto)]
 
+mod batch;
 mod front;
 mod kept;
 mod laws;

@@ -21,6 +21,7 @@ use hyper_outside::{Files, NoMemory};
 use interval_words::{LiveIndex, Words};
 use std::alloc::Global;
 use std::marker::Model;
+use std::thread::Threads;
 
 /// How many positions a page has.
 pub(crate) const PAGE_POSITIONS: usize = 1024;
@@ -97,11 +98,19 @@ fn base_of(alloc: Global, head: Head, list: Vec<u64>) -> Result<Base, NoMemory>
     Ok(Base { head, words })
 }
 
-/// Loads a file of bounds of either version: it asks for the size, and then reads header, starts and pages in order, each page through
-/// one buffer. `Missing` comes exactly where there is no file of this name, and `BadFile` exactly where the bytes that were read aren't a file
+/// Loads a file of bounds of either version: it asks for the size, and then reads header, starts and pages in order, as many pages
+/// together as there are workers, 1 to 64, each in a thread of its own where one can be started. What it answers is the same for each
+/// number of workers. `Missing` comes exactly where there is no file of this name, and `BadFile` exactly where the bytes that were read aren't a file
 /// of bounds: it tells the first fault in the order of the format, and its place. `ReadFault` comes only where the files' count of reads
 /// rose. No file changes.
-pub fn load_base<F: Files>(alloc: Global, files: &mut F, name: &str) -> Result<Base, LoadStop>
+pub fn load_base<R: Threads + Sync, F: Files>(
+    rt: &R,
+    alloc: Global,
+    files: &mut F,
+    name: &str,
+    workers: u32,
+) -> Result<Base, LoadStop>
+    requires workers { (1 ≤ workers) × (workers ≤ 64) }
     ensures read { (file : Option Read) × AnswersBase file result }
     ensures told { IsTrue (F.tells files.old)
         → AnswersBase (option_map whole (F.held files.old name.now)) result }
@@ -114,7 +123,8 @@ pub fn load_base<F: Files>(alloc: Global, files: &mut F, name: &str) -> Result<B
     ensures write_faults { F.write_faults files.new ≡ F.write_faults files.old }
 {
     let Front { header, head } = read_front(files, name)?;
-    let list = read_pages(alloc, files, name, &pages_behind(&header))?;
+    let pages = pages_behind(&header);
+    let list = read_pages(rt, alloc, files, name, &pages, workers as usize)?;
     let base = base_of(alloc, head, list)?;
     Ok(base)
 }

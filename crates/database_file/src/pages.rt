@@ -2,12 +2,14 @@ ghost use Rattle.std.specs.Prelude.{◌≡◌, ◌≤◌, ◌<◌, ◌+◌, ◌+
 ghost use Rattle.hyper_outside.specs.Causes.{Rose};
 ghost use Rattle.hyper_outside.specs.Files.{SameFiles, bytes_from};
 ghost use Rattle.word_pages.specs.Pages.{page_size};
-ghost use Rattle.database_file.specs.declared.pages.PagesStop.TheVariants.{ReadFault, NoMemory};
+ghost use Rattle.database_file.specs.declared.pages.PagesStop.TheVariants.{ReadFault, BadPage, NoMemory};
 ghost use Rattle.database_file.specs.Pages.{AddsPage, AnswersPages, ArePages, page_count, place_of, stopped_by, whole_page, words_on};
 
+use crate::batch::{Batch, add_batch};
 use directed_fixed::Fixed;
-use hyper_outside::Files;
+use hyper_outside::{Failed, Files};
 use std::alloc::{AllocError, AllocFailed, Global};
+use std::thread::Threads;
 use word_pages::{Flaw, PageStop, Version, load_page};
 
 /// Pages of words that follow one another in a file.
@@ -43,6 +45,22 @@ impl From<PageStop> for PagesStop {
             PageStop::ReadFault => PagesStop::ReadFault,
             PageStop::BadPage(flaw) => PagesStop::BadPage(flaw),
         }
+    }
+}
+
+impl From<Flaw> for PagesStop {
+    ghost from_gives = { λ flaw stop. stop ≡ BadPage flaw };
+
+    fn from(flaw: Flaw) -> Self {
+        PagesStop::BadPage(flaw)
+    }
+}
+
+impl From<Failed> for PagesStop {
+    ghost from_gives = { λ _ stop. stop ≡ ReadFault };
+
+    fn from(_failed: Failed) -> Self {
+        PagesStop::ReadFault
     }
 }
 
@@ -137,15 +155,19 @@ pub(crate) fn add_page<F: Files>(
     Ok(())
 }
 
-/// Reads all pages in order, over as many reads as it takes, and answers their words. `BadPage` tells their first flaw. `ReadFault` comes
-/// only where the files' count of reads rose.
-pub fn read_pages<F: Files>(
+/// Reads all pages in order, as many together as there are workers, each of which checks a page and
+/// reads its words, and answers the words of all. `BadPage` tells the first flaw of the pages, and is the same for each number of workers.
+/// `ReadFault` comes only where the files' count of reads rose.
+pub fn read_pages<R: Threads + Sync, F: Files>(
+    rt: &R,
     alloc: Global,
     files: &mut F,
     name: &str,
     pages: &Pages,
+    workers: usize,
 ) -> Result<Vec<u64>, PagesStop>
     requires pages { ArePages pages.now }
+    requires workers { (1 ≤ workers) × (workers ≤ 64) }
     ensures read { (bytes : List ℕ) × AnswersPages pages.now bytes result }
     ensures told { IsTrue (F.tells files.old)
         → AnswersPages pages.now (bytes_from pages.now.at (F.held files.old name.now)) result }
@@ -157,11 +179,15 @@ pub fn read_pages<F: Files>(
         → Rose (F.read_faults files.old) (F.read_faults files.new) }
     ensures write_faults { F.write_faults files.new ≡ F.write_faults files.old }
 {
-    let mut buf = vec![in alloc; 0u8; pages.version.page_size(pages.size)]?;
-    let mut cells = vec![in alloc; 0u64; pages.size]?;
+    let count = pages.page_count();
+    let mut buf = vec![in alloc; 0u8; workers * pages.version.page_size(pages.size)]?;
     let mut words = Vec::with_capacity(alloc, pages.count)?;
-    'pages: for page in 0..pages.page_count() {
-        add_page(files, name, pages, page, &mut buf, &mut cells, &mut words)?;
+    let mut first = 0;
+    'batches: while first < count {
+        let past = (first + workers).min(count);
+        let batch = Batch { first, past };
+        add_batch(rt, alloc, files, name, pages, batch, &mut buf, &mut words)?;
+        first = past;
     }
     Ok(words)
 }

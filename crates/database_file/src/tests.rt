@@ -7,6 +7,7 @@ use hyper_outside::{Failed, Files, MemFiles};
 use sha2::{Digest, Sha256};
 use std::alloc::Global;
 use std::test::Fail;
+use std::thread::Threads;
 
 mod look_ups;
 
@@ -40,10 +41,14 @@ fn cubeless_text() -> ArrayVec<u8, SIZE> {
 }
 
 /// What is told of a file with these bytes.
-fn stop_of(alloc: Global, bytes: &[u8]) -> Result<Option<LoadStop>, Fail> {
+fn stop_of<R: Threads + Sync>(
+    rt: &R,
+    alloc: Global,
+    bytes: &[u8],
+) -> Result<Option<LoadStop>, Fail> {
     let mut files = MemFiles::new(alloc);
     files.with_file("base", bytes)?;
-    match load_base(alloc, &mut files, "base") {
+    match load_base(rt, alloc, &mut files, "base", 3) {
         Ok(_) => Ok(None),
         Err(stop) => Ok(Some(stop)),
     }
@@ -57,7 +62,7 @@ fn bad(fault: FileFault, at: u64) -> Option<LoadStop> {
 fn loads_a_file(rt: HostRuntime) -> Result<(), Fail> {
     let mut files = MemFiles::new(rt.alloc());
     files.with_file("base", cubeless_text().as_slice())?;
-    let Ok(base) = load_base(rt.alloc(), &mut files, "base") else {
+    let Ok(base) = load_base(&rt, rt.alloc(), &mut files, "base", 1) else {
         panic!(rt; "it was not loaded");
     };
     assert_eq!(rt; base.head().checkers(), 1);
@@ -66,7 +71,7 @@ fn loads_a_file(rt: HostRuntime) -> Result<(), Fail> {
     assert_eq!(rt; words.len(), 1202);
     assert_eq!(rt; words.get(1200), Some(&0xf00000000));
     assert_eq!(rt; words.get(1201), Some(&0x1100000000));
-    let missing = load_base(rt.alloc(), &mut files, "other");
+    let missing = load_base(&rt, rt.alloc(), &mut files, "other", 1);
     assert!(rt; matches!(missing, Err(LoadStop::Missing)));
     Ok(())
 }
@@ -77,14 +82,17 @@ fn tells_a_wrong_length(rt: HostRuntime) -> Result<(), Fail> {
     for size in [0, 63, 64, 95, 96, 5000, 6137].iter() {
         let bytes = text.as_slice().get(..*size).unwrap_or(b"");
         assert_eq!(rt;
-            stop_of(rt.alloc(), bytes)?,
+            stop_of(&rt, rt.alloc(), bytes)?,
             bad(FileFault::Short, *size as u64)
         );
     }
     let mut longer: Vec<u8> = Vec::new(rt.alloc());
     longer.extend_from_slice(text.as_slice())?;
     longer.push(0)?;
-    assert_eq!(rt; stop_of(rt.alloc(), &longer)?, bad(FileFault::Long, 6138));
+    assert_eq!(rt;
+        stop_of(&rt, rt.alloc(), &longer)?,
+        bad(FileFault::Long, 6138)
+    );
     Ok(())
 }
 
@@ -110,7 +118,7 @@ fn tells_a_changed_byte(rt: HostRuntime) -> Result<(), Fail> {
                 panic!(rt; "it is too short");
             };
             *byte ^= *flip;
-            assert_eq!(rt; stop_of(rt.alloc(), text.as_slice())?, changed(at));
+            assert_eq!(rt; stop_of(&rt, rt.alloc(), text.as_slice())?, changed(at));
             if let Some(byte) = text.as_mut_slice().get_mut(at) {
                 *byte ^= *flip;
             }
@@ -155,6 +163,6 @@ impl Files for Cut {
 
 #[test]
 fn tells_where_reads_end(rt: HostRuntime) {
-    let stop = load_base(rt.alloc(), &mut Cut, "base").err();
+    let stop = load_base(&rt, rt.alloc(), &mut Cut, "base", 1).err();
     assert_eq!(rt; stop, bad(FileFault::Short, 5000));
 }

@@ -16,6 +16,7 @@ use database_file::{load_base, write_base};
 use equity_report::{Refusal, write_migrated};
 use hyper_outside::{Failed, Files, Sink};
 use std::alloc::Global;
+use std::thread::Threads;
 use word_pages::Version;
 
 /// Puts the report on a file with this head.
@@ -47,7 +48,8 @@ fn tell<O: Sink>(task: &Migrate, head: &Head, out: &mut O) -> u8
 }
 
 /// Loads a file, writes it anew in the latest version and puts the report, or a refusal where one of these fails or there is no memory.
-pub(crate) fn run_migrate<F: Files, O: Sink>(
+pub(crate) fn run_migrate<R: Threads + Sync, F: Files, O: Sink>(
+    rt: &R,
     alloc: Global,
     task: &Migrate,
     files: &mut F,
@@ -68,7 +70,7 @@ pub(crate) fn run_migrate<F: Files, O: Sink>(
         → SameFiles (F.held files.old) (F.held files.new) }
 {
     let old = task.old.as_str();
-    let base = match load_base(alloc, files, old) {
+    let base = match load_base(rt, alloc, files, old, 1) {
         Ok(base) => base,
         Err(stop) => return refuse(out, &refusal_of(stop, old)),
     };

@@ -100,7 +100,7 @@ pub fn run<R: Threads + Sync, F: Files, O: Sink, G: Gate + Sync>(
         Ok(Task::Bound(task)) => run_bound(alloc, &task, out),
         Ok(Task::Solve(task)) => run_solve(rt, alloc, &task, files, out, gate),
         Ok(Task::Show(task)) => run_show(alloc, &task, files, out),
-        Ok(Task::Migrate(task)) => run_migrate(alloc, &task, files, out),
+        Ok(Task::Migrate(task)) => run_migrate(rt, alloc, &task, files, out),
         Ok(Task::Advise(task)) => run_advise(alloc, &task, files, out),
         Ok(Task::Verify(task)) => run_verify(rt, alloc, &task, files, out, gate),
         Ok(Task::Ladder(task)) => run_ladder(rt, alloc, &task, files, out, gate),

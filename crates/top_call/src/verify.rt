@@ -81,7 +81,7 @@ fn load_verified<R: Threads + Sync, F: Files, G: Gate + Sync>(
     ensures kinds { IfErr result IsOfVerifying }
 {
     let name = task.file.as_str();
-    let base = match load_base(alloc, files, name) {
+    let base = match load_base(rt, alloc, files, name, task.workers) {
         Ok(base) => base,
         Err(stop) => return Err(refusal_of(stop, name)),
     };

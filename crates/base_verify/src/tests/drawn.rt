@@ -86,12 +86,17 @@ fn plain_words(rt: &impl Abort, alloc: Global, head: &Head) -> Result<Words, Fai
 }
 
 /// The base of a file of these words.
-fn base_of(rt: &impl Abort, alloc: Global, head: &Head, list: Vec<u64>) -> Result<Base, Fail> {
+fn base_of<R: Abort + Threads + Sync>(
+    rt: &R,
+    alloc: Global,
+    head: &Head,
+    list: Vec<u64>,
+) -> Result<Base, Fail> {
     let words = listed(rt, alloc, head, list);
     let mut files = MemFiles::new(alloc);
     files.room(1, Header::of(head, Version::Two).file_length() as usize)?;
     write_base(&mut files, "base", head, &words, Version::Two).expect(rt, "it was not written");
-    let Ok(base) = load_base(alloc, &mut files, "base") else {
+    let Ok(base) = load_base(rt, alloc, &mut files, "base", 4) else {
         panic!(rt; "it was not loaded");
     };
     Ok(base)

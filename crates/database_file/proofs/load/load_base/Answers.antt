@@ -14,23 +14,23 @@ returns-in_err-header-clause-read g c =
 pub returns-in_err-header-clause-told : goal.returns-in_err-header-clause-told
 returns-in_err-header-clause-told g c tells = front-stopped _ c.in_err-header.field-0.0 c.from_residual.result (c.in_err-header.ensures.told tells) c.from_residual.ensures.1
 
-pub read_pages-requires : goal.read_pages-requires
-read_pages-requires g c = record { pages = subst ArePages (sym c.pages_behind.ensures) (pages-valid c.in_ok-header.field-0.header c.in_ok-header.ensures.valid) }
+pub read_pages-requires-clause-pages : goal.read_pages-requires-clause-pages
+read_pages-requires-clause-pages g c lifetimes outlive = subst ArePages (sym c.pages_behind-pages.ensures) (pages-valid c.in_ok-header.field-0.header c.in_ok-header.ensures.valid)
 
 pub returns-in_err-list-clause-read : goal.returns-in_err-list-clause-read
 returns-in_err-list-clause-read g c =
     let (file, told) = c.in_ok-header.ensures.read in
     let (bytes, pages) = c.in_err-list.ensures.read in
     pages-read file c.in_ok-header.field-0 bytes c.in_err-list.field-0.0 c.from_residual-in_err-list.result told
-    (subst (λ (pages : Pages). AnswersPages pages bytes (Err c.in_err-list.field-0.0)) c.pages_behind.ensures pages) c.from_residual-in_err-list.ensures.1
+    (subst (λ (pages : Pages). AnswersPages pages bytes (Err c.in_err-list.field-0.0)) c.pages_behind-pages.ensures pages) c.from_residual-in_err-list.ensures.1
 
 pub returns-in_err-list-clause-told : goal.returns-in_err-list-clause-told
 returns-in_err-list-clause-told g c tells =
     let held = g.F.Files.held c.args.files.now c.args.name.now in
     let there = g.F.Files.held c.read_front.new.files c.args.name.now in
-    let at = c.pages_behind.result.at in
-    pages-told held there c.in_ok-header.field-0 at c.in_err-list.field-0.0 c.from_residual-in_err-list.result (c.in_ok-header.ensures.same tells c.args.name.now) (ap (λ (pages : Pages). pages.at) c.pages_behind.ensures) (c.in_ok-header.ensures.told tells)
-    (subst (λ (pages : Pages). AnswersPages pages (bytes_from at there) (Err c.in_err-list.field-0.0)) c.pages_behind.ensures (c.in_err-list.ensures.told (subst IsTrue (sym c.in_ok-header.ensures.tells) tells)))
+    let at = c.pages_behind-pages.result.at in
+    pages-told held there c.in_ok-header.field-0 at c.in_err-list.field-0.0 c.from_residual-in_err-list.result (c.in_ok-header.ensures.same tells c.args.name.now) (ap (λ (pages : Pages). pages.at) c.pages_behind-pages.ensures) (c.in_ok-header.ensures.told tells)
+    (subst (λ (pages : Pages). AnswersPages pages (bytes_from at there) (Err c.in_err-list.field-0.0)) c.pages_behind-pages.ensures (c.in_err-list.ensures.told (subst IsTrue (sym c.in_ok-header.ensures.tells) tells)))
     c.from_residual-in_err-list.ensures.1
 
 pub base_of-requires-clause-long : goal.base_of-requires-clause-long
@@ -38,27 +38,27 @@ base_of-requires-clause-long g c =
     let (file, told) = c.in_ok-header.ensures.read in
     let (bytes, pages) = c.in_ok-list.ensures.read in
     (list-fits file c.in_ok-header.field-0 bytes c.in_ok-list.list.items c.in_ok-header.ensures.valid told
-    (subst (λ (pages : Pages). (flaw_in pages bytes ≡ None) × (c.in_ok-list.list.items ≡ words_in pages bytes)) c.pages_behind.ensures pages)).0
+    (subst (λ (pages : Pages). (flaw_in pages bytes ≡ None) × (c.in_ok-list.list.items ≡ words_in pages bytes)) c.pages_behind-pages.ensures pages)).0
 
 pub base_of-requires-clause-within : goal.base_of-requires-clause-within
 base_of-requires-clause-within g c =
     let (file, told) = c.in_ok-header.ensures.read in
     let (bytes, pages) = c.in_ok-list.ensures.read in
     (list-fits file c.in_ok-header.field-0 bytes c.in_ok-list.list.items c.in_ok-header.ensures.valid told
-    (subst (λ (pages : Pages). (flaw_in pages bytes ≡ None) × (c.in_ok-list.list.items ≡ words_in pages bytes)) c.pages_behind.ensures pages)).1
+    (subst (λ (pages : Pages). (flaw_in pages bytes ≡ None) × (c.in_ok-list.list.items ≡ words_in pages bytes)) c.pages_behind-pages.ensures pages)).1
 
 pub returns-clause-read : goal.returns-clause-read
 returns-clause-read g c =
     let (file, told) = c.in_ok-header.ensures.read in
     let (bytes, pages) = c.in_ok-list.ensures.read in
     base-read file c.in_ok-header.field-0 bytes c.in_ok-list.list.items c.in_ok-base.base told
-    (subst (λ (pages : Pages). (flaw_in pages bytes ≡ None) × (c.in_ok-list.list.items ≡ words_in pages bytes)) c.pages_behind.ensures pages) c.in_ok-base.ensures
+    (subst (λ (pages : Pages). (flaw_in pages bytes ≡ None) × (c.in_ok-list.list.items ≡ words_in pages bytes)) c.pages_behind-pages.ensures pages) c.in_ok-base.ensures
 
 pub returns-clause-told : goal.returns-clause-told
 returns-clause-told g c tells =
     let held = g.F.Files.held c.args.files.now c.args.name.now in
     let there = g.F.Files.held c.read_front.new.files c.args.name.now in
-    let at = c.pages_behind.result.at in
-    base-told held there c.in_ok-header.field-0 at c.in_ok-list.list.items c.in_ok-base.base (c.in_ok-header.ensures.same tells c.args.name.now) (ap (λ (pages : Pages). pages.at) c.pages_behind.ensures) (c.in_ok-header.ensures.told tells)
-    (subst (λ (pages : Pages). (flaw_in pages (bytes_from at there) ≡ None) × (c.in_ok-list.list.items ≡ words_in pages (bytes_from at there))) c.pages_behind.ensures (c.in_ok-list.ensures.told (subst IsTrue (sym c.in_ok-header.ensures.tells) tells)))
+    let at = c.pages_behind-pages.result.at in
+    base-told held there c.in_ok-header.field-0 at c.in_ok-list.list.items c.in_ok-base.base (c.in_ok-header.ensures.same tells c.args.name.now) (ap (λ (pages : Pages). pages.at) c.pages_behind-pages.ensures) (c.in_ok-header.ensures.told tells)
+    (subst (λ (pages : Pages). (flaw_in pages (bytes_from at there) ≡ None) × (c.in_ok-list.list.items ≡ words_in pages (bytes_from at there))) c.pages_behind-pages.ensures (c.in_ok-list.ensures.told (subst IsTrue (sym c.in_ok-header.ensures.tells) tells)))
     c.in_ok-base.ensures

@@ -1,17 +1,20 @@
-use Rattle.std.proofs.Common.{◌≡◌, ◌≤◌, ◌<◌, ◌*◌, ℕ, List, IsTrue, length}
+use Rattle.std.proofs.Common.{◌-◌, ◌≡◌, ◌≤◌, ◌<◌, ◌*◌, ℕ, List, IsTrue, length}
 use Rattle.hyper_outside.specs.Files.{SameFiles, bytes_from}
+use Rattle.database_file.specs.Batches.{AreRead}
 use Rattle.database_file.specs.Pages.{page_count, whole_page}
-use Rattle.database_file.proofs.ManyPages.{AreRead}
 use Rattle.database_file.proofs.pages.read_pages.Given as goal
 
-abbrev pub invariant-pages : goal.invariant-pages
-invariant-pages g l = record {
-  read : (bytes : List ℕ) × (l.page < page_count l.pages → length bytes ≡ l.page * whole_page l.pages) × AreRead l.pages bytes l.page l.words.items;
-  told : IsTrue (g.F.Files.tells l.fn.files) → AreRead l.pages (bytes_from l.pages.at (g.F.Files.held l.fn.files l.name)) l.page l.words.items;
-  buf : length l.buf.items ≡ whole_page l.pages;
-  cells : length l.cells.items ≡ l.pages.size;
+abbrev pub invariant-batches : goal.invariant-batches
+invariant-batches g l = record {
+  inside : l.first ≤ page_count l.pages;
+  read : (bytes : List ℕ) × (l.first < page_count l.pages → length bytes ≡ l.first * whole_page l.pages) × AreRead l.pages bytes l.first l.words.items;
+  told : IsTrue (g.F.Files.tells l.fn.files) → AreRead l.pages (bytes_from l.pages.at (g.F.Files.held l.fn.files l.name)) l.first l.words.items;
+  buf : length l.buf.items ≡ l.workers * whole_page l.pages;
   same : IsTrue (g.F.Files.tells l.fn.files) → SameFiles (g.F.Files.held l.fn.files) (g.F.Files.held l.files);
   tells : g.F.Files.tells l.files ≡ g.F.Files.tells l.fn.files;
   later : g.F.Files.read_faults l.fn.files ≤ g.F.Files.read_faults l.files;
   write_faults : g.F.Files.write_faults l.files ≡ g.F.Files.write_faults l.fn.files;
 }
+
+abbrev pub decreases-batches : goal.decreases-batches
+decreases-batches g l = l.count - l.first

@@ -1,0 +1,148 @@
+ghost use Rattle.std.specs.Prelude.{◌≡◌, ◌≤◌, ◌<◌, ◌+◌, ◌-◌, ◌++◌, ◌*◌, ◌^◌, ℕ, List, IfOk, IsTrue, Err, length};
+ghost use Rattle.hyper_outside.specs.Causes.{Rose};
+ghost use Rattle.hyper_outside.specs.Files.{SameFiles, bytes_from};
+ghost use Rattle.database_file.specs.declared.batch.Batch.{Batch as BatchOf};
+ghost use Rattle.database_file.specs.declared.pages.Pages.{Pages as PagesOf};
+ghost use Rattle.database_file.specs.declared.pages.PagesStop.TheVariants.{ReadFault};
+ghost use Rattle.database_file.specs.Pages.{ArePages, page_count, place_of, whole_page};
+ghost use Rattle.database_file.specs.Batches.{AddsBatch, AnswersEach, AnswersOn, AreOnPage, IsBatch, batch_size};
+
+use crate::pages::{Pages, PagesStop};
+use hyper_outside::{Files, fill};
+use std::alloc::{AllocError, Global};
+use std::thread;
+use std::thread::Threads;
+use word_pages::read_page;
+
+/// Some pages that follow one another, from the one with the number `first` to before `past`.
+#[derive(Clone, Copy)]
+pub(crate) struct Batch {
+    pub first: usize,
+    pub past: usize,
+}
+
+/// How many bytes a batch of pages has.
+fn batch_size(pages: &Pages, batch: Batch) -> usize
+    requires pages { ArePages pages.now }
+    requires some { batch.first < batch.past }
+    requires there { batch.past ≤ page_count pages.now }
+    ensures { result ≡ batch_size pages.now batch }
+{
+    let last = batch.past - 1;
+    let before = (last - batch.first) * pages.version.page_size(pages.size);
+    before + pages.version.page_size(pages.words_on(last))
+}
+
+/// The words of the page with this number, whose bytes are in memory.
+fn read_one(alloc: Global, pages: &Pages, page: usize, bytes: &[u8]) -> Result<Vec<u64>, PagesStop>
+    requires pages { ArePages pages.now }
+    requires there { page < page_count pages.now }
+    requires places { place_of pages.now page + length bytes.now < 2 ^ 64 }
+    ensures words { (all : List ℕ) → AreOnPage pages.now page bytes.now all
+        → AnswersOn pages.now page all result }
+    ensures faultless { result ≡ Err ReadFault → ⊥ }
+{
+    let mut words = vec![in alloc; 0u64; pages.words_on(page)]?;
+    let place = pages.place_of(page);
+    read_page(pages.version, pages.bound, place, bytes, &mut words)?;
+    Ok(words)
+}
+
+/// The words of a page of a batch whose bytes are in memory, as the worker of its number reads them.
+fn read_in_batch(
+    alloc: Global,
+    pages: &Pages,
+    batch: Batch,
+    bytes: &[u8],
+    number: usize,
+) -> Result<Vec<u64>, PagesStop>
+    requires pages { ArePages pages.now }
+    requires some { batch.first < batch.past }
+    requires there { batch.past ≤ page_count pages.now }
+    requires number { number < batch.past - batch.first }
+    requires few { length bytes.now ≤ batch_size pages.now batch }
+    ensures words { (all : List ℕ) → IsBatch pages.now batch bytes.now all
+        → AnswersOn pages.now (batch.first + number) all result }
+    ensures faultless { result ≡ Err ReadFault → ⊥ }
+{
+    let whole = pages.version.page_size(pages.size);
+    let from = (number * whole).min(bytes.len());
+    read_one(alloc, pages, batch.first + number, &bytes[from..])
+}
+
+/// The words of each page of a batch whose bytes are in memory, each read in a thread of its own
+/// where one can be started, else in turn.
+fn read_each<R: Threads + Sync>(
+    rt: &R,
+    alloc: Global,
+    pages: &Pages,
+    batch: Batch,
+    bytes: &[u8],
+) -> Result<Vec<Result<Vec<u64>, PagesStop>>, AllocError>
+    requires pages { ArePages pages.now }
+    requires some { batch.first < batch.past }
+    requires there { batch.past ≤ page_count pages.now }
+    requires few { length bytes.now ≤ batch_size pages.now batch }
+    ensures { IfOk result (λ read. AnswersEach pages.now batch bytes.now read.items) }
+{
+    thread::map_indices(
+        rt,
+        alloc,
+        batch.past - batch.first,
+        &|number| read_in_batch(alloc, pages, batch, bytes, number),
+    )
+}
+
+/// Adds the words of pages in order, up to the first that could not be read.
+fn add_words(read: &[Result<Vec<u64>, PagesStop>], words: &mut Vec<u64>) -> Result<(), PagesStop>
+    ensures adds { (pages : PagesOf) (batch : BatchOf) (bytes all : List ℕ)
+        → AnswersEach pages batch bytes read.now → IsBatch pages batch bytes all
+        → AddsBatch pages batch all words.old.items words.new.items result }
+    ensures faultless { (pages : PagesOf) (batch : BatchOf) (bytes : List ℕ)
+        → AnswersEach pages batch bytes read.now → result ≡ Err ReadFault → ⊥ }
+{
+    for page in read {
+        match page {
+            Ok(list) => words.extend_from_slice(list)?,
+            Err(stop) => return Err(*stop),
+        }
+    }
+    Ok(())
+}
+
+/// Reads a batch of pages through a buffer, over as many reads as it takes, has each page looked at
+/// by a worker, and adds their words in order.
+pub(crate) fn add_batch<R: Threads + Sync, F: Files>(
+    rt: &R,
+    alloc: Global,
+    files: &mut F,
+    name: &str,
+    pages: &Pages,
+    batch: Batch,
+    buf: &mut [u8],
+    words: &mut Vec<u64>,
+) -> Result<(), PagesStop>
+    requires pages { ArePages pages.now }
+    requires some { batch.first < batch.past }
+    requires there { batch.past ≤ page_count pages.now }
+    requires bytes { (batch.past - batch.first) * whole_page pages.now ≤ length buf.old }
+    ensures part { (part : List ℕ) × (length part ≤ batch_size pages.now batch)
+        × ((before : List ℕ) → length before ≡ batch.first * whole_page pages.now
+        → AddsBatch pages.now batch (before ++ part) words.old.items words.new.items result) }
+    ensures told { IsTrue (F.tells files.old)
+        → AddsBatch pages.now batch (bytes_from pages.now.at (F.held files.old name.now))
+        words.old.items words.new.items result }
+    ensures buf { length buf.new ≡ length buf.old }
+    ensures same { IsTrue (F.tells files.old)
+        → SameFiles (F.held files.old) (F.held files.new) }
+    ensures tells { F.tells files.new ≡ F.tells files.old }
+    ensures later { F.read_faults files.old ≤ F.read_faults files.new }
+    ensures cause { result ≡ Err ReadFault
+        → Rose (F.read_faults files.old) (F.read_faults files.new) }
+    ensures write_faults { F.write_faults files.new ≡ F.write_faults files.old }
+{
+    let size = batch_size(pages, batch);
+    let count = fill(files, name, pages.place_of(batch.first), &mut buf[..size])?;
+    let read = read_each(rt, alloc, pages, batch, &buf[..count])?;
+    add_words(&read, words)
+}
