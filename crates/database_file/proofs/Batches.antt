@@ -36,6 +36,10 @@ words-on_page pages page bytes all are =
     sym (words_of-take pages.version n (size_on pages page) bytes (omega arith)) ∙ ap (words_of pages.version n) are
     ∙ words_of-take pages.version n (size_on pages page) (drop (page * whole_page pages) all) (omega arith)
 
+-- what was written over a whole list
+pub written : {A : Type 0} (len : ℕ) (new items : List A) → len ≡ length new → take len (new ++ drop (length new) items) ≡ new
+written len new items is = ap (λ n. take n (new ++ drop (length new) items)) is ∙ take-append_seam new (drop (length new) items)
+
 -- what was read where the page isn't right
 pub page_wrong : (pages : Pages) (page n at : ℕ) (bytes all : List ℕ) (flaw : Flaw) (result : Result (Vec ℕ Global) PagesStop) → n ≡ words_on pages page → at ≡ place_of pages page
     → AreOnPage pages page bytes all → Some flaw ≡ page_flaw pages.version pages.bound n at bytes → IsErrAnd result (λ given. given ≡ BadPage flaw) → AnswersOn pages page all result
@@ -51,7 +55,7 @@ pub page_right : (pages : Pages) (page n at len : ℕ) (bytes all cells items : 
 page_right pages page n at len bytes all cells items count place is many are told read =
     let whole : len ≡ length cells = is ∙ many ∙ sym (length-words_of pages.version n bytes) ∙ sym (ap (λ (words : List ℕ). length words) read) in (
       sym (flaw-on_page pages page bytes all are) ∙ ap₂ (λ (n : ℕ) (at : ℕ). page_flaw pages.version pages.bound n at bytes) (sym count) (sym place) ∙ sym told,
-      ap (λ k. take k (cells ++ drop (length cells) items)) whole ∙ take-append_seam cells (drop (length cells) items) ∙ read ∙ ap (λ n. words_of pages.version n bytes) count ∙ words-on_page pages page bytes all are,
+      written len cells items whole ∙ read ∙ ap (λ n. words_of pages.version n bytes) count ∙ words-on_page pages page bytes all are,
     )
 
 -- ---- a page of a batch
@@ -154,6 +158,12 @@ pub fault_of : {T : Type 0} (stop : PagesStop) → ◌≡◌ {A = Result T Pages
 fault_of ReadFault same = refl
 fault_of (BadPage flaw) same = absurd (grind (arith, same))
 fault_of NoMemory same = absurd (grind (arith, same))
+
+-- where there was no memory, nothing is said
+pub out_of_memory : (T : Type 0) (pages : Pages) (batch : Batch) (all old new : List ℕ) (stop : PagesStop) (result : Result T PagesStop) → stop ≡ NoMemory
+    → IsErrAnd result (λ given. given ≡ stop) → AddsBatch pages batch all old new result
+out_of_memory T pages batch all old new stop (Ok x) is wrong = absurd wrong
+out_of_memory T pages batch all old new stop (Err given) is same = subst (λ (given : PagesStop). AddsBatch {T = T} pages batch all old new (Err given)) (sym (same ∙ is)) tt
 
 -- ---- batch after batch
 

@@ -1,15 +1,15 @@
-ghost use Rattle.std.specs.Prelude.{◌≡◌, ◌≤◌, ◌<◌, ◌+◌, ◌-◌, ◌++◌, ◌*◌, ◌^◌, ℕ, List, IfOk, IsTrue, Err, length};
+ghost use Rattle.std.specs.Prelude.{◌≡◌, ◌≤◌, ◌<◌, ◌+◌, ◌-◌, ◌++◌, ◌*◌, ◌^◌, ℕ, List, IfErr, IfOk, IsTrue, Err, length};
 ghost use Rattle.hyper_outside.specs.Causes.{Rose};
 ghost use Rattle.hyper_outside.specs.Files.{SameFiles, bytes_from};
 ghost use Rattle.database_file.specs.declared.batch.Batch.{Batch as BatchOf};
 ghost use Rattle.database_file.specs.declared.pages.Pages.{Pages as PagesOf};
-ghost use Rattle.database_file.specs.declared.pages.PagesStop.TheVariants.{ReadFault};
+ghost use Rattle.database_file.specs.declared.pages.PagesStop.TheVariants.{ReadFault, NoMemory};
 ghost use Rattle.database_file.specs.Pages.{ArePages, page_count, place_of, whole_page};
 ghost use Rattle.database_file.specs.Batches.{AddsBatch, AnswersEach, AnswersOn, AreOnPage, IsBatch, batch_size};
 
 use crate::pages::{Pages, PagesStop};
 use hyper_outside::{Files, fill};
-use std::alloc::{AllocError, Global};
+use std::alloc::Global;
 use std::thread;
 use std::thread::Threads;
 use word_pages::read_page;
@@ -48,7 +48,7 @@ fn read_one(alloc: Global, pages: &Pages, page: usize, bytes: &[u8]) -> Result<V
     Ok(words)
 }
 
-/// The words of a page of a batch whose bytes are in memory, as the worker of its number reads them.
+/// The words of a page of a batch whose bytes are in memory, as a worker reads them.
 fn read_in_batch(
     alloc: Global,
     pages: &Pages,
@@ -70,27 +70,45 @@ fn read_in_batch(
     read_one(alloc, pages, batch.first + number, &bytes[from..])
 }
 
-/// The words of each page of a batch whose bytes are in memory, each read in a thread of its own
-/// where one can be started, else in turn.
+/// Room for what comes of each of so many pages.
+fn make_room(alloc: Global, count: usize) -> Result<Vec<Result<Vec<u64>, PagesStop>>, PagesStop>
+    ensures room { IfOk result (λ room. length room.items ≡ count) }
+    ensures memory { IfErr result (λ stop. stop ≡ NoMemory) }
+{
+    let mut room = Vec::with_capacity(alloc, count)?;
+    for _ in 0..count {
+        room.push(Err(PagesStop::NoMemory))?;
+    }
+    Ok(room)
+}
+
+/// Reads the words of each page of a batch whose bytes are in memory. The pages are shared among so
+/// many workers, each in a thread of its own where one can be started, else in turn.
 fn read_each<R: Threads + Sync>(
     rt: &R,
     alloc: Global,
     pages: &Pages,
     batch: Batch,
     bytes: &[u8],
-) -> Result<Vec<Result<Vec<u64>, PagesStop>>, AllocError>
+    workers: usize,
+    read: &mut [Result<Vec<u64>, PagesStop>],
+)
     requires pages { ArePages pages.now }
     requires some { batch.first < batch.past }
     requires there { batch.past ≤ page_count pages.now }
     requires few { length bytes.now ≤ batch_size pages.now batch }
-    ensures { IfOk result (λ read. AnswersEach pages.now batch bytes.now read.items) }
+    requires workers { 0 < workers }
+    requires room { length read.old ≡ batch.past - batch.first }
+    ensures { AnswersEach pages.now batch bytes.now read.new }
 {
-    thread::map_indices(
+    thread::for_each_mut(
         rt,
-        alloc,
-        batch.past - batch.first,
-        &|number| read_in_batch(alloc, pages, batch, bytes, number),
-    )
+        read,
+        workers,
+        &|number, page| {
+            *page = read_in_batch(alloc, pages, batch, bytes, number);
+        },
+    );
 }
 
 /// Adds the words of pages in order, up to the first that could not be read.
@@ -110,8 +128,8 @@ fn add_words(read: &[Result<Vec<u64>, PagesStop>], words: &mut Vec<u64>) -> Resu
     Ok(())
 }
 
-/// Reads a batch of pages through a buffer, over as many reads as it takes, has each page looked at
-/// by a worker, and adds their words in order.
+/// Reads a batch of pages through a buffer, over as many reads as it takes, has them looked at by so
+/// many workers, and adds their words in order.
 pub(crate) fn add_batch<R: Threads + Sync, F: Files>(
     rt: &R,
     alloc: Global,
@@ -119,12 +137,14 @@ pub(crate) fn add_batch<R: Threads + Sync, F: Files>(
     name: &str,
     pages: &Pages,
     batch: Batch,
+    workers: usize,
     buf: &mut [u8],
     words: &mut Vec<u64>,
 ) -> Result<(), PagesStop>
     requires pages { ArePages pages.now }
     requires some { batch.first < batch.past }
     requires there { batch.past ≤ page_count pages.now }
+    requires workers { 0 < workers }
     requires bytes { (batch.past - batch.first) * whole_page pages.now ≤ length buf.old }
     ensures part { (part : List ℕ) × (length part ≤ batch_size pages.now batch)
         × ((before : List ℕ) → length before ≡ batch.first * whole_page pages.now
@@ -143,6 +163,7 @@ pub(crate) fn add_batch<R: Threads + Sync, F: Files>(
 {
     let size = batch_size(pages, batch);
     let count = fill(files, name, pages.place_of(batch.first), &mut buf[..size])?;
-    let read = read_each(rt, alloc, pages, batch, &buf[..count])?;
+    let mut read = make_room(alloc, batch.past - batch.first)?;
+    read_each(rt, alloc, pages, batch, &buf[..count], workers, &mut read);
     add_words(&read, words)
 }

@@ -98,9 +98,9 @@ fn base_of(alloc: Global, head: Head, list: Vec<u64>) -> Result<Base, NoMemory>
     Ok(Base { head, words })
 }
 
-/// Loads a file of bounds of either version: it asks for the size, and then reads header, starts and pages in order, as many pages
-/// together as there are workers, 1 to 64, each in a thread of its own where one can be started. What it answers is the same for each
-/// number of workers. `Missing` comes exactly where there is no file of this name, and `BadFile` exactly where the bytes that were read aren't a file
+/// Loads a file of bounds of either version: it asks for the size, and then reads header, starts and pages in order, some
+/// pages together, which are checked by 1 to 64 workers, each in a thread of its own where one can be started. What it answers is the same
+/// for each number of workers. `Missing` comes exactly where there is no file of this name, and `BadFile` exactly where the bytes that were read aren't a file
 /// of bounds: it tells the first fault in the order of the format, and its place. `ReadFault` comes only where the files' count of reads
 /// rose. No file changes.
 pub fn load_base<R: Threads + Sync, F: Files>(

@@ -12,6 +12,9 @@ use std::alloc::{AllocError, AllocFailed, Global};
 use std::thread::Threads;
 use word_pages::{Flaw, PageStop, Version, load_page};
 
+/// How many pages are read together. A thread for each few of them costs little beside their digests.
+const BATCH_PAGES: usize = 64;
+
 /// Pages of words that follow one another in a file.
 #[derive(Clone, Copy)]
 pub struct Pages {
@@ -155,8 +158,8 @@ pub(crate) fn add_page<F: Files>(
     Ok(())
 }
 
-/// Reads all pages in order, as many together as there are workers, each of which checks a page and
-/// reads its words, and answers the words of all. `BadPage` tells the first flaw of the pages, and is the same for each number of workers.
+/// Reads all pages in order, some of them together, which so many workers check, 1 to 64, and whose
+/// words they read, and answers the words of all. `BadPage` tells the first flaw of the pages, and is the same for each number of workers.
 /// `ReadFault` comes only where the files' count of reads rose.
 pub fn read_pages<R: Threads + Sync, F: Files>(
     rt: &R,
@@ -180,13 +183,16 @@ pub fn read_pages<R: Threads + Sync, F: Files>(
     ensures write_faults { F.write_faults files.new ≡ F.write_faults files.old }
 {
     let count = pages.page_count();
-    let mut buf = vec![in alloc; 0u8; workers * pages.version.page_size(pages.size)]?;
+    let most = BATCH_PAGES.min(count);
+    let mut buf = vec![in alloc; 0u8; most * pages.version.page_size(pages.size)]?;
     let mut words = Vec::with_capacity(alloc, pages.count)?;
     let mut first = 0;
     'batches: while first < count {
-        let past = (first + workers).min(count);
+        let past = (first + most).min(count);
         let batch = Batch { first, past };
-        add_batch(rt, alloc, files, name, pages, batch, &mut buf, &mut words)?;
+        add_batch(
+            rt, alloc, files, name, pages, batch, workers, &mut buf, &mut words,
+        )?;
         first = past;
     }
     Ok(words)
