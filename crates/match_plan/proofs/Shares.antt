@@ -1,11 +1,12 @@
 -- Shares of values that are known by their bounds.
-use Rattle.std.proofs.Common.{◌≡◌, ◌<◌, ◌≤◌, ◌+◌, ◌*◌, ℕ, ℤ, pos, ◌+ℤ◌, ◌*ℤ◌, ◌≤ℤ◌, ◌<ℤ◌, inl, inr, ap, arith}
+use Rattle.std.proofs.Common.{◌^◌, ◌≡◌, ◌<◌, ◌≤◌, ◌+◌, ◌*◌, ℕ, ℤ, pos, ◌+ℤ◌, ◌-ℤ◌, ◌*ℤ◌, ◌≤ℤ◌, ◌<ℤ◌, inl, inr, ap, arith}
 use Rattle.std.proofs.lemmas.Bool.{cases_lt}
 use Rattle.std.proofs.lemmas.Int.{ints}
 use Rattle.std.proofs.lemmas.Grind.{div_ceil_times}
 use Rattle.std.proofs.Math.Nat.{mul-le-mul_left, mul-le-mul_right, div-mul-le_self, le_of_mul-le-mul_right}
 use borrow.Author.Differences.{up, down}
-use Rattle.match_plan.specs.Quotients.{millionths_down, millionths_up}
+use Rattle.match_plan.specs.declared.millionths.Millionths.{Millionths}
+use Rattle.match_plan.specs.Quotients.{millionths_down, millionths_up, IsShare}
 use Rattle.match_plan.specs.Points.{rise}
 
 -- ---- quotients
@@ -52,3 +53,19 @@ share-high found d n s c part whole greatest few most some =
     let scaled = mul-le-mul_left s greatest in
     let apart : s * d + down whole ≤ up whole + c = omega (arith, ints, most) in
     omega (arith, ints, some, few, scaled, mul-le-mul_left found apart)
+
+-- a share of values in units is one of the same values in points
+pub share-scaled : (found : Millionths) (x y : ℤ) → IsShare found (pos (2 ^ 32) *ℤ x) (pos (2 ^ 32) *ℤ y) → IsShare found x y
+share-scaled found x y h =
+    let apart : up (pos (2 ^ 32) *ℤ y) + 2 ^ 32 * down y ≡ down (pos (2 ^ 32) *ℤ y) + 2 ^ 32 * up y = omega (arith, ints) in
+    record {
+      some = omega (arith, ints, h.some);
+      low = omega (arith, ints, h.low, ap (λ (n : ℕ). found.low * n) apart);
+      high = omega (arith, ints, h.high, ap (λ (n : ℕ). found.high * n) apart);
+    }
+
+times-apart : (x y : ℤ) → pos (2 ^ 32) *ℤ x -ℤ pos (2 ^ 32) *ℤ y ≡ pos (2 ^ 32) *ℤ (x -ℤ y)
+times-apart x y = omega (arith, ints)
+
+pub share-of : (found : Millionths) (a b c d : ℤ) → IsShare found (pos (2 ^ 32) *ℤ a -ℤ pos (2 ^ 32) *ℤ b) (pos (2 ^ 32) *ℤ c -ℤ pos (2 ^ 32) *ℤ d) → IsShare found (a -ℤ b) (c -ℤ d)
+share-of found a b c d h = share-scaled found (a -ℤ b) (c -ℤ d) (rw (times-apart a b, times-apart c d) at h)

@@ -1,5 +1,5 @@
 -- What a side asks before it takes a double, and what a gammon is worth to it, where its values are known by their bounds.
-use Rattle.std.specs.Prelude.{◌<◌, ℕ, ℤ, pos, ◌*ℤ◌, ◌-ℤ◌, ◌≤ℤ◌, ◌<ℤ◌, int_le, int_lt, unsigned_abs, Bool, ◌&&◌, Option, Some, None, if◌then◌else◌}
+use Rattle.std.specs.Prelude.{◌<◌, ◌^◌, ℕ, ℤ, pos, ◌*ℤ◌, ◌-ℤ◌, ◌≤ℤ◌, ◌<ℤ◌, int_le, int_lt, unsigned_abs, Bool, ◌&&◌, Option, Some, None, if◌then◌else◌}
 use Rattle.directed_fixed.specs.Bounds.{Bounds}
 use Rattle.match_plan.specs.declared.millionths.Millionths.{Millionths}
 use Rattle.match_plan.specs.Quotients.{millionths_down, millionths_up, IsShare}
@@ -53,10 +53,10 @@ gammon_price lose win gammon = if is_gammon_price_known lose win gammon then Som
 
 -- ---- what both are of
 
--- a value in units, over a scale, lies inside a pair
+-- a value, a whole number of points over a scale, lies inside a pair; there are 2 ^ 32 units to a point
 pub record LiesInside (scale : ℕ) (pair : Bounds) (value : ℤ) : Type 0 where
-  pub from : (pos scale *ℤ pair.lower) ≤ℤ value
-  pub to : value ≤ℤ (pos scale *ℤ pair.upper)
+  pub from : (pos scale *ℤ pair.lower) ≤ℤ (pos (2 ^ 32) *ℤ value)
+  pub to : (pos (2 ^ 32) *ℤ value) ≤ℤ (pos scale *ℤ pair.upper)
 
 -- whichever values inside the bounds they are, these millionths enclose their take point
 abbrev pub EnclosesTakePoints : Bounds → Bounds → Bounds → Millionths → Type 0
