@@ -13,6 +13,7 @@ use crate::bound::run_bound;
 use crate::ladder::run_ladder;
 use crate::make::run_make;
 use crate::migrate::run_migrate;
+use crate::plan::run_plan;
 use crate::put::refuse;
 use crate::show::run_show;
 use crate::solve::run_solve;
@@ -107,6 +108,7 @@ pub fn run<R: Threads + Sync, F: Files, O: Sink, G: Gate + Sync>(
         Ok(Task::Study(task)) => run_study(rt, alloc, &task, files, out, gate),
         Ok(Task::Make(task)) => run_make(rt, alloc, &task, files, out, gate),
         Ok(Task::Analyse(task)) => run_analyse(alloc, &task, files, out),
+        Ok(Task::Plan(task)) => run_plan(alloc, &task, files, out),
         Err(refusal) => refuse(out, &refusal),
     }
 }
