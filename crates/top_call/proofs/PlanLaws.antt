@@ -149,7 +149,7 @@ some-scores (suc (suc (suc (suc zero)))) from to = omega arith
 some-scores (suc (suc (suc (suc (suc zero))))) from to = omega arith
 some-scores (suc (suc (suc (suc (suc (suc n)))))) from to = absurd (omega arith)
 
-module _ (base : FileBase) (starts : StartPairs) (words : ℕ → WordList) (head : IsHead base.head) (ends : EndsLadder base starts words) where
+module _ (base : FileBase) (starts : StartPairs) (words : ℕ → WordList) (some_points : 1 ≤ base.head.starts.match_length) (few_points : base.head.starts.match_length ≤ 5) (ends : EndsLadder base starts words) where
   abbrev last : ℕ
   last = length starts.pairs - 1
 
@@ -157,10 +157,10 @@ module _ (base : FileBase) (starts : StartPairs) (words : ℕ → WordList) (hea
   to-is = ap (λ (s : StartPairs). s.match_length) ends.before
 
   from : 1 ≤ starts.match_length
-  from = subst (λ (n : ℕ). 1 ≤ n) to-is head.valid.from
+  from = subst (λ (n : ℕ). 1 ≤ n) to-is some_points
 
   to : starts.match_length ≤ 5
-  to = subst (λ (n : ℕ). n ≤ 5) to-is head.valid.to
+  to = subst (λ (n : ℕ). n ≤ 5) to-is few_points
 
   here : last < length starts.pairs
   here = omega (arith, ends.whole, some-scores starts.match_length from to)
