@@ -1,8 +1,7 @@
 -- The file of a match's first game, and why it is refused.
-use Rattle.std.proofs.Common.{Bool, ◌≡◌, ◌≤◌, ◌+◌, ◌∙◌, ℕ, zero, suc, List, [], ◌∷◌, length, Option, Ok, ap, refl, sym, subst, arith, length-append}
+use Rattle.std.proofs.Common.{Bool, ◌≡◌, ◌≤◌, ◌+◌, ℕ, zero, suc, List, [], ◌∷◌, length, Option, Ok, refl, sym, subst, arith, length-append}
 use Rattle.directed_fixed.specs.Bounds.{Bounds}
 use Rattle.cube_actions.specs.declared.name.StakesName.{StakesName}
-use Rattle.cube_actions.specs.declared.name.StakesName.TheVariants.{Match}
 use Rattle.cube_actions.specs.Ladder.{in_order, ladder}
 use Rattle.cube_actions.specs.Scores.{MatchScore}
 use Rattle.cube_actions.specs.Starts.{StartPairs, ladder_place}
@@ -17,7 +16,7 @@ use Rattle.equity_report.specs.declared.refusal.Refusal.TheVariants.{Words, Posi
 use Rattle.equity_report.specs.declared.refusal.Wanted.TheVariants.{Scored}
 use Rattle.equity_report.specs.declared.text.GameName.{GameName}
 use Rattle.top_call.specs.Loads.{RefusesLoading, game_told}
-use Rattle.top_call.specs.Plans.{AnswersFirst, EndsLadder, HasPlanned, HoldsInside, HoldsInTheEnd, IsOfAnotherGame, IsOfFirstGame, RefusesPlanning, first_file, first_score, planned_starts}
+use Rattle.top_call.specs.Plans.{AnswersFirst, EndsLadder, HasPlanned, HoldsInside, HoldsInTheEnd, IsOfFirstGame, RefusesPlanning, first_file, first_score, planned_starts}
 use Rattle.match_plan.specs.Plans.{plan_text}
 use Rattle.interval_words.specs.WordLists.{WordList}
 

@@ -1,5 +1,5 @@
 -- What a match's plan is true of.
-use Rattle.std.proofs.Common.{◌≡◌, ◌<◌, ◌≤◌, ◌+◌, ◌-◌, ◌*◌, ◌^◌, ◌∙◌, ◌++◌, ℕ, zero, suc, ℤ, pos, neg_ℤ, ◌-ℤ◌, ◌*ℤ◌, ◌≤ℤ◌, Bool, true, false, cond, nat_le, Option, Some, None, IfSome, List, [], ◌∷◌, length, take, get_or, ap, refl, sym, subst, arith}
+use Rattle.std.proofs.Common.{◌≡◌, ◌<◌, ◌≤◌, ◌+◌, ◌-◌, ◌*◌, ◌∙◌, ◌++◌, ℕ, zero, suc, ℤ, pos, neg_ℤ, ◌≤ℤ◌, Bool, true, false, cond, nat_le, Option, Some, None, IfSome, List, [], ◌∷◌, length, take, ap, refl, sym, subst, arith}
 use Rattle.std.proofs.lemmas.Bool.Decides.{nat_tests}
 use Rattle.std.proofs.lemmas.Int.{ints}
 use Rattle.std.proofs.lemmas.List.{take_all, take_more}
@@ -8,28 +8,24 @@ use borrow.Author.Differences.{up, down}
 use Rattle.directed_fixed.specs.declared.bounds.End.TheVariants.{Lower, Upper}
 use Rattle.directed_fixed.specs.Bounds.{Bounds, negated}
 use Rattle.cube_actions.specs.declared.side.Side.{Side}
-use Rattle.cube_actions.specs.declared.side.Side.TheVariants.{Near, Far}
 use Rattle.cube_actions.specs.Ladder.{in_order, ladder}
 use Rattle.cube_actions.specs.Matches.{after_win, stays_near, value_of_win}
-use Rattle.cube_actions.specs.Scores.{MatchScore, IsScore, last_game, needs, other_side}
+use Rattle.cube_actions.specs.Scores.{MatchScore, IsScore, needs, other_side}
 use Rattle.cube_actions.specs.Stakes.{exactly, nothing}
 use Rattle.cube_actions.specs.Starts.{StartPairs, ladder_place, start_pair}
 use Rattle.turn_rule.specs.Truth.{Encloses}
 use Rattle.turn_rule.proofs.Fractions.{bound-neg}
 use Rattle.interval_words.specs.WordLists.{WordList, words_in_list}
 use Rattle.match_scores.specs.Openings.{start_over}
-use Rattle.match_scores.specs.Ladders.{AreEndScores, IsLadder, IsTrueFrom, pair_at, score_at, starts_till, with_pair}
+use Rattle.match_scores.specs.Ladders.{AreEndScores, IsTrueFrom, pair_at, score_at, starts_till, with_pair}
 use Rattle.match_scores.specs.Payoffs.{EndScores, ExactStarts, exact_win, match_start, points_left, scale_of, start_scale, starts_before}
 use Rattle.match_scores.proofs.MatchPayoffs.{fewer-left, later-start, scale-some}
 use Rattle.match_scores.proofs.OneScore.{LeadDown}
 use Rattle.match_scores.proofs.Places.{place-first, score-found}
 use Rattle.match_scores.proofs.WholeLadder.{AreScores, score-valid}
-use Rattle.match_plan.specs.Plans.{gammon_price_at, take_point_at, value_of_loss}
+use Rattle.match_plan.specs.Plans.{value_of_loss}
 use Rattle.match_plan.specs.Points.{EnclosesGammonPrices, EnclosesTakePoints, LiesInside, gammon_price, take_point}
-use Rattle.match_plan.specs.Quotients.{IsShare}
-use Rattle.match_plan.specs.declared.millionths.Millionths.{Millionths}
 use Rattle.match_plan.proofs.Enclosing.{gammon_price-encloses, take_point-encloses}
-use Rattle.base_head.specs.Heads.{FileHead, IsHead}
 use Rattle.database_file.specs.FileBases.{FileBase}
 use Rattle.top_call.specs.Plans.{AreInside, EndsLadder, HoldsAt, HoldsInTheEnd, HoldsInside, exact_loss, first_score, planned_starts}
 

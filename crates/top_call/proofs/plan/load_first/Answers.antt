@@ -1,9 +1,6 @@
-use Rattle.std.proofs.Common.{◌≡◌, ◌∙◌, List, ℕ, Ok, ap, refl, sym, subst}
-use Rattle.std.specs.Option.{option_map}
+use Rattle.std.proofs.Common.{◌≡◌, ◌∙◌, Ok, ap, sym, subst}
 use Rattle.std.proofs.lemmas.Bool.{false≢true}
-use Rattle.base_head.specs.Heads.{FileHead}
 use Rattle.database_file.specs.Bases.{AnswersBase}
-use Rattle.database_file.specs.Faults.{whole}
 use Rattle.equity_report.specs.declared.refusal.Refusal.TheVariants.{Base}
 use Rattle.equity_report.specs.declared.refusal.Wanted.TheVariants.{Scored}
 use Rattle.top_call.specs.Ladders.{score_file}
