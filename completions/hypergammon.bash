@@ -2,7 +2,7 @@
 
 _hypergammon() {
     local word=${COMP_WORDS[COMP_CWORD]} before=${COMP_WORDS[COMP_CWORD-1]} command=${COMP_WORDS[1]}
-    local commands='bound solve show migrate advise verify ladder analyse study make help'
+    local commands='bound solve show migrate advise verify ladder plan analyse study make help'
     local stakes='cubeless money jacoby money-beavers jacoby-beavers'
     COMPREPLY=()
     if [ "$COMP_CWORD" -eq 1 ]; then
@@ -52,6 +52,18 @@ _hypergammon() {
                 *)
                     if [[ $word == -* ]]; then
                         mapfile -t COMPREPLY < <(compgen -W '--checkers --length --rounds --workers' -- "$word")
+                    else
+                        mapfile -t COMPREPLY < <(compgen -f -- "$word")
+                    fi
+                    ;;
+            esac
+            ;;
+        plan)
+            case $before in
+                --length) mapfile -t COMPREPLY < <(compgen -W '1 2 3 4 5' -- "$word") ;;
+                *)
+                    if [[ $word == -* ]]; then
+                        mapfile -t COMPREPLY < <(compgen -W '--length' -- "$word")
                     else
                         mapfile -t COMPREPLY < <(compgen -f -- "$word")
                     fi

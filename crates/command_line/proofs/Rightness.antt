@@ -16,7 +16,7 @@ use Rattle.command_line.specs.declared.command.Command.TheVariants as command
 use Rattle.command_line.specs.declared.command.CommandName.{CommandName}
 use Rattle.command_line.specs.declared.command.CommandName.TheVariants as name
 use Rattle.command_line.specs.Values.{number_of, number_within, long_number_given, number_given, number_or, stakes_named, stakes_or, kind_given, is_name_within, name_within, file_name, other_name, prefix}
-use Rattle.command_line.specs.Commands.{Asked, checked, refused, bound_values, solve_values, show_values, migrate_values, advise_values, command_values, command_named, command_form, verify_values, ladder_values, analyse_values, study_values, make_values}
+use Rattle.command_line.specs.Commands.{Asked, checked, refused, bound_values, solve_values, show_values, migrate_values, advise_values, command_values, command_named, command_form, verify_values, ladder_values, analyse_values, study_values, make_values, plan_values}
 use Rattle.command_line.specs.declared.values.TheConstants.{MOST_CHECKERS, MOST_GAMES, MOST_POINTS, MOST_ROUNDS, MOST_WORKERS, USUAL_POINTS, USUAL_ROUNDS}
 use Rattle.command_line.specs.Words.{is_faulty, place_at, form_reading, words_reading, reading}
 use Rattle.command_line.specs.Right.{IsName, IsPrefix, IsRightCommand}
@@ -277,6 +277,18 @@ make-right given =
     make-from (long_number_given (value_of (codes "NUMBER") given)) (number_given MOST_GAMES games) (file_name (value_of (codes "FILE") given))
     (long (value_of (codes "NUMBER") given)) (given-within MOST_GAMES games) (named (value_of (codes "FILE") given))
 
+plan-from : (prefix : Option Bytes) (points : Option ℕ) → IfSome prefix IsPrefix → IfSome points (Within MOST_POINTS) →
+    Right (checked 1 prefix (λ prefix. checked 2 points (λ points. Ok (command.Plan (record { prefix = prefix; match_length = points })))))
+plan-from None points name short = tt
+plan-from (Some p) None name short = tt
+plan-from (Some p) (Some l) name short = record { prefix = name; point = short.0; points = short.1 }
+
+plan-right : (given : Values) → Right (plan_values given)
+plan-right given =
+    let points = value_of (codes "length") given in
+    plan-from (prefix (value_of (codes "PREFIX") given)) (number_or MOST_POINTS USUAL_POINTS points)
+    (prefixed (value_of (codes "PREFIX") given)) (or-within MOST_POINTS USUAL_POINTS points (omega arith, omega arith))
+
 values-right : (command : CommandName) (given : Values) → Right (command_values command given)
 values-right name.Bound given = bound-right given
 values-right name.Solve given = solve-right given
@@ -288,6 +300,7 @@ values-right name.Ladder given = ladder-right given
 values-right name.Analyse given = analyse-right given
 values-right name.Study given = study-right given
 values-right name.Make given = make-right given
+values-right name.Plan given = plan-right given
 
 form-right : (command : CommandName) (values : Option Values) → Right (option_map_or (command_values command) values (refused Form 0))
 form-right command None = tt

@@ -8,7 +8,7 @@ use Rattle.hyper_outside.specs.declared.outside.WordsKind.TheVariants.{Value}
 use Rattle.cube_actions.specs.declared.name.StakesName.TheVariants.{Jacoby}
 use Rattle.word_forms.specs.Form.{Bytes, Form, Values, value_of}
 use Rattle.command_line.specs.declared.command.Command.{Command}
-use Rattle.command_line.specs.declared.command.Command.TheVariants.{Bound, Solve, Show, Migrate, Advise, Verify, Ladder, Analyse, Study, Make}
+use Rattle.command_line.specs.declared.command.Command.TheVariants.{Bound, Solve, Show, Migrate, Advise, Verify, Ladder, Analyse, Study, Make, Plan}
 use Rattle.command_line.specs.declared.command.CommandName.{CommandName}
 use Rattle.command_line.specs.declared.command.CommandName.TheVariants as name
 use Rattle.command_line.specs.declared.values.TheConstants.{MOST_CHECKERS, MOST_GAMES, MOST_POINTS, MOST_ROUNDS, MOST_WORKERS, USUAL_POINTS, USUAL_ROUNDS}
@@ -131,6 +131,15 @@ make_values given =
     checked 3 (file_name (value_of (codes "FILE") given)) (λ file.
     Ok (Make (record { number = number; games = games; file = file })))))
 
+abbrev pub plan_form : Form
+plan_form = record { arguments = codes "PREFIX" ∷ []; options = codes "length" ∷ [] }
+
+abbrev pub plan_values : Values → Result Asked BadWords
+plan_values given =
+    checked 1 (prefix (value_of (codes "PREFIX") given)) (λ prefix.
+    checked 2 (number_or MOST_POINTS USUAL_POINTS (value_of (codes "length") given)) (λ points.
+    Ok (Plan (record { prefix = prefix; match_length = points }))))
+
 -- ---- all of them
 
 abbrev pub command_named : Bytes → Option CommandName
@@ -144,7 +153,8 @@ command_named word =
     else (if bytes_eq word (codes "ladder") then Some name.Ladder
     else (if bytes_eq word (codes "analyse") then Some name.Analyse
     else (if bytes_eq word (codes "study") then Some name.Study
-    else (if bytes_eq word (codes "make") then Some name.Make else None)))))))))
+    else (if bytes_eq word (codes "make") then Some name.Make
+    else (if bytes_eq word (codes "plan") then Some name.Plan else None))))))))))
 
 abbrev pub command_form : CommandName → Form
 command_form name.Bound = bound_form
@@ -157,6 +167,7 @@ command_form name.Ladder = ladder_form
 command_form name.Analyse = analyse_form
 command_form name.Study = study_form
 command_form name.Make = make_form
+command_form name.Plan = plan_form
 
 abbrev pub command_values : CommandName → Values → Result Asked BadWords
 command_values name.Bound given = bound_values given
@@ -169,3 +180,4 @@ command_values name.Ladder given = ladder_values given
 command_values name.Analyse given = analyse_values given
 command_values name.Study given = study_values given
 command_values name.Make given = make_values given
+command_values name.Plan given = plan_values given

@@ -10,9 +10,10 @@ use Rattle.command_line.specs.declared.command.Migrate.{Migrate as MigrateWords}
 use Rattle.command_line.specs.declared.command.Advise.{Advise as AdviseWords}
 use Rattle.command_line.specs.declared.command.Analyse.{Analyse as AnalyseWords}
 use Rattle.command_line.specs.declared.command.Command.{Command}
-use Rattle.command_line.specs.declared.command.Command.TheVariants.{Bound, Solve, Show, Migrate, Advise, Verify, Ladder, Analyse, Study, Make}
+use Rattle.command_line.specs.declared.command.Command.TheVariants.{Bound, Solve, Show, Migrate, Advise, Verify, Ladder, Analyse, Study, Make, Plan}
 use Rattle.command_line.specs.declared.command.Ladder.{Ladder as LadderWords}
 use Rattle.command_line.specs.declared.command.Make.{Make as MakeWords}
+use Rattle.command_line.specs.declared.command.Plan.{Plan as PlanWords}
 use Rattle.command_line.specs.declared.command.Study.{Study as StudyWords}
 use Rattle.command_line.specs.declared.command.Verify.{Verify as VerifyWords}
 use Rattle.command_line.specs.declared.values.TheConstants.{MOST_CHECKERS, MOST_GAMES, MOST_POINTS, MOST_ROUNDS, MOST_WORKERS}
@@ -87,6 +88,11 @@ pub record IsRightMake (make : MakeWords) : Type 0 where
   pub few : make.games ≤ MOST_GAMES
   pub file : IsName make.file
 
+pub record IsRightPlan (plan : PlanWords) : Type 0 where
+  pub prefix : IsPrefix plan.prefix
+  pub point : 1 ≤ plan.match_length
+  pub points : plan.match_length ≤ MOST_POINTS
+
 -- numbers within their limits, names of files within theirs, and stakes that aren't a match
 abbrev pub IsRightCommand : Command → Type 0
 IsRightCommand (Bound bound) = IsRightBound bound
@@ -99,3 +105,4 @@ IsRightCommand (Ladder ladder) = IsRightLadder ladder
 IsRightCommand (Analyse analyse) = IsRightAnalyse analyse
 IsRightCommand (Study study) = IsRightStudy study
 IsRightCommand (Make make) = IsRightMake make
+IsRightCommand (Plan plan) = IsRightPlan plan

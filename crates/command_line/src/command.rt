@@ -116,6 +116,15 @@ pub struct Make {
     pub file: Text,
 }
 
+/// A match whose take points and gammon prices are told, by the file of its first game.
+#[derive(Drop)]
+pub struct Plan {
+    /// What the names of the match's files begin with, 1 to 240 bytes.
+    pub prefix: Text,
+    /// How many points the match is played to, 1 to 5.
+    pub match_length: u8,
+}
+
 /// What a user asks for.
 #[derive(Drop)]
 pub enum Command {
@@ -129,6 +138,7 @@ pub enum Command {
     Analyse(Analyse),
     Study(Study),
     Make(Make),
+    Plan(Plan),
 }
 
 /// The commands.
@@ -144,6 +154,7 @@ pub enum CommandName {
     Analyse,
     Study,
     Make,
+    Plan,
 }
 
 static BOUND: [&str; 3] = ["CHECKERS", "ROUNDS", "POSITION"];
@@ -176,6 +187,10 @@ static STUDY_OPTIONS: [&str; 2] = ["rounds", "workers"];
 
 static MAKE: [&str; 3] = ["NUMBER", "GAMES", "FILE"];
 
+static PLAN: [&str; 1] = ["PREFIX"];
+
+static PLAN_OPTIONS: [&str; 1] = ["length"];
+
 static NO_OPTIONS: [&str; 0] = [];
 
 impl CommandName {
@@ -194,6 +209,7 @@ impl CommandName {
             "analyse" => Some(CommandName::Analyse),
             "study" => Some(CommandName::Study),
             "make" => Some(CommandName::Make),
+            "plan" => Some(CommandName::Plan),
             _ => None,
         }
     }
@@ -213,6 +229,7 @@ impl CommandName {
             CommandName::Analyse => ANALYSE.as_slice(),
             CommandName::Study => STUDY.as_slice(),
             CommandName::Make => MAKE.as_slice(),
+            CommandName::Plan => PLAN.as_slice(),
         }
     }
 
@@ -226,6 +243,7 @@ impl CommandName {
             CommandName::Verify => VERIFY_OPTIONS.as_slice(),
             CommandName::Ladder => LADDER_OPTIONS.as_slice(),
             CommandName::Study => STUDY_OPTIONS.as_slice(),
+            CommandName::Plan => PLAN_OPTIONS.as_slice(),
             CommandName::Bound
             | CommandName::Show
             | CommandName::Migrate

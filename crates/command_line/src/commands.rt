@@ -1,10 +1,11 @@
 ghost use Rattle.word_forms.specs.Form.{Values};
 ghost use Rattle.word_forms.specs.Clap.{HasValues};
-ghost use Rattle.command_line.specs.Commands.{bound_values, solve_values, show_values, migrate_values, advise_values, command_values, verify_values, ladder_values, analyse_values, study_values, make_values};
+ghost use Rattle.command_line.specs.Commands.{bound_values, solve_values, show_values, migrate_values, advise_values, command_values, verify_values, ladder_values, analyse_values, study_values, make_values, plan_values};
 ghost use Rattle.command_line.specs.Reading.{Gives};
 
 use crate::command::{
-    Advise, Analyse, Bound, Command, CommandName, Ladder, Make, Migrate, Show, Solve, Study, Verify,
+    Advise, Analyse, Bound, Command, CommandName, Ladder, Make, Migrate, Plan, Show, Solve, Study,
+    Verify,
 };
 use crate::stop::{WordsStop, bad_value};
 use crate::text::Text;
@@ -37,6 +38,7 @@ pub(crate) fn read_values(
         CommandName::Analyse => read_analyse(alloc, values),
         CommandName::Study => read_study(alloc, values),
         CommandName::Make => read_make(alloc, values),
+        CommandName::Plan => read_plan(alloc, values),
     }
 }
 
@@ -245,5 +247,22 @@ fn read_make(alloc: Global, values: &ArgMatches<'_>) -> Result<Command, WordsSto
         number,
         games,
         file: Text::new(alloc, file)?,
+    }))
+}
+
+fn read_plan(alloc: Global, values: &ArgMatches<'_>) -> Result<Command, WordsStop>
+    ensures { (given : Values) → HasValues given values.now
+        → Gives (plan_values given) result }
+{
+    let Some(prefix) = prefix(values.get_str("PREFIX")) else {
+        return Err(bad_value(1));
+    };
+    let length = values.get_str("length");
+    let Some(points) = number_or(length, MOST_POINTS, USUAL_POINTS) else {
+        return Err(bad_value(2));
+    };
+    Ok(Command::Plan(Plan {
+        prefix: Text::new(alloc, prefix)?,
+        match_length: points as u8,
     }))
 }

@@ -392,3 +392,43 @@ fn make_takes_any_number_of_64_bits(rt: HostRuntime) -> Result<(), Fail> {
     }
     Ok(())
 }
+
+#[test]
+fn words_of_plan_are_refused(rt: HostRuntime) -> Result<(), Fail> {
+    let cases: [(&[&str], WordsKind, u32); 9] = [
+        (&["plan"], WordsKind::Form, 0),
+        (&["plan", "x", "y"], WordsKind::Form, 0),
+        (&["plan", "x", "--checkers=1"], WordsKind::Form, 0),
+        (&["plan", "x", "--length"], WordsKind::Form, 0),
+        (&["plan", "x", "-l", "3"], WordsKind::Word, 2),
+        (&["plan", "x\0", "--length=6"], WordsKind::Value, 1),
+        (&["plan", "x", "--length=6"], WordsKind::Value, 2),
+        (&["plan", "--length", "0", "x"], WordsKind::Value, 2),
+        (&["plan", "x", "--length", "03"], WordsKind::Value, 2),
+    ];
+    for (words, kind, place) in cases.iter() {
+        let found = refusal(rt.alloc(), words)?;
+        assert_eq!(rt; found, Some((*kind, *place)));
+    }
+    Ok(())
+}
+
+#[test]
+fn plan_has_a_usual_length(rt: HostRuntime) -> Result<(), Fail> {
+    let cases: [(&[&str], u8); 3] = [
+        (&["plan", "L"], 3),
+        (&["plan", "--length=5", "L"], 5),
+        (&["plan", "L", "--length", "1"], 1),
+    ];
+    for (words, points) in cases.iter() {
+        let words = owned(rt.alloc(), words)?;
+        match read_words(rt.alloc(), words.as_slice()) {
+            Ok(Command::Plan(asked)) => {
+                assert_eq!(rt; asked.prefix.as_str(), "L");
+                assert_eq!(rt; asked.match_length, *points);
+            }
+            _ => panic!(rt; "refused"),
+        }
+    }
+    Ok(())
+}

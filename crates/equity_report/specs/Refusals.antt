@@ -7,6 +7,7 @@ use Rattle.position_rank.specs.declared.text.BadPosition.{BadPosition}
 use Rattle.position_rank.specs.declared.text.BadPosition.TheVariants.{Shape, Place, Count, SharedPoint, Over}
 use Rattle.roll_table.specs.declared.roll.BadRoll.{BadRoll}
 use Rattle.roll_table.specs.declared.roll.BadRoll.TheVariants as rolls
+use Rattle.cube_actions.specs.declared.name.StakesName.TheVariants.{Match}
 use Rattle.cube_actions.specs.Names.{kind_text}
 use Rattle.base_head.specs.declared.fault.BadFile.{BadFile}
 use Rattle.base_head.specs.declared.fault.FileFault.{FileFault}
@@ -15,9 +16,9 @@ use Rattle.equity_report.specs.declared.text.GameName.{GameName}
 use Rattle.equity_report.specs.declared.refusal.Refusal.{Refusal}
 use Rattle.equity_report.specs.declared.refusal.Refusal.TheVariants.{Words, Position, Missing, File, Record, Read, Write, Memory, Base, Roll, Inconsistent}
 use Rattle.equity_report.specs.declared.refusal.Wanted.{Wanted}
-use Rattle.equity_report.specs.declared.refusal.Wanted.TheVariants.{Checkers, Kind, Fits}
+use Rattle.equity_report.specs.declared.refusal.Wanted.TheVariants.{Checkers, Kind, Fits, Scored}
 use Rattle.equity_report.specs.Reports.{line, counted_text}
-use Rattle.equity_report.specs.Games.{game_text}
+use Rattle.equity_report.specs.Games.{game_text, stakes_text}
 use Rattle.equity_report.specs.Records.{bad_record_text}
 use Rattle.equity_report.specs.Verify.{unheld_text}
 
@@ -73,11 +74,12 @@ bad_words_text bad = codes "words " ++ counted_text (words_text bad.kind) bad.pl
 abbrev pub bad_file_text : BadFile → List ℕ
 bad_file_text bad = codes "file " ++ counted_text (file_fault_text bad.fault) bad.at
 
--- the checkers a side, the kind of state or the game that is wanted
+-- the checkers a side, the kind of state, the game, or the score of a match that is wanted
 abbrev pub wanted_text : Wanted → List ℕ
 wanted_text (Checkers checkers) = counted_text (codes "checkers") checkers
 wanted_text (Kind kind) = codes "kind " ++ kind_text kind
 wanted_text (Fits game) = game_text game
+wanted_text (Scored score match_length) = codes "stakes " ++ stakes_text match_length (Match score)
 
 abbrev pub base_text : Wanted → GameName → List ℕ
 base_text wanted found = codes "base wanted " ++ wanted_text wanted ++ codes " found " ++ game_text found

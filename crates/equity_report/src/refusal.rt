@@ -3,11 +3,11 @@ ghost use Rattle.equity_report.specs.Refusals.{words_text, bad_words_text, file_
 ghost use Rattle.hyper_outside.specs.Sink.{Puts};
 
 use crate::record::add_bad_record;
-use crate::text::{GameName, Report, add_counted, add_game, add_number};
+use crate::text::{GameName, Report, add_counted, add_game, add_number, add_stakes};
 use crate::verify::{Unheld, add_unheld};
 use arrayvec::ArrayString;
 use base_head::{BadFile, FileFault};
-use cube_actions::KindName;
+use cube_actions::{KindName, Score, StakesName};
 use game_record::BadRecord;
 use hyper_outside::{BadWords, Failed, Sink, WordsKind};
 use position_rank::BadPosition;
@@ -25,6 +25,8 @@ pub enum Wanted {
     Kind(KindName),
     /// These checkers a side and these stakes.
     Fits(GameName),
+    /// A match to so many points, at this score.
+    Scored { score: Score, match_length: u8 },
 }
 
 /// Why a run was refused.
@@ -130,6 +132,13 @@ fn add_wanted(line: &mut Report, wanted: Wanted)
             line.push_str(kind.print().as_str());
         }
         Wanted::Fits(game) => add_game(line, game),
+        Wanted::Scored {
+            score,
+            match_length,
+        } => {
+            line.push_str("stakes ");
+            add_stakes(line, StakesName::Match(score), match_length);
+        }
     }
 }
 

@@ -262,3 +262,27 @@ fn tells_the_game_that_a_record_wants(rt: HostRuntime) {
 found checkers 3 stakes jacoby-beavers\n";
     assert_eq!(rt; out.put_bytes(), text.as_bytes());
 }
+
+#[test]
+fn tells_the_score_that_a_plan_wants(rt: HostRuntime) {
+    let score = Score {
+        near: 3,
+        far: 3,
+        phase: Phase::Normal,
+    };
+    let wanted = Wanted::Scored {
+        score,
+        match_length: 3,
+    };
+    let found = GameName {
+        checkers: 1,
+        stakes: StakesName::Match(score),
+        match_length: 4,
+    };
+    let mut out = HonestSink::with_room(rt.alloc(), 128).expect(&rt, "memory");
+    let put = write_refusal(&mut out, &Refusal::Base { wanted, found });
+    assert!(rt; put.is_ok());
+    let text = "refused 10 base wanted stakes match 3 3.3.n \
+found checkers 1 stakes match 4 3.3.n\n";
+    assert_eq!(rt; out.put_bytes(), text.as_bytes());
+}

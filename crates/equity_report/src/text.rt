@@ -66,7 +66,7 @@ pub(crate) fn add_units(report: &mut Report, pair: Pair)
 }
 
 /// Adds what is played for.
-fn add_stakes(report: &mut Report, stakes: StakesName, match_length: u8)
+pub(crate) fn add_stakes(report: &mut Report, stakes: StakesName, match_length: u8)
     requires { length report.old.bytes ≤ 2900 }
     ensures bytes { report.new.bytes ≡ report.old.bytes ++ stakes_text match_length stakes }
     ensures length { length report.new.bytes ≤ length report.old.bytes + 51 }

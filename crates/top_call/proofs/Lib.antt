@@ -18,3 +18,5 @@ mod ScoreFiles
 mod LadderSteps
 mod LadderEnds
 mod LadderKeeping
+mod PlanLaws
+mod PlanFiles

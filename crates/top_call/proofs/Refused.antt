@@ -4,7 +4,7 @@ use Rattle.equity_report.specs.declared.refusal.Refusal.{Refusal}
 use Rattle.equity_report.specs.declared.refusal.Refusal.TheVariants.{Words, Position, Missing, File, Read, Write, Memory, Base, Roll, Inconsistent, Record}
 use Rattle.equity_report.specs.Refusals.{status_of, refusal_text}
 use Rattle.top_call.specs.declared.task.Task.{Task}
-use Rattle.top_call.specs.declared.task.Task.TheVariants.{Bound, Solve, Show, Migrate, Advise, Verify, Ladder, Analyse, Study, Make}
+use Rattle.top_call.specs.declared.task.Task.TheVariants.{Bound, Solve, Show, Migrate, Advise, Verify, Ladder, Analyse, Study, Make, Plan}
 use Rattle.top_call.specs.Runs.{Ends, EndsBy, EndsTask, EndsWriting, IsOfLoading, IsOfShowing, IsOfVerifying, IsStatus, IsOfAnalysing, IsOfStudying}
 
 -- status 8 is that of want of memory alone
@@ -42,6 +42,7 @@ task-status (Make task) status ends = writing-status status ends
 task-status (Ladder task) status ends = writing-status status ends
 task-status (Verify task) status ends = by-status IsOfVerifying status ends
 task-status (Analyse task) status ends = by-status IsOfAnalysing status ends
+task-status (Plan task) status ends = by-status IsOfShowing status ends
 
 -- however a run ends, its status is 0 or that of a refusal
 pub ends-status : (expected : Result Task Refusal) (status : ℕ) → Ends expected status → IsStatus status

@@ -6,11 +6,12 @@ use Rattle.equity_report.specs.declared.refusal.Refusal.{Refusal}
 use Rattle.equity_report.specs.declared.refusal.Refusal.TheVariants.{Words, Position, Missing, File, Read, Write, Memory, Base, Roll, Inconsistent, Record}
 use Rattle.equity_report.specs.Refusals.{status_of, refusal_text}
 use Rattle.top_call.specs.declared.task.Task.{Task}
-use Rattle.top_call.specs.declared.task.Task.TheVariants.{Bound, Solve, Show, Migrate, Advise, Verify, Ladder, Analyse, Study, Make}
+use Rattle.top_call.specs.declared.task.Task.TheVariants.{Bound, Solve, Show, Migrate, Advise, Verify, Ladder, Analyse, Study, Make, Plan}
 use Rattle.top_call.specs.Advises.{HasAdvised, MayRefuseAdvice}
 use Rattle.top_call.specs.Analyses.{HasAnalysed, MayRefuseAnalysis}
 use Rattle.top_call.specs.Loads.{RefusesLoading}
 use Rattle.top_call.specs.Outcomes.{HasRun, TellsMemory}
+use Rattle.top_call.specs.Plans.{HasPlanned, MayRefusePlanning, RefusesPlanning, first_file}
 use Rattle.top_call.specs.Runs.{IsDue, WasPut}
 use Rattle.top_call.specs.Studies.{HasStudied, MayRefuseStudy}
 use Rattle.top_call.specs.Shows.{HasShown, RefusesShowing}
@@ -46,6 +47,7 @@ memory-told (Ok (Ladder task)) old new put = tt
 memory-told (Ok (Analyse task)) old new put = put
 memory-told (Ok (Study task)) old new put = put
 memory-told (Ok (Make task)) old new put = put
+memory-told (Ok (Plan task)) old new put = put
 memory-told (Err refusal) old new put = put
 
 -- where there was no memory for the words, nothing is known of what they ask for
@@ -95,6 +97,9 @@ module _ (told : Bool) (before after : Contents) (same : SameFiles before after)
         (nothing-since (record { told = told; before = before; old = old }) task after same) put;
   }
   unheld is put (Ok (Analyse task)) = no-memory (HasAnalysed task told before) (MayRefuseAnalysis task told before) old new (λ _. inl tt) status is put
+  unheld is put (Ok (Plan task)) =
+      no-memory (HasPlanned task told (before (first_file task))) (MayRefusePlanning task told (before (first_file task))) old new
+      (of-file told (before (first_file task)) (RefusesPlanning task Memory) (λ _. tt) (None, tt)) status is put
 
   refused : (expected : Result Task Refusal) (refusal : Refusal) → expected ≡ Err refusal → WasPut old new (refusal_text refusal) → Run expected
   refused expected refusal due put = subst Run (sym due) (λ _. put)

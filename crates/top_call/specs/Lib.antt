@@ -13,4 +13,5 @@ pub mod Records
 pub mod Studies
 pub mod Makes
 pub mod Analyses
+pub mod Plans
 pub mod Outcomes

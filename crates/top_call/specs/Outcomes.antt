@@ -6,12 +6,13 @@ use Rattle.equity_report.specs.declared.refusal.Refusal.{Refusal}
 use Rattle.equity_report.specs.declared.refusal.Refusal.TheVariants.{Memory, Write}
 use Rattle.equity_report.specs.Refusals.{status_of, refusal_text}
 use Rattle.top_call.specs.declared.task.Task.{Task}
-use Rattle.top_call.specs.declared.task.Task.TheVariants.{Bound, Solve, Show, Migrate, Advise, Verify, Ladder, Analyse, Study, Make}
+use Rattle.top_call.specs.declared.task.Task.TheVariants.{Bound, Solve, Show, Migrate, Advise, Verify, Ladder, Analyse, Study, Make, Plan}
 use Rattle.top_call.specs.Advises.{TellsAdvice}
 use Rattle.top_call.specs.Ladders.{KeepsAllBut, SolvesLadder, scores_in}
 use Rattle.top_call.specs.Makes.{Makes}
 use Rattle.top_call.specs.Analyses.{TellsAnalysis}
 use Rattle.top_call.specs.Migrates.{Migrates}
+use Rattle.top_call.specs.Plans.{TellsPlan, first_file}
 use Rattle.top_call.specs.Runs.{WasPut}
 use Rattle.top_call.specs.Shows.{TellsShown}
 use Rattle.top_call.specs.Solves.{Solves}
@@ -32,6 +33,7 @@ HasRun (Ok (Ladder task)) told before after old new status = SolvesLadder task t
 HasRun (Ok (Study task)) told before after old new status = TellsStudy task told (before task.rec) old new status
 HasRun (Ok (Make task)) told before after old new status = Makes task told before after old new status
 HasRun (Ok (Analyse task)) told before after old new status = TellsAnalysis task told before old new status
+HasRun (Ok (Plan task)) told before after old new status = TellsPlan task told (before (first_file task)) old new status
 HasRun (Err refusal) told before after old new status = status ≡ status_of refusal → WasPut old new (refusal_text refusal)
 
 -- no file changed but the one that is to be written, or those of the scores of a ladder

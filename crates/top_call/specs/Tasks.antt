@@ -15,7 +15,7 @@ use Rattle.command_line.specs.declared.command.Bound.{Bound as BoundWords}
 use Rattle.command_line.specs.Words.{reading}
 use Rattle.command_line.specs.declared.command.Show.{Show as ShowWords}
 use Rattle.command_line.specs.declared.command.Advise.{Advise as AdviseWords}
-use Rattle.command_line.specs.Right.{IsName, IsRightMake, IsRightStudy, IsRightSolve, IsRightMigrate, IsRightVerify, IsRightLadder, IsRightAnalyse}
+use Rattle.command_line.specs.Right.{IsName, IsRightMake, IsRightStudy, IsRightSolve, IsRightMigrate, IsRightVerify, IsRightLadder, IsRightAnalyse, IsRightPlan}
 use Rattle.word_forms.specs.Clap.{bytes_of}
 use Rattle.cube_actions.specs.Stakes.{cubeless}
 use Rattle.turn_rule.specs.Turn.{rounds}
@@ -29,7 +29,7 @@ use Rattle.top_call.specs.declared.task.AdviseTask.{AdviseTask}
 use Rattle.top_call.specs.declared.task.BoundTask.{BoundTask}
 use Rattle.top_call.specs.declared.task.ShowTask.{ShowTask}
 use Rattle.top_call.specs.declared.task.Task.{Task}
-use Rattle.top_call.specs.declared.task.Task.TheVariants.{Bound, Solve, Show, Migrate, Advise, Verify, Ladder, Analyse, Study, Make}
+use Rattle.top_call.specs.declared.task.Task.TheVariants.{Bound, Solve, Show, Migrate, Advise, Verify, Ladder, Analyse, Study, Make, Plan}
 
 -- a game without a cube, by its checkers
 abbrev pub cubeless_game : ℕ → GameName
@@ -79,6 +79,7 @@ with_words (Ok (commands.Ladder ladder)) = Ok (Ladder ladder)
 with_words (Ok (commands.Analyse analyse)) = Ok (Analyse analyse)
 with_words (Ok (commands.Study study)) = Ok (Study study)
 with_words (Ok (commands.Make make)) = Ok (Make make)
+with_words (Ok (commands.Plan plan)) = Ok (Plan plan)
 with_words (Err bad) = Err (Words bad)
 
 -- the words are read first, then a position, then a roll, and then the position's number of checkers is compared
@@ -122,3 +123,4 @@ IsRightTask (Ladder task) = IsRightLadder task
 IsRightTask (Study task) = IsRightStudy task
 IsRightTask (Make task) = IsRightMake task
 IsRightTask (Analyse task) = IsRightAnalyse task
+IsRightTask (Plan task) = IsRightPlan task

@@ -20,7 +20,7 @@ use match_scores::{Keep, solved_ladders_are_true_and_tight, start_pair};
 use word_pages::Version;
 
 /// The name of a score's file: the prefix, a point, and the score's text, as `L.1.3.c`.
-fn score_file(prefix: &str, score: Score) -> ArrayString<255>
+pub(crate) fn score_file(prefix: &str, score: Score) -> ArrayString<255>
     requires { length prefix.now ≤ 240 }
     ensures { result.bytes ≡ score_file prefix.now score }
 {

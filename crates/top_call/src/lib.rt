@@ -11,6 +11,8 @@ mod ladder_keep;
 mod load;
 mod make;
 mod migrate;
+mod plan;
+mod plan_laws;
 mod program;
 mod put;
 mod record;
@@ -30,6 +32,7 @@ pub use advise_laws::{
 pub use analyse_laws::looked_up_analyses_are_of_the_file;
 pub use ladder_keep::LadderKeep;
 pub use make::MadeRecord;
+pub use plan_laws::{plans_hold_inside_their_pairs, plans_of_solved_matches_hold_in_the_end};
 pub use program::{refuse_unread, start};
 pub use put::DONE;
 pub use record::Replayed;

@@ -6,7 +6,7 @@ ghost use Rattle.top_call.specs.Tasks.{IsRightTask, asked, fitting, roll_given, 
 ghost use Rattle.top_call.specs.Runs.{IsDue};
 
 use command_line::{
-    Advise, Analyse, Bound, Command, Ladder, Make, Migrate, Show, Solve, Study, Text, Verify,
+    Advise, Analyse, Bound, Command, Ladder, Make, Migrate, Plan, Show, Solve, Study, Text, Verify,
     WordsStop, read_words,
 };
 use cube_actions::{KindName, StakesName};
@@ -55,6 +55,7 @@ pub enum Task {
     Analyse(Analyse),
     Study(Study),
     Make(Make),
+    Plan(Plan),
 }
 
 /// Reads the words, then a position, then a roll, and compares its number of checkers with that of the words.
@@ -71,6 +72,7 @@ pub fn read_task(alloc: Global, words: &[String]) -> Result<Task, Refusal>
         Ok(Command::Analyse(analyse)) => Ok(Task::Analyse(analyse)),
         Ok(Command::Study(study)) => Ok(Task::Study(study)),
         Ok(Command::Make(make)) => Ok(Task::Make(make)),
+        Ok(Command::Plan(plan)) => Ok(Task::Plan(plan)),
         Ok(Command::Show(show)) => show_task(show),
         Ok(Command::Advise(advise)) => advise_task(advise),
         Err(WordsStop::Bad(bad)) => Err(Refusal::Words(bad)),

@@ -13,6 +13,7 @@ use crate::bound::run_bound;
 use crate::ladder::run_ladder;
 use crate::make::run_make;
 use crate::migrate::run_migrate;
+use crate::plan::run_plan;
 use crate::put::refuse;
 use crate::show::run_show;
 use crate::solve::run_solve;
@@ -36,6 +37,9 @@ use std::thread::Threads;
 ///   the width of the widest pair of its file's words. From one number of turns on for all of them, however unfinished games are
 ///   scored, the words enclose the game of their score with the exact payoffs of the match, and the start pairs the exact starts; all
 ///   are at least as tight as the asked rounds from plain starts. No other file changed.
+/// - `plan`: of the take points and gammon prices of a match, from the start pairs of the file of its first game and that of its words.
+///   Each encloses those of all exact starts inside these pairs; and where the file is the last one of a match that was solved, those of
+///   the match itself, from one number of turns on for all of them.
 /// - `show`: of the position's pairs in the file, whose header and page are right.
 /// - `migrate`: the new file holds the old one's head and words, all of which were right.
 /// - `advise`: of the plays of a roll, or of what to do with the cube, by the pairs of the file, whose header and pages are right as
@@ -60,7 +64,7 @@ use std::thread::Threads;
 ///    first; 10 where it is one of a match.
 /// 4. Of a file of bounds that is to be read: 3 where it isn't there; 4 where it isn't one, of `show`, `advise` and `analyse` up to
 ///    its pages; 10 where these are asked for a position of another number of checkers, `advise` for a kind that the game hasn't, or
-///    `analyse` for a record of another game; 4 where the page of the position isn't right, or that of a state on which the advice
+///    `analyse` for a record of another game, or where the file of `plan` isn't of the first game of the match; 4 where the page of the position isn't right, or that of a state on which the advice
 ///    or a loss rests.
 /// 5. 9 where the words of a file that `verify` checks aren't consistent, with the first that doesn't hold by rising live rank, then
 ///    by kind, the lower word before the upper one.
@@ -107,6 +111,7 @@ pub fn run<R: Threads + Sync, F: Files, O: Sink, G: Gate + Sync>(
         Ok(Task::Study(task)) => run_study(rt, alloc, &task, files, out, gate),
         Ok(Task::Make(task)) => run_make(rt, alloc, &task, files, out, gate),
         Ok(Task::Analyse(task)) => run_analyse(alloc, &task, files, out),
+        Ok(Task::Plan(task)) => run_plan(alloc, &task, files, out),
         Err(refusal) => refuse(out, &refusal),
     }
 }

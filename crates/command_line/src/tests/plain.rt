@@ -77,6 +77,7 @@ fn place_of(command: CommandName, name: &str) -> Option<usize> {
         (CommandName::Ladder, "workers") => Some(3),
         (CommandName::Study, "rounds") => Some(2),
         (CommandName::Study, "workers") => Some(3),
+        (CommandName::Plan, "length") => Some(1),
         _ => None,
     }
 }
@@ -184,6 +185,7 @@ fn bad_value(name: CommandName, all: &Given<'_>) -> u32 {
         CommandName::Study if !is_number(workers, 64) => 3,
         CommandName::Make if first != Some("0") && !is_number(first, u32::MAX) => 1,
         CommandName::Make if !is_number(second, 1000) => 2,
+        CommandName::Plan if !is_number(points, 5) => 2,
         _ => 0,
     }
 }
@@ -199,6 +201,7 @@ fn plain(name: CommandName, words: &[&str]) -> Option<(WordsKind, u32)> {
     let wanted = match name {
         CommandName::Bound | CommandName::Make => 3,
         CommandName::Solve | CommandName::Verify | CommandName::Ladder | CommandName::Study => 1,
+        CommandName::Plan => 1,
         CommandName::Show | CommandName::Migrate | CommandName::Advise | CommandName::Analyse => 2,
     };
     match words_given(words, name) {
@@ -228,11 +231,12 @@ fn random_lines_are_read_as_by_hand(rt: HostRuntime) -> Result<(), Fail> {
         ("analyse", CommandName::Analyse),
         ("study", CommandName::Study),
         ("make", CommandName::Make),
+        ("plan", CommandName::Plan),
     ];
     let mut seed: u32 = 12;
-    for line in 0..800usize {
+    for line in 0..880usize {
         seed = next(seed);
-        let (text, name) = names[line % 10];
+        let (text, name) = names[line % 11];
         let count = 1 + (seed >> 16) as usize % 5;
         let mut words = [text; 6];
         for i in 0..count {

@@ -29,3 +29,6 @@ returns-in-Study c = λ given has. rw c.in-Study.is (c.read_study.ensures given 
 
 pub returns-in-Make : goal.returns-in-Make
 returns-in-Make c = λ given has. rw c.in-Make.is (c.read_make.ensures given has)
+
+pub returns-in-Plan : goal.returns-in-Plan
+returns-in-Plan c = λ given has. rw c.in-Plan.is (c.read_plan.ensures given has)

@@ -30,3 +30,6 @@ returns-in-Ok-Analyse-clause-right c = subst IsRightCommand c.in-Ok-Analyse.fiel
 
 pub returns-in-Ok-Study-clause-right : goal.returns-in-Ok-Study-clause-right
 returns-in-Ok-Study-clause-right c = subst IsRightCommand c.in-Ok-Study.field-0-is (command-right (bytes_of c.args.words.now) c.in-Ok-Study.field-0 c.in-Ok-Study.ensures)
+
+pub returns-in-Ok-Plan-clause-right : goal.returns-in-Ok-Plan-clause-right
+returns-in-Ok-Plan-clause-right c = subst IsRightCommand c.in-Ok-Plan.field-0-is (command-right (bytes_of c.args.words.now) c.in-Ok-Plan.field-0 c.in-Ok-Plan.ensures)

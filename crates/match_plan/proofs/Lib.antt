@@ -1,0 +1,4 @@
+pub mod Places
+pub mod Centred
+pub mod Shares
+pub mod Enclosing

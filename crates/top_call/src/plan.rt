@@ -1,0 +1,125 @@
+ghost use Rattle.std.specs.Prelude.{◌≡◌, ◌≤◌, ◌↔◌, IfErr, IsTrue, Err, length};
+ghost use Rattle.hyper_outside.specs.Causes.{Rose};
+ghost use Rattle.hyper_outside.specs.Files.{SameFiles};
+ghost use Rattle.cube_actions.specs.Ladder.{ladder};
+ghost use Rattle.equity_report.specs.declared.refusal.Refusal.TheVariants.{Read};
+ghost use Rattle.equity_report.specs.Refusals.{status_of};
+ghost use Rattle.command_line.specs.Right.{IsRightPlan};
+ghost use Rattle.top_call.specs.Plans.{AnswersFirst, IsOfFirstGame, TellsPlan, first_file, first_score, planned_starts};
+ghost use Rattle.top_call.specs.Runs.{EndsBy, IsOfShowing};
+
+use crate::ladder_keep::score_file;
+use crate::load::{game_told, refusal_of};
+use crate::plan_laws::{plans_hold_inside_their_pairs, plans_of_solved_matches_hold_in_the_end};
+use crate::put::{DONE, refuse};
+use base_head::Head;
+use command_line::Plan;
+use cube_actions::{Phase, Score, StakesName, Starts};
+use database_file::{Base, load_base};
+use equity_report::{Refusal, Wanted};
+use hyper_outside::{Failed, Files, Sink};
+use match_plan::write_plan;
+use match_scores::start_pair;
+use std::alloc::Global;
+
+/// The score at which a match begins, where both sides need all its points.
+fn first_score(match_length: u8) -> Score
+    requires from { 1 ≤ match_length }
+    requires to { match_length ≤ 5 }
+    ensures { result ≡ first_score match_length }
+{
+    let phase = if match_length == 1 {
+        Phase::Post
+    } else {
+        Phase::Normal
+    };
+    Score {
+        near: match_length,
+        far: match_length,
+        phase,
+    }
+}
+
+/// Whether a head is of the first game of a match to so many points.
+fn is_of_first_game(head: &Head, match_length: u8) -> bool
+    requires from { 1 ≤ match_length }
+    requires to { match_length ≤ 5 }
+    ensures { IsTrue result ↔ IsOfFirstGame match_length head.now }
+{
+    head.name() == StakesName::Match(first_score(match_length))
+        && head.starts().match_length() == match_length
+}
+
+/// What the file of a match's first game holds, or what refuses it.
+fn load_first<F: Files>(alloc: Global, task: &Plan, files: &mut F) -> Result<Base, Refusal>
+    requires { IsRightPlan task.now }
+    ensures told { AnswersFirst task.now (F.tells files.old)
+        (F.held files.old (first_file task.now)) result }
+    ensures same { IsTrue (F.tells files.old)
+        → SameFiles (F.held files.old) (F.held files.new) }
+    ensures cause { result ≡ Err Read
+        → Rose (F.read_faults files.old) (F.read_faults files.new) }
+    ensures kinds { IfErr result IsOfShowing }
+{
+    let score = first_score(task.match_length);
+    let name = score_file(task.prefix.as_str(), score);
+    let base = match load_base(alloc, files, name.as_str()) {
+        Ok(base) => base,
+        Err(stop) => return Err(refusal_of(stop, name.as_str())),
+    };
+    if is_of_first_game(base.head(), task.match_length) {
+        Ok(base)
+    } else {
+        Err(Refusal::Base {
+            wanted: Wanted::Scored {
+                score,
+                match_length: task.match_length,
+            },
+            found: game_told(base.head()),
+        })
+    }
+}
+
+/// The start pairs of all scores of the match whose first game a file is of.
+fn planned_starts(base: &Base, match_length: u8) -> Starts
+    requires from { 1 ≤ match_length }
+    requires to { match_length ≤ 5 }
+    requires first { IsOfFirstGame match_length base.now.head }
+    ensures starts { result ≡ planned_starts base.now }
+    ensures whole { length result.pairs ≡ length (ladder result.match_length) }
+{
+    let mut starts = base.head().starts().copied();
+    starts.add(start_pair(first_score(match_length), base.words()));
+    starts
+}
+
+/// Loads the file of a match's first game and puts the plan of the match, or a refusal where the file isn't right or is of another game, one
+/// of these fails or there is no memory.
+pub(crate) fn run_plan<F: Files, O: Sink>(
+    alloc: Global,
+    task: &Plan,
+    files: &mut F,
+    out: &mut O,
+) -> u8
+    requires { IsRightPlan task.now }
+    ensures ends { EndsBy IsOfShowing result }
+    ensures tells { TellsPlan task.now (F.tells files.old)
+        (F.held files.old (first_file task.now))
+        (O.output out.old) (O.output out.new) result }
+    ensures read_cause { result ≡ status_of Read
+        → Rose (F.read_faults files.old) (F.read_faults files.new) }
+    ensures same { IsTrue (F.tells files.old)
+        → SameFiles (F.held files.old) (F.held files.new) }
+{
+    plans_hold_inside_their_pairs();
+    plans_of_solved_matches_hold_in_the_end();
+    let base = match load_first(alloc, task, files) {
+        Ok(base) => base,
+        Err(refusal) => return refuse(out, &refusal),
+    };
+    let starts = planned_starts(&base, task.match_length);
+    match write_plan(out, &starts) {
+        Ok(()) => DONE,
+        Err(Failed) => refuse(out, &Refusal::Write),
+    }
+}
