@@ -72,16 +72,8 @@ const REFUSED: [Refused; 8] = [
         10,
         "refused 10 base wanted stakes match 1 1.1.p found checkers 1 stakes match 2 1.1.p\n",
     ),
-    (
-        &["plan", "E", "--length=4"],
-        4,
-        "refused 4 file short 5\n",
-    ),
-    (
-        &["plan", "L", "--length=6"],
-        1,
-        "refused 1 words value 2\n",
-    ),
+    (&["plan", "E", "--length=4"], 4, "refused 4 file short 5\n"),
+    (&["plan", "L", "--length=6"], 1, "refused 1 words value 2\n"),
     (&["plan"], 1, "refused 1 words form 0\n"),
 ];
 
