@@ -64,8 +64,8 @@ use std::thread::Threads;
 ///    first; 10 where it is one of a match.
 /// 4. Of a file of bounds that is to be read: 3 where it isn't there; 4 where it isn't one, of `show`, `advise` and `analyse` up to
 ///    its pages; 10 where these are asked for a position of another number of checkers, `advise` for a kind that the game hasn't, or
-///    `analyse` for a record of another game, or where the file of `plan` isn't of the first game of the match; 4 where the page of the position isn't right, or that of a state on which the advice
-///    or a loss rests.
+///    `analyse` for a record of another game, or where the file of `plan` isn't of the first game of the match; 4 where the page of
+///    the position isn't right, or that of a state on which the advice or a loss rests.
 /// 5. 9 where the words of a file that `verify` checks aren't consistent, with the first that doesn't hold by rising live rank, then
 ///    by kind, the lower word before the upper one.
 ///
