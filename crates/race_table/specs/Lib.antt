@@ -1,0 +1,3 @@
+pub mod Races
+pub mod TurnsLeft
+pub mod RacePairs

@@ -1,0 +1,9 @@
+//! Races, in which the sides have passed each other: how many turns they may still take, and their bounds, found in one pass.
+#![tactic(auto)]
+
+mod laws;
+
+pub use laws::{
+    each_roll_moves_in_a_race, highest_places_tell_races, pairs_of_races_are_true,
+    races_stay_races, turns_left_are_one_more_than_may_follow,
+};
