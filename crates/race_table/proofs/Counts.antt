@@ -1,10 +1,10 @@
 -- The highest checker of a side, and counts above a place.
-use Rattle.std.proofs.Common.{◌≡◌, ◌≤◌, ◌<◌, ◌+◌, ℕ, zero, suc, List, [], ◌∷◌, length, sum, drop, get_or, ◌⊎◌, inl, inr, refl, ◌∙◌, arith}
+use Rattle.std.proofs.Common.{◌≡◌, ◌≤◌, ◌<◌, ◌+◌, ◌↔◌, ℕ, zero, suc, List, [], ◌∷◌, length, sum, drop, get_or, ◌⊎◌, inl, inr, refl, ◌∙◌, arith}
 use Rattle.std.proofs.lemmas.Bool.{cases_lt}
 use Rattle.std.proofs.lemmas.List.{get_or-drop}
 use Rattle.std.proofs.lemmas.List.Sums.{sum_by-cons}
-use Rattle.position_rank.specs.Placement.{InPlay, above}
-use Rattle.race_table.specs.Races.{IsHeld, IsHighest}
+use Rattle.position_rank.specs.Placement.{Placement, IsPosition, IsLive, InPlay, above}
+use Rattle.race_table.specs.Races.{IsHeld, IsHighest, IsRace}
 
 pub held-inside : (xs : List ℕ) (f : ℕ) → IsHeld xs f → f < length xs
 held-inside [] f h = absurd (omega arith)
@@ -50,3 +50,30 @@ highest-held (x ∷ xs) play = elim (highest xs) [
   later : (f : ℕ) → IsHighest xs f → (k : ℕ) → suc f < k → get_or (x ∷ xs) k 0 ≡ 0
   later f top zero h = absurd (omega arith)
   later f top (suc k) h = top.none_higher k (omega arith)
+
+-- a place below which a side's checkers stand, and where one stands unless it is 0, tells the highest
+pub record Topped (counts : List ℕ) (top : ℕ) : Type 0 where
+  pub held : 0 < top → IsHeld counts top
+  pub empty : (between : ℕ) → top < between → between < 26 → get_or counts between 0 ≡ 0
+
+below-top : (counts : List ℕ) (top place : ℕ) → length counts ≡ 26 → Topped counts top → IsHeld counts place → place ≤ top
+below-top counts top place many topped held = elim (cases_lt top place) [
+  | inl above ↦ absurd (omega (arith, topped.empty place above (omega (arith, held-inside counts place held, many)), held))
+  | inr below ↦ below
+]
+
+top-held : (counts : List ℕ) (top : ℕ) → length counts ≡ 26 → InPlay counts → Topped counts top → IsHeld counts top
+top-held counts top many play topped =
+    let highest = highest-held counts play in
+    topped.held (omega (arith, highest.1, below-top counts top highest.0 many topped highest.2.held))
+
+-- a race by the highest places
+pub race-by-tops : (p : Placement) (a b : ℕ) → IsPosition p → IsLive p → Topped p.mover a → Topped p.other b → IsRace p ↔ (a + b < 25)
+race-by-tops p a b position live mine theirs = (
+  λ race. race.passed a b (top-held p.mover a position.mover.places live.mover mine) (top-held p.other b position.other.places live.other theirs),
+  λ less. record {
+    position = position;
+    live = live;
+    passed = λ m o here there. omega (arith, less, below-top p.mover a m position.mover.places mine here, below-top p.other b o position.other.places theirs there);
+  },
+)

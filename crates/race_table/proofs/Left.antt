@@ -34,7 +34,7 @@ most-upto f n (q ∷ qs) h = omega (arith, h q (inl refl), most-upto f n qs (λ 
 pub most-same : (f : Placement → ℕ) (qs rs : List Placement) → ((q : Placement) → Among q qs → Among q rs) → ((r : Placement) → Among r rs → Among r qs) → most f qs ≡ most f rs
 most-same f qs rs h k = omega (arith, most-upto f (most f rs) qs (λ q m. most-bound f q rs (h q m)), most-upto f (most f qs) rs (λ r m. most-bound f r qs (k r m)))
 
-over-agree : (f g : Placement → ℕ) (p : Placement) → ((roll : Dice) (q : Placement) → IsRoll roll → Among q (legal_ends p roll) → f q ≡ g q) → (rolls : List (Dice × ℕ)) → AreRolls rolls → most_over rolls f p ≡ most_over rolls g p
+pub over-agree : (f g : Placement → ℕ) (p : Placement) → ((roll : Dice) (q : Placement) → IsRoll roll → Among q (legal_ends p roll) → f q ≡ g q) → (rolls : List (Dice × ℕ)) → AreRolls rolls → most_over rolls f p ≡ most_over rolls g p
 over-agree f g p h [] a = refl
 over-agree f g p h (roll ∷ rolls) a = omega (arith, most-agree f g (legal_ends p roll.0) (λ q. h roll.0 q a.0), over-agree f g p h rolls a.1)
 

@@ -9,7 +9,8 @@ use Rattle.move_rules.proofs.StayLive.{AreDice, mover-stays, legal_end-stays}
 use Rattle.game_payoff.specs.Points.{points}
 use Rattle.turn_rule.proofs.Within.{in_play}
 use Rattle.race_table.specs.Races.{HavePassed, IsRace, pips, pips_of}
-use Rattle.race_table.proofs.Moves.{against, move-ran, can-move}
+use Rattle.race_table.specs.FreePlays.{against}
+use Rattle.race_table.proofs.Moves.{move-ran, can-move}
 
 dice-at : (dice : List ℕ) (i die : ℕ) → AreDice dice → slice_get dice i ≡ Some die → 1 ≤ die
 dice-at [] i die right e = absurd (grind arith)

@@ -5,13 +5,10 @@ use Rattle.std.proofs.lemmas.Bool.Decides.{nat_tests}
 use Rattle.position_rank.specs.Placement.{Placement, moved, hit}
 use Rattle.move_rules.specs.Moves.{MayLeave, IsMove, Runs, BearsOff}
 use Rattle.move_rules.specs.Sequences.{CanPlay}
+use Rattle.race_table.specs.FreePlays.{against}
 use Rattle.race_table.specs.Races.{IsHeld, HavePassed, IsRace, pips_of}
 use Rattle.race_table.proofs.Counts.{highest-held, none-above}
 use Rattle.race_table.proofs.Pips.{pips-moved, held-moved}
-
--- this mover's and this other side's checkers
-abbrev pub against : List ℕ → List ℕ → Placement
-against other mover = record { mover = mover; other = other }
 
 -- a point to which a checker runs is empty
 empty : (p : Placement) (from die : ℕ) → from ≤ 25 → die < from → HavePassed p → IsHeld p.mover from → get_or p.other (25 - (from - die)) 0 ≡ 0
