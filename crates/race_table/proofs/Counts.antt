@@ -1,10 +1,11 @@
 -- The highest checker of a side, and counts above a place.
-use Rattle.std.proofs.Common.{◌≡◌, ◌≤◌, ◌<◌, ◌+◌, ◌↔◌, ℕ, zero, suc, List, [], ◌∷◌, length, sum, drop, get_or, ◌⊎◌, inl, inr, refl, ◌∙◌, arith}
+use Rattle.std.proofs.Common.{◌≡◌, ◌≤◌, ◌<◌, ◌+◌, ◌↔◌, IsTrue, ℕ, zero, suc, List, [], ◌∷◌, length, sum, drop, get_or, ◌⊎◌, inl, inr, refl, subst, ◌∙◌, arith}
 use Rattle.std.proofs.lemmas.Bool.{cases_lt}
+use Rattle.std.proofs.lemmas.Bool.Decides.{nat_tests}
 use Rattle.std.proofs.lemmas.List.{get_or-drop}
 use Rattle.std.proofs.lemmas.List.Sums.{sum_by-cons}
 use Rattle.position_rank.specs.Placement.{Placement, IsPosition, IsLive, InPlay, above}
-use Rattle.race_table.specs.Races.{IsHeld, IsHighest, IsRace}
+use Rattle.race_table.specs.Races.{IsHeld, IsRace, highest_from, highest_of, is_race}
 
 pub held-inside : (xs : List ℕ) (f : ℕ) → IsHeld xs f → f < length xs
 held-inside [] f h = absurd (omega arith)
@@ -18,6 +19,11 @@ none-in-all (x ∷ xs) h = omega (arith, sum_by-cons (λ (n : ℕ). n) x xs, h 0
 -- with no checker on any higher place, none stands above
 pub none-above : (counts : List ℕ) (place : ℕ) → ((k : ℕ) → place < k → get_or counts k 0 ≡ 0) → above counts place ≡ 0
 none-above counts place h = none-in-all (drop (place + 1) counts) (λ k. get_or-drop (place + 1) counts k 0 ∙ h (place + 1 + k) (omega arith))
+
+-- the side has a checker on this place, and none on a higher one
+pub record IsHighest (counts : List ℕ) (place : ℕ) : Type 0 where
+  pub held : IsHeld counts place
+  pub none_higher : (higher : ℕ) → place < higher → get_or counts higher 0 ≡ 0
 
 highest : (xs : List ℕ) → ((k : ℕ) → get_or xs k 0 ≡ 0) ⊎ ((f : ℕ) × IsHighest xs f)
 highest [] = inl (λ k. refl)
@@ -77,3 +83,46 @@ race-by-tops p a b position live mine theirs = (
     passed = λ m o here there. omega (arith, less, below-top p.mover a m position.mover.places mine here, below-top p.other b o position.other.places theirs there);
   },
 )
+
+one-top : (counts : List ℕ) (a b : ℕ) → length counts ≡ 26 → Topped counts a → Topped counts b → a ≡ b
+one-top counts a b many first second = elim (cases_lt a b) [
+  | inl less ↦ absurd (omega (arith, below-top counts a b many first (second.held (omega (arith, less))), less))
+  | inr upto ↦ elim (cases_lt b a) [
+    | inl more ↦ absurd (omega (arith, below-top counts b a many second (first.held (omega (arith, more))), more))
+    | inr from ↦ omega (arith, upto, from)
+  ]
+]
+
+-- ---- the highest place as it is defined
+
+higher-held : (place : ℕ) (xs : List ℕ) → 0 < highest_from place xs → (i : ℕ) × IsHeld xs i × (highest_from place xs ≡ place + i)
+higher-held place [] h = absurd (omega arith)
+higher-held place (x ∷ xs) h = elim (cases_lt 0 (highest_from (place + 1) xs)) [
+  | inl later ↦ (let r = higher-held (place + 1) xs later in (suc r.0, r.1, grind (arith, nat_tests, r.2)))
+  | inr none ↦ elim (cases_lt 0 x) [
+    | inl here ↦ (zero, here, grind (arith, nat_tests))
+    | inr empty ↦ absurd (grind (arith, nat_tests))
+  ]
+]
+
+none-beyond : (place : ℕ) (xs : List ℕ) (i : ℕ) → highest_from place xs < place + i → get_or xs i 0 ≡ 0
+none-beyond place [] i h = refl
+none-beyond place (x ∷ xs) zero h = elim (cases_lt 0 x) [ inl here ↦ absurd (grind (arith, nat_tests)) | inr empty ↦ omega arith ]
+none-beyond place (x ∷ xs) (suc i) h = none-beyond (place + 1) xs i (grind (arith, nat_tests))
+
+pub highest-topped : (counts : List ℕ) → Topped counts (highest_of counts)
+unfolding highest_of
+highest-topped counts = record {
+  held = λ some. let r = higher-held 0 counts some in let is : r.0 ≡ highest_from 0 counts = omega (arith, r.2) in subst (IsHeld counts) is r.1;
+  empty = λ between above below. none-beyond 0 counts between (omega (arith, above));
+}
+
+pub highest-is : (counts : List ℕ) (top : ℕ) → length counts ≡ 26 → Topped counts top → top ≡ highest_of counts
+highest-is counts top many topped = one-top counts top (highest_of counts) many topped (highest-topped counts)
+
+pub race-by-highest : (p : Placement) → IsPosition p → IsLive p → IsTrue (is_race p) ↔ IsRace p
+race-by-highest p position live =
+    let tells = race-by-tops p (highest_of p.mover) (highest_of p.other) position live (highest-topped p.mover) (highest-topped p.other) in (
+      λ less. tells.1 (let below : highest_of p.mover + highest_of p.other < 25 = grind (arith, nat_tests) in below),
+      λ race. let below = tells.0 race in grind (arith, nat_tests),
+    )

@@ -1,5 +1,5 @@
 -- Races: positions in which the sides have passed each other.
-use Rattle.std.specs.Prelude.{◌≡◌, ℕ, ◌+◌, ◌*◌, ◌<◌, List, [], ◌∷◌, sum, slice_index}
+use Rattle.std.specs.Prelude.{◌≡◌, ℕ, ◌+◌, ◌*◌, ◌<◌, nat_lt, max, Bool, List, [], ◌∷◌, sum, slice_index, if◌then◌else◌}
 use Rattle.position_rank.specs.Placement.{Placement, IsPosition, IsLive}
 
 -- the side has a checker on this place
@@ -22,10 +22,19 @@ pub record IsRaceOf (checkers : ℕ) (p : Placement) : Type 0 where
   pub race : IsRace p
   pub many : sum p.mover ≡ checkers
 
--- the side has a checker on this place, and none on a higher one
-pub record IsHighest (counts : List ℕ) (place : ℕ) : Type 0 where
-  pub held : IsHeld counts place
-  pub none_higher : (higher : ℕ) → place < higher → slice_index counts higher ≡ 0
+-- the highest place with a checker, from this place on
+abbrev pub highest_from : ℕ → List ℕ → ℕ
+highest_from place [] = 0
+highest_from place (count ∷ counts) =
+    max (if nat_lt 0 count then place else 0) (highest_from (place + 1) counts)
+
+-- the highest place with a checker of the side
+unfoldable pub highest_of : List ℕ → ℕ
+highest_of counts = highest_from 0 counts
+
+-- the highest places of both sides add up to less than 25: of live positions this tells the races
+abbrev pub is_race : Placement → Bool
+is_race p = nat_lt (highest_of p.mover + highest_of p.other) 25
 
 -- the places of the checkers added up, from this place on
 abbrev pub pips_from : ℕ → List ℕ → ℕ

@@ -1,16 +1,15 @@
-ghost use Rattle.std.specs.Prelude.{◌≡◌, ◌↔◌, ℕ, ◌+◌, ◌<◌, None};
+ghost use Rattle.std.specs.Prelude.{◌≡◌, ◌↔◌, ◌+◌, ◌<◌, IsTrue, None};
 ghost use Rattle.position_rank.specs.Placement.{Placement, IsPosition, IsLive, swap};
 ghost use Rattle.roll_table.specs.Rolls.{Dice, IsRoll, all_rolls};
 ghost use Rattle.move_rules.specs.Sequences.{IsLegalEnd};
 ghost use Rattle.game_payoff.specs.Points.{points};
-ghost use Rattle.race_table.specs.Races.{IsRace, IsHighest, pips};
+ghost use Rattle.race_table.specs.Races.{IsRace, is_race, pips};
 ghost use Rattle.race_table.specs.RacePairs.{IsTrueOfRace, race_pair};
 ghost use Rattle.race_table.specs.TurnsLeft.{left_after, most_over, turns_left};
 
 /// A live position is a race exactly where the highest places of both sides add up to less than 25.
 pub fn highest_places_tell_races()
-    ensures { (p : Placement) (mover other : ℕ) → IsPosition p → IsLive p
-        → IsHighest p.mover mover → IsHighest p.other other → IsRace p ↔ (mover + other < 25) }
+    ensures { (p : Placement) → IsPosition p → IsLive p → IsTrue (is_race p) ↔ IsRace p }
 {}
 
 /// A legal play of a race that doesn't end the game leaves the other side a race.

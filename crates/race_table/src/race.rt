@@ -1,6 +1,6 @@
-ghost use Rattle.std.specs.Prelude.{◌↔◌, IsTrue};
+ghost use Rattle.std.specs.Prelude.{◌≡◌, ◌↔◌, IsTrue};
 ghost use Rattle.position_rank.specs.Placement.{IsLive};
-ghost use Rattle.race_table.specs.Races.{IsRace};
+ghost use Rattle.race_table.specs.Races.{IsRace, is_race};
 
 use directed_fixed::Pair;
 use position_rank::Position;
@@ -17,7 +17,8 @@ pub struct Race {
 /// each in its own numbering, add up to less than 25.
 pub fn is_race(position: &Position) -> bool
     requires { IsLive position.now }
-    ensures { IsTrue result ↔ IsRace position.now }
+    ensures race { IsTrue result ↔ IsRace position.now }
+    ensures highest { result ≡ is_race position.now }
 {
     position.highest_below(26) + position.swap().highest_below(26) < 25
 }

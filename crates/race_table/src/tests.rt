@@ -46,10 +46,15 @@ impl Races {
         Races { checkers, table }
     }
 
-    /// That a race has these turns left, and this pair, in units.
+    /// How many turns a race may still take.
+    fn turns(&self, rt: &impl Abort, mover: &[u8], other: &[u8]) -> u32 {
+        self.table.turns(&race(rt, mover, other, self.checkers))
+    }
+
+    /// That a race may still take so many turns and has this pair, in units.
     fn check(&self, rt: &impl Abort, mover: &[u8], other: &[u8], turns: u32, pair: (i64, i64)) {
         let position = race(rt, mover, other, self.checkers);
-        assert_eq!(rt; self.table.turns(&position), turns);
+        assert_eq!(rt; self.turns(rt, mover, other), turns);
         let found = self.table.pair(&position);
         assert_eq!(rt; (found.lower().units(), found.upper().units()), pair);
     }
@@ -81,8 +86,7 @@ fn finds_the_races_of_two_checkers(rt: HostRuntime) {
 #[test]
 fn counts_the_turns_of_a_long_race(rt: HostRuntime) {
     let races = Races::new(&rt, rt.alloc(), 1);
-    let position = race(&rt, &[12], &[12], 1);
-    assert_eq!(rt; races.table.turns(&position), 7);
+    assert_eq!(rt; races.turns(&rt, &[12], &[12]), 7);
 }
 
 #[test]
