@@ -169,6 +169,7 @@ fn bad_value(name: CommandName, all: &Given<'_>) -> u32 {
     match name {
         CommandName::Bound if !is_number(first, 3) => 1,
         CommandName::Bound if !is_number(second, 4096) => 2,
+        CommandName::Race if !is_number(first, 3) => 1,
         CommandName::Solve if !is_number(checkers, 3) => 2,
         CommandName::Solve if !is_stakes(stakes) => 3,
         CommandName::Solve if !is_number(rounds, 4096) => 4,
@@ -199,7 +200,11 @@ fn plain(name: CommandName, words: &[&str]) -> Option<(WordsKind, u32)> {
     let wanted = match name {
         CommandName::Bound | CommandName::Make => 3,
         CommandName::Solve | CommandName::Verify | CommandName::Ladder | CommandName::Study => 1,
-        CommandName::Show | CommandName::Migrate | CommandName::Advise | CommandName::Analyse => 2,
+        CommandName::Race
+        | CommandName::Show
+        | CommandName::Migrate
+        | CommandName::Advise
+        | CommandName::Analyse => 2,
     };
     match words_given(words, name) {
         Some(all) if all.count == wanted => match bad_value(name, &all) {
@@ -219,6 +224,7 @@ fn next(seed: u32) -> u32 {
 fn random_lines_are_read_as_by_hand(rt: HostRuntime) -> Result<(), Fail> {
     let names = [
         ("bound", CommandName::Bound),
+        ("race", CommandName::Race),
         ("solve", CommandName::Solve),
         ("show", CommandName::Show),
         ("migrate", CommandName::Migrate),
@@ -232,7 +238,7 @@ fn random_lines_are_read_as_by_hand(rt: HostRuntime) -> Result<(), Fail> {
     let mut seed: u32 = 12;
     for line in 0..800usize {
         seed = next(seed);
-        let (text, name) = names[line % 10];
+        let (text, name) = names[line % 11];
         let count = 1 + (seed >> 16) as usize % 5;
         let mut words = [text; 6];
         for i in 0..count {
