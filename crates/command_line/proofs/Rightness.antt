@@ -16,7 +16,7 @@ use Rattle.command_line.specs.declared.command.Command.TheVariants as command
 use Rattle.command_line.specs.declared.command.CommandName.{CommandName}
 use Rattle.command_line.specs.declared.command.CommandName.TheVariants as name
 use Rattle.command_line.specs.Values.{number_of, number_within, long_number_given, number_given, number_or, stakes_named, stakes_or, kind_given, is_name_within, name_within, file_name, other_name, prefix}
-use Rattle.command_line.specs.Commands.{Asked, checked, refused, bound_values, solve_values, show_values, migrate_values, advise_values, command_values, command_named, command_form, verify_values, ladder_values, analyse_values, study_values, make_values, plan_values}
+use Rattle.command_line.specs.Commands.{Asked, checked, refused, bound_values, race_values, solve_values, show_values, migrate_values, advise_values, command_values, command_named, command_form, verify_values, ladder_values, analyse_values, study_values, make_values, plan_values}
 use Rattle.command_line.specs.declared.values.TheConstants.{MOST_CHECKERS, MOST_GAMES, MOST_POINTS, MOST_ROUNDS, MOST_WORKERS, USUAL_POINTS, USUAL_ROUNDS}
 use Rattle.command_line.specs.Words.{is_faulty, place_at, form_reading, words_reading, reading}
 use Rattle.command_line.specs.Right.{IsName, IsPrefix, IsRightCommand}
@@ -146,6 +146,17 @@ bound-right : (given : Values) → Right (bound_values given)
 bound-right given =
     bound-from (number_given MOST_CHECKERS (value_of (codes "CHECKERS") given)) (number_given MOST_ROUNDS (value_of (codes "ROUNDS") given)) (value_of (codes "POSITION") given)
     (given-within MOST_CHECKERS (value_of (codes "CHECKERS") given)) (given-within MOST_ROUNDS (value_of (codes "ROUNDS") given))
+
+race-from : (checkers : Option ℕ) (position : Option Bytes) → IfSome checkers (Within MOST_CHECKERS) →
+    Right (checked 1 checkers (λ checkers. checked 2 position (λ position. Ok (command.Race (record { checkers = checkers; position = position })))))
+race-from None position few = tt
+race-from (Some c) None few = tt
+race-from (Some c) (Some p) few = record { some = few.0; few = few.1 }
+
+race-right : (given : Values) → Right (race_values given)
+race-right given =
+    race-from (number_given MOST_CHECKERS (value_of (codes "CHECKERS") given)) (value_of (codes "POSITION") given)
+    (given-within MOST_CHECKERS (value_of (codes "CHECKERS") given))
 
 solve-from : (file : Option Bytes) (checkers : Option ℕ) (stakes : Option StakesName) (rounds workers : Option ℕ) → IfSome file IsName → IfSome checkers (Within MOST_CHECKERS) → IfSome stakes IsNoMatch → IfSome rounds (Within MOST_ROUNDS) → IfSome workers (Within MOST_WORKERS) →
     Right (checked 1 file (λ file. checked 2 checkers (λ checkers. checked 3 stakes (λ stakes. checked 4 rounds (λ rounds. checked 5 workers (λ workers.
@@ -291,6 +302,7 @@ plan-right given =
 
 values-right : (command : CommandName) (given : Values) → Right (command_values command given)
 values-right name.Bound given = bound-right given
+values-right name.Race given = race-right given
 values-right name.Solve given = solve-right given
 values-right name.Show given = show-right given
 values-right name.Migrate given = migrate-right given

@@ -8,7 +8,7 @@ use Rattle.hyper_outside.specs.declared.outside.WordsKind.TheVariants.{Value}
 use Rattle.cube_actions.specs.declared.name.StakesName.TheVariants.{Jacoby}
 use Rattle.word_forms.specs.Form.{Bytes, Form, Values, value_of}
 use Rattle.command_line.specs.declared.command.Command.{Command}
-use Rattle.command_line.specs.declared.command.Command.TheVariants.{Bound, Solve, Show, Migrate, Advise, Verify, Ladder, Analyse, Study, Make, Plan}
+use Rattle.command_line.specs.declared.command.Command.TheVariants.{Bound, Race, Solve, Show, Migrate, Advise, Verify, Ladder, Analyse, Study, Make, Plan}
 use Rattle.command_line.specs.declared.command.CommandName.{CommandName}
 use Rattle.command_line.specs.declared.command.CommandName.TheVariants as name
 use Rattle.command_line.specs.declared.values.TheConstants.{MOST_CHECKERS, MOST_GAMES, MOST_POINTS, MOST_ROUNDS, MOST_WORKERS, USUAL_POINTS, USUAL_ROUNDS}
@@ -37,6 +37,15 @@ bound_values given =
     checked 2 (number_given MOST_ROUNDS (value_of (codes "ROUNDS") given)) (λ rounds.
     checked 3 (value_of (codes "POSITION") given) (λ position.
     Ok (Bound (record { checkers = checkers; rounds = rounds; position = position })))))
+
+abbrev pub race_form : Form
+race_form = record { arguments = codes "CHECKERS" ∷ codes "POSITION" ∷ []; options = [] }
+
+abbrev pub race_values : Values → Result Asked BadWords
+race_values given =
+    checked 1 (number_given MOST_CHECKERS (value_of (codes "CHECKERS") given)) (λ checkers.
+    checked 2 (value_of (codes "POSITION") given) (λ position.
+    Ok (Race (record { checkers = checkers; position = position }))))
 
 abbrev pub solve_form : Form
 solve_form = record { arguments = codes "FILE" ∷ []; options = codes "checkers" ∷ codes "stakes" ∷ codes "rounds" ∷ codes "workers" ∷ [] }
@@ -145,6 +154,7 @@ plan_values given =
 abbrev pub command_named : Bytes → Option CommandName
 command_named word =
     if bytes_eq word (codes "bound") then Some name.Bound
+    else (if bytes_eq word (codes "race") then Some name.Race
     else (if bytes_eq word (codes "solve") then Some name.Solve
     else (if bytes_eq word (codes "show") then Some name.Show
     else (if bytes_eq word (codes "migrate") then Some name.Migrate
@@ -154,10 +164,11 @@ command_named word =
     else (if bytes_eq word (codes "analyse") then Some name.Analyse
     else (if bytes_eq word (codes "study") then Some name.Study
     else (if bytes_eq word (codes "make") then Some name.Make
-    else (if bytes_eq word (codes "plan") then Some name.Plan else None))))))))))
+    else (if bytes_eq word (codes "plan") then Some name.Plan else None)))))))))))
 
 abbrev pub command_form : CommandName → Form
 command_form name.Bound = bound_form
+command_form name.Race = race_form
 command_form name.Solve = solve_form
 command_form name.Show = show_form
 command_form name.Migrate = migrate_form
@@ -171,6 +182,7 @@ command_form name.Plan = plan_form
 
 abbrev pub command_values : CommandName → Values → Result Asked BadWords
 command_values name.Bound given = bound_values given
+command_values name.Race given = race_values given
 command_values name.Solve given = solve_values given
 command_values name.Show given = show_values given
 command_values name.Migrate given = migrate_values given

@@ -4,13 +4,14 @@ use Rattle.cube_actions.specs.Scores.{MatchScore}
 use Rattle.cube_actions.specs.declared.name.StakesName.TheVariants.{Match}
 use Rattle.word_forms.specs.Form.{Bytes}
 use Rattle.command_line.specs.declared.command.Bound.{Bound as BoundWords}
+use Rattle.command_line.specs.declared.command.Race.{Race as RaceWords}
 use Rattle.command_line.specs.declared.command.Solve.{Solve as SolveWords}
 use Rattle.command_line.specs.declared.command.Show.{Show as ShowWords}
 use Rattle.command_line.specs.declared.command.Migrate.{Migrate as MigrateWords}
 use Rattle.command_line.specs.declared.command.Advise.{Advise as AdviseWords}
 use Rattle.command_line.specs.declared.command.Analyse.{Analyse as AnalyseWords}
 use Rattle.command_line.specs.declared.command.Command.{Command}
-use Rattle.command_line.specs.declared.command.Command.TheVariants.{Bound, Solve, Show, Migrate, Advise, Verify, Ladder, Analyse, Study, Make, Plan}
+use Rattle.command_line.specs.declared.command.Command.TheVariants.{Bound, Race, Solve, Show, Migrate, Advise, Verify, Ladder, Analyse, Study, Make, Plan}
 use Rattle.command_line.specs.declared.command.Ladder.{Ladder as LadderWords}
 use Rattle.command_line.specs.declared.command.Make.{Make as MakeWords}
 use Rattle.command_line.specs.declared.command.Plan.{Plan as PlanWords}
@@ -33,6 +34,10 @@ pub record IsRightBound (bound : BoundWords) : Type 0 where
   pub few : bound.checkers ≤ MOST_CHECKERS
   pub begun : 1 ≤ bound.rounds
   pub ended : bound.rounds ≤ MOST_ROUNDS
+
+pub record IsRightRace (race : RaceWords) : Type 0 where
+  pub some : 1 ≤ race.checkers
+  pub few : race.checkers ≤ MOST_CHECKERS
 
 pub record IsRightSolve (solve : SolveWords) : Type 0 where
   pub file : IsName solve.file
@@ -96,6 +101,7 @@ pub record IsRightPlan (plan : PlanWords) : Type 0 where
 -- numbers within their limits, names of files within theirs, and stakes that aren't a match
 abbrev pub IsRightCommand : Command → Type 0
 IsRightCommand (Bound bound) = IsRightBound bound
+IsRightCommand (Race race) = IsRightRace race
 IsRightCommand (Solve solve) = IsRightSolve solve
 IsRightCommand (Show show) = IsRightShow show
 IsRightCommand (Migrate migrate) = IsRightMigrate migrate

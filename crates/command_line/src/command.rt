@@ -16,6 +16,15 @@ pub struct Bound {
     pub position: Text,
 }
 
+/// A race whose turns and pair are found in a game without a cube.
+#[derive(Drop)]
+pub struct Race {
+    /// 1 to 3 a side.
+    pub checkers: u8,
+    /// In any form.
+    pub position: Text,
+}
+
 /// A game that is solved by some rounds and written to a file.
 #[derive(Drop)]
 pub struct Solve {
@@ -129,6 +138,7 @@ pub struct Plan {
 #[derive(Drop)]
 pub enum Command {
     Bound(Bound),
+    Race(Race),
     Solve(Solve),
     Show(Show),
     Migrate(Migrate),
@@ -145,6 +155,7 @@ pub enum Command {
 #[derive(Clone, Copy, Debug, PartialEq, Eq)]
 pub enum CommandName {
     Bound,
+    Race,
     Solve,
     Show,
     Migrate,
@@ -158,6 +169,8 @@ pub enum CommandName {
 }
 
 static BOUND: [&str; 3] = ["CHECKERS", "ROUNDS", "POSITION"];
+
+static RACE: [&str; 2] = ["CHECKERS", "POSITION"];
 
 static SOLVE: [&str; 1] = ["FILE"];
 
@@ -200,6 +213,7 @@ impl CommandName {
     {
         match word {
             "bound" => Some(CommandName::Bound),
+            "race" => Some(CommandName::Race),
             "solve" => Some(CommandName::Solve),
             "show" => Some(CommandName::Show),
             "migrate" => Some(CommandName::Migrate),
@@ -220,6 +234,7 @@ impl CommandName {
     {
         match self {
             CommandName::Bound => BOUND.as_slice(),
+            CommandName::Race => RACE.as_slice(),
             CommandName::Solve => SOLVE.as_slice(),
             CommandName::Show => SHOW.as_slice(),
             CommandName::Migrate => MIGRATE.as_slice(),
@@ -245,6 +260,7 @@ impl CommandName {
             CommandName::Study => STUDY_OPTIONS.as_slice(),
             CommandName::Plan => PLAN_OPTIONS.as_slice(),
             CommandName::Bound
+            | CommandName::Race
             | CommandName::Show
             | CommandName::Migrate
             | CommandName::Analyse

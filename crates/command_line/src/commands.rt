@@ -1,11 +1,11 @@
 ghost use Rattle.word_forms.specs.Form.{Values};
 ghost use Rattle.word_forms.specs.Clap.{HasValues};
-ghost use Rattle.command_line.specs.Commands.{bound_values, solve_values, show_values, migrate_values, advise_values, command_values, verify_values, ladder_values, analyse_values, study_values, make_values, plan_values};
+ghost use Rattle.command_line.specs.Commands.{bound_values, race_values, solve_values, show_values, migrate_values, advise_values, command_values, verify_values, ladder_values, analyse_values, study_values, make_values, plan_values};
 ghost use Rattle.command_line.specs.Reading.{Gives};
 
 use crate::command::{
-    Advise, Analyse, Bound, Command, CommandName, Ladder, Make, Migrate, Plan, Show, Solve, Study,
-    Verify,
+    Advise, Analyse, Bound, Command, CommandName, Ladder, Make, Migrate, Plan, Race, Show, Solve,
+    Study, Verify,
 };
 use crate::stop::{WordsStop, bad_value};
 use crate::text::Text;
@@ -29,6 +29,7 @@ pub(crate) fn read_values(
 {
     match name {
         CommandName::Bound => read_bound(alloc, values),
+        CommandName::Race => read_race(alloc, values),
         CommandName::Solve => read_solve(alloc, values),
         CommandName::Show => read_show(alloc, values),
         CommandName::Migrate => read_migrate(alloc, values),
@@ -58,6 +59,22 @@ fn read_bound(alloc: Global, values: &ArgMatches<'_>) -> Result<Command, WordsSt
     Ok(Command::Bound(Bound {
         checkers: checkers as u8,
         rounds,
+        position: Text::new(alloc, position)?,
+    }))
+}
+
+fn read_race(alloc: Global, values: &ArgMatches<'_>) -> Result<Command, WordsStop>
+    ensures { (given : Values) → HasValues given values.now
+        → Gives (race_values given) result }
+{
+    let Some(checkers) = number_given(values.get_str("CHECKERS"), MOST_CHECKERS as u32) else {
+        return Err(bad_value(1));
+    };
+    let Some(position) = values.get_str("POSITION") else {
+        return Err(bad_value(2));
+    };
+    Ok(Command::Race(Race {
+        checkers: checkers as u8,
         position: Text::new(alloc, position)?,
     }))
 }

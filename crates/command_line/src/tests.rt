@@ -55,6 +55,31 @@ fn words_are_refused_in_order(rt: HostRuntime) -> Result<(), Fail> {
 }
 
 #[test]
+fn race_takes_checkers_and_a_position(rt: HostRuntime) -> Result<(), Fail> {
+    let cases: [(&[&str], WordsKind, u32); 6] = [
+        (&["race"], WordsKind::Form, 0),
+        (&["race", "1"], WordsKind::Form, 0),
+        (&["race", "1", "6 / 1", "x"], WordsKind::Form, 0),
+        (&["race", "1", "6 / 1", "--rounds=3"], WordsKind::Form, 0),
+        (&["race", "4", "6 / 1"], WordsKind::Value, 1),
+        (&["race", "1", ""], WordsKind::Word, 2),
+    ];
+    for (words, kind, place) in cases.iter() {
+        let found = refusal(rt.alloc(), words)?;
+        assert_eq!(rt; found, Some((*kind, *place)));
+    }
+    let words = owned(rt.alloc(), &["race", "3", "any text"])?;
+    match read_words(rt.alloc(), words.as_slice()) {
+        Ok(Command::Race(asked)) => {
+            assert_eq!(rt; asked.checkers, 3);
+            assert_eq!(rt; asked.position.as_str(), "any text");
+        }
+        _ => panic!(rt; "refused"),
+    }
+    Ok(())
+}
+
+#[test]
 fn words_of_solve_are_refused(rt: HostRuntime) -> Result<(), Fail> {
     let cases: [(&[&str], WordsKind, u32); 18] = [
         (&["solve"], WordsKind::Form, 0),

@@ -1,4 +1,5 @@
 pub mod Reports
+pub mod Races
 pub mod Games
 pub mod Files
 pub mod Verify

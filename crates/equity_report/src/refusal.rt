@@ -54,6 +54,8 @@ pub enum Refusal {
     Inconsistent(Unheld),
     /// The record's text is none, or the game that it tells breaks a rule.
     Record(BadRecord),
+    /// The position isn't a race.
+    Contact,
 }
 
 fn words_text(kind: WordsKind) -> &'static str
@@ -89,7 +91,7 @@ impl Refusal {
     /// The status with which a run ends that is refused so.
     pub fn status(&self) -> u8
         ensures status { result ≡ status_of self.now }
-        ensures small { result ≤ 10 }
+        ensures small { result ≤ 12 }
     {
         match self {
             Refusal::Words(_) => 1,
@@ -102,6 +104,7 @@ impl Refusal {
             Refusal::Memory => 8,
             Refusal::Base { .. } => 10,
             Refusal::Inconsistent(_) => 9,
+            Refusal::Contact => 12,
         }
     }
 }
@@ -195,6 +198,7 @@ fn add_reason(line: &mut Report, refusal: &Refusal)
         }
         Refusal::Inconsistent(unheld) => add_unheld(line, unheld),
         Refusal::Record(bad) => add_bad_record(line, *bad),
+        Refusal::Contact => line.push_str("contact"),
     }
 }
 

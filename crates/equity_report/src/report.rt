@@ -1,7 +1,7 @@
 ghost use Rattle.std.specs.Prelude.{◌≡◌, ◌≤◌, ◌++◌, ◌+◌, codes, decimal, length};
 ghost use Rattle.hyper_outside.specs.Sink.{Puts};
 ghost use Rattle.position_rank.specs.Text.{position_text};
-ghost use Rattle.equity_report.specs.Reports.{line, bound_text};
+ghost use Rattle.equity_report.specs.Reports.{line, bound_text, pair_text};
 
 use crate::text::{Report, add_number, add_points, add_units};
 use directed_fixed::Pair;
@@ -29,6 +29,17 @@ fn add_rounds(report: &mut Report, rounds: u32)
     report.push_str("\n");
 }
 
+pub(crate) fn add_alone(report: &mut Report, pair: Pair)
+    requires { length report.old.bytes ≤ 70 }
+    ensures { report.new.bytes ≡ report.old.bytes ++ line (codes "alone") (pair_text pair) }
+{
+    report.push_str("alone ");
+    add_points(report, pair);
+    report.push_str(" ");
+    add_units(report, pair);
+    report.push_str("\n");
+}
+
 /// Puts a position's pair after so many rounds of a game without a cube, in three lines: the position, the rounds, and both ends in points,
 /// rounded outwards, and in units. `Failed` comes only where `put` failed; then a front of the text was put.
 pub fn write_bound<O: Sink>(
@@ -43,10 +54,6 @@ pub fn write_bound<O: Sink>(
     let mut report = Report::new();
     add_position(&mut report, position);
     add_rounds(&mut report, rounds);
-    report.push_str("alone ");
-    add_points(&mut report, pair);
-    report.push_str(" ");
-    add_units(&mut report, pair);
-    report.push_str("\n");
+    add_alone(&mut report, pair);
     out.put(report.as_str().as_bytes())
 }

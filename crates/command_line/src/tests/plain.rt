@@ -170,6 +170,7 @@ fn bad_value(name: CommandName, all: &Given<'_>) -> u32 {
     match name {
         CommandName::Bound if !is_number(first, 3) => 1,
         CommandName::Bound if !is_number(second, 4096) => 2,
+        CommandName::Race if !is_number(first, 3) => 1,
         CommandName::Solve if !is_number(checkers, 3) => 2,
         CommandName::Solve if !is_stakes(stakes) => 3,
         CommandName::Solve if !is_number(rounds, 4096) => 4,
@@ -202,7 +203,11 @@ fn plain(name: CommandName, words: &[&str]) -> Option<(WordsKind, u32)> {
         CommandName::Bound | CommandName::Make => 3,
         CommandName::Solve | CommandName::Verify | CommandName::Ladder | CommandName::Study => 1,
         CommandName::Plan => 1,
-        CommandName::Show | CommandName::Migrate | CommandName::Advise | CommandName::Analyse => 2,
+        CommandName::Race
+        | CommandName::Show
+        | CommandName::Migrate
+        | CommandName::Advise
+        | CommandName::Analyse => 2,
     };
     match words_given(words, name) {
         Some(all) if all.count == wanted => match bad_value(name, &all) {
@@ -222,6 +227,7 @@ fn next(seed: u32) -> u32 {
 fn random_lines_are_read_as_by_hand(rt: HostRuntime) -> Result<(), Fail> {
     let names = [
         ("bound", CommandName::Bound),
+        ("race", CommandName::Race),
         ("solve", CommandName::Solve),
         ("show", CommandName::Show),
         ("migrate", CommandName::Migrate),

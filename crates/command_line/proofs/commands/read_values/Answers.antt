@@ -3,6 +3,9 @@ use Rattle.command_line.proofs.commands.read_values.Goals as goal
 pub returns-in-Bound : goal.returns-in-Bound
 returns-in-Bound c = λ given has. rw c.in-Bound.is (c.read_bound.ensures given has)
 
+pub returns-in-Race : goal.returns-in-Race
+returns-in-Race c = λ given has. rw c.in-Race.is (c.read_race.ensures given has)
+
 pub returns-in-Solve : goal.returns-in-Solve
 returns-in-Solve c = λ given has. rw c.in-Solve.is (c.read_solve.ensures given has)
 

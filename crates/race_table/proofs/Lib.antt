@@ -1,0 +1,13 @@
+pub mod Counts
+pub mod AllOff
+pub mod Pips
+pub mod Moves
+pub mod Lines
+pub mod FreeEnds
+pub mod FreeSides
+pub mod Listing
+pub mod Bests
+pub mod Sums
+pub mod Filling
+pub mod Left
+pub mod RacePairs
