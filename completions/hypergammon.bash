@@ -2,7 +2,7 @@
 
 _hypergammon() {
     local word=${COMP_WORDS[COMP_CWORD]} before=${COMP_WORDS[COMP_CWORD-1]} command=${COMP_WORDS[1]}
-    local commands='bound solve show migrate advise verify ladder analyse study make plan help'
+    local commands='bound race solve show migrate advise verify ladder analyse study make plan help'
     local stakes='cubeless money jacoby money-beavers jacoby-beavers'
     COMPREPLY=()
     if [ "$COMP_CWORD" -eq 1 ]; then

@@ -1,10 +1,10 @@
 -- What a refusal that is put says of the one that is due.
 use Rattle.std.proofs.Common.{◌≡◌, inl, inr, ℕ, List, Ok, Err, Result, arith}
 use Rattle.equity_report.specs.declared.refusal.Refusal.{Refusal}
-use Rattle.equity_report.specs.declared.refusal.Refusal.TheVariants.{Words, Position, Missing, File, Read, Write, Memory, Base, Roll, Inconsistent, Record}
+use Rattle.equity_report.specs.declared.refusal.Refusal.TheVariants.{Words, Position, Missing, File, Read, Write, Memory, Base, Roll, Inconsistent, Record, Contact}
 use Rattle.equity_report.specs.Refusals.{status_of, refusal_text}
 use Rattle.top_call.specs.declared.task.Task.{Task}
-use Rattle.top_call.specs.declared.task.Task.TheVariants.{Bound, Solve, Show, Migrate, Advise, Verify, Ladder, Analyse, Study, Make, Plan}
+use Rattle.top_call.specs.declared.task.Task.TheVariants.{Bound, Race, Solve, Show, Migrate, Advise, Verify, Ladder, Analyse, Study, Make, Plan}
 use Rattle.top_call.specs.Runs.{Ends, EndsBy, EndsTask, EndsWriting, IsOfLoading, IsOfShowing, IsOfVerifying, IsStatus, IsOfAnalysing, IsOfStudying}
 
 -- status 8 is that of want of memory alone
@@ -19,6 +19,7 @@ memory-text W Memory e w = w
 memory-text W (Base wanted found) e w = absurd (omega arith)
 memory-text W (Roll bad) e w = absurd (omega arith)
 memory-text W (Inconsistent unheld) e w = absurd (omega arith)
+memory-text W Contact e w = absurd (omega arith)
 memory-text W (Record bad) e w = absurd (omega arith)
 
 writing-status : (status : ℕ) → EndsWriting status → IsStatus status
@@ -33,6 +34,7 @@ by-status IsOne status (inr (inr (refusal, of, is))) = inr (refusal, is)
 
 task-status : (task : Task) (status : ℕ) → EndsTask task status → IsStatus status
 task-status (Bound task) status ends = writing-status status ends
+task-status (Race task) status ends = writing-status status ends
 task-status (Solve task) status ends = writing-status status ends
 task-status (Show task) status ends = by-status IsOfShowing status ends
 task-status (Migrate task) status ends = by-status IsOfLoading status ends

@@ -3,10 +3,10 @@ use Rattle.std.proofs.Common.{◌≡◌, ◌∙◌, ℕ, List, Bool, IsTrue, Non
 use Rattle.hyper_outside.specs.Files.{Contents, SameFiles}
 use Rattle.hyper_outside.specs.Sink.{Output}
 use Rattle.equity_report.specs.declared.refusal.Refusal.{Refusal}
-use Rattle.equity_report.specs.declared.refusal.Refusal.TheVariants.{Words, Position, Missing, File, Read, Write, Memory, Base, Roll, Inconsistent, Record}
+use Rattle.equity_report.specs.declared.refusal.Refusal.TheVariants.{Words, Position, Missing, File, Read, Write, Memory, Base, Roll, Inconsistent, Record, Contact}
 use Rattle.equity_report.specs.Refusals.{status_of, refusal_text}
 use Rattle.top_call.specs.declared.task.Task.{Task}
-use Rattle.top_call.specs.declared.task.Task.TheVariants.{Bound, Solve, Show, Migrate, Advise, Verify, Ladder, Analyse, Study, Make, Plan}
+use Rattle.top_call.specs.declared.task.Task.TheVariants.{Bound, Race, Solve, Show, Migrate, Advise, Verify, Ladder, Analyse, Study, Make, Plan}
 use Rattle.top_call.specs.Advises.{HasAdvised, MayRefuseAdvice}
 use Rattle.top_call.specs.Analyses.{HasAnalysed, MayRefuseAnalysis}
 use Rattle.top_call.specs.Loads.{RefusesLoading}
@@ -33,11 +33,13 @@ of_memory W Memory e w = w
 of_memory W (Base wanted found) e w = absurd (omega arith)
 of_memory W (Roll bad) e w = absurd (omega arith)
 of_memory W (Inconsistent unheld) e w = absurd (omega arith)
+of_memory W Contact e w = absurd (omega arith)
 of_memory W (Record bad) e w = absurd (omega arith)
 
 -- where the line alone was put, it is told that there was no memory, whatever is asked for
 pub memory-told : (expected : Result Task Refusal) (old new : Output) → WasPut old new (refusal_text Memory) → TellsMemory expected old new
 memory-told (Ok (Bound task)) old new put = put
+memory-told (Ok (Race task)) old new put = put
 memory-told (Ok (Solve task)) old new put = put
 memory-told (Ok (Show task)) old new put = put
 memory-told (Ok (Migrate task)) old new put = put
@@ -58,6 +60,12 @@ module _ (told : Bool) (before after : Contents) (same : SameFiles before after)
   unheld : status ≡ status_of Memory → WasPut old new (refusal_text Memory) → (expected : Result Task Refusal) → Run expected
   unheld is put (Err refusal) = λ e. of_memory (WasPut old new) refusal (sym is ∙ e) put
   unheld is put (Ok (Bound task)) = record {
+    report = λ done. absurd (omega (arith, done, is));
+    truth = λ done. absurd (omega (arith, done, is));
+    write = λ write. absurd (omega (arith, write, is));
+    cause = λ write. absurd (omega (arith, write, is));
+  }
+  unheld is put (Ok (Race task)) = record {
     report = λ done. absurd (omega (arith, done, is));
     truth = λ done. absurd (omega (arith, done, is));
     write = λ write. absurd (omega (arith, write, is));
@@ -115,4 +123,5 @@ module _ (told : Bool) (before after : Contents) (same : SameFiles before after)
   unread expected (Base wanted found) due is put = refused expected (Base wanted found) due put
   unread expected (Roll bad) due is put = refused expected (Roll bad) due put
   unread expected (Inconsistent unheld) due is put = refused expected (Inconsistent unheld) due put
+  unread expected Contact due is put = refused expected Contact due put
   unread expected (Record bad) due is put = refused expected (Record bad) due put

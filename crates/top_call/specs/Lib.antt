@@ -1,6 +1,7 @@
 pub mod Tasks
 pub mod Runs
 pub mod Truth
+pub mod Races
 pub mod Solves
 pub mod Ladders
 pub mod Loads

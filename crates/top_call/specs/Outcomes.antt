@@ -6,13 +6,14 @@ use Rattle.equity_report.specs.declared.refusal.Refusal.{Refusal}
 use Rattle.equity_report.specs.declared.refusal.Refusal.TheVariants.{Memory, Write}
 use Rattle.equity_report.specs.Refusals.{status_of, refusal_text}
 use Rattle.top_call.specs.declared.task.Task.{Task}
-use Rattle.top_call.specs.declared.task.Task.TheVariants.{Bound, Solve, Show, Migrate, Advise, Verify, Ladder, Analyse, Study, Make, Plan}
+use Rattle.top_call.specs.declared.task.Task.TheVariants.{Bound, Race, Solve, Show, Migrate, Advise, Verify, Ladder, Analyse, Study, Make, Plan}
 use Rattle.top_call.specs.Advises.{TellsAdvice}
 use Rattle.top_call.specs.Ladders.{KeepsAllBut, SolvesLadder, scores_in}
 use Rattle.top_call.specs.Makes.{Makes}
 use Rattle.top_call.specs.Analyses.{TellsAnalysis}
 use Rattle.top_call.specs.Migrates.{Migrates}
 use Rattle.top_call.specs.Plans.{TellsPlan, first_file}
+use Rattle.top_call.specs.Races.{TellsRace}
 use Rattle.top_call.specs.Runs.{WasPut}
 use Rattle.top_call.specs.Shows.{TellsShown}
 use Rattle.top_call.specs.Solves.{Solves}
@@ -24,6 +25,7 @@ use Rattle.top_call.specs.Verifies.{TellsVerified}
 -- Where the words are refused and the status is that of the refusal, its line was put.
 abbrev pub HasRun : Result Task Refusal → Bool → Contents → Contents → Output → Output → ℕ → Type 0
 HasRun (Ok (Bound task)) told before after old new status = TellsBound task old new status
+HasRun (Ok (Race task)) told before after old new status = TellsRace task old new status
 HasRun (Ok (Solve task)) told before after old new status = Solves task told before after old new status
 HasRun (Ok (Show task)) told before after old new status = TellsShown task told (before task.file) old new status
 HasRun (Ok (Migrate task)) told before after old new status = Migrates task told before after old new status
@@ -59,6 +61,7 @@ TellsMemory _ old new = WasPut old new (refusal_text Memory)
 -- no call of the files was made that may change one
 abbrev pub LeavesFiles : Result Task Refusal → ℕ → Type 0
 LeavesFiles (Ok (Bound task)) status = ⊤
+LeavesFiles (Ok (Race task)) status = ⊤
 LeavesFiles (Ok (Solve task)) status = (status ≢ 0) × (status ≢ status_of Write)
 LeavesFiles (Ok (Make task)) status = (status ≢ 0) × (status ≢ status_of Write)
 LeavesFiles (Ok _) status = ⊥

@@ -8,7 +8,7 @@ use Rattle.equity_report.specs.declared.refusal.Refusal.{Refusal}
 use Rattle.equity_report.specs.declared.refusal.Refusal.TheVariants.{Words, Missing, File, Record, Read, Write, Memory, Base, Inconsistent}
 use Rattle.equity_report.specs.Refusals.{status_of, refusal_text}
 use Rattle.top_call.specs.declared.task.Task.{Task}
-use Rattle.top_call.specs.declared.task.Task.TheVariants.{Bound, Solve, Show, Migrate, Advise, Verify, Ladder, Analyse, Study, Make, Plan}
+use Rattle.top_call.specs.declared.task.Task.TheVariants.{Bound, Race, Solve, Show, Migrate, Advise, Verify, Ladder, Analyse, Study, Make, Plan}
 
 -- the task is the one that was asked for, or the refusal the one that is due, unless there was no memory
 abbrev pub IsDue : Result Task Refusal → Result Task Refusal → Type 0
@@ -63,6 +63,7 @@ IsOfStudying refusal = IsOfReplaying refusal
 -- how a task may end
 abbrev pub EndsTask : Task → ℕ → Type 0
 EndsTask (Bound task) status = EndsWriting status
+EndsTask (Race task) status = EndsWriting status
 EndsTask (Solve task) status = EndsWriting status
 EndsTask (Show task) status = EndsBy IsOfShowing status
 EndsTask (Migrate task) status = EndsBy IsOfLoading status

@@ -13,6 +13,7 @@ use Rattle.command_line.specs.declared.command.Command.{Command}
 use Rattle.command_line.specs.declared.command.Command.TheVariants as commands
 use Rattle.command_line.specs.declared.command.Bound.{Bound as BoundWords}
 use Rattle.command_line.specs.Words.{reading}
+use Rattle.command_line.specs.declared.command.Race.{Race as RaceWords}
 use Rattle.command_line.specs.declared.command.Show.{Show as ShowWords}
 use Rattle.command_line.specs.declared.command.Advise.{Advise as AdviseWords}
 use Rattle.command_line.specs.Right.{IsName, IsRightMake, IsRightStudy, IsRightSolve, IsRightMigrate, IsRightVerify, IsRightLadder, IsRightAnalyse, IsRightPlan}
@@ -20,16 +21,21 @@ use Rattle.word_forms.specs.Clap.{bytes_of}
 use Rattle.cube_actions.specs.Stakes.{cubeless}
 use Rattle.turn_rule.specs.Turn.{rounds}
 use Rattle.turn_rule.specs.States.{pair_of}
+use Rattle.race_table.specs.Races.{IsRace, is_race}
+use Rattle.race_table.specs.RacePairs.{race_pair}
+use Rattle.race_table.specs.TurnsLeft.{turns_left}
+use Rattle.equity_report.specs.Races.{race_text}
 use Rattle.equity_report.specs.Reports.{bound_text}
 use Rattle.equity_report.specs.declared.text.GameName.{GameName}
 use Rattle.equity_report.specs.declared.refusal.Refusal.{Refusal}
-use Rattle.equity_report.specs.declared.refusal.Refusal.TheVariants.{Words, Position, Base, Roll}
+use Rattle.equity_report.specs.declared.refusal.Refusal.TheVariants.{Words, Position, Base, Roll, Contact}
 use Rattle.equity_report.specs.declared.refusal.Wanted.TheVariants.{Checkers}
 use Rattle.top_call.specs.declared.task.AdviseTask.{AdviseTask}
 use Rattle.top_call.specs.declared.task.BoundTask.{BoundTask}
+use Rattle.top_call.specs.declared.task.RaceTask.{RaceTask}
 use Rattle.top_call.specs.declared.task.ShowTask.{ShowTask}
 use Rattle.top_call.specs.declared.task.Task.{Task}
-use Rattle.top_call.specs.declared.task.Task.TheVariants.{Bound, Solve, Show, Migrate, Advise, Verify, Ladder, Analyse, Study, Make, Plan}
+use Rattle.top_call.specs.declared.task.Task.TheVariants.{Bound, Race, Solve, Show, Migrate, Advise, Verify, Ladder, Analyse, Study, Make, Plan}
 
 -- a game without a cube, by its checkers
 abbrev pub cubeless_game : ℕ → GameName
@@ -44,6 +50,16 @@ fitting checkers rounds p =
 abbrev pub with_position : BoundWords → Result Placement BadPosition → Result Task Refusal
 with_position bound (Ok p) = fitting bound.checkers bound.rounds p
 with_position bound (Err bad) = Err (Position bad)
+
+-- the position has as many checkers a side as the words ask for, and is a race
+abbrev pub racing : ℕ → Placement → Result Task Refusal
+racing checkers p =
+    if sum p.mover == checkers then (if is_race p then Ok (Race (record { position = p })) else Err Contact)
+    else Err (Base (Checkers (sum p.mover)) (cubeless_game checkers))
+
+abbrev pub with_race : RaceWords → Result Placement BadPosition → Result Task Refusal
+with_race race (Ok p) = racing race.checkers p
+with_race race (Err bad) = Err (Position bad)
 
 -- a position that is to be looked up
 abbrev pub with_shown : ShowWords → Result Placement BadPosition → Result Task Refusal
@@ -70,6 +86,7 @@ with_advised advise (Err bad) = Err (Position bad)
 
 abbrev pub with_words : Result Command BadWords → Result Task Refusal
 with_words (Ok (commands.Bound bound)) = with_position bound (read_position bound.position)
+with_words (Ok (commands.Race race)) = with_race race (read_position race.position)
 with_words (Ok (commands.Solve solve)) = Ok (Solve solve)
 with_words (Ok (commands.Show show)) = with_shown show (read_position show.position)
 with_words (Ok (commands.Migrate migrate)) = Ok (Migrate migrate)
@@ -82,7 +99,8 @@ with_words (Ok (commands.Make make)) = Ok (Make make)
 with_words (Ok (commands.Plan plan)) = Ok (Plan plan)
 with_words (Err bad) = Err (Words bad)
 
--- the words are read first, then a position, then a roll, and then the position's number of checkers is compared
+-- The words are read first, then a position, then a roll; then the position's number of checkers is compared, and then it is seen whether it is a
+-- race.
 abbrev pub task_of : List (List ℕ) → Result Task Refusal
 task_of words = with_words (reading words)
 
@@ -94,6 +112,10 @@ asked words = task_of (bytes_of words)
 pub record IsRightBound (task : BoundTask) : Type 0 where
   pub position : IsPosition task.position
   pub live : IsLive task.position
+
+-- a race
+abbrev pub IsRightRace : RaceTask → Type 0
+IsRightRace task = IsRace task.position
 
 -- a file's name and a live position
 pub record IsRightShow (task : ShowTask) : Type 0 where
@@ -112,8 +134,13 @@ pub record IsRightAdvise (task : AdviseTask) : Type 0 where
 abbrev pub bound_report : BoundTask → List ℕ
 bound_report task = bound_text task.position task.rounds (pair_of (rounds cubeless task.rounds) task.position 0)
 
+-- the race's turns and pair
+abbrev pub race_report : RaceTask → List ℕ
+race_report task = race_text task.position (turns_left task.position) (race_pair task.position)
+
 abbrev pub IsRightTask : Task → Type 0
 IsRightTask (Bound task) = IsRightBound task
+IsRightTask (Race task) = IsRightRace task
 IsRightTask (Solve task) = IsRightSolve task
 IsRightTask (Show task) = IsRightShow task
 IsRightTask (Migrate task) = IsRightMigrate task

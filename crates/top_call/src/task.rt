@@ -1,17 +1,21 @@
 ghost use Rattle.std.specs.Prelude.{◌≡◌, ℕ, IfOk, IfSome, option_map};
+ghost use Rattle.position_rank.specs.Placement.{IsLive};
 ghost use Rattle.position_rank.specs.Text.{read_position};
 ghost use Rattle.roll_table.specs.Rolls.{IsRoll};
 ghost use Rattle.command_line.specs.Right.{IsRightAdvise, IsRightShow};
-ghost use Rattle.top_call.specs.Tasks.{IsRightTask, asked, fitting, roll_given, with_advised, with_position, with_shown};
+ghost use Rattle.equity_report.specs.declared.refusal.Refusal.TheVariants.{Base};
+ghost use Rattle.equity_report.specs.declared.refusal.Wanted.TheVariants.{Checkers};
+ghost use Rattle.top_call.specs.Tasks.{IsRightTask, asked, cubeless_game, fitting, racing, roll_given, with_advised, with_position, with_race, with_shown};
 ghost use Rattle.top_call.specs.Runs.{IsDue};
 
 use command_line::{
-    Advise, Analyse, Bound, Command, Ladder, Make, Migrate, Plan, Show, Solve, Study, Text, Verify,
+    Advise, Analyse, Bound, Command, Ladder, Make, Migrate, Race, Plan, Show, Solve, Study, Text, Verify,
     WordsStop, read_words,
 };
 use cube_actions::{KindName, StakesName};
 use equity_report::{GameName, Refusal, Wanted};
 use position_rank::{Position, read_position};
+use race_table::is_race;
 use roll_table::{BadRoll, Roll};
 use std::alloc::Global;
 
@@ -20,6 +24,12 @@ use std::alloc::Global;
 pub struct BoundTask {
     pub position: Position,
     pub rounds: u32,
+}
+
+/// A race whose turns and pair are asked for.
+#[derive(Clone, Copy, Debug, PartialEq, Eq)]
+pub struct RaceTask {
+    pub position: Position,
 }
 
 /// A position whose pairs are to be looked up in a file.
@@ -46,6 +56,7 @@ pub struct AdviseTask {
 #[derive(Drop)]
 pub enum Task {
     Bound(BoundTask),
+    Race(RaceTask),
     Solve(Solve),
     Show(ShowTask),
     Migrate(Migrate),
@@ -58,13 +69,14 @@ pub enum Task {
     Plan(Plan),
 }
 
-/// Reads the words, then a position, then a roll, and compares its number of checkers with that of the words.
+/// Reads the words, then a position, then a roll, compares its number of checkers with that of the words, and sees whether it is a race.
 pub fn read_task(alloc: Global, words: &[String]) -> Result<Task, Refusal>
     ensures due { IsDue (asked words.now) result }
     ensures right { IfOk result IsRightTask }
 {
     match read_words(alloc, words) {
         Ok(Command::Bound(bound)) => bound_task(&bound),
+        Ok(Command::Race(race)) => race_task(&race),
         Ok(Command::Solve(solve)) => Ok(Task::Solve(solve)),
         Ok(Command::Migrate(migrate)) => Ok(Task::Migrate(migrate)),
         Ok(Command::Verify(verify)) => Ok(Task::Verify(verify)),
@@ -86,6 +98,16 @@ fn bound_task(bound: &Bound) -> Result<Task, Refusal>
 {
     match read_position(bound.position.as_str()) {
         Ok(position) => fitting(bound.checkers, bound.rounds, position),
+        Err(bad) => Err(Refusal::Position(bad)),
+    }
+}
+
+fn race_task(race: &Race) -> Result<Task, Refusal>
+    ensures task { result ≡ with_race race.now (read_position race.now.position) }
+    ensures right { IfOk result IsRightTask }
+{
+    match read_position(race.position.as_str()) {
+        Ok(position) => racing(race.checkers, position),
         Err(bad) => Err(Refusal::Position(bad)),
     }
 }
@@ -140,6 +162,19 @@ fn advise_task(advise: Advise) -> Result<Task, Refusal>
 }
 
 /// The position's number of checkers is wanted, and the words' is what is found.
+fn other_checkers(checkers: u8, wanted: u8) -> Refusal
+    ensures { result ≡ Base (Checkers wanted) (cubeless_game checkers) }
+{
+    Refusal::Base {
+        wanted: Wanted::Checkers(wanted),
+        found: GameName {
+            checkers,
+            stakes: StakesName::Cubeless,
+            match_length: 1,
+        },
+    }
+}
+
 fn fitting(checkers: u8, rounds: u32, position: Position) -> Result<Task, Refusal>
     ensures { result ≡ fitting checkers rounds position }
 {
@@ -147,13 +182,22 @@ fn fitting(checkers: u8, rounds: u32, position: Position) -> Result<Task, Refusa
     if wanted == checkers {
         Ok(Task::Bound(BoundTask { position, rounds }))
     } else {
-        Err(Refusal::Base {
-            wanted: Wanted::Checkers(wanted),
-            found: GameName {
-                checkers,
-                stakes: StakesName::Cubeless,
-                match_length: 1,
-            },
-        })
+        Err(other_checkers(checkers, wanted))
+    }
+}
+
+fn racing(checkers: u8, position: Position) -> Result<Task, Refusal>
+    requires { IsLive position }
+    ensures task { result ≡ racing checkers position }
+    ensures right { IfOk result IsRightTask }
+{
+    let wanted = position.checkers();
+    if wanted != checkers {
+        return Err(other_checkers(checkers, wanted));
+    }
+    if is_race(&position) {
+        Ok(Task::Race(RaceTask { position }))
+    } else {
+        Err(Refusal::Contact)
     }
 }

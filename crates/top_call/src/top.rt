@@ -15,6 +15,7 @@ use crate::make::run_make;
 use crate::migrate::run_migrate;
 use crate::plan::run_plan;
 use crate::put::refuse;
+use crate::race::run_race;
 use crate::show::run_show;
 use crate::solve::run_solve;
 use crate::studying::run_study;
@@ -30,6 +31,9 @@ use std::thread::Threads;
 ///
 /// - `bound`: of a pair that encloses what the position is worth exactly in every game of at least as many turns as there were
 ///   rounds, however its unfinished end is scored.
+/// - `race`: of how many turns a race may still take, and of a pair that encloses what it is worth exactly in every game of at least
+///   as many turns, however its unfinished end is scored. The pair is at least as tight as after any number of rounds, and at most as
+///   many units wide as there are turns.
 /// - `solve`: the file holds, for each state, a pair at least as tight as the asked number of rounds and, in every game of enough
 ///   turns, however its unfinished end is scored, enclosing what the state is worth exactly, for every number of workers and every
 ///   gate; no other file changed.
@@ -59,7 +63,8 @@ use std::thread::Threads;
 /// Else the line of one refusal was put, or a front of it where that failed, each only where the ones before don't come:
 ///
 /// 1. 1 comes where the words are outside their form.
-/// 2. 2 where a position's text is, or else a roll's; 10 where `bound` asks for another number of checkers than its position has.
+/// 2. 2 where a position's text is, or else a roll's; 10 where `bound` or `race` asks for another number of checkers than
+///    its position has; 12 where the position of `race` isn't a race.
 /// 3. Of a record that is to be read: 3 where it isn't there; 5 where its file is too long, or a line of it is wrong, with the
 ///    first; 10 where it is one of a match.
 /// 4. Of a file of bounds that is to be read: 3 where it isn't there; 4 where it isn't one, of `show`, `advise` and `analyse` up to
@@ -102,6 +107,7 @@ pub fn run<R: Threads + Sync, F: Files, O: Sink, G: Gate + Sync>(
 {
     match read_task(alloc, words) {
         Ok(Task::Bound(task)) => run_bound(alloc, &task, out),
+        Ok(Task::Race(task)) => run_race(alloc, &task, out),
         Ok(Task::Solve(task)) => run_solve(rt, alloc, &task, files, out, gate),
         Ok(Task::Show(task)) => run_show(alloc, &task, files, out),
         Ok(Task::Migrate(task)) => run_migrate(rt, alloc, &task, files, out),
