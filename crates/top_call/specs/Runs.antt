@@ -55,11 +55,6 @@ abbrev pub IsOfAnalysing : Refusal → Type 0
 IsOfAnalysing (Record bad) = ⊤
 IsOfAnalysing refusal = IsOfShowing refusal
 
--- a refusal of a recorded game that is to be studied: of its file, or it is one of a match
-abbrev pub IsOfStudying : Refusal → Type 0
-IsOfStudying (Base wanted found) = ⊤
-IsOfStudying refusal = IsOfReplaying refusal
-
 -- how a task may end
 abbrev pub EndsTask : Task → ℕ → Type 0
 EndsTask (Bound task) status = EndsWriting status
@@ -70,7 +65,7 @@ EndsTask (Advise task) status = EndsBy IsOfShowing status
 EndsTask (Verify task) status = EndsBy IsOfVerifying status
 EndsTask (Ladder task) status = EndsWriting status
 EndsTask (Analyse task) status = EndsBy IsOfAnalysing status
-EndsTask (Study task) status = EndsBy IsOfStudying status
+EndsTask (Study task) status = EndsBy IsOfReplaying status
 EndsTask (Make task) status = EndsWriting status
 
 -- Where words are refused, the status is that of the refusal, or that of no memory if there was none.
