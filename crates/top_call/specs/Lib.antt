@@ -12,5 +12,6 @@ pub mod Verifies
 pub mod Records
 pub mod Studies
 pub mod Makes
+pub mod MatchAnalyses
 pub mod Analyses
 pub mod Outcomes

@@ -55,6 +55,12 @@ abbrev pub IsOfAnalysing : Refusal → Type 0
 IsOfAnalysing (Record bad) = ⊤
 IsOfAnalysing refusal = IsOfShowing refusal
 
+-- a fault of the files or of memory, which says nothing of what files hold
+abbrev pub IsOutside : Refusal → Type 0
+IsOutside Read = ⊤
+IsOutside Memory = ⊤
+IsOutside refusal = ⊥
+
 -- how a task may end
 abbrev pub EndsTask : Task → ℕ → Type 0
 EndsTask (Bound task) status = EndsWriting status

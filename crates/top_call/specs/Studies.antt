@@ -9,9 +9,8 @@ use Rattle.command_line.specs.declared.command.Study.{Study}
 use Rattle.equity_report.specs.Analyses.{analysis_text}
 use Rattle.equity_report.specs.declared.refusal.Refusal.{Refusal}
 use Rattle.top_call.specs.Advises.{OfHeld}
-use Rattle.top_call.specs.Analyses.{IsOutside}
 use Rattle.top_call.specs.Records.{HoldsRecord, RefusesRecord, match_length}
-use Rattle.top_call.specs.Runs.{Tells}
+use Rattle.top_call.specs.Runs.{IsOutside, Tells}
 use Rattle.top_call.specs.declared.record.Replayed.{Replayed}
 
 -- The decisions of a recorded game were studied by so many rounds: outside a match by the game that it is played for, and in a match by the scores of

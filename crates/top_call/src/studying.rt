@@ -31,12 +31,14 @@ fn study_replayed<R: Threads + Sync, G: Gate + Sync>(
     ensures { IfOk result (IsStudiedBy replayed task.now.rounds) }
 {
     let Replayed { rec, decisions } = replayed;
-    let Study { rounds, workers, .. } = task;
+    let Study {
+        rounds,
+        workers,
+        ..
+    } = task;
     if is_match(rec.stakes) {
         let points = match_length(rec.stakes);
-        study_match(
-            rt, alloc, &rec, points, decisions, *rounds, *workers, gate,
-        )
+        study_match(rt, alloc, &rec, points, decisions, *rounds, *workers, gate)
     } else {
         study(rt, alloc, &rec, decisions, *rounds, *workers, gate)
     }
