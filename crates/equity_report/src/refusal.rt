@@ -13,8 +13,8 @@ use hyper_outside::{BadWords, Failed, Sink, WordsKind};
 use position_rank::BadPosition;
 use roll_table::BadRoll;
 
-/// A file's name.
-pub type FileName = ArrayString<255>;
+/// A file's name: one of a command, of at most 255 bytes, or that of a score, which begins with such a one.
+pub type FileName = ArrayString<272>;
 
 /// What a run wants of the game of a file, or of the words, and what that game hasn't.
 #[derive(Clone, Copy, Debug, PartialEq, Eq)]

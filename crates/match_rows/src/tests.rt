@@ -4,7 +4,7 @@ use std::alloc::Global;
 use std::test::Fail;
 use std::thread::Threads;
 
-const TO_TWO: [&str; 10] = [
+pub(crate) const TO_TWO: [&str; 10] = [
     "ladder",
     "L",
     "--checkers",
@@ -22,7 +22,7 @@ const TO_TWO: [&str; 10] = [
 const FILES: [(&str, usize); 3] = [("L.1.1.p", 12148), ("L.1.2.c", 12158), ("L.2.2.n", 36208)];
 
 /// Files with room for those of a match to two points.
-fn room_for_two(alloc: Global) -> Result<MemFiles, Fail> {
+pub(crate) fn room_for_two(alloc: Global) -> Result<MemFiles, Fail> {
     let mut files = MemFiles::new(alloc);
     files.room(3, 61_000)?;
     Ok(files)

@@ -181,13 +181,13 @@ module _ (checkers turns : ℕ) (ends : EndScores) (within : AreEndScores checke
 
 -- ---- the exact values don't ask what the scores after it are worth
 
-left-same : (a b : Terms) → ((k : ℕ) → (kind_at a k).next ≡ (kind_at b k).next) → (scoring : Scoring) (turns : ℕ) (v w : Values) → ((p : Placement) (k : ℕ) → v p k ≡ w p k) → (k : ℕ) (q : Placement) → left_with a scoring turns v k q ≡ left_with b scoring turns w k q
+pub left-same : (a b : Terms) → ((k : ℕ) → (kind_at a k).next ≡ (kind_at b k).next) → (scoring : Scoring) (turns : ℕ) (v w : Values) → ((p : Placement) (k : ℕ) → v p k ≡ w p k) → (k : ℕ) (q : Placement) → left_with a scoring turns v k q ≡ left_with b scoring turns w k q
 left-same a b next scoring turns v w same k q = ap (λ (x : ℤ). if_won (points q) (λ won. pos (36 ^ turns) *ℤ scoring.win k won) (neg_ℤ x)) (same (swap q) (kind_at a k).next ∙ ap (w (swap q)) (next k))
 
-rolled-same : (a b : Terms) → ((k : ℕ) → (kind_at a k).next ≡ (kind_at b k).next) → (scoring : Scoring) (turns : ℕ) (v w : Values) → ((p : Placement) (k : ℕ) → v p k ≡ w p k) → (p : Placement) (k : ℕ) → rolled a scoring turns v p k ≡ rolled b scoring turns w p k
+pub rolled-same : (a b : Terms) → ((k : ℕ) → (kind_at a k).next ≡ (kind_at b k).next) → (scoring : Scoring) (turns : ℕ) (v w : Values) → ((p : Placement) (k : ℕ) → v p k ≡ w p k) → (p : Placement) (k : ℕ) → rolled a scoring turns v p k ≡ rolled b scoring turns w p k
 rolled-same a b next scoring turns v w same p k = λ i. sum_over all_rolls (λ q. left-same a b next scoring turns v w same k q i) p
 
-doubled-same : (a b : Terms) → ((k : ℕ) → (kind_at a k).next ≡ (kind_at b k).next) → (scoring : Scoring) (turns : ℕ) (v w : Values) → ((p : Placement) (k : ℕ) → v p k ≡ w p k) → (p : Placement) (k : ℕ) (c d : Double) → c.answers.items ≡ d.answers.items → after_double a scoring turns v p k c ≡ after_double b scoring turns w p k d
+pub doubled-same : (a b : Terms) → ((k : ℕ) → (kind_at a k).next ≡ (kind_at b k).next) → (scoring : Scoring) (turns : ℕ) (v w : Values) → ((p : Placement) (k : ℕ) → v p k ≡ w p k) → (p : Placement) (k : ℕ) (c d : Double) → c.answers.items ≡ d.answers.items → after_double a scoring turns v p k c ≡ after_double b scoring turns w p k d
 doubled-same a b next scoring turns v w same p k c d answers = λ i. least (pos (36 ^ suc turns) *ℤ scoring.pass k) (map (λ (taken : Taken). pos taken.factor *ℤ rolled-same a b next scoring turns v w same p taken.kind i) (answers i))
 
 better-same : (a b : Terms) → ((k : ℕ) → (kind_at a k).next ≡ (kind_at b k).next) → (scoring : Scoring) (turns : ℕ) (v w : Values) → ((p : Placement) (k : ℕ) → v p k ≡ w p k) → (p : Placement) (k : ℕ) (c d : Option Double) → option_map (λ (double : Double). double.answers.items) c ≡ option_map (λ (double : Double). double.answers.items) d → (x y : ℤ) → x ≡ y → better_of a scoring turns v p k x c ≡ better_of b scoring turns w p k y d
@@ -220,13 +220,13 @@ module _ (score : MatchScore) (starts others : StartPairs) where
   past_last (x ∷ xs) (suc k) h = past_last xs k (omega arith)
 
   -- the next kind and the answers to a double are the same, whatever the scores after it are worth
-  next-same : (k : ℕ) → (kind_at (terms_of score starts) k).next ≡ (kind_at (terms_of score others) k).next
+  pub next-same : (k : ℕ) → (kind_at (terms_of score starts) k).next ≡ (kind_at (terms_of score others) k).next
   next-same k = elim (cases_lt k (length (match_kinds score))) [
     | inl here ↦ rw (kind-at score starts k here, kind-at score others k here) refl
     | inr past ↦ rw (past_last (terms_of score starts).kinds k (rw kinds-many past), past_last (terms_of score others).kinds k (rw kinds-many past)) refl
   ]
 
-  answers-same : (k : ℕ) → answers_in (kind_at (terms_of score starts) k) ≡ answers_in (kind_at (terms_of score others) k)
+  pub answers-same : (k : ℕ) → answers_in (kind_at (terms_of score starts) k) ≡ answers_in (kind_at (terms_of score others) k)
   answers-same k = elim (cases_lt k (length (match_kinds score))) [
     | inl here ↦ rw (kind-at score starts k here, kind-at score others k here) (option-same (may_double score (get_or (match_kinds score) k (record { mover = Near; cube = 1; owner = None }))) _ _ refl)
     | inr past ↦ rw (past_last (terms_of score starts).kinds k (rw kinds-many past), past_last (terms_of score others).kinds k (rw kinds-many past)) refl

@@ -41,7 +41,7 @@ score-valid scores match_length from to place here = (scores match_length from t
 
 -- ---- the first starts
 
-till-valid : (starts : StartPairs) (place : ℕ) → AreStarts starts → place ≤ length starts.pairs → AreStarts (starts_till starts place)
+pub till-valid : (starts : StartPairs) (place : ℕ) → AreStarts starts → place ≤ length starts.pairs → AreStarts (starts_till starts place)
 till-valid starts place valid here = record {
   from = valid.from;
   to = valid.to;
@@ -54,7 +54,7 @@ till-covers starts place listed here =
     let first = place-first starts.match_length place listed in
     record { listed = omega (arith, first, listed); held = rw (length-take-le place starts.pairs here) first }
 
-pair-till : (starts : StartPairs) (count place : ℕ) → place < count → pair_at (starts_till starts count) place ≡ pair_at starts place
+pub pair-till : (starts : StartPairs) (count place : ℕ) → place < count → pair_at (starts_till starts count) place ≡ pair_at starts place
 pair-till starts count place before = get_or-take count starts.pairs place nothing before
 
 either-max : (a b n : ℕ) → max a b ≤ n → (a ≤ n) × (b ≤ n)
@@ -145,19 +145,22 @@ plain-last checkers r match_length count =
 no-looser : (pair : Bounds) → AreNoLooserPairs pair pair
 no-looser pair = record { lower = le_refl _; upper = le_refl _ }
 
+-- the start pairs before a place are as tight as the plain ones
+pub till-tight : (checkers r : ℕ) (starts : StartPairs) (count : ℕ) → count ≤ length starts.pairs → ((place : ℕ) → place < count → AreNoLooserPairs (pair_at starts place) (pair_at (plain_starts checkers r starts.match_length (suc place)) place))
+    → AreNoLooserStarts (starts_till starts count) (plain_starts checkers r starts.match_length count)
+till-tight checkers r starts count here before =
+    let plain = plain_starts checkers r starts.match_length in
+    record {
+      of_length = sym (plain-length checkers r starts.match_length count);
+      pairs = λ place. elim (cases_lt place count) [
+        | inl earlier ↦ rw (pair-till starts count place earlier, plain-at checkers r starts.match_length count place earlier) (before place earlier)
+        | inr past ↦ rw (get_or-eq_default (take count starts.pairs) nothing {n = place} (rw (length-take-le count starts.pairs here) past), get_or-eq_default (plain count).pairs nothing {n = place} (rw (plain-many checkers r starts.match_length count) past)) (no-looser nothing)
+      ];
+    }
+
 module _ (goes : GoOn) (checkers r : ℕ) (low : 1 ≤ checkers) (high : checkers ≤ 3) (starts : StartPairs) (words : ℕ → WordList) (solved : IsSolved checkers r starts words) where
   abbrev plain : ℕ → StartPairs
   plain = plain_starts checkers r starts.match_length
-
-  -- the start pairs before a place are as tight as the plain ones
-  till-tight : (count : ℕ) → count ≤ length starts.pairs → ((place : ℕ) → place < count → AreNoLooserPairs (pair_at starts place) (pair_at (plain (suc place)) place)) → AreNoLooserStarts (starts_till starts count) (plain count)
-  till-tight count here before = record {
-    of_length = sym (plain-length checkers r starts.match_length count);
-    pairs = λ place. elim (cases_lt place count) [
-      | inl earlier ↦ rw (pair-till starts count place earlier, plain-at checkers r starts.match_length count place earlier) (before place earlier)
-      | inr past ↦ rw (get_or-eq_default (take count starts.pairs) nothing {n = place} (rw (length-take-le count starts.pairs here) past), get_or-eq_default (plain count).pairs nothing {n = place} (rw (plain-many checkers r starts.match_length count) past)) (no-looser nothing)
-    ];
-  }
 
   next-tight : (count : ℕ) → count < length starts.pairs → ((place : ℕ) → place < count → AreNoLooserPairs (pair_at starts place) (pair_at (plain (suc place)) place)) → IsTightAt checkers r starts count (words count)
   next-tight count here before =
@@ -169,7 +172,7 @@ module _ (goes : GoOn) (checkers r : ℕ) (low : 1 ≤ checkers) (high : checker
       let valid : IsGame game = subst IsGame at.closed.game at.closed.valid in
       let tight : AreNoLooser game u (rounds game.stakes r) = subst (λ (n : ℕ). AreNoLooser game u (rounds game.stakes n)) at.closed.rounds
       (subst (λ (g : Game). AreNoLooser g u (rounds g.stakes (words count).rounds)) at.closed.game at.closed.closed.tight) in
-      let stakes = stakes-no-looser score first (plain count) (till-tight count (omega (arith, here)) before) in
+      let stakes = stakes-no-looser score first (plain count) (till-tight checkers r starts count (omega (arith, here)) before) in
       let rounds-tight : AreNoLooser game (rounds game.stakes r) (rounds (terms_of score (plain count)) r) = stakes-rounds-tighter game (terms_of score (plain count)) valid.stakes stakes r in
       let all : AreNoLooser game u (rounds (terms_of score (plain count)) r) = words-trans game.checkers (kinds_of game) u (rounds game.stakes r) (rounds (terms_of score (plain count)) r) tight rounds-tight in
       record {

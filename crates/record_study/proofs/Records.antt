@@ -1,10 +1,12 @@
 -- The decisions of a record outside a match can be judged by the words of its game.
-use Rattle.std.proofs.Common.{◌≡◌, List, [], map, false, All, IfOk, IsOk, Option, None, Result, Ok, Err, refl, sym, subst}
+use Rattle.std.proofs.Common.{◌≡◌, ◌∙◌, ℕ, ap, true, Some, List, [], map, false, All, IfOk, IsOk, Option, None, Result, Ok, Err, refl, sym, subst}
 use Rattle.std.proofs.lemmas.Bool.{false≢true}
 use Rattle.std.proofs.lemmas.List.Elements.{All-map}
 use Rattle.std.specs.Prelude.{get_or}
 use Rattle.cube_actions.specs.Scores.{MatchScore}
-use Rattle.cube_actions.specs.Stakes.{IsValid, Terms}
+use Rattle.cube_actions.specs.Ladder.{IsOfMatch}
+use Rattle.cube_actions.specs.Matches.{terms_of}
+use Rattle.cube_actions.specs.Stakes.{IsValid, Terms, point_units}
 use Rattle.cube_actions.specs.Starts.{StartPairs}
 use Rattle.game_record.specs.Kinds.{stakes_at}
 use Rattle.game_record.specs.Lines.{Follow, IsRecord, UpTo, record_lines}
@@ -17,11 +19,15 @@ use Rattle.game_record.specs.declared.record.RecordStakes.TheVariants.{Cubeless,
 use Rattle.game_record.specs.declared.stage.Stage.{Stage}
 use Rattle.hyper_outside.specs.declared.outside.LookStop.{LookStop}
 use Rattle.interval_words.specs.WordLists.{WordList, source_of}
+use Rattle.turn_rule.specs.Games.{kinds_of}
 use Rattle.turn_rule.specs.Looks.{AreStakesOf, Source}
+use Rattle.turn_rule.specs.Turn.{bound_words}
+use Rattle.match_scores.specs.Ladders.{game_at}
 use Rattle.record_analysis.specs.Analyses.{unjudged}
 use Rattle.record_analysis.specs.Judging.{CanBeJudged, IsAt}
 use Rattle.record_analysis.specs.Truth.{IsDecisionOf}
 use Rattle.record_analysis.specs.declared.analysis.Judged.{Judged}
+use Rattle.record_study.specs.Keeping.{IsDecisionInMatch}
 use Rattle.record_study.specs.Studies.{stakes_of}
 
 -- a record is of one to three checkers
@@ -51,7 +57,7 @@ pub plain-scores : (rec : Record) → is_match rec.stakes ≡ false → (decisio
 plain-scores rec plain decisions right = λ i d below. plain-score rec.stakes plain (get_or decisions i d).score (right i d below).score
 
 -- the law on right decisions
-abbrev Law : Type 0
+abbrev pub Law : Type 0
 Law =
     (rec : Record) (starts : StartPairs) (decision : Decision) → IsRightDecision rec decision → (source : Source) (stakes : Terms) → source.checkers ≡ rec.checkers
     → stakes ≡ terms_for (stakes_at rec.stakes decision.score) starts → IsValid stakes → AreStakesOf source stakes → CanBeJudged source stakes decision
@@ -86,3 +92,30 @@ no_starts = record { match_length = 1; pairs = [] }
 -- decisions that the words of a game can judge are of that game
 pub decisions-of : (words : WordList) (decisions : List Decision) → All (CanBeJudged (source_of words) words.game.stakes) decisions → All (IsDecisionOf words.game) decisions
 decisions-of words decisions can = λ i d below. record { state = (can i d below).state; choice = (can i d below).choice }
+
+-- ---- decisions of a match
+
+-- the score of a decision of a match
+match-score : (match_length : ℕ) (score : Option MatchScore) → IsScoreIn (Match match_length) score → (given : MatchScore) × (score ≡ Some given) × IsOfMatch match_length given
+match-score match_length None is = absurd is
+match-score match_length (Some score) is = (score, refl, is)
+
+-- it can be judged by words of its score's game
+one-in-match : Law → (rec : Record) (match_length : ℕ) → rec.stakes ≡ Match match_length → (decision : Decision) → IsRightDecision rec decision → IsDecisionInMatch rec.checkers match_length decision
+one-in-match law rec match_length in_match decision right =
+    let given = match-score match_length decision.score (subst (λ (s : RecordStakes). IsScoreIn s decision.score) in_match right.score) in
+    record {
+      score = given.0;
+      at = given.1;
+      of_match = given.2;
+      made = λ starts game.
+          let source : Source = record { checkers = rec.checkers; kinds = kinds_of (game_at rec.checkers given.0 starts); bound = point_units 1; sure = true; tells = true; floor = bound_words (terms_of given.0 starts); damage = λ _ _. None } in
+          let named : terms_of given.0 starts ≡ terms_for (stakes_at rec.stakes decision.score) starts =
+          sym (ap (λ (s : RecordStakes). terms_for (stakes_at s decision.score) starts) in_match ∙ ap (λ (o : Option MatchScore). terms_for (stakes_at (Match match_length) o) starts) given.1) in
+          let can = law rec starts decision right source (terms_of given.0 starts) refl named game.stakes (record { kinds = refl; bound = refl }) in
+          record { state = can.state; choice = can.choice };
+    }
+
+-- all decisions of a record of a match are of it
+pub in-match : Law → (rec : Record) (match_length : ℕ) → rec.stakes ≡ Match match_length → (decisions : List Decision) → All (IsRightDecision rec) decisions → All (IsDecisionInMatch rec.checkers match_length) decisions
+in-match law rec match_length is decisions right = λ i d below. one-in-match law rec match_length is (get_or decisions i d) (right i d below)

@@ -1,1 +1,3 @@
 pub mod Studies
+pub mod Matches
+pub mod Keeping

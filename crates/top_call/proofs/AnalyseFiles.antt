@@ -1,6 +1,8 @@
 -- What is analysed by a file, and what refuses it.
-use Rattle.std.proofs.Common.{◌≡◌, ◌∙◌, List, ℕ, true, false, map, All, Option, Some, None, Ok, Err, inl, inr, refl, sym, ap, subst}
+use Rattle.std.proofs.Common.{◌≡◌, ◌∙◌, List, ℕ, Bool, true, false, map, All, IsTrue, Option, Some, None, Result, Ok, Err, inl, inr, refl, sym, ap, subst}
 use Rattle.std.specs.Option.{option_map}
+use Rattle.std.proofs.lemmas.Bool.{false≢true}
+use Rattle.hyper_outside.specs.Files.{Contents}
 use Rattle.std.proofs.lemmas.List.Elements.{All-map}
 use Rattle.hyper_outside.specs.declared.outside.LookStop.{LookStop}
 use Rattle.hyper_outside.specs.declared.outside.LookStop.TheVariants as looks
@@ -26,20 +28,23 @@ use Rattle.database_file.specs.Paged.{paged_source, told_words}
 use Rattle.database_file.specs.PagedFiles.{PagedFile}
 use Rattle.database_file.specs.Texts.{game_in}
 use Rattle.database_file.proofs.Bases.{bound-named}
+use Rattle.command_line.specs.declared.command.Analyse.{Analyse}
 use Rattle.equity_report.specs.declared.text.GameName.{GameName}
 use Rattle.equity_report.specs.declared.refusal.Refusal.{Refusal}
 use Rattle.equity_report.specs.declared.refusal.Refusal.TheVariants.{Missing, File, Read, Memory, Base}
 use Rattle.equity_report.specs.declared.refusal.Wanted.TheVariants.{Fits}
 use Rattle.top_call.specs.declared.record.Replayed.{Replayed}
 use Rattle.top_call.specs.Advises.{OfHeld}
-use Rattle.top_call.specs.Analyses.{AnswersDecisions, IsGameOf, IsOpenedFor, JudgesRecord, MayFollowDecisions, RefusesJudging, RefusesOpening}
+use Rattle.top_call.specs.Analyses.{AnswersAnalysis, AnswersDecisions, AnswersJudging, AnswersPlain, IsGameOf, IsOpenedFor, JudgesPlain, JudgesRecord, JudgesReplayed, MayFollowDecisions, RefusesBase, RefusesJudging, RefusesOpening}
 use Rattle.top_call.specs.Loads.{TellsStop, game_told}
-use Rattle.top_call.specs.Records.{IsRightReplayed, game_recorded}
+use Rattle.top_call.specs.MatchAnalyses.{AnswersMatch}
+use Rattle.top_call.specs.Records.{HoldsRecord, IsRightReplayed, game_recorded}
 use Rattle.top_call.specs.Runs.{IsOfShowing}
 use Rattle.top_call.specs.Shows.{look_refusal}
 use Rattle.top_call.proofs.AdviseFiles.{same-kinds}
 use Rattle.top_call.proofs.AdviseLaws.{bad-page, source_in, told_in}
 use Rattle.top_call.proofs.Loaded.{tells-missing}
+use Rattle.top_call.proofs.MatchLaws.{same-contents}
 
 -- ---- a file of the record's game
 
@@ -115,18 +120,47 @@ module _ (replayed : Replayed) (base : PagedFile) where
       → JudgesAll None (stakes_of head) (source_in bytes) (told_in bytes) (map unjudged replayed.decisions) list → JudgesRecord replayed bytes head list
 
   pub record-judged : Law → IsRightReplayed replayed → (held : Option (List ℕ)) (list : List Judged) → OpenedFor held
-      → AnswersDecisions base.header held (stakes_of base.head) replayed.decisions (Ok list) → OfHeld held (λ bytes. JudgesRecord replayed bytes base.head list)
+      → AnswersDecisions base.header held (stakes_of base.head) replayed.decisions (Ok list) → OfHeld held (λ bytes. JudgesPlain replayed bytes list)
   record-judged law right None list opened are = absurd opened
   record-judged law right (Some bytes) list opened are =
-      law replayed bytes base.head list right opened.0
-      (subst (λ (h : Header). JudgesAll None (stakes_of base.head) (paged_source h true (Some bytes)) (told_words h (Some bytes)) (map unjudged replayed.decisions) list) opened.1 are)
+      record {
+        head = base.head;
+        judges = law replayed bytes base.head list right opened.0
+            (subst (λ (h : Header). JudgesAll None (stakes_of base.head) (paged_source h true (Some bytes)) (told_words h (Some bytes)) (map unjudged replayed.decisions) list) opened.1 are);
+      }
 
   pub not-judged : (name : List ℕ) → is_match replayed.rec.stakes ≡ false → (held : Option (List ℕ)) (stop : LookStop) → OpenedFor held
-      → AnswersDecisions base.header held (stakes_of base.head) replayed.decisions (Err stop) → RefusesJudging name replayed (look_refusal stop) held
-  not-judged name plain held looks.ReadFault opened told = inr (record { plain = plain; cause = inl tt })
-  not-judged name plain held looks.NoMemory opened told = inr (record { plain = plain; cause = inl tt })
+      → AnswersDecisions base.header held (stakes_of base.head) replayed.decisions (Err stop) → RefusesBase name replayed (look_refusal stop) held
+  not-judged name plain held looks.ReadFault opened told = record { plain = plain; cause = inl tt }
+  not-judged name plain held looks.NoMemory opened told = record { plain = plain; cause = inl tt }
   not-judged name plain None (looks.BadPage fault at) opened told = absurd opened
   not-judged name plain (Some bytes) (looks.BadPage fault at) opened told =
       let states = MayFollowDecisions (stakes_of base.head) replayed.decisions in
       let damage = subst (λ (h : Header). HasDamage (paged_source h true (Some bytes)) states (record { fault = fault; at = at })) opened.1 told in
-      inr (record { plain = plain; cause = inr (record { head = base.head; file = opened.0.file; page = bad-page bytes states (record { fault = fault; at = at }) damage }) })
+      record { plain = plain; cause = inr (record { head = base.head; file = opened.0.file; page = bad-page bytes states (record { fault = fault; at = at }) damage }) }
+
+-- ---- a record outside a match, or of one
+
+pub judging-plain : (name : List ℕ) (replayed : Replayed) (told : Bool) (held : Contents) → is_match replayed.rec.stakes ≡ false → (result : Result (List Judged) Refusal) → AnswersPlain name replayed told (held name) result → AnswersJudging name replayed told held result
+judging-plain name replayed told held plain (Ok list) a = λ tells. record { plain = λ _. a tells; in_match = λ is. absurd (false≢true (sym plain ∙ is)) }
+judging-plain name replayed told held plain (Err refusal) a = λ tells. inr (inr (a tells))
+
+pub judging-match : (name : List ℕ) (replayed : Replayed) (told : Bool) (held : Contents) → is_match replayed.rec.stakes ≡ true → (result : Result (List Judged) Refusal) → AnswersMatch name replayed told held result → AnswersJudging name replayed told held result
+judging-match name replayed told held in_match (Ok list) a = λ tells. record { plain = λ is. absurd (false≢true (sym is ∙ in_match)); in_match = λ _. a tells }
+judging-match name replayed told held in_match (Err refusal) a = λ tells. elim (a tells) [
+  | inl outside ↦ inl outside
+  | inr cause ↦ inr (inl (record { in_match = in_match; cause = cause }))
+]
+
+-- what is answered of the files as they are after the record was read is so of them as they were
+pub analysed-by : (task : Analyse) (replayed : Replayed) (told mid : Bool) (held after : Contents) → mid ≡ told → (IsTrue told → (name : List ℕ) → after name ≡ held name) → (IsTrue told → OfHeld (held task.rec) (λ bytes. HoldsRecord bytes replayed))
+    → (result : Result (List Judged) Refusal) → AnswersJudging task.base replayed mid after result → AnswersAnalysis task told held result
+analysed-by task replayed told mid held after is same holds (Ok list) a = record {
+  replayed = replayed;
+  record_file = holds;
+  base_files = λ tells. subst (λ (h : Contents). JudgesReplayed task.base replayed h list) (same-contents held after (same tells)) (a (subst IsTrue (sym is) tells));
+}
+analysed-by task replayed told mid held after is same holds (Err refusal) a = λ tells. elim (a (subst IsTrue (sym is) tells)) [
+  | inl outside ↦ inl outside
+  | inr cause ↦ inr (inr (record { replayed = replayed; record_file = holds tells; cause = subst (λ (h : Contents). RefusesJudging task.base replayed refusal h) (same-contents held after (same tells)) cause }))
+]

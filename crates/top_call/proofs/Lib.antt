@@ -12,6 +12,8 @@ mod SolvedFiles
 mod Telling
 mod Unread
 mod AnalyseLaws
+mod MatchFiles
+mod MatchLaws
 mod AnalyseFiles
 mod Written
 mod ScoreFiles

@@ -32,8 +32,8 @@ use Rattle.top_call.specs.declared.record.Replayed.{Replayed}
 use Rattle.top_call.specs.Advises.{AnswersSought, AreOnRightPages, HavePairsOf, IsOnBadPage, OfHeld}
 use Rattle.top_call.specs.Loads.{game_told}
 use Rattle.top_call.specs.Records.{HoldsRecord, RefusesRecord, game_recorded, stakes_recorded}
-use Rattle.top_call.specs.Runs.{Tells}
-use Rattle.top_call.specs.Tasks.{cubeless_game}
+use Rattle.top_call.specs.MatchAnalyses.{JudgesMatch, RefusesMatch}
+use Rattle.top_call.specs.Runs.{IsOutside, Tells}
 
 -- ---- the game of a record, and a file's
 
@@ -64,13 +64,22 @@ pub record JudgesRecord (replayed : Replayed) (bytes : List ℕ) (head : FileHea
   pub over : (u : Words) → HavePairsOf bytes u → list ≡ analysis_of (stakes_of head) u replayed.decisions
   pub true : (u : Words) → HavePairsOf bytes u → AreSound (game_in head) u → IsTrueAnalysis (game_in head) list
 
--- This is the analysis of a recorded game: where files tell what they hold, one of them holds a record that breaks no rule, and the other judges its
+-- A file of the game of a record outside a match judges its decisions.
+pub record JudgesPlain (replayed : Replayed) (bytes : List ℕ) (list : List Judged) : Type 0 where
+  pub head : FileHead
+  pub judges : JudgesRecord replayed bytes head list
+
+-- The decisions of a record are judged: outside a match by the file of this name, and in a match by the files of its scores, whose names begin so.
+pub record JudgesReplayed (name : List ℕ) (replayed : Replayed) (held : Contents) (list : List Judged) : Type 0 where
+  pub plain : is_match replayed.rec.stakes ≡ false → OfHeld (held name) (λ bytes. JudgesPlain replayed bytes list)
+  pub in_match : is_match replayed.rec.stakes ≡ true → JudgesMatch name replayed held list
+
+-- This is the analysis of a recorded game: where files tell what they hold, one of them holds a record that breaks no rule, and the others judge its
 -- decisions so.
 pub record IsAnalysed (task : Analyse) (told : Bool) (held : Contents) (list : List Judged) : Type 0 where
   pub replayed : Replayed
-  pub head : FileHead
   pub record_file : IsTrue told → OfHeld (held task.rec) (λ bytes. HoldsRecord bytes replayed)
-  pub base_file : IsTrue told → OfHeld (held task.base) (λ bytes. JudgesRecord replayed bytes head list)
+  pub base_files : IsTrue told → JudgesReplayed task.base replayed held list
 
 -- The report of an analysis was put, in this way.
 pub record HasAnalysed (task : Analyse) (told : Bool) (held : Contents) (IsReport : List ℕ → Type 0) : Type 0 where
@@ -79,11 +88,6 @@ pub record HasAnalysed (task : Analyse) (told : Bool) (held : Contents) (IsRepor
   pub report : IsReport (analysis_text list)
 
 -- ---- why nothing is told of it
-
--- a record of a match, of which the game of its first score is wanted, is refused whatever the file is
-pub record IsRefusedMatch (rec : RecordRead) (refusal : Refusal) : Type 0 where
-  pub in_match : is_match rec.stakes ≡ true
-  pub line : refusal ≡ Base (Fits (game_recorded rec)) (cubeless_game rec.checkers)
 
 -- what stands before a file's pages is right, and its head is of another game than the record's
 pub record IsOfAnotherGame (rec : RecordRead) (bytes : List ℕ) (refusal : Refusal) : Type 0 where
@@ -112,23 +116,22 @@ pub record RefusesBase (name : List ℕ) (replayed : Replayed) (refusal : Refusa
   pub plain : is_match replayed.rec.stakes ≡ false
   pub cause : RefusesOpening name replayed.rec refusal held ⊎ OfHeld held (λ bytes. IsBadForRecord replayed bytes refusal)
 
--- a record that breaks no rule is refused: it is one of a match, or can't be judged by the file
-abbrev pub RefusesJudging : List ℕ → Replayed → Refusal → Option (List ℕ) → Type 0
-RefusesJudging name replayed refusal held = IsRefusedMatch replayed.rec refusal ⊎ RefusesBase name replayed refusal held
+-- a record of a match can't be judged by the files of its scores
+pub record RefusesScores (prefix : List ℕ) (replayed : Replayed) (refusal : Refusal) (held : Contents) : Type 0 where
+  pub in_match : is_match replayed.rec.stakes ≡ true
+  pub cause : RefusesMatch prefix replayed refusal held
 
--- a fault of the files or of memory, which says nothing of what files hold
-abbrev pub IsOutside : Refusal → Type 0
-IsOutside Read = ⊤
-IsOutside Memory = ⊤
-IsOutside refusal = ⊥
+-- a record that breaks no rule can't be judged by the file of this name, or in a match by the files of its scores
+abbrev pub RefusesJudging : List ℕ → Replayed → Refusal → Contents → Type 0
+RefusesJudging name replayed refusal held = RefusesScores name replayed refusal held ⊎ RefusesBase name replayed refusal (held name)
 
 -- the record breaks no rule, and it is refused
 pub record RefusesReplayed (task : Analyse) (refusal : Refusal) (held : Contents) : Type 0 where
   pub replayed : Replayed
   pub record_file : OfHeld (held task.rec) (λ bytes. HoldsRecord bytes replayed)
-  pub cause : RefusesJudging task.base replayed refusal (held task.base)
+  pub cause : RefusesJudging task.base replayed refusal held
 
--- An analysis is refused: the record is, or it breaks no rule and is one of a match, or can't be judged by the file.
+-- An analysis is refused: the record is, or it breaks no rule and can't be judged by the file, or in a match by the files of its scores.
 abbrev pub RefusesAnalysis : Analyse → Refusal → Contents → Type 0
 RefusesAnalysis task refusal held = IsOutside refusal ⊎ RefusesRecord task.rec refusal (held task.rec) ⊎ RefusesReplayed task refusal held
 
@@ -161,10 +164,15 @@ AnswersDecisions header file stakes decisions =
     AnswersSought header file (MayFollowDecisions stakes decisions)
     (JudgesAll None stakes (paged_source header true file) (told_words header file) (map unjudged decisions))
 
--- the decisions of a record are judged by a file of this name, or this refuses that
-abbrev pub AnswersJudging : List ℕ → Replayed → Bool → Option (List ℕ) → Result (List Judged) Refusal → Type 0
-AnswersJudging name replayed told held (Ok list) = (head : FileHead) × (IsTrue told → OfHeld held (λ bytes. JudgesRecord replayed bytes head list))
-AnswersJudging name replayed told held (Err refusal) = IsTrue told → RefusesJudging name replayed refusal held
+-- the decisions of a record outside a match are judged by a file of this name, or this refuses that
+abbrev pub AnswersPlain : List ℕ → Replayed → Bool → Option (List ℕ) → Result (List Judged) Refusal → Type 0
+AnswersPlain name replayed told held (Ok list) = IsTrue told → OfHeld held (λ bytes. JudgesPlain replayed bytes list)
+AnswersPlain name replayed told held (Err refusal) = IsTrue told → RefusesBase name replayed refusal held
+
+-- the decisions of a record are judged by a file of this name, or in a match by the files of its scores, or this refuses that
+abbrev pub AnswersJudging : List ℕ → Replayed → Bool → Contents → Result (List Judged) Refusal → Type 0
+AnswersJudging name replayed told held (Ok list) = IsTrue told → JudgesReplayed name replayed held list
+AnswersJudging name replayed told held (Err refusal) = IsTrue told → IsOutside refusal ⊎ RefusesJudging name replayed refusal held
 
 -- a recorded game is analysed, or this refuses that
 abbrev pub AnswersAnalysis : Analyse → Bool → Contents → Result (List Judged) Refusal → Type 0

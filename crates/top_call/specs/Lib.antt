@@ -13,6 +13,7 @@ pub mod Verifies
 pub mod Records
 pub mod Studies
 pub mod Makes
+pub mod MatchAnalyses
 pub mod Analyses
 pub mod Plans
 pub mod Outcomes

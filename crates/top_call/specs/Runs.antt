@@ -55,10 +55,11 @@ abbrev pub IsOfAnalysing : Refusal → Type 0
 IsOfAnalysing (Record bad) = ⊤
 IsOfAnalysing refusal = IsOfShowing refusal
 
--- a refusal of a recorded game that is to be studied: of its file, or it is one of a match
-abbrev pub IsOfStudying : Refusal → Type 0
-IsOfStudying (Base wanted found) = ⊤
-IsOfStudying refusal = IsOfReplaying refusal
+-- a fault of the files or of memory, which says nothing of what files hold
+abbrev pub IsOutside : Refusal → Type 0
+IsOutside Read = ⊤
+IsOutside Memory = ⊤
+IsOutside refusal = ⊥
 
 -- how a task may end
 abbrev pub EndsTask : Task → ℕ → Type 0
@@ -71,7 +72,7 @@ EndsTask (Advise task) status = EndsBy IsOfShowing status
 EndsTask (Verify task) status = EndsBy IsOfVerifying status
 EndsTask (Ladder task) status = EndsWriting status
 EndsTask (Analyse task) status = EndsBy IsOfAnalysing status
-EndsTask (Study task) status = EndsBy IsOfStudying status
+EndsTask (Study task) status = EndsBy IsOfReplaying status
 EndsTask (Make task) status = EndsWriting status
 EndsTask (Plan task) status = EndsBy IsOfShowing status
 

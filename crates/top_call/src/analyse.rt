@@ -1,4 +1,4 @@
-ghost use Rattle.std.specs.Prelude.{◌≡◌, ◌≤◌, ◌↔◌, IsTrue, true, false, IfErr, IfOk, Err, length};
+ghost use Rattle.std.specs.Prelude.{◌≡◌, ◌≤◌, ◌↔◌, IsTrue, false, IfErr, IfOk, Err, length};
 ghost use Rattle.hyper_outside.specs.Causes.{Rose};
 ghost use Rattle.hyper_outside.specs.Files.{SameFiles};
 ghost use Rattle.hyper_outside.specs.declared.outside.LookStop.TheVariants.{ReadFault};
@@ -13,38 +13,22 @@ ghost use Rattle.equity_report.specs.Refusals.{status_of};
 ghost use Rattle.command_line.specs.Right.{IsRightAnalyse};
 ghost use Rattle.top_call.specs.Records.{IsRightReplayed};
 ghost use Rattle.top_call.specs.Runs.{EndsBy, IsOfAnalysing, IsOfShowing};
-ghost use Rattle.top_call.specs.Analyses.{AnswersAnalysis, AnswersDecisions, AnswersJudging, AnswersOpening, IsGameOf, IsRefusedMatch, TellsAnalysis};
+ghost use Rattle.top_call.specs.Analyses.{AnswersAnalysis, AnswersDecisions, AnswersJudging, AnswersOpening, AnswersPlain, IsGameOf, TellsAnalysis};
 
 use crate::analyse_laws::looked_up_analyses_are_of_the_file;
+use crate::analyse_match::judge_match;
 use crate::load::{game_told, refusal_of};
 use crate::put::{DONE, refuse};
 use crate::record::{Replayed, game_recorded, is_match, read_recorded};
 use crate::show::{PAGES_KEPT, look_refusal};
 use base_head::Head;
 use command_line::Analyse;
-use cube_actions::StakesName;
 use database_file::{PagedBase, open_paged};
 use equity_report::{GameName, Refusal, Wanted, write_analysis};
 use game_record::Record;
 use hyper_outside::{Failed, Files, LookStop, Sink};
 use record_analysis::{Analysis, right_decisions_can_be_judged};
 use std::alloc::Global;
-
-/// The refusal of a record of a match, whatever the file is by which it was to be judged.
-pub(crate) fn match_refusal(rec: &Record) -> Refusal
-    requires valid { IsRecord rec.now }
-    requires in_match { is_match rec.now.stakes ≡ true }
-    ensures { IsRefusedMatch rec.now result }
-{
-    Refusal::Base {
-        wanted: Wanted::Fits(game_recorded(rec)),
-        found: GameName {
-            checkers: rec.checkers,
-            stakes: StakesName::Cubeless,
-            match_length: 1,
-        },
-    }
-}
 
 /// Whether a head is of these checkers and these stakes.
 fn is_of(head: &Head, game: &GameName) -> bool
@@ -130,7 +114,36 @@ fn judge<F: Files>(
     }
 }
 
-/// What the decisions of a record lose by a file, or what refuses that.
+/// What the decisions of a record outside a match lose by a file, or what refuses that.
+fn judge_plain<F: Files>(
+    alloc: Global,
+    name: &str,
+    replayed: Replayed,
+    files: &mut F,
+) -> Result<Analysis, Refusal>
+    requires name { length name.now ≤ 255 }
+    requires right { IsRightReplayed replayed }
+    requires plain { is_match replayed.rec.stakes ≡ false }
+    ensures told { AnswersPlain name.now replayed (F.tells files.old)
+        (F.held files.old name.now) result }
+    ensures same { IsTrue (F.tells files.old)
+        → SameFiles (F.held files.old) (F.held files.new) }
+    ensures cause { result ≡ Err Read
+        → Rose (F.read_faults files.old) (F.read_faults files.new) }
+    ensures kinds { IfErr result IsOfShowing }
+{
+    looked_up_analyses_are_of_the_file();
+    let mut base = match open_for(alloc, name, &replayed.rec, files) {
+        Ok(base) => base,
+        Err(refusal) => return Err(refusal),
+    };
+    match judge(alloc, &mut base, files, replayed) {
+        Ok(analysis) => Ok(analysis),
+        Err(stop) => Err(look_refusal(stop)),
+    }
+}
+
+/// What the decisions of a record lose by a file, or in a match by the files of its scores, or what refuses that.
 fn judge_by<F: Files>(
     alloc: Global,
     name: &str,
@@ -140,25 +153,17 @@ fn judge_by<F: Files>(
     requires name { length name.now ≤ 255 }
     requires right { IsRightReplayed replayed }
     ensures told { AnswersJudging name.now replayed (F.tells files.old)
-        (F.held files.old name.now) result }
+        (F.held files.old) result }
     ensures same { IsTrue (F.tells files.old)
         → SameFiles (F.held files.old) (F.held files.new) }
-    ensures later { F.read_faults files.old ≤ F.read_faults files.new }
     ensures cause { result ≡ Err Read
         → Rose (F.read_faults files.old) (F.read_faults files.new) }
     ensures kinds { IfErr result IsOfShowing }
 {
-    looked_up_analyses_are_of_the_file();
     if is_match(replayed.rec.stakes) {
-        return Err(match_refusal(&replayed.rec));
-    }
-    let mut base = match open_for(alloc, name, &replayed.rec, files) {
-        Ok(base) => base,
-        Err(refusal) => return Err(refusal),
-    };
-    match judge(alloc, &mut base, files, replayed) {
-        Ok(analysis) => Ok(analysis),
-        Err(stop) => Err(look_refusal(stop)),
+        judge_match(alloc, name, replayed, files)
+    } else {
+        judge_plain(alloc, name, replayed, files)
     }
 }
 

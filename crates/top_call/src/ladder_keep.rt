@@ -8,23 +8,22 @@ ghost use Rattle.database_file.specs.Writing.{Writes};
 ghost use Rattle.match_scores.specs.Keepers.{no_pairs};
 ghost use Rattle.top_call.specs.Ladders.{HasKeptSince, LadderPast, LadderStays, score_bytes, score_file, score_head};
 
-use arrayvec::ArrayString;
 use base_head::Head;
 use command_line::Ladder;
 use cube_actions::{Score, Starts, ladders_are_exact};
 use database_file::write_base;
-use equity_report::write_ladder_score;
+use equity_report::{FileName, write_ladder_score};
 use hyper_outside::{Failed, Files, Sink};
 use interval_words::{Closed, Words};
 use match_scores::{Keep, solved_ladders_are_true_and_tight, start_pair};
 use word_pages::Version;
 
 /// The name of a score's file: the prefix, a point, and the score's text, as `L.1.3.c`.
-pub(crate) fn score_file(prefix: &str, score: Score) -> ArrayString<255>
-    requires { length prefix.now ≤ 240 }
+pub(crate) fn score_file(prefix: &str, score: Score) -> FileName
+    requires { length prefix.now ≤ 255 }
     ensures { result.bytes ≡ score_file prefix.now score }
 {
-    let mut name = ArrayString::new();
+    let mut name = FileName::new();
     name.push_str(prefix);
     name.push('.');
     name.push_str(score.print().as_str());

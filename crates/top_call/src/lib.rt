@@ -5,6 +5,7 @@ mod advise;
 mod advise_laws;
 mod analyse;
 mod analyse_laws;
+mod analyse_match;
 mod bound;
 mod ladder;
 mod ladder_keep;

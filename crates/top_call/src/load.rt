@@ -7,7 +7,7 @@ use equity_report::{FileName, GameName, Refusal};
 
 /// The refusal that tells why the file of this name was not loaded.
 pub(crate) fn refusal_of(stop: LoadStop, name: &str) -> Refusal
-    requires { length name.now ≤ 255 }
+    requires { length name.now ≤ 272 }
     ensures { TellsStop name.now stop result }
 {
     match stop {

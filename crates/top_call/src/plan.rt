@@ -21,6 +21,7 @@ use hyper_outside::{Failed, Files, Sink};
 use match_plan::write_plan;
 use match_scores::start_pair;
 use std::alloc::Global;
+use std::thread::Threads;
 
 /// The score at which a match begins, where both sides need all its points.
 fn first_score(match_length: u8) -> Score
@@ -51,7 +52,12 @@ fn is_of_first_game(head: &Head, match_length: u8) -> bool
 }
 
 /// What the file of a match's first game holds, or what refuses it.
-fn load_first<F: Files>(alloc: Global, task: &Plan, files: &mut F) -> Result<Base, Refusal>
+fn load_first<R: Threads + Sync, F: Files>(
+    rt: &R,
+    alloc: Global,
+    task: &Plan,
+    files: &mut F,
+) -> Result<Base, Refusal>
     requires { IsRightPlan task.now }
     ensures told { AnswersFirst task.now (F.tells files.old)
         (F.held files.old (first_file task.now)) result }
@@ -63,7 +69,7 @@ fn load_first<F: Files>(alloc: Global, task: &Plan, files: &mut F) -> Result<Bas
 {
     let score = first_score(task.match_length);
     let name = score_file(task.prefix.as_str(), score);
-    let base = match load_base(alloc, files, name.as_str()) {
+    let base = match load_base(rt, alloc, files, name.as_str(), 1) {
         Ok(base) => base,
         Err(stop) => return Err(refusal_of(stop, name.as_str())),
     };
@@ -95,7 +101,8 @@ fn planned_starts(base: &Base, match_length: u8) -> Starts
 
 /// Loads the file of a match's first game and puts the plan of the match, or a refusal where the file isn't right or is of another game, one
 /// of these fails or there is no memory.
-pub(crate) fn run_plan<F: Files, O: Sink>(
+pub(crate) fn run_plan<R: Threads + Sync, F: Files, O: Sink>(
+    rt: &R,
     alloc: Global,
     task: &Plan,
     files: &mut F,
@@ -113,7 +120,7 @@ pub(crate) fn run_plan<F: Files, O: Sink>(
 {
     plans_hold_inside_their_pairs();
     plans_of_solved_matches_hold_in_the_end();
-    let base = match load_first(alloc, task, files) {
+    let base = match load_first(rt, alloc, task, files) {
         Ok(base) => base,
         Err(refusal) => return refuse(out, &refusal),
     };

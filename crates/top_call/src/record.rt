@@ -53,7 +53,7 @@ pub(crate) fn is_match(stakes: RecordStakes) -> bool
 }
 
 /// The points that a match is played to, and 1 where there is none.
-fn match_length(stakes: RecordStakes) -> u8
+pub(crate) fn match_length(stakes: RecordStakes) -> u8
     ensures { result ≡ match_length stakes }
 {
     match stakes {

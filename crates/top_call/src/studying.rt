@@ -1,22 +1,48 @@
-ghost use Rattle.std.specs.Prelude.{◌≡◌, IsTrue, IfErr, Err};
+ghost use Rattle.std.specs.Prelude.{◌≡◌, IsTrue, IfErr, IfOk, Err};
 ghost use Rattle.hyper_outside.specs.Causes.{Rose};
 ghost use Rattle.hyper_outside.specs.Files.{SameFiles};
 ghost use Rattle.equity_report.specs.declared.refusal.Refusal.TheVariants.{Read};
 ghost use Rattle.equity_report.specs.Refusals.{status_of};
 ghost use Rattle.command_line.specs.Right.{IsRightStudy};
-ghost use Rattle.top_call.specs.Runs.{EndsBy, IsOfStudying};
-ghost use Rattle.top_call.specs.Studies.{AnswersStudy, TellsStudy};
+ghost use Rattle.top_call.specs.Runs.{EndsBy, IsOfReplaying};
+ghost use Rattle.top_call.specs.Records.{IsRightReplayed};
+ghost use Rattle.top_call.specs.Studies.{AnswersStudy, IsStudiedBy, TellsStudy};
 
-use crate::analyse::match_refusal;
 use crate::put::{DONE, refuse};
-use crate::record::{is_match, read_recorded};
+use crate::record::{Replayed, is_match, match_length, read_recorded};
 use command_line::Study;
 use equity_report::{Refusal, write_analysis};
 use hyper_outside::{Failed, Files, Gate, NoMemory, Sink};
 use record_analysis::Analysis;
-use record_study::study;
+use record_study::{study, study_match};
 use std::alloc::Global;
 use std::thread::Threads;
+
+/// What the decisions of a recorded game lose by what is solved for it, in a match by all its scores.
+fn study_replayed<R: Threads + Sync, G: Gate + Sync>(
+    rt: &R,
+    alloc: Global,
+    task: &Study,
+    replayed: Replayed,
+    gate: &G,
+) -> Result<Analysis, NoMemory>
+    requires task { IsRightStudy task.now }
+    requires right { IsRightReplayed replayed }
+    ensures { IfOk result (IsStudiedBy replayed task.now.rounds) }
+{
+    let Replayed { rec, decisions } = replayed;
+    let Study {
+        rounds,
+        workers,
+        ..
+    } = task;
+    if is_match(rec.stakes) {
+        let points = match_length(rec.stakes);
+        study_match(rt, alloc, &rec, points, decisions, *rounds, *workers, gate)
+    } else {
+        study(rt, alloc, &rec, decisions, *rounds, *workers, gate)
+    }
+}
 
 /// What the decisions of a recorded game lose by what is solved for it, or what refuses that.
 fn study_recorded<R: Threads + Sync, F: Files, G: Gate + Sync>(
@@ -33,18 +59,13 @@ fn study_recorded<R: Threads + Sync, F: Files, G: Gate + Sync>(
         → SameFiles (F.held files.old) (F.held files.new) }
     ensures cause { result ≡ Err Read
         → Rose (F.read_faults files.old) (F.read_faults files.new) }
-    ensures kinds { IfErr result IsOfStudying }
+    ensures kinds { IfErr result IsOfReplaying }
 {
     let replayed = match read_recorded(alloc, task.rec.as_str(), files) {
         Ok(replayed) => replayed,
         Err(refusal) => return Err(refusal),
     };
-    let rec = replayed.rec;
-    if is_match(rec.stakes) {
-        return Err(match_refusal(&rec));
-    }
-    let decisions = replayed.decisions;
-    match study(rt, alloc, &rec, decisions, task.rounds, task.workers, gate) {
+    match study_replayed(rt, alloc, task, replayed, gate) {
         Ok(analysis) => Ok(analysis),
         Err(NoMemory) => Err(Refusal::Memory),
     }
@@ -61,7 +82,7 @@ pub(crate) fn run_study<R: Threads + Sync, F: Files, O: Sink, G: Gate + Sync>(
     gate: &G,
 ) -> u8
     requires { IsRightStudy task.now }
-    ensures ends { EndsBy IsOfStudying result }
+    ensures ends { EndsBy IsOfReplaying result }
     ensures tells { TellsStudy task.now (F.tells files.old) (F.held files.old task.now.rec)
         (O.output out.old) (O.output out.new) result }
     ensures read_cause { result ≡ status_of Read

@@ -51,12 +51,14 @@ use std::thread::Threads;
 ///   turns, the best play, the offer and the answer lose, in every game of enough turns, at most the bound that is told with each.
 /// - `verify`: of a file whose words are consistent. Whoever made it, they enclose every state in games of any number of turns, and
 ///   what a choice loses over them encloses what it loses exactly.
-/// - `analyse`: of each decision of a recorded game that breaks no rule, with what it loses by the pairs of the file, whose header
-///   and pages are right as far as the losses rest on them, and of both players' totals. Where the file's pairs enclose what their
-///   states are worth exactly in every game of enough turns, each loss encloses what its decision loses exactly, from one number of
-///   turns on for all of them.
-/// - `study`: of the same losses by pairs that are solved for the record, at least as tight as after the asked rounds. Each encloses
-///   what its decision loses exactly, from one number of turns on, with nothing asked of a file.
+/// - `analyse`: of each decision of a recorded game that breaks no rule, with what it loses by the pairs of the file, in a match of
+///   the file of its score, whose header and pages are right as far as the losses rest on them, and of both players' totals. Where
+///   the files' pairs enclose what their states are worth exactly in every game of enough turns, and in a match the start pairs in
+///   their heads the exact starts, each loss encloses what its decision loses exactly, from one number of turns on for all of them,
+///   in a match for all its games.
+/// - `study`: of the same losses by pairs that are solved for the record, in a match at each of its scores, at least as tight as
+///   after the asked rounds, in a match from plain starts. Each encloses what its decision loses exactly, from one number of turns
+///   on, with nothing asked of a file.
 /// - `make`: of a record that is drawn from a number and breaks no rule, with both players' totals after eight rounds. The file
 ///   holds its text, and no other changed.
 ///
@@ -66,11 +68,12 @@ use std::thread::Threads;
 /// 2. 2 where a position's text is, or else a roll's; 10 where `bound` or `race` asks for another number of checkers than
 ///    its position has; 12 where the position of `race` isn't a race.
 /// 3. Of a record that is to be read: 3 where it isn't there; 5 where its file is too long, or a line of it is wrong, with the
-///    first; 10 where it is one of a match.
+///    first.
 /// 4. Of a file of bounds that is to be read: 3 where it isn't there; 4 where it isn't one, of `show`, `advise` and `analyse` up to
 ///    its pages; 10 where these are asked for a position of another number of checkers, `advise` for a kind that the game hasn't, or
 ///    `analyse` for a record of another game, or where the file of `plan` isn't of the first game of the match; 4 where the page of
-///    the position isn't right, or that of a state on which the advice or a loss rests.
+///    the position isn't right, or that of a state on which the advice or a loss rests. For a record of a match `analyse` looks at
+///    what stands before the pages of all files, those of the first games first, before it looks at a page.
 /// 5. 9 where the words of a file that `verify` checks aren't consistent, with the first that doesn't hold by rising live rank, then
 ///    by kind, the lower word before the upper one.
 ///
@@ -117,7 +120,7 @@ pub fn run<R: Threads + Sync, F: Files, O: Sink, G: Gate + Sync>(
         Ok(Task::Study(task)) => run_study(rt, alloc, &task, files, out, gate),
         Ok(Task::Make(task)) => run_make(rt, alloc, &task, files, out, gate),
         Ok(Task::Analyse(task)) => run_analyse(alloc, &task, files, out),
-        Ok(Task::Plan(task)) => run_plan(alloc, &task, files, out),
+        Ok(Task::Plan(task)) => run_plan(rt, alloc, &task, files, out),
         Err(refusal) => refuse(out, &refusal),
     }
 }

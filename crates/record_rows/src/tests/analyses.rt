@@ -88,7 +88,7 @@ fn a_recorded_game_is_analysed(rt: HostRuntime) -> Result<(), Fail> {
 }
 
 // Words, the status and all that is put.
-const ROWS: [(&[&str], u8, &str); 11] = [
+const ROWS: [(&[&str], u8, &str); 10] = [
     (&["analyse", "j1", "forced"], 0, FORCED_TEXT),
     (
         &["analyse", "c1", "game"],
@@ -100,16 +100,11 @@ const ROWS: [(&[&str], u8, &str); 11] = [
         10,
         "refused 10 base wanted checkers 2 stakes jacoby found checkers 1 stakes jacoby\n",
     ),
+    // For a match the file of a score is looked at.
     (
         &["analyse", "c1", "match"],
-        10,
-        "refused 10 base wanted checkers 1 stakes match 2 2.2.n found checkers 1 stakes cubeless\n",
-    ),
-    // No base file is looked at.
-    (
-        &["analyse", "x", "match"],
-        10,
-        "refused 10 base wanted checkers 1 stakes match 2 2.2.n found checkers 1 stakes cubeless\n",
+        3,
+        "refused 3 missing c1.2.2.n\n",
     ),
     (&["analyse", "j1", "none"], 5, "refused 5 record 1 shape\n"),
     (

@@ -25,13 +25,15 @@ A 21 24/22 22/21\nB double\nA beaver\nstop\nclose\n";
 const UNBEAVERED: &str = "hypergammon record 1\ncheckers 1\nstakes jacoby\ngame 1\n\
 A 21 24/22 22/21\nB double\nA beaver\nstop\nclose\n";
 
+// A match of two points in which A doubles in the Crawford game.
+const IN_CRAWFORD: &str = "hypergammon record 1\ncheckers 1\nstakes match 2\ngame 1 away 2 2\n\
+A 21 24/22 22/21\nB double\nA pass\nend B 1\ngame 2 away 2 1\nB 21 24/22 22/21\nA double\n\
+B pass\nend A 1\nclose\n";
+
 // The record, the status, and what is put or its first line.
-const ROWS: [(&str, u8, &str); 6] = [
-    (
-        IN_MATCH,
-        10,
-        "refused 10 base wanted checkers 1 stakes match 2 2.2.n found checkers 1 stakes cubeless\n",
-    ),
+const ROWS: [(&str, u8, &str); 7] = [
+    (IN_MATCH, 0, "1 5 A play 0.000000 0.000000\n1 6 B offer "),
+    (IN_CRAWFORD, 5, "refused 5 record 11 illegal-cube\n"),
     (ONE_POINT, 5, "refused 5 record 15 score-wrong\n"),
     ("hypergammon record 2\n", 5, "refused 5 record 1 shape\n"),
     ("", 5, "refused 5 record 1 unended\n"),

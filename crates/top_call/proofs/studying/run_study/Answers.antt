@@ -1,6 +1,6 @@
 use Rattle.equity_report.specs.Analyses.{analysis_text}
 use Rattle.top_call.specs.Studies.{HasStudied, MayRefuseStudy}
-use Rattle.top_call.specs.Runs.{IsOfStudying}
+use Rattle.top_call.specs.Runs.{IsOfReplaying}
 use Rattle.top_call.proofs.Telling.{has-told, not-told, was-refused}
 use Rattle.top_call.proofs.studying.run_study.Goals as goal
 
@@ -10,7 +10,7 @@ returns-in-Err-clause-tells g c =
     let told = g.F.Files.tells c.args.files.now in
     let held = g.F.Files.held c.args.files.now task.rec in
     was-refused (HasStudied task told held) (MayRefuseStudy task told held) (g.O.Sink.output c.args.out.now) (g.O.Sink.output c.refuse.new.out)
-    IsOfStudying (λ none. none) c.in-Err.refusal c.in-Err.ensures.kinds c.in-Err.ensures.told c.refuse.result c.refuse.ensures.status c.refuse.ensures.told
+    IsOfReplaying (λ none. none) c.in-Err.refusal c.in-Err.ensures.kinds c.in-Err.ensures.told c.refuse.result c.refuse.ensures.status c.refuse.ensures.told
 
 pub returns-in-Ok-write_analysis-clause-tells : goal.returns-in-Ok-write_analysis-clause-tells
 returns-in-Ok-write_analysis-clause-tells g c =

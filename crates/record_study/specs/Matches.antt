@@ -1,0 +1,61 @@
+-- What the decisions of a recorded match lose: with the payoffs of the match, each game's by what its score is played for.
+use Rattle.std.specs.Prelude.{◌≤◌, ℕ, List, All, IfSome, map}
+use Rattle.std.specs.Option.{option_map}
+use Rattle.directed_fixed.specs.Bounds.{Bounds}
+use Rattle.cube_actions.specs.Matches.{terms_of}
+use Rattle.cube_actions.specs.Scores.{MatchScore}
+use Rattle.cube_actions.specs.Stakes.{Terms}
+use Rattle.cube_actions.specs.Starts.{StartPairs, ladder_place}
+use Rattle.game_record.specs.declared.decision.Decision.{Decision}
+use Rattle.turn_rule.specs.Turn.{rounds}
+use Rattle.match_scores.specs.Ladders.{AreEndScores, EncloseStarts, plain_starts}
+use Rattle.match_scores.specs.Payoffs.{EndScores, cube_game, match_scoring}
+use Rattle.record_analysis.specs.Analyses.{lost}
+use Rattle.record_analysis.specs.Truth.{EnclosesLoss, IsNoLooserAnalysis}
+use Rattle.record_analysis.specs.declared.analysis.Judged.{Judged}
+
+-- A pair encloses what a decision of a game at a score loses exactly with the payoffs of the match, whose games are cut off after so many turns with
+-- these end scores, where so many turns follow the decision.
+abbrev pub EnclosesLossAt : ℕ → ℕ → EndScores → ℕ → Decision → Bounds → MatchScore → Type 0
+EnclosesLossAt checkers turns ends left decision pair score =
+    EnclosesLoss (cube_game score) (match_scoring checkers turns ends score) left decision pair
+
+-- each pair of the decisions of a match does, with the score of its own game
+abbrev pub EncloseMatchLosses : ℕ → ℕ → EndScores → ℕ → List Judged → Type 0
+EncloseMatchLosses checkers turns ends left list =
+    All (λ judged. IfSome judged.decision.score (λ score.
+    IfSome judged.loss (λ pair. EnclosesLossAt checkers turns ends left judged.decision pair score))) list
+
+-- The analysis of a match is true where from some number of turns on, one for all its games and all its decisions, and for all end scores, each pair
+-- encloses what its decision loses exactly with the payoffs of the match.
+abbrev pub IsTrueMatch : ℕ → List Judged → Type 0
+IsTrueMatch checkers list =
+    (enough : ℕ)
+    × ((turns : ℕ) → enough ≤ turns → (ends : EndScores) → AreEndScores checkers turns ends
+    → (left : ℕ) → enough ≤ left → EncloseMatchLosses checkers turns ends left list)
+
+-- from some number of turns on, and for all end scores, start pairs enclose the exact starts of their scores
+abbrev pub AreTrueStarts : ℕ → StartPairs → Type 0
+AreTrueStarts checkers starts =
+    (enough : ℕ)
+    × ((turns : ℕ) → enough ≤ turns → (ends : EndScores) → AreEndScores checkers turns ends
+    → EncloseStarts checkers turns ends starts)
+
+-- the stakes of the plain starts at a score
+abbrev pub plain_terms : ℕ → ℕ → ℕ → MatchScore → Terms
+plain_terms checkers r match_length score = terms_of score (plain_starts checkers r match_length (ladder_place match_length score))
+
+-- what a decision loses over so many rounds for the stakes of the plain starts, at the score of its game
+abbrev pub judged_plainly : ℕ → ℕ → ℕ → Decision → Judged
+judged_plainly checkers r match_length decision = record {
+  decision = decision;
+  loss =
+      option_map (λ (score : MatchScore).
+      lost (plain_terms checkers r match_length score) (rounds (plain_terms checkers r match_length score) r) decision) decision.score;
+}
+
+-- The decisions of a match were studied: from some number of turns on, one for the whole match, each pair encloses what its decision loses exactly
+-- with the payoffs of the match; and each is at least as tight as over so many rounds for the stakes of the plain starts.
+pub record AreStudiedInMatch (checkers match_length r : ℕ) (decisions : List Decision) (list : List Judged) : Type 0 where
+  pub true : IsTrueMatch checkers list
+  pub tight : IsNoLooserAnalysis list (map (judged_plainly checkers r match_length) decisions)
