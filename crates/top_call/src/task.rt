@@ -9,8 +9,8 @@ ghost use Rattle.top_call.specs.Tasks.{IsRightTask, asked, cubeless_game, fittin
 ghost use Rattle.top_call.specs.Runs.{IsDue};
 
 use command_line::{
-    Advise, Analyse, Bound, Command, Ladder, Make, Migrate, Race, Plan, Show, Solve, Study, Text, Verify,
-    WordsStop, read_words,
+    Advise, Analyse, Bound, Command, Ladder, Make, Migrate, Plan, Race, Show, Solve, Study, Text,
+    Verify, WordsStop, read_words,
 };
 use cube_actions::{KindName, StakesName};
 use equity_report::{GameName, Refusal, Wanted};

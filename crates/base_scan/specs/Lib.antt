@@ -1,0 +1,5 @@
+pub mod Groups
+pub mod Conditions
+pub mod Cuts
+pub mod Meets
+pub mod Found
