@@ -78,16 +78,15 @@ fn a_recorded_match_is_analysed(rt: HostRuntime) -> Result<(), Fail> {
 }
 
 /// The records, and of the solved files those that are named, each under another name, with a bit of a page turned where that is asked for.
-fn renamed<R: Threads + Sync>(
-    rt: &R,
+fn renamed(
     alloc: Global,
+    solved: &MemFiles,
     names: &[(&str, &str, bool)],
 ) -> Result<MemFiles, Fail> {
-    let from = solved(rt, alloc)?;
     let mut files = MemFiles::new(alloc);
     for (name, new, turned) in names {
         let mut bytes = Vec::new(alloc);
-        bytes.extend_from_slice(from.held(*name).unwrap_or(b""))?;
+        bytes.extend_from_slice(solved.held(*name).unwrap_or(b""))?;
         if *turned && let Some(cell) = bytes.get_mut(20_000) {
             *cell ^= 1;
         }
@@ -139,8 +138,9 @@ const ROWS: [(&[(&str, &str, bool)], &str, u8, &str); 6] = [
 #[test]
 fn matches_are_refused_in_order(rt: HostRuntime) -> Result<(), Fail> {
     let alloc = rt.alloc();
+    let solved = solved(&rt, alloc)?;
     for (names, rec, due, told) in ROWS {
-        let mut files = renamed(&rt, alloc, names)?;
+        let mut files = renamed(alloc, &solved, names)?;
         let (status, out) = ask(&rt, alloc, &mut files, &["analyse", "L", rec])?;
         assert_eq!(rt; status, due, "at {told}");
         assert_eq!(rt; out.put_bytes(), told.as_bytes());
