@@ -6,6 +6,8 @@ mod found;
 mod numbers;
 mod reading;
 mod scanning;
+#[cfg(test)]
+mod tests;
 mod words;
 
 pub use condition::{BadCondition, Comparison, Condition, Field, MOST_TESTS, Test};
