@@ -104,6 +104,7 @@ fn kind_number(words: &Words, kind: usize) -> i64
     requires { kind < kinds_of words.now.game }
     ensures { result ≡ pos kind }
 {
+    // That a game has at most 14 kinds is told where they are counted.
     let _kinds = words.stakes().kinds();
     kind as i64
 }

@@ -1,6 +1,6 @@
 mod Answered
 mod ColumnLemmas
-mod ColumnShares
+mod Marks
 mod Found
 mod Orders
 mod Parts

@@ -1,5 +1,6 @@
 -- The words of the positions with the same layout of the other side, a column.
-use Rattle.std.specs.Prelude.{◌≡◌, ◌≤◌, ◌<◌, ◌+◌, ◌*◌, ◌/◌, ℕ, Bool, false, IsTrue, Result, Ok, IfOk, List, length, slice_index_or}
+use Rattle.std.specs.Prelude.{◌≡◌, ◌≤◌, ◌<◌, ◌+◌, ℕ, Bool, false, true, Result, Err, IfOk, Vec, List, length, slice_index_or}
+use Rattle.std.specs.Global.{Global}
 use Rattle.position_rank.specs.Placement.{Placement}
 use Rattle.position_rank.specs.Ranks.{layouts, rank_of}
 use Rattle.directed_fixed.specs.declared.bounds.End.{End}
@@ -42,14 +43,15 @@ pub record IsTurned (words : WordList) (column : ColumnPairs) (i : ℕ) : Type 0
 abbrev pub PositionHolds : WordList → Placement → Type 0
 PositionHolds words p = (side : End) (k : ℕ) → k < kinds_of words.game → Holds words side p k
 
--- the rank of the first column of a part, where so many parts share all columns
-abbrev pub column_start : WordList → ℕ → ℕ → ℕ
-column_start words parts number = layouts words.game.checkers * number / parts
-
--- each of so many parts that says so has only words that hold
-pub record AreColumnParts (words : WordList) (parts : ℕ) (told : List (Result Bool NoMemory)) : Type 0 where
-  pub many : length told ≡ parts
+-- each column holds whose mark is set
+pub record AreHeld (words : WordList) (marks : List Bool) : Type 0 where
+  pub many : length marks ≡ layouts words.game.checkers
   pub each :
-      (number : ℕ) → number < parts
-      → IfOk (slice_index_or told number (Ok false)) (λ held. IsTrue held
-      → ColumnsHold words (column_start words parts number) (column_start words parts (number + 1)))
+      (other : ℕ) → other < length marks → slice_index_or marks other false ≡ true
+      → ColumnsHold words other (other + 1)
+
+-- each worker that tells marks tells them of columns that hold
+abbrev pub AreToldHeld : WordList → List (Result (Vec Bool Global) NoMemory) → Type 0
+AreToldHeld words told =
+    (worker : ℕ) → worker < length told
+    → IfOk (slice_index_or told worker (Err (record {}))) (λ marks. AreHeld words marks.items)

@@ -3,16 +3,17 @@ ghost use Rattle.interval_words.specs.WordLists.{WordList};
 ghost use Rattle.base_verify.specs.Findings.{AlwaysEnclose, TellsConsistency};
 ghost use Rattle.position_rank.specs.Ranks.{layouts};
 ghost use Rattle.base_verify.specs.Checks.{AreParts, TellsAll};
-ghost use Rattle.base_verify.specs.Columns.{AreColumnParts, ColumnsHold, column_start};
+ghost use Rattle.base_verify.specs.Columns.{AreToldHeld, ColumnsHold};
 
-use crate::columns::{all_hold, columns_hold};
 use crate::finding::{Finding, VerifyStop};
 use crate::states::part_finding;
+use crate::taking::{all_marks, rest_holds, take_columns};
 use database_file::Base;
 use hyper_outside::{Gate, NoMemory};
 use interval_words::{Words, consistent_lists_enclose};
 use position_rank::layout_count;
 use std::alloc::{AllocError, Global};
+use std::sync::atomic::AtomicU64;
 use std::thread;
 use std::thread::Threads;
 
@@ -28,62 +29,44 @@ fn part_start(count: u64, parts: usize, number: usize) -> u64
     count * number as u64 / parts as u64
 }
 
-/// Whether the words of one of so many parts of the columns hold, as the worker of its number checks
-/// them. Each column that it comes to passes the gate.
-fn part_holds<G: Gate>(
-    alloc: Global,
-    words: &Words,
-    parts: usize,
-    gate: &G,
-    number: usize,
-) -> Result<bool, NoMemory>
-    requires few { parts ≤ 64 }
-    requires number { number < parts }
-    ensures { IfOk result (λ held. IsTrue held → ColumnsHold words.now
-        (column_start words.now parts number) (column_start words.now parts (number + 1))) }
-{
-    let count = u64::from(layout_count(words.checkers()));
-    let from = part_start(count, parts, number) as usize;
-    let to = part_start(count, parts, number + 1) as usize;
-    columns_hold(alloc, words, gate, number as u32, from, to)
-}
-
-/// Whether the words of each of so many parts of the columns hold, each part in a thread of its own
+/// What each of so many workers tells of the columns that it took, each worker in a thread of its own
 /// where one can be started, else in turn. The turns of a column are worked out together, which is
 /// much faster than to look at each position alone.
-fn check_in_parts<R: Threads + Sync, G: Gate + Sync>(
+fn check_by_workers<R: Threads + Sync, G: Gate + Sync>(
     rt: &R,
     alloc: Global,
     words: &Words,
-    parts: usize,
+    workers: usize,
     gate: &G,
-) -> Result<Vec<Result<bool, NoMemory>>, AllocError>
-    requires few { parts ≤ 64 }
-    ensures { IfOk result (λ told. AreColumnParts words.now parts told.items) }
+) -> Result<Vec<Result<Vec<bool>, NoMemory>>, AllocError>
+    requires { workers ≤ 64 }
+    ensures { IfOk result (λ told. AreToldHeld words.now told.items) }
 {
+    let next = AtomicU64::new(0);
     thread::map_indices(
         rt,
         alloc,
-        parts,
-        &|number| part_holds(alloc, words, parts, gate, number),
+        workers,
+        &|worker| take_columns(alloc, words, gate, &next, worker as u32),
     )
 }
 
-/// Whether all words hold, by so many parts. Each column that is come to passes the gate.
+/// Whether all words hold, by so many workers. Each column that is come to passes the gate.
 fn words_hold<R: Threads + Sync, G: Gate + Sync>(
     rt: &R,
     alloc: Global,
     words: &Words,
-    parts: usize,
+    workers: usize,
     gate: &G,
 ) -> Result<bool, NoMemory>
-    requires some { 0 < parts }
-    requires few { parts ≤ 64 }
+    requires { workers ≤ 64 }
     ensures { IfOk result (λ held. IsTrue held
         → ColumnsHold words.now 0 (layouts words.now.game.checkers)) }
 {
-    let told = check_in_parts(rt, alloc, words, parts, gate)?;
-    all_hold(&told)
+    let told = check_by_workers(rt, alloc, words, workers, gate)?;
+    let count = layout_count(words.checkers()) as usize;
+    let marks = all_marks(alloc, count, &told)?;
+    rest_holds(alloc, words, &marks)
 }
 
 /// The first finding of each of so many parts, looked for in a thread of its own where one can be

@@ -6,6 +6,7 @@ mod consistency;
 mod finding;
 mod laws;
 mod states;
+mod taking;
 #[cfg(test)]
 mod tests;
 

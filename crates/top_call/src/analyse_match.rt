@@ -115,6 +115,7 @@ fn check_file<F: Files>(
         → Rose (F.read_faults files.old) (F.read_faults files.new) }
     ensures kinds { IfErr result IsOfShowing }
 {
+    // Only whether it can be opened matters: no page is looked at before all fronts were.
     let _base = match open_at(alloc, prefix, rec, score, files) {
         Ok(base) => base,
         Err(refusal) => return Err(refusal),

@@ -3,7 +3,7 @@ use Rattle.std.proofs.lemmas.Result.{err_from_is_err_and}
 use Rattle.position_rank.specs.LiveRanks.{live_positions}
 use Rattle.base_verify.specs.Checks.{AreParts, place_at}
 use Rattle.base_verify.proofs.Whole.{all-hold, first-of-all}
-use Rattle.base_verify.proofs.ColumnShares.{all-columns}
+use Rattle.base_verify.proofs.Marks.{all-columns}
 use Rattle.base_verify.proofs.consistency.verify_words.Goals as goal
 
 pub returns-in_err-told : goal.returns-in_err-told
