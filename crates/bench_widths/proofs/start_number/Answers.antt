@@ -1,0 +1,11 @@
+use Rattle.std.proofs.Common.{◌∙◌, ◌<◌, ℕ, length, ap, subst, sym}
+use Rattle.cube_actions.specs.Stakes.{Terms}
+use Rattle.bench_widths.proofs.start_number.Goals as goal
+
+pub number-requires : goal.number-requires
+number-requires c = record {
+  position = c.start.ensures.valid;
+  many = c.start.ensures.checkers ∙ c.checkers.ensures.checkers;
+  live = c.start.ensures.live;
+  kind = subst (λ (t : Terms). 0 < length t.kinds) c.stakes.ensures c.kinds-kinds.ensures.valid.some;
+}
