@@ -2,7 +2,7 @@
 
 _hypergammon() {
     local word=${COMP_WORDS[COMP_CWORD]} before=${COMP_WORDS[COMP_CWORD-1]} command=${COMP_WORDS[1]}
-    local commands='bound race solve show migrate advise verify ladder analyse study make plan help'
+    local commands='bound race solve show migrate advise verify ladder analyse study make plan scan help'
     local stakes='cubeless money jacoby money-beavers jacoby-beavers'
     COMPREPLY=()
     if [ "$COMP_CWORD" -eq 1 ]; then
@@ -86,6 +86,18 @@ _hypergammon() {
         make) [ "$COMP_CWORD" -eq 4 ] && mapfile -t COMPREPLY < <(compgen -f -- "$word") ;;
         show) [ "$COMP_CWORD" -eq 2 ] && mapfile -t COMPREPLY < <(compgen -f -- "$word") ;;
         migrate) [ "$COMP_CWORD" -le 3 ] && mapfile -t COMPREPLY < <(compgen -f -- "$word") ;;
+        scan)
+            case $before in
+                --workers) ;;
+                *)
+                    if [[ $word == -* ]]; then
+                        mapfile -t COMPREPLY < <(compgen -W '--workers' -- "$word")
+                    elif [ "$COMP_CWORD" -eq 2 ]; then
+                        mapfile -t COMPREPLY < <(compgen -f -- "$word")
+                    fi
+                    ;;
+            esac
+            ;;
         verify)
             case $before in
                 --workers) ;;

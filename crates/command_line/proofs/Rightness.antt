@@ -16,7 +16,7 @@ use Rattle.command_line.specs.declared.command.Command.TheVariants as command
 use Rattle.command_line.specs.declared.command.CommandName.{CommandName}
 use Rattle.command_line.specs.declared.command.CommandName.TheVariants as name
 use Rattle.command_line.specs.Values.{number_of, number_within, long_number_given, number_given, number_or, stakes_named, stakes_or, kind_given, is_name_within, name_within, file_name, other_name, prefix}
-use Rattle.command_line.specs.Commands.{Asked, checked, refused, bound_values, race_values, solve_values, show_values, migrate_values, advise_values, command_values, command_named, command_form, verify_values, ladder_values, analyse_values, study_values, make_values, plan_values}
+use Rattle.command_line.specs.Commands.{Asked, checked, refused, bound_values, race_values, solve_values, show_values, migrate_values, advise_values, command_values, command_named, command_form, verify_values, ladder_values, analyse_values, study_values, make_values, plan_values, scan_values}
 use Rattle.command_line.specs.declared.values.TheConstants.{MOST_CHECKERS, MOST_GAMES, MOST_POINTS, MOST_ROUNDS, MOST_WORKERS, USUAL_POINTS, USUAL_ROUNDS}
 use Rattle.command_line.specs.Words.{is_faulty, place_at, form_reading, words_reading, reading}
 use Rattle.command_line.specs.Right.{IsName, IsPrefix, IsRightCommand}
@@ -300,6 +300,20 @@ plan-right given =
     plan-from (prefix (value_of (codes "PREFIX") given)) (number_or MOST_POINTS USUAL_POINTS points)
     (prefixed (value_of (codes "PREFIX") given)) (or-within MOST_POINTS USUAL_POINTS points (omega arith, omega arith))
 
+scan-from : (file condition : Option Bytes) (workers : Option ℕ) → IfSome file IsName → IfSome workers (Within MOST_WORKERS) →
+    Right (checked 1 file (λ file. checked 2 condition (λ condition. checked 3 workers (λ workers.
+    Ok (command.Scan (record { file = file; condition = condition; workers = workers }))))))
+scan-from None condition workers name most = tt
+scan-from (Some f) None workers name most = tt
+scan-from (Some f) (Some c) None name most = tt
+scan-from (Some f) (Some c) (Some w) name most = record { file = name; one = most.0; most = most.1 }
+
+scan-right : (given : Values) → Right (scan_values given)
+scan-right given =
+    let workers = value_of (codes "workers") given in
+    scan-from (file_name (value_of (codes "FILE") given)) (value_of (codes "CONDITION") given) (number_or MOST_WORKERS 1 workers)
+    (named (value_of (codes "FILE") given)) (or-within MOST_WORKERS 1 workers (omega arith, omega arith))
+
 values-right : (command : CommandName) (given : Values) → Right (command_values command given)
 values-right name.Bound given = bound-right given
 values-right name.Race given = race-right given
@@ -313,6 +327,7 @@ values-right name.Analyse given = analyse-right given
 values-right name.Study given = study-right given
 values-right name.Make given = make-right given
 values-right name.Plan given = plan-right given
+values-right name.Scan given = scan-right given
 
 form-right : (command : CommandName) (values : Option Values) → Right (option_map_or (command_values command) values (refused Form 0))
 form-right command None = tt

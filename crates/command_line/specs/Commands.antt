@@ -8,7 +8,7 @@ use Rattle.hyper_outside.specs.declared.outside.WordsKind.TheVariants.{Value}
 use Rattle.cube_actions.specs.declared.name.StakesName.TheVariants.{Jacoby}
 use Rattle.word_forms.specs.Form.{Bytes, Form, Values, value_of}
 use Rattle.command_line.specs.declared.command.Command.{Command}
-use Rattle.command_line.specs.declared.command.Command.TheVariants.{Bound, Race, Solve, Show, Migrate, Advise, Verify, Ladder, Analyse, Study, Make, Plan}
+use Rattle.command_line.specs.declared.command.Command.TheVariants.{Bound, Race, Solve, Show, Migrate, Advise, Verify, Ladder, Analyse, Study, Make, Plan, Scan}
 use Rattle.command_line.specs.declared.command.CommandName.{CommandName}
 use Rattle.command_line.specs.declared.command.CommandName.TheVariants as name
 use Rattle.command_line.specs.declared.values.TheConstants.{MOST_CHECKERS, MOST_GAMES, MOST_POINTS, MOST_ROUNDS, MOST_WORKERS, USUAL_POINTS, USUAL_ROUNDS}
@@ -149,6 +149,17 @@ plan_values given =
     checked 2 (number_or MOST_POINTS USUAL_POINTS (value_of (codes "length") given)) (λ points.
     Ok (Plan (record { prefix = prefix; match_length = points }))))
 
+abbrev pub scan_form : Form
+scan_form = record { arguments = codes "FILE" ∷ codes "CONDITION" ∷ []; options = codes "workers" ∷ [] }
+
+-- a condition has no form here
+abbrev pub scan_values : Values → Result Asked BadWords
+scan_values given =
+    checked 1 (file_name (value_of (codes "FILE") given)) (λ file.
+    checked 2 (value_of (codes "CONDITION") given) (λ condition.
+    checked 3 (number_or MOST_WORKERS 1 (value_of (codes "workers") given)) (λ workers.
+    Ok (Scan (record { file = file; condition = condition; workers = workers })))))
+
 -- ---- all of them
 
 abbrev pub command_named : Bytes → Option CommandName
@@ -164,7 +175,8 @@ command_named word =
     else (if bytes_eq word (codes "analyse") then Some name.Analyse
     else (if bytes_eq word (codes "study") then Some name.Study
     else (if bytes_eq word (codes "make") then Some name.Make
-    else (if bytes_eq word (codes "plan") then Some name.Plan else None)))))))))))
+    else (if bytes_eq word (codes "plan") then Some name.Plan
+    else (if bytes_eq word (codes "scan") then Some name.Scan else None))))))))))))
 
 abbrev pub command_form : CommandName → Form
 command_form name.Bound = bound_form
@@ -179,6 +191,7 @@ command_form name.Analyse = analyse_form
 command_form name.Study = study_form
 command_form name.Make = make_form
 command_form name.Plan = plan_form
+command_form name.Scan = scan_form
 
 abbrev pub command_values : CommandName → Values → Result Asked BadWords
 command_values name.Bound given = bound_values given
@@ -193,3 +206,4 @@ command_values name.Analyse given = analyse_values given
 command_values name.Study given = study_values given
 command_values name.Make given = make_values given
 command_values name.Plan given = plan_values given
+command_values name.Scan given = scan_values given

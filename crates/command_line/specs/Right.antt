@@ -11,10 +11,11 @@ use Rattle.command_line.specs.declared.command.Migrate.{Migrate as MigrateWords}
 use Rattle.command_line.specs.declared.command.Advise.{Advise as AdviseWords}
 use Rattle.command_line.specs.declared.command.Analyse.{Analyse as AnalyseWords}
 use Rattle.command_line.specs.declared.command.Command.{Command}
-use Rattle.command_line.specs.declared.command.Command.TheVariants.{Bound, Race, Solve, Show, Migrate, Advise, Verify, Ladder, Analyse, Study, Make, Plan}
+use Rattle.command_line.specs.declared.command.Command.TheVariants.{Bound, Race, Solve, Show, Migrate, Advise, Verify, Ladder, Analyse, Study, Make, Plan, Scan}
 use Rattle.command_line.specs.declared.command.Ladder.{Ladder as LadderWords}
 use Rattle.command_line.specs.declared.command.Make.{Make as MakeWords}
 use Rattle.command_line.specs.declared.command.Plan.{Plan as PlanWords}
+use Rattle.command_line.specs.declared.command.Scan.{Scan as ScanWords}
 use Rattle.command_line.specs.declared.command.Study.{Study as StudyWords}
 use Rattle.command_line.specs.declared.command.Verify.{Verify as VerifyWords}
 use Rattle.command_line.specs.declared.values.TheConstants.{MOST_CHECKERS, MOST_GAMES, MOST_POINTS, MOST_ROUNDS, MOST_WORKERS}
@@ -98,6 +99,11 @@ pub record IsRightPlan (plan : PlanWords) : Type 0 where
   pub point : 1 ≤ plan.match_length
   pub points : plan.match_length ≤ MOST_POINTS
 
+pub record IsRightScan (scan : ScanWords) : Type 0 where
+  pub file : IsName scan.file
+  pub one : 1 ≤ scan.workers
+  pub most : scan.workers ≤ MOST_WORKERS
+
 -- numbers within their limits, names of files within theirs, and stakes that aren't a match
 abbrev pub IsRightCommand : Command → Type 0
 IsRightCommand (Bound bound) = IsRightBound bound
@@ -112,3 +118,4 @@ IsRightCommand (Analyse analyse) = IsRightAnalyse analyse
 IsRightCommand (Study study) = IsRightStudy study
 IsRightCommand (Make make) = IsRightMake make
 IsRightCommand (Plan plan) = IsRightPlan plan
+IsRightCommand (Scan scan) = IsRightScan scan

@@ -134,6 +134,17 @@ pub struct Plan {
     pub match_length: u8,
 }
 
+/// A file whose states are searched by some workers.
+#[derive(Drop)]
+pub struct Scan {
+    /// The file's name, 1 to 255 bytes.
+    pub file: Text,
+    /// In any form.
+    pub condition: Text,
+    /// 1 to 64.
+    pub workers: u32,
+}
+
 /// What a user asks for.
 #[derive(Drop)]
 pub enum Command {
@@ -149,6 +160,7 @@ pub enum Command {
     Study(Study),
     Make(Make),
     Plan(Plan),
+    Scan(Scan),
 }
 
 /// The commands.
@@ -166,6 +178,7 @@ pub enum CommandName {
     Study,
     Make,
     Plan,
+    Scan,
 }
 
 static BOUND: [&str; 3] = ["CHECKERS", "ROUNDS", "POSITION"];
@@ -204,6 +217,10 @@ static PLAN: [&str; 1] = ["PREFIX"];
 
 static PLAN_OPTIONS: [&str; 1] = ["length"];
 
+static SCAN: [&str; 2] = ["FILE", "CONDITION"];
+
+static SCAN_OPTIONS: [&str; 1] = ["workers"];
+
 static NO_OPTIONS: [&str; 0] = [];
 
 impl CommandName {
@@ -224,6 +241,7 @@ impl CommandName {
             "study" => Some(CommandName::Study),
             "make" => Some(CommandName::Make),
             "plan" => Some(CommandName::Plan),
+            "scan" => Some(CommandName::Scan),
             _ => None,
         }
     }
@@ -245,6 +263,7 @@ impl CommandName {
             CommandName::Study => STUDY.as_slice(),
             CommandName::Make => MAKE.as_slice(),
             CommandName::Plan => PLAN.as_slice(),
+            CommandName::Scan => SCAN.as_slice(),
         }
     }
 
@@ -259,6 +278,7 @@ impl CommandName {
             CommandName::Ladder => LADDER_OPTIONS.as_slice(),
             CommandName::Study => STUDY_OPTIONS.as_slice(),
             CommandName::Plan => PLAN_OPTIONS.as_slice(),
+            CommandName::Scan => SCAN_OPTIONS.as_slice(),
             CommandName::Bound
             | CommandName::Race
             | CommandName::Show

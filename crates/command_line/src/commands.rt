@@ -1,11 +1,11 @@
 ghost use Rattle.word_forms.specs.Form.{Values};
 ghost use Rattle.word_forms.specs.Clap.{HasValues};
-ghost use Rattle.command_line.specs.Commands.{bound_values, race_values, solve_values, show_values, migrate_values, advise_values, command_values, verify_values, ladder_values, analyse_values, study_values, make_values, plan_values};
+ghost use Rattle.command_line.specs.Commands.{bound_values, race_values, solve_values, show_values, migrate_values, advise_values, command_values, verify_values, ladder_values, analyse_values, study_values, make_values, plan_values, scan_values};
 ghost use Rattle.command_line.specs.Reading.{Gives};
 
 use crate::command::{
-    Advise, Analyse, Bound, Command, CommandName, Ladder, Make, Migrate, Plan, Race, Show, Solve,
-    Study, Verify,
+    Advise, Analyse, Bound, Command, CommandName, Ladder, Make, Migrate, Plan, Race, Scan, Show,
+    Solve, Study, Verify,
 };
 use crate::stop::{WordsStop, bad_value};
 use crate::text::Text;
@@ -40,6 +40,7 @@ pub(crate) fn read_values(
         CommandName::Study => read_study(alloc, values),
         CommandName::Make => read_make(alloc, values),
         CommandName::Plan => read_plan(alloc, values),
+        CommandName::Scan => read_scan(alloc, values),
     }
 }
 
@@ -281,5 +282,26 @@ fn read_plan(alloc: Global, values: &ArgMatches<'_>) -> Result<Command, WordsSto
     Ok(Command::Plan(Plan {
         prefix: Text::new(alloc, prefix)?,
         match_length: points as u8,
+    }))
+}
+
+fn read_scan(alloc: Global, values: &ArgMatches<'_>) -> Result<Command, WordsStop>
+    ensures { (given : Values) → HasValues given values.now
+        → Gives (scan_values given) result }
+{
+    let Some(file) = file_name(values.get_str("FILE")) else {
+        return Err(bad_value(1));
+    };
+    let Some(condition) = values.get_str("CONDITION") else {
+        return Err(bad_value(2));
+    };
+    let workers = values.get_str("workers");
+    let Some(workers) = number_or(workers, MOST_WORKERS, 1) else {
+        return Err(bad_value(3));
+    };
+    Ok(Command::Scan(Scan {
+        file: Text::new(alloc, file)?,
+        condition: Text::new(alloc, condition)?,
+        workers,
     }))
 }

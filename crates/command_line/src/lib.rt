@@ -12,8 +12,8 @@ mod values;
 mod words;
 
 pub use command::{
-    Advise, Analyse, Bound, Command, CommandName, Ladder, Make, Migrate, Plan, Race, Show, Solve,
-    Study, Verify,
+    Advise, Analyse, Bound, Command, CommandName, Ladder, Make, Migrate, Plan, Race, Scan, Show,
+    Solve, Study, Verify,
 };
 pub use laws::commands_are_right;
 pub use stop::WordsStop;

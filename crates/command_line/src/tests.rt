@@ -457,3 +457,44 @@ fn plan_has_a_usual_length(rt: HostRuntime) -> Result<(), Fail> {
     }
     Ok(())
 }
+
+#[test]
+fn words_of_scan_are_refused(rt: HostRuntime) -> Result<(), Fail> {
+    let cases: [(&[&str], WordsKind, u32); 9] = [
+        (&["scan"], WordsKind::Form, 0),
+        (&["scan", "x"], WordsKind::Form, 0),
+        (&["scan", "x", "y", "z"], WordsKind::Form, 0),
+        (&["scan", "x", "y", "--rounds=1"], WordsKind::Form, 0),
+        (&["scan", "x", "y", "--workers"], WordsKind::Form, 0),
+        (&["scan", "x", ""], WordsKind::Word, 2),
+        (&["scan", "x\0", "y", "--workers=65"], WordsKind::Value, 1),
+        (&["scan", "x", "y", "--workers=65"], WordsKind::Value, 3),
+        (&["scan", "--workers", "0", "x", "y"], WordsKind::Value, 3),
+    ];
+    for (words, kind, place) in cases.iter() {
+        let found = refusal(rt.alloc(), words)?;
+        assert_eq!(rt; found, Some((*kind, *place)));
+    }
+    Ok(())
+}
+
+#[test]
+fn scan_takes_any_condition(rt: HostRuntime) -> Result<(), Fail> {
+    let cases: [(&[&str], &str, u32); 3] = [
+        (&["scan", "x", "!pips>1 width>0"], "!pips>1 width>0", 1),
+        (&["scan", "--workers=64", "x", "|"], "|", 64),
+        (&["scan", "x", " ", "--workers", "3"], " ", 3),
+    ];
+    for (words, condition, workers) in cases.iter() {
+        let words = owned(rt.alloc(), words)?;
+        match read_words(rt.alloc(), words.as_slice()) {
+            Ok(Command::Scan(asked)) => {
+                assert_eq!(rt; asked.file.as_str(), "x");
+                assert_eq!(rt; asked.condition.as_str(), *condition);
+                assert_eq!(rt; asked.workers, *workers);
+            }
+            _ => panic!(rt; "refused"),
+        }
+    }
+    Ok(())
+}

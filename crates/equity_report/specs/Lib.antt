@@ -8,3 +8,4 @@ pub mod Refusals
 pub mod Advice
 pub mod Analyses
 pub mod Ladder
+pub mod Scans

@@ -9,6 +9,7 @@ mod race;
 mod record;
 mod refusal;
 mod report;
+mod scan;
 #[cfg(test)]
 mod tests;
 mod text;
@@ -21,5 +22,6 @@ pub use ladder::{write_ladder_end, write_ladder_score};
 pub use race::write_race;
 pub use refusal::{FileName, Refusal, Wanted, write_refusal};
 pub use report::write_bound;
+pub use scan::write_scan;
 pub use text::GameName;
 pub use verify::{Unheld, write_verified};

@@ -56,6 +56,8 @@ pub enum Refusal {
     Record(BadRecord),
     /// The position isn't a race.
     Contact,
+    /// With this word of the condition's text, counted from 0, no text of a condition can go on.
+    Condition { word: u32 },
 }
 
 fn words_text(kind: WordsKind) -> &'static str
@@ -104,6 +106,7 @@ impl Refusal {
             Refusal::Memory => 8,
             Refusal::Base { .. } => 10,
             Refusal::Inconsistent(_) => 9,
+            Refusal::Condition { .. } => 11,
             Refusal::Contact => 12,
         }
     }
@@ -199,6 +202,7 @@ fn add_reason(line: &mut Report, refusal: &Refusal)
         Refusal::Inconsistent(unheld) => add_unheld(line, unheld),
         Refusal::Record(bad) => add_bad_record(line, *bad),
         Refusal::Contact => line.push_str("contact"),
+        Refusal::Condition { word } => add_counted(line, "condition", u64::from(*word)),
     }
 }
 

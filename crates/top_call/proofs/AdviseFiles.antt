@@ -26,7 +26,7 @@ use Rattle.database_file.specs.PagedFiles.{PagedFile}
 use Rattle.database_file.specs.Texts.{game_in}
 use Rattle.database_file.proofs.Bases.{kinds-named}
 use Rattle.equity_report.specs.declared.refusal.Refusal.{Refusal}
-use Rattle.equity_report.specs.declared.refusal.Refusal.TheVariants.{Words, Position, Missing, File, Read, Write, Memory, Base, Roll, Inconsistent, Record, Contact}
+use Rattle.equity_report.specs.declared.refusal.Refusal.TheVariants.{Words, Position, Missing, File, Read, Write, Memory, Base, Roll, Inconsistent, Record, Contact, Condition}
 use Rattle.top_call.specs.declared.advise.AskedKind.{AskedKind}
 use Rattle.top_call.specs.declared.task.AdviseTask.{AdviseTask}
 use Rattle.top_call.specs.Loads.{TellsStop}
@@ -63,6 +63,7 @@ other-wanted task bytes base (Base wanted found) a w = record { front = a.right;
 other-wanted task bytes base (Roll bad) a w = absurd w
 other-wanted task bytes base (Inconsistent unheld) a w = absurd w
 other-wanted task bytes base Contact a w = absurd w
+other-wanted task bytes base (Condition word) a w = absurd w
 other-wanted task bytes base (Record bad) a w = absurd w
 
 pub not-asked : (task : AdviseTask) (held : Option (List ℕ)) (base : PagedFile) (refusal : Refusal) → AnswersPaged (option_map whole held) (Ok base) → WantsOther task base.head refusal → RefusesAdvice task refusal held

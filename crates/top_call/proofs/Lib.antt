@@ -22,3 +22,4 @@ mod LadderEnds
 mod LadderKeeping
 mod PlanLaws
 mod PlanFiles
+mod ScanFiles

@@ -8,7 +8,7 @@ use Rattle.database_file.specs.declared.stop.LoadStop.TheVariants as stops
 use Rattle.database_file.specs.Bases.{AnswersBase}
 use Rattle.database_file.specs.Faults.{Read as FileRead, whole}
 use Rattle.equity_report.specs.declared.refusal.Refusal.{Refusal}
-use Rattle.equity_report.specs.declared.refusal.Refusal.TheVariants.{Words, Position, Missing, File, Read, Write, Memory, Base, Roll, Inconsistent, Record, Contact}
+use Rattle.equity_report.specs.declared.refusal.Refusal.TheVariants.{Words, Position, Missing, File, Read, Write, Memory, Base, Roll, Inconsistent, Record, Contact, Condition}
 use Rattle.top_call.specs.Loads.{OfFile, TellsStop, RefusesLoading}
 use Rattle.top_call.specs.Runs.{IsOfLoading}
 
@@ -33,6 +33,7 @@ tells-missing name (Base wanted found) t = absurd t
 tells-missing name (Roll bad) t = absurd t
 tells-missing name (Inconsistent unheld) t = absurd t
 tells-missing name Contact t = absurd t
+tells-missing name (Condition word) t = absurd t
 tells-missing name (Record bad) t = absurd t
 
 pub not-loaded : (name : List ℕ) (file : Option FileRead) (stop : LoadStop) (refusal : Refusal) → AnswersBase file (Err stop) → TellsStop name stop refusal → RefusesLoading name refusal file

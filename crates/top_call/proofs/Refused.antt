@@ -1,11 +1,11 @@
 -- What a refusal that is put says of the one that is due.
 use Rattle.std.proofs.Common.{◌≡◌, inl, inr, ℕ, List, Ok, Err, Result, arith}
 use Rattle.equity_report.specs.declared.refusal.Refusal.{Refusal}
-use Rattle.equity_report.specs.declared.refusal.Refusal.TheVariants.{Words, Position, Missing, File, Read, Write, Memory, Base, Roll, Inconsistent, Record, Contact}
+use Rattle.equity_report.specs.declared.refusal.Refusal.TheVariants.{Words, Position, Missing, File, Read, Write, Memory, Base, Roll, Inconsistent, Record, Contact, Condition}
 use Rattle.equity_report.specs.Refusals.{status_of, refusal_text}
 use Rattle.top_call.specs.declared.task.Task.{Task}
-use Rattle.top_call.specs.declared.task.Task.TheVariants.{Bound, Race, Solve, Show, Migrate, Advise, Verify, Ladder, Analyse, Study, Make, Plan}
-use Rattle.top_call.specs.Runs.{Ends, EndsBy, EndsTask, EndsWriting, IsOfLoading, IsOfShowing, IsOfVerifying, IsStatus, IsOfAnalysing, IsOfReplaying}
+use Rattle.top_call.specs.declared.task.Task.TheVariants.{Bound, Race, Solve, Show, Migrate, Advise, Verify, Ladder, Analyse, Study, Make, Plan, Scan}
+use Rattle.top_call.specs.Runs.{Ends, EndsBy, EndsTask, EndsWriting, IsOfLoading, IsOfShowing, IsOfScanning, IsOfVerifying, IsStatus, IsOfAnalysing, IsOfReplaying}
 
 -- status 8 is that of want of memory alone
 pub memory-text : (W : List ℕ → Type 0) (refusal : Refusal) → status_of refusal ≡ 8 → W (refusal_text refusal) → W (refusal_text Memory)
@@ -20,6 +20,7 @@ memory-text W (Base wanted found) e w = absurd (omega arith)
 memory-text W (Roll bad) e w = absurd (omega arith)
 memory-text W (Inconsistent unheld) e w = absurd (omega arith)
 memory-text W Contact e w = absurd (omega arith)
+memory-text W (Condition word) e w = absurd (omega arith)
 memory-text W (Record bad) e w = absurd (omega arith)
 
 writing-status : (status : ℕ) → EndsWriting status → IsStatus status
@@ -45,6 +46,7 @@ task-status (Ladder task) status ends = writing-status status ends
 task-status (Verify task) status ends = by-status IsOfVerifying status ends
 task-status (Analyse task) status ends = by-status IsOfAnalysing status ends
 task-status (Plan task) status ends = by-status IsOfShowing status ends
+task-status (Scan task) status ends = by-status IsOfScanning status ends
 
 -- however a run ends, its status is 0 or that of a refusal
 pub ends-status : (expected : Result Task Refusal) (status : ℕ) → Ends expected status → IsStatus status

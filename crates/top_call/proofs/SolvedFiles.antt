@@ -18,7 +18,7 @@ use Rattle.database_file.specs.Faults.{Read as FileRead, whole}
 use Rattle.command_line.specs.declared.command.Solve.{Solve}
 use Rattle.command_line.specs.Right.{IsRightSolve}
 use Rattle.equity_report.specs.declared.refusal.Refusal.{Refusal}
-use Rattle.equity_report.specs.declared.refusal.Refusal.TheVariants.{Words, Position, Missing, File, Read, Write, Memory, Base, Roll, Inconsistent, Record, Contact}
+use Rattle.equity_report.specs.declared.refusal.Refusal.TheVariants.{Words, Position, Missing, File, Read, Write, Memory, Base, Roll, Inconsistent, Record, Contact, Condition}
 use Rattle.equity_report.specs.Refusals.{status_of}
 use Rattle.top_call.specs.Runs.{WasRefused}
 use Rattle.top_call.specs.Solves.{HasSolved, head_of, solved_file}
@@ -65,6 +65,7 @@ refused-by name read base is consistent Memory r = inr refl
 refused-by name read base is consistent (Base wanted found) r = absurd r
 refused-by name read base is consistent (Roll bad) r = absurd r
 refused-by name read base is consistent Contact r = absurd r
+refused-by name read base is consistent (Condition word) r = absurd r
 refused-by name read base is consistent (Record bad) r = absurd r
 refused-by name read base is consistent (Inconsistent unheld) r =
     let same : base ≡ r.base = is.holds ∙ sym r.read.holds in

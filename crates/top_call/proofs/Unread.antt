@@ -3,16 +3,17 @@ use Rattle.std.proofs.Common.{◌≡◌, ◌∙◌, ℕ, List, Bool, IsTrue, Non
 use Rattle.hyper_outside.specs.Files.{Contents, SameFiles}
 use Rattle.hyper_outside.specs.Sink.{Output}
 use Rattle.equity_report.specs.declared.refusal.Refusal.{Refusal}
-use Rattle.equity_report.specs.declared.refusal.Refusal.TheVariants.{Words, Position, Missing, File, Read, Write, Memory, Base, Roll, Inconsistent, Record, Contact}
+use Rattle.equity_report.specs.declared.refusal.Refusal.TheVariants.{Words, Position, Missing, File, Read, Write, Memory, Base, Roll, Inconsistent, Record, Contact, Condition}
 use Rattle.equity_report.specs.Refusals.{status_of, refusal_text}
 use Rattle.top_call.specs.declared.task.Task.{Task}
-use Rattle.top_call.specs.declared.task.Task.TheVariants.{Bound, Race, Solve, Show, Migrate, Advise, Verify, Ladder, Analyse, Study, Make, Plan}
+use Rattle.top_call.specs.declared.task.Task.TheVariants.{Bound, Race, Solve, Show, Migrate, Advise, Verify, Ladder, Analyse, Study, Make, Plan, Scan}
 use Rattle.top_call.specs.Advises.{HasAdvised, MayRefuseAdvice}
 use Rattle.top_call.specs.Analyses.{HasAnalysed, MayRefuseAnalysis}
 use Rattle.top_call.specs.Loads.{RefusesLoading}
 use Rattle.top_call.specs.Outcomes.{HasRun, TellsMemory}
 use Rattle.top_call.specs.Plans.{HasPlanned, MayRefusePlanning, RefusesPlanning, first_file}
 use Rattle.top_call.specs.Runs.{IsDue, WasPut}
+use Rattle.top_call.specs.Scans.{HasScanned, MayRefuseScanning, RefusesScanning}
 use Rattle.top_call.specs.Studies.{HasStudied, MayRefuseStudy}
 use Rattle.top_call.specs.Shows.{HasShown, RefusesShowing}
 use Rattle.top_call.specs.Verifies.{HasVerified, MayRefuseVerifying, RefusesVerifying}
@@ -34,6 +35,7 @@ of_memory W (Base wanted found) e w = absurd (omega arith)
 of_memory W (Roll bad) e w = absurd (omega arith)
 of_memory W (Inconsistent unheld) e w = absurd (omega arith)
 of_memory W Contact e w = absurd (omega arith)
+of_memory W (Condition word) e w = absurd (omega arith)
 of_memory W (Record bad) e w = absurd (omega arith)
 
 -- where the line alone was put, it is told that there was no memory, whatever is asked for
@@ -50,6 +52,7 @@ memory-told (Ok (Analyse task)) old new put = put
 memory-told (Ok (Study task)) old new put = put
 memory-told (Ok (Make task)) old new put = put
 memory-told (Ok (Plan task)) old new put = put
+memory-told (Ok (Scan task)) old new put = put
 memory-told (Err refusal) old new put = put
 
 -- where there was no memory for the words, nothing is known of what they ask for
@@ -108,6 +111,9 @@ module _ (told : Bool) (before after : Contents) (same : SameFiles before after)
   unheld is put (Ok (Plan task)) =
       no-memory (HasPlanned task told (before (first_file task))) (MayRefusePlanning task told (before (first_file task))) old new
       (of-file told (before (first_file task)) (RefusesPlanning task Memory) (λ _. tt) (None, tt)) status is put
+  unheld is put (Ok (Scan task)) =
+      no-memory (HasScanned task told (before task.file)) (MayRefuseScanning task told (before task.file)) old new
+      (of-file told (before task.file) (RefusesScanning task Memory) (λ _. tt) (None, tt)) status is put
 
   refused : (expected : Result Task Refusal) (refusal : Refusal) → expected ≡ Err refusal → WasPut old new (refusal_text refusal) → Run expected
   refused expected refusal due put = subst Run (sym due) (λ _. put)
@@ -124,4 +130,5 @@ module _ (told : Bool) (before after : Contents) (same : SameFiles before after)
   unread expected (Roll bad) due is put = refused expected (Roll bad) due put
   unread expected (Inconsistent unheld) due is put = refused expected (Inconsistent unheld) due put
   unread expected Contact due is put = refused expected Contact due put
+  unread expected (Condition word) due is put = refused expected (Condition word) due put
   unread expected (Record bad) due is put = refused expected (Record bad) due put

@@ -20,7 +20,7 @@ use Rattle.database_file.specs.FileBases.{FileBase}
 use Rattle.database_file.specs.Faults.{Read as FileRead}
 use Rattle.base_verify.specs.Findings.{AlwaysEnclose}
 use Rattle.equity_report.specs.declared.refusal.Refusal.{Refusal}
-use Rattle.equity_report.specs.declared.refusal.Refusal.TheVariants.{Words as BadWords, Position, Missing, File, Read, Write, Memory, Base, Roll, Inconsistent, Record, Contact}
+use Rattle.equity_report.specs.declared.refusal.Refusal.TheVariants.{Words as BadWords, Position, Missing, File, Read, Write, Memory, Base, Roll, Inconsistent, Record, Contact, Condition}
 use Rattle.equity_report.specs.Refusals.{status_of}
 use Rattle.top_call.specs.Loads.{RefusesLoading}
 use Rattle.top_call.specs.Verifies.{AnswersCheck, AreVerified, LossesEnclose, RefusesVerifying}
@@ -69,6 +69,7 @@ refuses-verifying name (Base wanted found) file r = r
 refuses-verifying name (Roll bad) file r = r
 refuses-verifying name (Inconsistent unheld) file r = absurd r
 refuses-verifying name Contact file r = r
+refuses-verifying name (Condition word) file r = r
 refuses-verifying name (Record bad) file r = absurd r
 
 -- what checking refuses of a base that was read from a file
@@ -83,5 +84,6 @@ check-refuses name base file read Memory is = tt
 check-refuses name base file read (Base wanted found) is = absurd (omega (arith, ap status_of is))
 check-refuses name base file read (Roll bad) is = absurd (omega (arith, ap status_of is))
 check-refuses name base file read Contact is = absurd (omega (arith, ap status_of is))
+check-refuses name base file read (Condition word) is = absurd (omega (arith, ap status_of is))
 check-refuses name base file read (Record bad) is = absurd (omega (arith, ap status_of is))
 check-refuses name base file read (Inconsistent unheld) is = record { base = base; read = read; is = is }

@@ -16,4 +16,5 @@ pub mod Makes
 pub mod MatchAnalyses
 pub mod Analyses
 pub mod Plans
+pub mod Scans
 pub mod Outcomes

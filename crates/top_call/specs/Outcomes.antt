@@ -3,10 +3,10 @@ use Rattle.std.specs.Prelude.{◌≡◌, ◌≢◌, ℕ, Bool, Result, Ok, Err, 
 use Rattle.hyper_outside.specs.Files.{Contents, KeepsOthers, SameFiles}
 use Rattle.hyper_outside.specs.Sink.{Output}
 use Rattle.equity_report.specs.declared.refusal.Refusal.{Refusal}
-use Rattle.equity_report.specs.declared.refusal.Refusal.TheVariants.{Memory, Write}
+use Rattle.equity_report.specs.declared.refusal.Refusal.TheVariants.{Memory, Write, Condition}
 use Rattle.equity_report.specs.Refusals.{status_of, refusal_text}
 use Rattle.top_call.specs.declared.task.Task.{Task}
-use Rattle.top_call.specs.declared.task.Task.TheVariants.{Bound, Race, Solve, Show, Migrate, Advise, Verify, Ladder, Analyse, Study, Make, Plan}
+use Rattle.top_call.specs.declared.task.Task.TheVariants.{Bound, Race, Solve, Show, Migrate, Advise, Verify, Ladder, Analyse, Study, Make, Plan, Scan}
 use Rattle.top_call.specs.Advises.{TellsAdvice}
 use Rattle.top_call.specs.Ladders.{KeepsAllBut, SolvesLadder, scores_in}
 use Rattle.top_call.specs.Makes.{Makes}
@@ -15,6 +15,7 @@ use Rattle.top_call.specs.Migrates.{Migrates}
 use Rattle.top_call.specs.Plans.{TellsPlan, first_file}
 use Rattle.top_call.specs.Races.{TellsRace}
 use Rattle.top_call.specs.Runs.{WasPut}
+use Rattle.top_call.specs.Scans.{TellsScan}
 use Rattle.top_call.specs.Shows.{TellsShown}
 use Rattle.top_call.specs.Solves.{Solves}
 use Rattle.top_call.specs.Studies.{TellsStudy}
@@ -36,6 +37,7 @@ HasRun (Ok (Study task)) told before after old new status = TellsStudy task told
 HasRun (Ok (Make task)) told before after old new status = Makes task told before after old new status
 HasRun (Ok (Analyse task)) told before after old new status = TellsAnalysis task told before old new status
 HasRun (Ok (Plan task)) told before after old new status = TellsPlan task told (before (first_file task)) old new status
+HasRun (Ok (Scan task)) told before after old new status = TellsScan task told (before task.file) old new status
 HasRun (Err refusal) told before after old new status = status ≡ status_of refusal → WasPut old new (refusal_text refusal)
 
 -- no file changed but the one that is to be written, or those of the scores of a ladder
@@ -64,5 +66,6 @@ LeavesFiles (Ok (Bound task)) status = ⊤
 LeavesFiles (Ok (Race task)) status = ⊤
 LeavesFiles (Ok (Solve task)) status = (status ≢ 0) × (status ≢ status_of Write)
 LeavesFiles (Ok (Make task)) status = (status ≢ 0) × (status ≢ status_of Write)
+LeavesFiles (Ok (Scan task)) status = (word : ℕ) × (status ≡ status_of (Condition word))
 LeavesFiles (Ok _) status = ⊥
 LeavesFiles (Err refusal) status = ⊤

@@ -5,10 +5,10 @@ use Rattle.hyper_outside.specs.declared.outside.Failed.{Failed}
 use Rattle.hyper_outside.specs.declared.outside.WordsKind.TheVariants.{Word}
 use Rattle.hyper_outside.specs.Sink.{Output, Puts}
 use Rattle.equity_report.specs.declared.refusal.Refusal.{Refusal}
-use Rattle.equity_report.specs.declared.refusal.Refusal.TheVariants.{Words, Missing, File, Record, Read, Write, Memory, Base, Inconsistent}
+use Rattle.equity_report.specs.declared.refusal.Refusal.TheVariants.{Words, Missing, File, Record, Read, Write, Memory, Base, Inconsistent, Condition}
 use Rattle.equity_report.specs.Refusals.{status_of, refusal_text}
 use Rattle.top_call.specs.declared.task.Task.{Task}
-use Rattle.top_call.specs.declared.task.Task.TheVariants.{Bound, Race, Solve, Show, Migrate, Advise, Verify, Ladder, Analyse, Study, Make, Plan}
+use Rattle.top_call.specs.declared.task.Task.TheVariants.{Bound, Race, Solve, Show, Migrate, Advise, Verify, Ladder, Analyse, Study, Make, Plan, Scan}
 
 -- the task is the one that was asked for, or the refusal the one that is due, unless there was no memory
 abbrev pub IsDue : Result Task Refusal → Result Task Refusal → Type 0
@@ -41,6 +41,11 @@ IsOfShowing refusal = IsOfLoading refusal
 abbrev pub IsOfVerifying : Refusal → Type 0
 IsOfVerifying (Inconsistent unheld) = ⊤
 IsOfVerifying refusal = IsOfLoading refusal
+
+-- a refusal of a file whose states are to be searched: one of loading, or the condition's text is none
+abbrev pub IsOfScanning : Refusal → Type 0
+IsOfScanning (Condition word) = ⊤
+IsOfScanning refusal = IsOfLoading refusal
 
 -- a refusal of a file that holds a recorded game: it isn't there, a line of it is wrong, or it couldn't be read, or there was no memory for it
 abbrev pub IsOfReplaying : Refusal → Type 0
@@ -75,6 +80,7 @@ EndsTask (Analyse task) status = EndsBy IsOfAnalysing status
 EndsTask (Study task) status = EndsBy IsOfReplaying status
 EndsTask (Make task) status = EndsWriting status
 EndsTask (Plan task) status = EndsBy IsOfShowing status
+EndsTask (Scan task) status = EndsBy IsOfScanning status
 
 -- Where words are refused, the status is that of the refusal, or that of no memory if there was none.
 abbrev pub Ends : Result Task Refusal → ℕ → Type 0

@@ -16,7 +16,7 @@ use Rattle.command_line.specs.Words.{reading}
 use Rattle.command_line.specs.declared.command.Race.{Race as RaceWords}
 use Rattle.command_line.specs.declared.command.Show.{Show as ShowWords}
 use Rattle.command_line.specs.declared.command.Advise.{Advise as AdviseWords}
-use Rattle.command_line.specs.Right.{IsName, IsRightMake, IsRightStudy, IsRightSolve, IsRightMigrate, IsRightVerify, IsRightLadder, IsRightAnalyse, IsRightPlan}
+use Rattle.command_line.specs.Right.{IsName, IsRightMake, IsRightStudy, IsRightSolve, IsRightMigrate, IsRightVerify, IsRightLadder, IsRightAnalyse, IsRightPlan, IsRightScan}
 use Rattle.word_forms.specs.Clap.{bytes_of}
 use Rattle.cube_actions.specs.Stakes.{cubeless}
 use Rattle.turn_rule.specs.Turn.{rounds}
@@ -35,7 +35,7 @@ use Rattle.top_call.specs.declared.task.BoundTask.{BoundTask}
 use Rattle.top_call.specs.declared.task.RaceTask.{RaceTask}
 use Rattle.top_call.specs.declared.task.ShowTask.{ShowTask}
 use Rattle.top_call.specs.declared.task.Task.{Task}
-use Rattle.top_call.specs.declared.task.Task.TheVariants.{Bound, Race, Solve, Show, Migrate, Advise, Verify, Ladder, Analyse, Study, Make, Plan}
+use Rattle.top_call.specs.declared.task.Task.TheVariants.{Bound, Race, Solve, Show, Migrate, Advise, Verify, Ladder, Analyse, Study, Make, Plan, Scan}
 
 -- a game without a cube, by its checkers
 abbrev pub cubeless_game : ℕ → GameName
@@ -97,6 +97,7 @@ with_words (Ok (commands.Analyse analyse)) = Ok (Analyse analyse)
 with_words (Ok (commands.Study study)) = Ok (Study study)
 with_words (Ok (commands.Make make)) = Ok (Make make)
 with_words (Ok (commands.Plan plan)) = Ok (Plan plan)
+with_words (Ok (commands.Scan scan)) = Ok (Scan scan)
 with_words (Err bad) = Err (Words bad)
 
 -- The words are read first, then a position, then a roll; then the position's number of checkers is compared, and then it is seen whether it is a
@@ -151,3 +152,4 @@ IsRightTask (Study task) = IsRightStudy task
 IsRightTask (Make task) = IsRightMake task
 IsRightTask (Analyse task) = IsRightAnalyse task
 IsRightTask (Plan task) = IsRightPlan task
+IsRightTask (Scan task) = IsRightScan task

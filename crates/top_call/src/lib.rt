@@ -18,6 +18,8 @@ mod program;
 mod put;
 mod race;
 mod record;
+mod scan;
+mod scan_laws;
 mod show;
 mod solve;
 mod studying;
@@ -38,6 +40,7 @@ pub use plan_laws::{plans_hold_inside_their_pairs, plans_of_solved_matches_hold_
 pub use program::{refuse_unread, start};
 pub use put::DONE;
 pub use record::Replayed;
+pub use scan_laws::right_searches_are_done;
 pub use show::{Rows, Shown};
 pub use task::{AdviseTask, BoundTask, RaceTask, ShowTask, Task, read_task};
 pub use top::run;

@@ -9,8 +9,8 @@ ghost use Rattle.top_call.specs.Tasks.{IsRightTask, asked, cubeless_game, fittin
 ghost use Rattle.top_call.specs.Runs.{IsDue};
 
 use command_line::{
-    Advise, Analyse, Bound, Command, Ladder, Make, Migrate, Plan, Race, Show, Solve, Study, Text,
-    Verify, WordsStop, read_words,
+    Advise, Analyse, Bound, Command, Ladder, Make, Migrate, Plan, Race, Scan, Show, Solve, Study,
+    Text, Verify, WordsStop, read_words,
 };
 use cube_actions::{KindName, StakesName};
 use equity_report::{GameName, Refusal, Wanted};
@@ -67,6 +67,7 @@ pub enum Task {
     Study(Study),
     Make(Make),
     Plan(Plan),
+    Scan(Scan),
 }
 
 /// Reads the words, then a position, then a roll, compares its number of checkers with that of the words, and sees whether it is a race.
@@ -85,6 +86,7 @@ pub fn read_task(alloc: Global, words: &[String]) -> Result<Task, Refusal>
         Ok(Command::Study(study)) => Ok(Task::Study(study)),
         Ok(Command::Make(make)) => Ok(Task::Make(make)),
         Ok(Command::Plan(plan)) => Ok(Task::Plan(plan)),
+        Ok(Command::Scan(scan)) => Ok(Task::Scan(scan)),
         Ok(Command::Show(show)) => show_task(show),
         Ok(Command::Advise(advise)) => advise_task(advise),
         Err(WordsStop::Bad(bad)) => Err(Refusal::Words(bad)),

@@ -16,6 +16,7 @@ use crate::migrate::run_migrate;
 use crate::plan::run_plan;
 use crate::put::refuse;
 use crate::race::run_race;
+use crate::scan::run_scan;
 use crate::show::run_show;
 use crate::solve::run_solve;
 use crate::studying::run_study;
@@ -51,6 +52,8 @@ use std::thread::Threads;
 ///   turns, the best play, the offer and the answer lose, in every game of enough turns, at most the bound that is told with each.
 /// - `verify`: of a file whose words are consistent. Whoever made it, they enclose every state in games of any number of turns, and
 ///   what a choice loses over them encloses what it loses exactly.
+/// - `scan`: of the states of the file's words that meet the condition, all of them and no others, by rising live rank and then by
+///   kind, for every number of workers.
 /// - `analyse`: of each decision of a recorded game that breaks no rule, with what it loses by the pairs of the file, in a match of
 ///   the file of its score, whose header and pages are right as far as the losses rest on them, and of both players' totals. Where
 ///   the files' pairs enclose what their states are worth exactly in every game of enough turns, and in a match the start pairs in
@@ -66,7 +69,8 @@ use std::thread::Threads;
 ///
 /// 1. 1 comes where the words are outside their form.
 /// 2. 2 where a position's text is, or else a roll's; 10 where `bound` or `race` asks for another number of checkers than
-///    its position has; 12 where the position of `race` isn't a race.
+///    its position has; 12 where the position of `race` isn't a race;
+///    11 where the text of `scan` isn't that of a condition, with the first word with which none can go on.
 /// 3. Of a record that is to be read: 3 where it isn't there; 5 where its file is too long, or a line of it is wrong, with the
 ///    first.
 /// 4. Of a file of bounds that is to be read: 3 where it isn't there; 4 where it isn't one, of `show`, `advise` and `analyse` up to
@@ -121,6 +125,7 @@ pub fn run<R: Threads + Sync, F: Files, O: Sink, G: Gate + Sync>(
         Ok(Task::Make(task)) => run_make(rt, alloc, &task, files, out, gate),
         Ok(Task::Analyse(task)) => run_analyse(alloc, &task, files, out),
         Ok(Task::Plan(task)) => run_plan(rt, alloc, &task, files, out),
+        Ok(Task::Scan(task)) => run_scan(rt, alloc, &task, files, out),
         Err(refusal) => refuse(out, &refusal),
     }
 }

@@ -78,6 +78,7 @@ fn place_of(command: CommandName, name: &str) -> Option<usize> {
         (CommandName::Study, "rounds") => Some(2),
         (CommandName::Study, "workers") => Some(3),
         (CommandName::Plan, "length") => Some(1),
+        (CommandName::Scan, "workers") => Some(3),
         _ => None,
     }
 }
@@ -187,6 +188,7 @@ fn bad_value(name: CommandName, all: &Given<'_>) -> u32 {
         CommandName::Make if first != Some("0") && !is_number(first, u32::MAX) => 1,
         CommandName::Make if !is_number(second, 1000) => 2,
         CommandName::Plan if !is_number(points, 5) => 2,
+        CommandName::Scan if !is_number(workers, 64) => 3,
         _ => 0,
     }
 }
@@ -207,7 +209,8 @@ fn plain(name: CommandName, words: &[&str]) -> Option<(WordsKind, u32)> {
         | CommandName::Show
         | CommandName::Migrate
         | CommandName::Advise
-        | CommandName::Analyse => 2,
+        | CommandName::Analyse
+        | CommandName::Scan => 2,
     };
     match words_given(words, name) {
         Some(all) if all.count == wanted => match bad_value(name, &all) {
@@ -238,11 +241,12 @@ fn random_lines_are_read_as_by_hand(rt: HostRuntime) -> Result<(), Fail> {
         ("study", CommandName::Study),
         ("make", CommandName::Make),
         ("plan", CommandName::Plan),
+        ("scan", CommandName::Scan),
     ];
     let mut seed: u32 = 12;
-    for line in 0..880usize {
+    for line in 0..1040usize {
         seed = next(seed);
-        let (text, name) = names[line % 11];
+        let (text, name) = names[line % 13];
         let count = 1 + (seed >> 16) as usize % 5;
         let mut words = [text; 6];
         for i in 0..count {

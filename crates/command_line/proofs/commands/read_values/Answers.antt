@@ -35,3 +35,6 @@ returns-in-Make c = λ given has. rw c.in-Make.is (c.read_make.ensures given has
 
 pub returns-in-Plan : goal.returns-in-Plan
 returns-in-Plan c = λ given has. rw c.in-Plan.is (c.read_plan.ensures given has)
+
+pub returns-in-Scan : goal.returns-in-Scan
+returns-in-Scan c = λ given has. rw c.in-Scan.is (c.read_scan.ensures given has)

@@ -33,3 +33,6 @@ returns-in-Ok-Study-clause-right c = subst IsRightCommand c.in-Ok-Study.field-0-
 
 pub returns-in-Ok-Plan-clause-right : goal.returns-in-Ok-Plan-clause-right
 returns-in-Ok-Plan-clause-right c = subst IsRightCommand c.in-Ok-Plan.field-0-is (command-right (bytes_of c.args.words.now) c.in-Ok-Plan.field-0 c.in-Ok-Plan.ensures)
+
+pub returns-in-Ok-Scan-clause-right : goal.returns-in-Ok-Scan-clause-right
+returns-in-Ok-Scan-clause-right c = subst IsRightCommand c.in-Ok-Scan.field-0-is (command-right (bytes_of c.args.words.now) c.in-Ok-Scan.field-0 c.in-Ok-Scan.ensures)
