@@ -1,0 +1,4 @@
+pub mod SumsBy
+pub mod TurnsBy
+pub mod Rounds
+pub mod Between
