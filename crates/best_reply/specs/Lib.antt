@@ -1,3 +1,5 @@
 pub mod Policies
+pub mod Advised
 pub mod Replies
 pub mod ReplyPairs
+pub mod Tables

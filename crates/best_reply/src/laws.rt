@@ -7,7 +7,10 @@ ghost use Rattle.turn_rule.specs.Games.{IsGame};
 ghost use Rattle.turn_rule.specs.Turn.{Words};
 ghost use Rattle.turn_rule.specs.States.{IsState};
 ghost use Rattle.turn_rule.specs.Exact.{Scoring, exact};
+ghost use Rattle.play_analyser.specs.declared.ranking.Ranking.{Ranking};
+ghost use Rattle.play_analyser.specs.Rankings.{IsRankingOver};
 ghost use Rattle.best_reply.specs.Policies.{IsLegalPolicy, Policy};
+ghost use Rattle.best_reply.specs.Advised.{BeginsWith, IsAdvised, advised};
 ghost use Rattle.best_reply.specs.Replies.{AreScored, IsBetween, Worths, same_worths, worths};
 ghost use Rattle.best_reply.specs.ReplyPairs.{
   AreNoLooserReplies,
@@ -15,6 +18,23 @@ ghost use Rattle.best_reply.specs.ReplyPairs.{
   EncloseWorths,
   reply_rounds,
 };
+
+/// By any words there is one advised play of a roll, and it is legal. Any other end that fits what
+/// is said of it is the same.
+pub fn one_play_is_advised()
+    ensures is { (stakes : Terms) (u : Words) (p : Placement) (k : ℕ) (roll : Dice)
+        → IsAdvised stakes u p k roll (advised stakes u p k roll) }
+    ensures alone { (stakes : Terms) (u : Words) (p : Placement) (k : ℕ) (roll : Dice)
+        (end : Placement) → IsAdvised stakes u p k roll end → end ≡ advised stakes u p k roll }
+    ensures legal { (stakes : Terms) (u : Words) → IsLegalPolicy (advised stakes u) }
+{}
+
+/// The advised play is the first row of every ranking of the roll's plays over the words.
+pub fn the_first_row_is_advised()
+    ensures { (stakes : Terms) (u : Words) (p : Placement) (k : ℕ) (roll : Dice)
+        (ranking : Ranking) → IsRankingOver stakes u p k roll ranking
+        → BeginsWith ranking.rows.items (advised stakes u p k roll) }
+{}
 
 /// After any number of rounds the words are within the bound of the stakes, lower at most upper.
 pub fn reply_rounds_stay_within_the_bound()
