@@ -5,3 +5,5 @@ pub mod Between
 pub mod Lines
 pub mod Lefts
 pub mod Listed
+pub mod FirstRow
+pub mod RollSums

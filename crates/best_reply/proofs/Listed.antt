@@ -1,5 +1,5 @@
 -- The listed plays of a roll: what they leave is a state, whose pair is within the bound.
-use Rattle.std.proofs.Common.{◌≡◌, ◌<◌, ◌+◌, ◌++◌, ◌∷◌, [], ◌∙◌, ◌↔◌, ℕ, ℤ, pos, neg_ℤ, ◌≤ℤ◌, List, length, map, get_or, take, sum, All, AllPairs, Contains, Option, Some, None, refl, ap, sym, subst, arith}
+use Rattle.std.proofs.Common.{◌≡◌, ◌<◌, ◌+◌, ◌++◌, ◌∷◌, [], ◌∙◌, ◌↔◌, ◌^◌, ℕ, ℤ, pos, neg_ℤ, ◌≤ℤ◌, List, length, map, get_or, take, sum, All, AllPairs, Contains, Option, Some, None, refl, ap, sym, subst, arith}
 use Rattle.std.proofs.lemmas.Int.{ints}
 use Rattle.std.proofs.lemmas.List.{get_or-map, length-map, map-append, take_more}
 use Rattle.std.proofs.lemmas.List.Elements.{Contains-get_or}
@@ -24,7 +24,7 @@ use Rattle.turn_rule.specs.Turn.{Words, greatest, if_won, win, worth}
 use Rattle.turn_rule.specs.States.{AreWithin, IsState}
 use Rattle.turn_rule.proofs.Greatest.{greatest-from, greatest-mono, greatest-same, greatest-upto}
 use Rattle.turn_rule.proofs.Integers.{neg_le}
-use Rattle.turn_rule.proofs.Within.{bound-positive, follow-state, in_play, win-within}
+use Rattle.turn_rule.proofs.Within.{bound-positive, bound-small, follow-state, in_play, win-within}
 use Rattle.play_analyser.specs.Regrets.{play_pair}
 use Rattle.best_reply.specs.declared.left.Left.{Left}
 use Rattle.best_reply.specs.Tables.{AreListed, IsRightBank, LeavesLive, LeavesPair, LeavesState, RollAt, StatePairs, best_pair, ends_in, words_by}
@@ -41,9 +41,9 @@ listed-live checkers p roll ends right position live many legal i none inside =
     legal-live checkers p roll (get_or ends i none) right position live many ((legal (get_or ends i none)).0 (Contains-get_or ends i none inside))
 
 -- the listed plays of a roll, with what they leave
-pub are-listed : (p : Placement) (roll : Dice) (entries : List Entry) (ends : List Placement) → IsRoll roll → ends ≡ ends_of entries → 0 < length entries → ((q : Placement) → Contains (ends_of entries) q ↔ IsLegalEnd p roll q)
-    → All (λ (entry : Entry). IsFirst p roll entry.play.items entry.end) entries → AllPairs PlayComesBefore (plays_of entries) → AreListed (record { position = p; roll = roll }) ends
-are-listed p roll entries ends right is some legal first in_order = record {
+pub are-listed : (p : Placement) (roll : Dice) (times : ℕ) (entries : List Entry) (ends : List Placement) → IsRoll roll → ends ≡ ends_of entries → 0 < length entries → ((q : Placement) → Contains (ends_of entries) q ↔ IsLegalEnd p roll q)
+    → All (λ (entry : Entry). IsFirst p roll entry.play.items entry.end) entries → AllPairs PlayComesBefore (plays_of entries) → AreListed (record { position = p; roll = roll; times = times }) ends
+are-listed p roll times entries ends right is some legal first in_order = record {
   right = right;
   entries = entries;
   is = sym is;
@@ -79,6 +79,12 @@ module _ (game : Game) (valid : IsValid game.stakes) (p : Placement) (k : ℕ) (
         let later = words (swap q) kind.next (legal-state q legal on) in
         record { from = neg_le _ _ later.to; in_order = neg_le _ _ later.in_order; to = (let h = later.from in omega (arith, ints, h)) }
     by_points (Some won) over = win-within game.stakes.bound kind (bound-positive game.stakes valid) (valid.kinds k no_kind state.kind).wins won
+
+  -- within the bound of all stakes
+  pub small-pair : (pair : Bounds) → IsWithin game.stakes.bound pair → IsWithin (pos (2 ^ 36)) pair
+  small-pair pair h =
+      let small = bound-small game.stakes valid in
+      record { from = (let low = h.from in omega (arith, ints, low, small)); in_order = h.in_order; to = (let high = h.to in omega (arith, ints, high, small)) }
 
   -- the best of them is the best of the legal ones, and within the bound
   pub best-legal : (u : Words) (ends : List Placement) → ((q : Placement) → Contains ends q ↔ IsLegalEnd p roll q) → best_pair kind u ends ≡ best_pair kind u (legal_ends p roll)

@@ -12,7 +12,7 @@ use Rattle.game_payoff.specs.declared.payoff.Won.{Won}
 use Rattle.game_payoff.specs.Points.{points}
 use Rattle.directed_fixed.specs.declared.bounds.End.{End}
 use Rattle.directed_fixed.specs.declared.bounds.End.TheVariants.{Lower, Upper}
-use Rattle.directed_fixed.specs.Bounds.{Bounds, IsWithin, at}
+use Rattle.directed_fixed.specs.Bounds.{Bounds, IsWithin, IsWithinUnits, at}
 use Rattle.directed_fixed.specs.Rounding.{outwards}
 use Rattle.cube_actions.specs.declared.kind.Double.{Double}
 use Rattle.cube_actions.specs.declared.kind.Kind.{Kind}
@@ -40,10 +40,19 @@ pub record IsRight (left : Left) : Type 0 where
 abbrev pub ends_in : List Left → List Placement
 ends_in lefts = map (λ (left : Left). left.end) lefts
 
--- a position, and a roll in it
+-- a position, and a roll in it with the number of ways in which it comes
 pub record RollAt : Type 0 where
   pub position : Placement
   pub roll : Dice
+  pub times : ℕ
+
+abbrev pub weighted : RollAt → Dice × ℕ
+weighted at = (at.roll, at.times)
+
+-- every roll of a position
+pub record AreRolled (p : Placement) (kept : List RollAt) : Type 0 where
+  pub rolls : map weighted kept ≡ all_rolls
+  pub position : All (λ at. at.position ≡ p) kept
 
 -- what the legal plays of the roll leave, in the order in which plays are listed
 pub record AreListed (at : RollAt) (ends : List Placement) : Type 0 where
@@ -108,6 +117,11 @@ best_pair kind u ends = record {
 }
 
 -- ---- sums over the 36 ways of two dice
+
+-- both ends lie within 2 ^ 42 units
+pub record IsSmall (sum : Bounds) : Type 0 where
+  pub lower : IsWithinUnits (pos (2 ^ 42)) sum.lower
+  pub upper : IsWithinUnits (pos (2 ^ 42)) sum.upper
 
 -- of what the policy's plays leave
 abbrev pub follow_sum : Policy → Terms → Words → Placement → ℕ → Bounds

@@ -4,6 +4,7 @@
 mod bank;
 mod laws;
 mod left;
+mod position_lefts;
 mod roll_lefts;
 
 pub use laws::{

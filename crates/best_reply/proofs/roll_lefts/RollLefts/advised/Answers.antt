@@ -16,7 +16,7 @@ first_best-requires-clause-states c =
     let game = c.args.words.now.game in
     let valid : IsValid game.stakes = rw (← c.stakes.ensures) c.kind-kind.ensures.valid in
     let kind : c.kind-kind.result.now ≡ kind_at game.stakes c.args.number = c.kind-kind.ensures.kind ∙ ap (λ (s : Terms). kind_at s c.args.number) c.stakes.ensures in
-    let at : RollAt = record { position = c.self.inside.position; roll = c.self.inside.roll } in
+    let at : RollAt = record { position = c.self.inside.position; roll = c.self.inside.roll; times = c.self.inside.times } in
     let listed = c.self.invariant.listed in
     rw (kind, c.as_slice.ensures.value) (listed-states game valid at.position c.args.number (subst (λ (a : RollAt). IsState game a.position c.args.number) (sym c.self.view_is) c.requires) at.roll listed.right (ends_in c.self.inside.lefts.items) listed.legal)
 
@@ -25,7 +25,7 @@ returns-clause-end c =
     let game = c.args.words.now.game in
     let u = words_in_list c.args.words.now in
     let kind : c.kind-kind.result.now ≡ kind_at game.stakes c.args.number = c.kind-kind.ensures.kind ∙ ap (λ (s : Terms). kind_at s c.args.number) c.stakes.ensures in
-    let at : RollAt = record { position = c.self.inside.position; roll = c.self.inside.roll } in
+    let at : RollAt = record { position = c.self.inside.position; roll = c.self.inside.roll; times = c.self.inside.times } in
     let first : IsFirstBest (play_pair (kind_at game.stakes c.args.number) u) c.self.inside.lefts.items c.first_best.result =
     subst (λ (k : Kind). IsFirstBest (play_pair k u) c.self.inside.lefts.items c.first_best.result) kind (subst (λ (xs : List Left). IsFirstBest (play_pair c.kind-kind.result.now u) xs c.first_best.result) c.as_slice.ensures.value c.first_best.ensures) in
     let left = c.index-deref-first_best.result in

@@ -10,7 +10,7 @@ use Rattle.play_analyser.specs.Regrets.{play_pair}
 use Rattle.best_reply.specs.Tables.{LeavesPair, RollAt, policy_of, words_by}
 use Rattle.best_reply.proofs.Lefts.{bank-inside}
 use Rattle.best_reply.proofs.Lines.{legal-advised}
-use Rattle.best_reply.proofs.Listed.{legal-state, legal-within}
+use Rattle.best_reply.proofs.Listed.{legal-state, legal-within, small-pair}
 use Rattle.best_reply.proofs.roll_lefts.RollLefts.follow_pair.Goals as goal
 
 pub left_by-requires-clause-pair : goal.left_by-requires-clause-pair
@@ -25,8 +25,8 @@ left_by-requires-clause-pair c =
     let leaves = legal-state game valid at.position c.args.number c.requires.state at.roll right end legal in
     rw (kind, c.advised.ensures.end) (bank-inside game c.args.bank.now c.requires.bank.full (kind_at game.stakes c.args.number).next end leaves)
 
-pub returns-clause-within : goal.returns-clause-within
-returns-clause-within c =
+pub returns-clause-small : goal.returns-clause-small
+returns-clause-small c =
     let game = c.args.words.now.game in
     let at = c.args.self.now in
     let valid : IsValid game.stakes = rw (← c.stakes.ensures) c.kind.ensures.valid in
@@ -34,4 +34,4 @@ returns-clause-within c =
     let end = policy_of c.args.words.now at.position c.args.number at.roll in
     let legal : IsLegalEnd at.position at.roll end = legal-advised game.stakes (words_in_list c.args.words.now) at.position c.args.number at.roll in
     let right : IsRoll at.roll = subst (λ (a : RollAt). IsRoll a.roll) c.self.view_is c.self.invariant.listed.right in
-    rw (c.left_by.ensures, kind, c.advised.ensures.end) (legal-within game valid at.position c.args.number c.requires.state at.roll right (words_by c.args.bank.now) c.requires.bank.within end legal)
+    rw (c.left_by.ensures, kind, c.advised.ensures.end) (small-pair game valid at.position c.args.number c.requires.state at.roll right _ (legal-within game valid at.position c.args.number c.requires.state at.roll right (words_by c.args.bank.now) c.requires.bank.within end legal))

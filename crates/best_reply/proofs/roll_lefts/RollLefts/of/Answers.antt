@@ -13,6 +13,6 @@ put_lefts-requires-clause-live c =
 
 pub invariant_of-result : goal.invariant_of-result
 invariant_of-result c = record {
-  listed = are-listed c.args.position.now c.args.roll c.plays.new.list.items _ c.high-high.ensures.valid (c.put_lefts.ensures.ends ∙ ap ends_of c.as_slice.ensures.value) c.plays.ensures.some c.plays.ensures.ends c.plays.ensures.first c.plays.ensures.in_order;
+  listed = are-listed c.args.position.now c.args.roll c.args.times c.plays.new.list.items _ c.high-high.ensures.valid (c.put_lefts.ensures.ends ∙ ap ends_of c.as_slice.ensures.value) c.plays.ensures.some c.plays.ensures.ends c.plays.ensures.first c.plays.ensures.in_order;
   right = c.put_lefts.ensures.right;
 }

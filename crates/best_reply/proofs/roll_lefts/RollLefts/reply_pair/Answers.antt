@@ -1,4 +1,4 @@
-use Rattle.std.proofs.Common.{◌≡◌, ◌∙◌, ◌↔◌, List, All, Contains, ap, sym, subst}
+use Rattle.std.proofs.Common.{◌≡◌, ◌^◌, pos, ◌∙◌, ◌↔◌, List, All, Contains, ap, sym, subst}
 use Rattle.position_rank.specs.Placement.{Placement}
 use Rattle.move_rules.specs.Ends.{legal_ends}
 use Rattle.directed_fixed.specs.Bounds.{IsWithin}
@@ -7,7 +7,7 @@ use Rattle.cube_actions.specs.Stakes.{Terms, kind_at, IsValid}
 use Rattle.best_reply.specs.declared.left.Left.{Left}
 use Rattle.turn_rule.specs.States.{IsState}
 use Rattle.best_reply.specs.Tables.{LeavesPair, RollAt, best_pair, ends_in, words_by}
-use Rattle.best_reply.proofs.Listed.{best-legal, best-within, listed-pairs}
+use Rattle.best_reply.proofs.Listed.{best-legal, best-within, listed-pairs, small-pair}
 use Rattle.best_reply.proofs.roll_lefts.RollLefts.reply_pair.Goals as goal
 
 pub best_by-requires-clause-pairs : goal.best_by-requires-clause-pairs
@@ -29,8 +29,8 @@ returns-clause-pair c =
     ∙ (ap (λ (xs : List Left). best_pair (kind_at game.stakes c.args.number) (words_by c.args.bank.now) (ends_in xs)) c.as_slice.ensures.value
     ∙ (same ∙ ap (λ (a : RollAt). best_pair (kind_at game.stakes c.args.number) (words_by c.args.bank.now) (legal_ends a.position a.roll)) c.self.view_is)))
 
-pub returns-clause-within : goal.returns-clause-within
-returns-clause-within c =
+pub returns-clause-small : goal.returns-clause-small
+returns-clause-small c =
     let game = c.args.words.now.game in
     let valid : IsValid game.stakes = rw (← c.stakes.ensures) c.kind.ensures.valid in
     let kind : c.kind.result.now ≡ kind_at game.stakes c.args.number = c.kind.ensures.kind ∙ ap (λ (s : Terms). kind_at s c.args.number) c.stakes.ensures in
@@ -39,4 +39,4 @@ returns-clause-within c =
     let same = best-legal game valid c.self.inside.position c.args.number state c.self.inside.roll listed.right (words_by c.args.bank.now) (ends_in c.self.inside.lefts.items) listed.legal in
     let is = c.best_by.ensures ∙ (ap (λ (k : Kind). best_pair k (words_by c.args.bank.now) (ends_in c.as_slice.result.now)) kind
     ∙ (ap (λ (xs : List Left). best_pair (kind_at game.stakes c.args.number) (words_by c.args.bank.now) (ends_in xs)) c.as_slice.ensures.value ∙ same)) in
-    subst (IsWithin game.stakes.bound) (sym is) (best-within game valid c.self.inside.position c.args.number state c.self.inside.roll listed.right (words_by c.args.bank.now) c.requires.bank.within)
+    subst (IsWithin (pos (2 ^ 36))) (sym is) (small-pair game valid c.self.inside.position c.args.number state c.self.inside.roll listed.right _ (best-within game valid c.self.inside.position c.args.number state c.self.inside.roll listed.right (words_by c.args.bank.now) c.requires.bank.within))
