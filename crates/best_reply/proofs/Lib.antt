@@ -7,3 +7,4 @@ pub mod Lefts
 pub mod Listed
 pub mod FirstRow
 pub mod RollSums
+pub mod Doubled

@@ -1,5 +1,5 @@
 -- A table of both sides' pairs, and what a sweep of it finds on the way.
-use Rattle.std.specs.Prelude.{◌≡◌, ◌<◌, ◌↔◌, ℕ, ◌*◌, ◌^◌, ℤ, pos, ◌*ℤ◌, List, length, map, All, AllPairs, Contains, Option, Some, None, slice_index_or, ◌+◌, sum}
+use Rattle.std.specs.Prelude.{◌≡◌, ◌<◌, ◌≤◌, ◌↔◌, ℕ, ◌*◌, ◌^◌, ℤ, pos, ◌*ℤ◌, List, length, map, All, AllPairs, Contains, Option, Some, None, slice_index_or, ◌+◌, sum}
 use Rattle.std.specs.Int.{int_max}
 use Rattle.position_rank.specs.Placement.{Placement, IsLive, swap}
 use Rattle.position_rank.specs.LiveRanks.{live_rank_of}
@@ -137,20 +137,39 @@ reply_sum stakes u p k = record {
   upper = sum_over all_rolls (worth Upper (kind_at stakes k) u) p;
 }
 
--- the better of rolling at once and of doubling, where each kind has this sum
+-- a 36th of a sum that counts so many times, rounded outwards
+abbrev pub mean_pair : ℕ → Bounds → Bounds
+mean_pair factor sum = record {
+  lower = outwards Lower (pos factor *ℤ sum.lower);
+  upper = outwards Upper (pos factor *ℤ sum.upper);
+}
+
+-- the least of a pass and of the other answers to a double, where each kind has this sum
+abbrev pub doubled_from : End → (ℕ → Bounds) → Double → ℤ
+doubled_from end sums double =
+    least (at end double.pass)
+    (map (λ (taken : Taken). at end (mean_pair taken.factor (sums taken.kind))) double.answers.items)
+
+-- the better of rolling at once and of doubling
 abbrev pub or_double_from : End → (ℕ → Bounds) → ℤ → Option Double → ℤ
 or_double_from end sums plain None = plain
-or_double_from end sums plain (Some double) =
-    int_max plain
-    (least (at end double.pass)
-    (map (λ (taken : Taken). outwards end (pos taken.factor *ℤ at end (sums taken.kind))) double.answers.items))
+or_double_from end sums plain (Some double) = int_max plain (doubled_from end sums double)
 
--- what a state is worth before its turn, where each kind has this sum
+-- what a state is worth before its turn
 abbrev pub turn_from : Terms → (ℕ → Bounds) → ℕ → Bounds
 turn_from stakes sums k = record {
-  lower = or_double_from Lower sums (outwards Lower (pos 1 *ℤ (sums k).lower)) (kind_at stakes k).double;
-  upper = or_double_from Upper sums (outwards Upper (pos 1 *ℤ (sums k).upper)) (kind_at stakes k).double;
+  lower = or_double_from Lower sums (mean_pair 1 (sums k)).lower (kind_at stakes k).double;
+  upper = or_double_from Upper sums (mean_pair 1 (sums k)).upper (kind_at stakes k).double;
 }
+
+-- an answer to a double counts at most four times, in one of so many kinds
+pub record IsAnswerIn (kinds : ℕ) (taken : Taken) : Type 0 where
+  pub kind : taken.kind < kinds
+  pub factor : taken.factor ≤ 4
+
+-- the sum of each kind
+abbrev pub sums_in : List Bounds → ℕ → Bounds
+sums_in sums k = slice_index_or sums k nothing
 
 -- ---- both sides
 

@@ -6,6 +6,7 @@ mod laws;
 mod left;
 mod position_lefts;
 mod roll_lefts;
+mod turns;
 
 pub use laws::{
     following_gives_no_more_and_replying_no_less, one_play_is_advised,
