@@ -8,3 +8,4 @@ pub mod Listed
 pub mod FirstRow
 pub mod RollSums
 pub mod Doubled
+pub mod Filling

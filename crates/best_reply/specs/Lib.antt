@@ -3,3 +3,4 @@ pub mod Advised
 pub mod Replies
 pub mod ReplyPairs
 pub mod Tables
+pub mod Sides

@@ -29,7 +29,6 @@ use Rattle.best_reply.specs.declared.left.Left.{Left}
 use Rattle.best_reply.specs.Advised.{advised}
 use Rattle.best_reply.specs.Policies.{Policy}
 use Rattle.best_reply.specs.Replies.{sum_by}
-use Rattle.best_reply.specs.ReplyPairs.{AgreeReplies, ReplyWords, reply_rounds, turn_by}
 
 -- how the play that left this won, or else the live rank of the other side's position
 pub record IsRight (left : Left) : Type 0 where
@@ -116,6 +115,10 @@ best_pair kind u ends = record {
   upper = greatest (worth Upper kind u) ends;
 }
 
+-- the policy that the words advise
+abbrev pub policy_of : WordList → Policy
+policy_of words = advised words.game.stakes (words_in_list words)
+
 -- ---- sums over the 36 ways of two dice
 
 -- both ends lie within 2 ^ 42 units
@@ -171,45 +174,18 @@ pub record IsAnswerIn (kinds : ℕ) (taken : Taken) : Type 0 where
 abbrev pub sums_in : List Bounds → ℕ → Bounds
 sums_in sums k = slice_index_or sums k nothing
 
--- ---- both sides
+-- the kinds of a position have got these pairs, and no pair of a lower rank has changed
+pub record IsPut (rank : ℕ) (pair : ℕ → Bounds) (old new : StatePairs) : Type 0 where
+  pub kinds : new.kinds ≡ old.kinds
+  pub many : length new.pairs ≡ length old.pairs
+  pub put : (k : ℕ) → k < old.kinds → slice_index_or new.pairs (rank * old.kinds + k) nothing ≡ pair k
+  pub before :
+      (place : ℕ) → place < rank * old.kinds
+      → slice_index_or new.pairs place nothing ≡ slice_index_or old.pairs place nothing
 
-pub record BothPairs : Type 0 where
-  pub follow : StatePairs
-  pub reply : StatePairs
-
--- the sums of each kind, for either side to move
-pub record BothSums : Type 0 where
-  pub follow : List Bounds
-  pub reply : List Bounds
-
-abbrev pub both_words : BothPairs → ReplyWords
-both_words both = record { follow = words_by both.follow; reply = words_by both.reply }
-
--- the policy that the words advise
-abbrev pub policy_of : WordList → Policy
-policy_of words = advised words.game.stakes (words_in_list words)
-
--- the words that advise, and both sides' pairs
-pub record ReplyPairs : Type 0 where
-  pub words : WordList
-  pub both : BothPairs
-
--- the words after so many rounds in each state
-abbrev pub HasRounds : ReplyPairs → ℕ → Type 0
-HasRounds table r = AgreeReplies table.words.game (both_words table.both) (reply_rounds (policy_of table.words) table.words.game.stakes r)
-
--- each state has taken its turn over the other side's words
-abbrev pub IsTurned : ReplyPairs → ReplyPairs → Type 0
-IsTurned old new =
-    AgreeReplies old.words.game (both_words new.both)
-    (record {
-      follow = turn_by (policy_of old.words) old.words.game.stakes (words_by old.both.reply);
-      reply = turn old.words.game.stakes (words_by old.both.follow);
-    })
-
--- a table whose next round may be made, with room for the next pairs
-pub record IsReady (words : WordList) (now next : BothPairs) : Type 0 where
-  pub follow : IsRightBank words.game now.follow
-  pub reply : IsRightBank words.game now.reply
-  pub next_follow : IsBankOf words.game next.follow
-  pub next_reply : IsBankOf words.game next.reply
+-- there is a pair for each state, and those of the positions with a lower live rank than this one are these words
+pub record IsFilledTo (game : Game) (target : Words) (rank : ℕ) (bank : StatePairs) : Type 0 where
+  pub full : IsBankOf game bank
+  pub so_far :
+      (p : Placement) (k : ℕ) → IsState game p k → live_rank_of p < rank
+      → pair_of (words_by bank) p k ≡ pair_of target p k

@@ -5,7 +5,9 @@ mod bank;
 mod laws;
 mod left;
 mod position_lefts;
+mod reply_table;
 mod roll_lefts;
+mod sweep;
 mod turns;
 
 pub use laws::{
@@ -13,3 +15,5 @@ pub use laws::{
     reply_rounds_enclose_longer_games, reply_rounds_stay_within_the_bound, reply_rounds_tighten,
     the_first_row_is_advised,
 };
+
+pub use reply_table::ReplyTable;
