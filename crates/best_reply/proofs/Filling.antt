@@ -187,3 +187,30 @@ module _ (words : WordList) (game_is : IsGame words.game) where
   pub opening-rounds : (both : Banks) → Agree game (words_by both.follow) (bound_words game.stakes) → Agree game (words_by both.reply) (bound_words game.stakes) → HasRounds (record { words = words; both = both }) 0
   unfolding reply_rounds
   opening-rounds both follow reply = record { follow = follow; reply = reply }
+
+  -- so they are right
+  pub opening-ready : (both : Banks) → AreBanksOf game both → HasRounds (record { words = words; both = both }) 0 → AreRightBanks game both
+  unfolding reply_rounds
+  opening-ready both full has = record {
+    follow = record { full = full.follow; within = agree-within game (words_by both.follow) (bound_words game.stakes) has.follow (opening-within game game_is.stakes) };
+    reply = record { full = full.reply; within = agree-within game (words_by both.reply) (bound_words game.stakes) has.reply (opening-within game game_is.stakes) };
+  }
+
+-- where there is a state, there is a position
+pub some-position : (game : Game) (states : ℕ) → states ≡ states_of game → 0 < states → 0 < live_positions game.checkers
+unfolding states_in
+some-position game states is some = elim (cases_lt 0 (live_positions game.checkers)) [
+  | inl there ↦ there
+  | inr none ↦ (
+      let zeroth : live_positions game.checkers ≡ 0 = omega arith in
+      absurd (omega (arith, some, is, ap (λ (n : ℕ). n * kinds_of game) zeroth)))
+]
+
+-- the pair of a state, by the live rank of its position
+pub looked-up : (bank : StatePairs) (p : Placement) (k rank : ℕ) (pair : Bounds) → rank ≡ live_rank_of p → pair ≡ get_or bank.pairs (rank * bank.kinds + k) nothing → pair ≡ pair_of (words_by bank) p k
+unfolding state_of
+looked-up bank p k rank pair is found = found ∙ ap (λ (r : ℕ). get_or bank.pairs (r * bank.kinds + k) nothing) is
+
+pub same-pair : (u v : Words) (p : Placement) (k : ℕ) (pair : Bounds) → pair ≡ pair_of u p k → ((end : End) → u end p k ≡ v end p k) → pair ≡ pair_of v p k
+same-pair u v p k pair is same =
+    is ∙ (ap (λ (z : ℤ). record { lower = z; upper = u Upper p k }) (same Lower) ∙ ap (λ (z : ℤ). record { lower = v Lower p k; upper = z }) (same Upper))
