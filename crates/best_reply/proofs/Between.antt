@@ -1,7 +1,7 @@
 -- Following a policy is worth no more than best play on both sides, and the best reply to it no less.
-use Rattle.std.proofs.Common.{◌≡◌, ◌^◌, ℕ, zero, suc, ℤ, pos, neg_ℤ, ◌≤ℤ◌, ◌*ℤ◌, map, Option, Some, None}
+use Rattle.std.proofs.Common.{◌^◌, ℕ, zero, suc, ℤ, pos, neg_ℤ, ◌≤ℤ◌, ◌*ℤ◌, Option, Some, None}
 use Rattle.position_rank.specs.Placement.{Placement, swap}
-use Rattle.roll_table.specs.Rolls.{Dice, IsRoll, all_rolls}
+use Rattle.roll_table.specs.Rolls.{Dice, all_rolls}
 use Rattle.move_rules.specs.Ends.{legal_ends}
 use Rattle.move_rules.specs.Listing.{Among}
 use Rattle.move_rules.proofs.EndsExact.{legal_ends-complete}
@@ -11,7 +11,7 @@ use Rattle.game_payoff.specs.Points.{points}
 use Rattle.cube_actions.specs.declared.kind.Double.{Double}
 use Rattle.cube_actions.specs.declared.kind.Taken.{Taken}
 use Rattle.cube_actions.specs.Stakes.{Terms, kind_at}
-use Rattle.turn_rule.specs.Turn.{if_won, least}
+use Rattle.turn_rule.specs.Turn.{if_won}
 use Rattle.turn_rule.specs.Exact.{Scoring, Values, left_with, rolled, better_of, before_turn, exact}
 use Rattle.turn_rule.proofs.Integers.{le_refl, max_mono, mul_mono, neg_le}
 use Rattle.turn_rule.proofs.Greatest.{all_rolls-right, sum-mono}

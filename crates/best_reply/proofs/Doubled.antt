@@ -1,21 +1,20 @@
 -- The least of a pass and of the first few answers to a double, and turns from sums.
-use Rattle.std.proofs.Common.{◌≡◌, ◌<◌, ◌≤◌, ◌+◌, ◌∙◌, ◌++◌, ℕ, zero, suc, ℤ, pos, ◌*ℤ◌, List, [], ◌∷◌, Option, Some, None, length, map, take, get_or, All, IfSome, ◌⊎◌, inl, inr, refl, ap, sym, subst, arith}
+use Rattle.std.proofs.Common.{◌≡◌, ◌<◌, ◌≤◌, ◌+◌, ◌∙◌, ◌++◌, ℕ, ℤ, List, [], ◌∷◌, Option, Some, None, length, map, take, get_or, All, IfSome, ◌⊎◌, inl, inr, refl, ap, sym, arith}
 use Rattle.std.specs.Int.{int_max, int_min}
 use Rattle.std.proofs.lemmas.List.{map-append, take_all, take_more}
 use Rattle.position_rank.specs.Placement.{Placement}
 use Rattle.directed_fixed.specs.declared.bounds.End.{End}
 use Rattle.directed_fixed.specs.declared.bounds.End.TheVariants.{Lower, Upper}
 use Rattle.directed_fixed.specs.Bounds.{Bounds, at}
-use Rattle.directed_fixed.specs.Rounding.{outwards}
 use Rattle.cube_actions.specs.declared.kind.Double.{Double}
 use Rattle.cube_actions.specs.declared.kind.Taken.{Taken}
-use Rattle.cube_actions.specs.Stakes.{Terms, kind_at, no_kind, nothing, IsRightAnswer, IsRightDouble, IsValid}
+use Rattle.cube_actions.specs.Stakes.{Terms, kind_at, no_kind, IsRightAnswer, IsRightDouble, IsValid}
 use Rattle.turn_rule.specs.Turn.{Words, least, or_double, roll_value, turn}
 use Rattle.move_rules.specs.Listing.{Among}
 use Rattle.turn_rule.proofs.Within.{at_member}
 use Rattle.best_reply.specs.Policies.{Policy}
 use Rattle.best_reply.specs.ReplyPairs.{or_double_by, roll_value_by, turn_by}
-use Rattle.best_reply.specs.Tables.{IsAnswerIn, doubled_from, follow_sum, mean_pair, or_double_from, reply_sum, sums_in, turn_from}
+use Rattle.best_reply.specs.Tables.{IsAnswerIn, doubled_from, follow_sum, mean_pair, or_double_from, reply_sum, turn_from}
 
 abbrev value_of : End → (ℕ → Bounds) → Taken → ℤ
 value_of end sums taken = at end (mean_pair taken.factor (sums taken.kind))

@@ -1,5 +1,5 @@
 -- Pairs that are put position by position, and both sides' rounds.
-use Rattle.std.proofs.Common.{◌≡◌, ◌≢◌, ◌<◌, ◌≤◌, ◌+◌, ◌*◌, ◌∙◌, ℕ, zero, suc, ℤ, List, [], ◌∷◌, ◌++◌, length, replicate, get_or, set, sum, All, inl, inr, refl, ap, sym, subst, length-set, get_or-set_same, get_or-set_other, arith}
+use Rattle.std.proofs.Common.{◌≡◌, ◌<◌, ◌≤◌, ◌+◌, ◌*◌, ◌∙◌, ℕ, zero, suc, ℤ, List, length, replicate, get_or, set, sum, inl, inr, refl, ap, sym, subst, length-set, get_or-set_same, get_or-set_other, arith}
 use Rattle.std.proofs.lemmas.Bool.{cases_lt}
 use Rattle.std.proofs.lemmas.List.{length-replicate}
 use Rattle.std.proofs.Math.Nat.{mul-le-mul_right}
@@ -9,7 +9,7 @@ use Rattle.position_rank.proofs.LiveLaws.{live-rank-in, live-same}
 use Rattle.directed_fixed.specs.declared.bounds.End.{End}
 use Rattle.directed_fixed.specs.declared.bounds.End.TheVariants.{Lower, Upper}
 use Rattle.directed_fixed.specs.Bounds.{Bounds, at}
-use Rattle.cube_actions.specs.Stakes.{Terms, nothing, IsValid}
+use Rattle.cube_actions.specs.Stakes.{nothing, IsValid}
 use Rattle.turn_rule.specs.declared.game.Game.{Game}
 use Rattle.turn_rule.specs.Games.{IsGame, kinds_of}
 use Rattle.turn_rule.specs.Turn.{Words, bound_pair, bound_words, turn}
@@ -20,8 +20,8 @@ use Rattle.interval_words.specs.WordLists.{WordList, states_of, words_in_list}
 use Rattle.interval_words.proofs.Places.{state-in}
 use Rattle.best_reply.specs.declared.sweep.Banks.{Banks}
 use Rattle.best_reply.specs.Policies.{IsLegalPolicy}
-use Rattle.best_reply.specs.ReplyPairs.{AgreeReplies, ReplyWords, reply_rounds, turn_by}
-use Rattle.best_reply.specs.Sides.{AreBanksOf, AreRightBanks, AreSweptTo, HasRounds, IsReady, IsTurned, ReplyState, both_words, turned_words}
+use Rattle.best_reply.specs.ReplyPairs.{AgreeReplies, reply_rounds, turn_by}
+use Rattle.best_reply.specs.Sides.{AreBanksOf, AreRightBanks, AreSweptTo, HasRounds, both_words, turned_words}
 use Rattle.best_reply.specs.Tables.{IsBankOf, IsFilledTo, IsPut, IsRightBank, StatePairs, follow_sum, policy_of, reply_sum, sums_in, turn_from, words_by}
 use Rattle.best_reply.proofs.Doubled.{from-same, turn-followed, turn-replied}
 use Rattle.best_reply.proofs.Lines.{legal-advised}

@@ -1,34 +1,26 @@
 -- What the plays of a roll leave, and which of them is advised.
-use Rattle.std.proofs.Common.{◌≡◌, ◌≢◌, ◌<◌, ◌≤◌, ◌+◌, ◌*◌, ◌^◌, ◌∙◌, ℕ, zero, suc, ℤ, pos, neg_ℤ, ◌≤ℤ◌, List, [], ◌∷◌, ◌++◌, length, map, get_or, take, All, AllPairs, Contains, Option, Some, None, inl, inr, refl, ap, sym, subst, arith}
+use Rattle.std.proofs.Common.{◌≡◌, ◌<◌, ◌≤◌, ◌+◌, ◌*◌, ◌^◌, ◌∙◌, ℕ, zero, suc, ℤ, neg_ℤ, List, [], ◌∷◌, ◌++◌, length, get_or, take, All, Option, None, inl, inr, refl, ap, sym, subst, arith}
 use Rattle.std.specs.Int.{int_max}
-use Rattle.std.proofs.lemmas.Int.{ints, clamps}
 use Rattle.std.proofs.lemmas.Bool.{cases_lt, cases_order}
 use Rattle.std.proofs.lemmas.Nat.{mul-add-lt}
 use Rattle.std.proofs.lemmas.List.{get_or-map, get_or_default, length-map, map-append, take_more}
-use Rattle.position_rank.specs.Placement.{Placement, IsLive, swap}
+use Rattle.position_rank.specs.Placement.{Placement, swap}
 use Rattle.position_rank.specs.LiveRanks.{live_rank_of}
-use Rattle.roll_table.specs.Rolls.{Dice, IsRoll}
 use Rattle.move_rules.specs.declared.play.Entry.{Entry}
 use Rattle.move_rules.specs.declared.play.Move.{Move}
-use Rattle.move_rules.specs.Ends.{legal_ends}
-use Rattle.move_rules.specs.Listing.{Among}
-use Rattle.move_rules.specs.Order.{PlayComesBefore, IsFirst, ends_of, plays_of}
+use Rattle.move_rules.specs.Order.{PlayComesBefore, IsFirst, plays_of}
 use Rattle.move_rules.specs.Sequences.{IsLegal, IsLegalEnd}
-use Rattle.move_rules.proofs.EndsExact.{legal_ends-complete, legal_ends-sound}
-use Rattle.move_rules.proofs.Members.{Among-Contains, Contains-Among}
-use Rattle.move_rules.proofs.StayLive.{legal_end-stays}
 use Rattle.game_payoff.specs.declared.payoff.Won.{Won}
 use Rattle.game_payoff.specs.Points.{points}
 use Rattle.directed_fixed.specs.declared.bounds.End.TheVariants.{Lower, Upper}
-use Rattle.directed_fixed.specs.Bounds.{Bounds, IsWithin, at, negated}
+use Rattle.directed_fixed.specs.Bounds.{Bounds, negated}
 use Rattle.cube_actions.specs.declared.kind.Kind.{Kind}
-use Rattle.cube_actions.specs.Stakes.{Terms, kind_at, no_kind, nothing, IsValid}
+use Rattle.cube_actions.specs.Stakes.{Terms, kind_at, nothing}
 use Rattle.turn_rule.specs.declared.game.Game.{Game}
 use Rattle.turn_rule.specs.Games.{kinds_of}
 use Rattle.turn_rule.specs.Turn.{Words, greatest, if_won, win, worth}
 use Rattle.turn_rule.specs.States.{IsState}
-use Rattle.turn_rule.proofs.Greatest.{greatest-append, greatest-same}
-use Rattle.turn_rule.proofs.Within.{follow-state, in_play}
+use Rattle.turn_rule.proofs.Greatest.{greatest-append}
 use Rattle.interval_words.specs.Numbers.{state_of}
 use Rattle.interval_words.specs.WordLists.{WordList, pair_at, states_of, words_in_list}
 use Rattle.interval_words.proofs.Places.{state-in}
@@ -37,7 +29,7 @@ use Rattle.play_analyser.specs.Regrets.{play_pair}
 use Rattle.best_reply.specs.declared.left.Left.{Left}
 use Rattle.best_reply.specs.Advised.{IsAdvised}
 use Rattle.best_reply.proofs.Lines.{before-trans, better-then, better-trans, never-better}
-use Rattle.best_reply.specs.Tables.{AreListed, AreRight, IsBankOf, best_pair, IsFirstBest, IsRight, LeavesPair, LeavesState, RollAt, StatePairs, ends_in, words_by}
+use Rattle.best_reply.specs.Tables.{AreListed, IsBankOf, best_pair, IsFirstBest, LeavesPair, LeavesState, RollAt, StatePairs, ends_in, words_by}
 
 -- ---- one play
 
@@ -245,10 +237,10 @@ module _ (stakes : Terms) (u : Words) (at : RollAt) (k : ℕ) (lefts : List Left
       let legal_here : IsLegal p at.roll others entry.0.end = subst (IsLegal p at.roll others) leads legal in
       elim (cases_order j place) [
         | inl equal ↦ entry.1.leads.first others legal_here
-          (subst (PlayComesBefore others) (ap (λ (e : Entry). e.play.items) (sym (mine.1.is mine.0) ∙ (ap (λ (i : ℕ). get_or right.entries i mine.0) (sym equal) ∙ entry.1.is mine.0))) earlier)
+            (subst (PlayComesBefore others) (ap (λ (e : Entry). e.play.items) (sym (mine.1.is mine.0) ∙ (ap (λ (i : ℕ). get_or right.entries i mine.0) (sym equal) ∙ entry.1.is mine.0))) earlier)
         | inr apart ↦ elim apart [
           | inl less ↦ never-better (pair q) (subst (λ (b : Bounds). IsBetter b (pair q)) (sym same)
-            (subst (λ (r : Placement). IsBetter (pair left.end) (pair r)) there.2 (subst (λ (r : Placement). IsBetter (pair r) (pair (get_or lefts j left).end)) at-place (first.before j left less))))
+              (subst (λ (r : Placement). IsBetter (pair left.end) (pair r)) there.2 (subst (λ (r : Placement). IsBetter (pair r) (pair (get_or lefts j left).end)) at-place (first.before j left less))))
           | inr more ↦ entry.1.leads.first others legal_here (before-trans others mine.0.play.items entry.0.play.items earlier (in-order place j mine.0 entry.0 mine.1 entry.1 more there.1))
         ]
       ]

@@ -1,16 +1,15 @@
 -- One play is advised: the best of the legal sequences, and of equal ones the first.
-use Rattle.std.proofs.Common.{◌≡◌, ◌<◌, ◌≤◌, ◌∙◌, ℕ, ℤ, ◌<ℤ◌, Bool, true, false, cond, eqb, ltb, ◌&&◌, ◌||◌, List, [], ◌∷◌, length, map, Option, Some, ◌⊎◌, inl, inr, refl, ap, sym, subst, arith}
+use Rattle.std.proofs.Common.{◌≡◌, ◌<◌, ◌∙◌, ℕ, ℤ, ◌<ℤ◌, Bool, true, false, cond, eqb, ltb, ◌&&◌, ◌||◌, List, [], ◌∷◌, length, Option, Some, ◌⊎◌, inl, inr, refl, ap, sym, subst, arith}
 use Rattle.std.specs.Prelude.{int_lt}
-use Rattle.std.specs.List.{Contains, remove, slice_get}
+use Rattle.std.specs.List.{remove}
 use Rattle.std.proofs.lemmas.Int.{ints}
 use Rattle.std.proofs.lemmas.Bool.{cases_order, false≢true}
 use Rattle.std.proofs.lemmas.Bool.Decides.{nat_tests}
 use Rattle.position_rank.specs.Placement.{Placement}
 use Rattle.roll_table.specs.Rolls.{Dice, dice_of}
 use Rattle.move_rules.specs.declared.play.Move.{Move}
-use Rattle.move_rules.specs.Ends.{Line, after_move, legal_lines}
+use Rattle.move_rules.specs.Ends.{Line, legal_lines}
 use Rattle.move_rules.specs.Listing.{Among}
-use Rattle.move_rules.specs.Moves.{IsMove}
 use Rattle.move_rules.specs.Order.{PlayComesBefore}
 use Rattle.move_rules.specs.Sequences.{IsSequence, IsLegal, IsLegalEnd}
 use Rattle.move_rules.proofs.EndsExact.{after_move-complete, legal_lines-complete, legal_lines-sound}

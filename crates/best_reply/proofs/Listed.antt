@@ -1,5 +1,5 @@
 -- The listed plays of a roll: what they leave is a state, whose pair is within the bound.
-use Rattle.std.proofs.Common.{◌≡◌, ◌<◌, ◌+◌, ◌++◌, ◌∷◌, [], ◌∙◌, ◌↔◌, ◌^◌, ℕ, ℤ, pos, neg_ℤ, ◌≤ℤ◌, List, length, map, get_or, take, sum, All, AllPairs, Contains, Option, Some, None, refl, ap, sym, subst, arith}
+use Rattle.std.proofs.Common.{◌≡◌, ◌<◌, ◌+◌, ◌++◌, ◌∷◌, [], ◌∙◌, ◌↔◌, ◌^◌, ℕ, ℤ, pos, neg_ℤ, List, length, get_or, take, sum, All, AllPairs, Contains, Option, Some, None, refl, ap, sym, subst, arith}
 use Rattle.std.proofs.lemmas.Int.{ints}
 use Rattle.std.proofs.lemmas.List.{get_or-map, length-map, map-append, take_more}
 use Rattle.std.proofs.lemmas.List.Elements.{Contains-get_or}
@@ -18,7 +18,7 @@ use Rattle.game_payoff.specs.Points.{points}
 use Rattle.directed_fixed.specs.declared.bounds.End.TheVariants.{Lower, Upper}
 use Rattle.directed_fixed.specs.Bounds.{Bounds, IsWithin}
 use Rattle.cube_actions.specs.declared.kind.Kind.{Kind}
-use Rattle.cube_actions.specs.Stakes.{Terms, kind_at, no_kind, IsValid}
+use Rattle.cube_actions.specs.Stakes.{kind_at, no_kind, IsValid}
 use Rattle.turn_rule.specs.declared.game.Game.{Game}
 use Rattle.turn_rule.specs.Turn.{Words, greatest, if_won, win, worth}
 use Rattle.turn_rule.specs.States.{AreWithin, IsState}
@@ -27,7 +27,7 @@ use Rattle.turn_rule.proofs.Integers.{neg_le}
 use Rattle.turn_rule.proofs.Within.{bound-positive, bound-small, follow-state, in_play, win-within}
 use Rattle.play_analyser.specs.Regrets.{play_pair}
 use Rattle.best_reply.specs.declared.left.Left.{Left}
-use Rattle.best_reply.specs.Tables.{AreListed, IsRightBank, LeavesLive, LeavesPair, LeavesState, RollAt, StatePairs, best_pair, ends_in, words_by}
+use Rattle.best_reply.specs.Tables.{AreListed, IsRightBank, LeavesLive, LeavesPair, LeavesState, StatePairs, best_pair, ends_in}
 use Rattle.best_reply.proofs.Lefts.{bank-inside}
 
 -- what a legal play leaves

@@ -1,7 +1,6 @@
 -- Rounds of both sides: they stay within the bound, tighten, and enclose every longer game.
 use Rattle.std.proofs.Common.{◌≡◌, ◌≤◌, ◌*◌, ◌^◌, ℕ, zero, suc, subst, arith}
 use Rattle.position_rank.specs.Placement.{Placement}
-use Rattle.directed_fixed.specs.declared.bounds.End.{End}
 use Rattle.directed_fixed.specs.declared.bounds.End.TheVariants.{Lower, Upper}
 use Rattle.directed_fixed.specs.Bounds.{other}
 use Rattle.cube_actions.specs.Stakes.{IsValid}
@@ -9,7 +8,7 @@ use Rattle.turn_rule.specs.declared.game.Game.{Game}
 use Rattle.turn_rule.specs.Turn.{Words, bound_words, turn}
 use Rattle.turn_rule.specs.States.{IsState, AreWithin, AreNoLooser, Agree, pair_of}
 use Rattle.turn_rule.specs.Exact.{Scoring, Values, before_turn}
-use Rattle.turn_rule.specs.Truth.{Encloses, AreWinsWithin, ArePassesWithin, IsScoring}
+use Rattle.turn_rule.specs.Truth.{Encloses, AreWinsWithin, ArePassesWithin}
 use Rattle.turn_rule.proofs.Agreement.{turn-agree}
 use Rattle.turn_rule.proofs.Enclosing.{bound-turn}
 use Rattle.turn_rule.proofs.Fractions.{bound-looser}

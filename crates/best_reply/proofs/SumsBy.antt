@@ -1,5 +1,5 @@
 -- Sums over rolls of what the plays of a policy are worth.
-use Rattle.std.proofs.Common.{◌≡◌, ◌+◌, ◌*◌, ◌^◌, ℕ, ℤ, pos, ◌≤ℤ◌, ◌+ℤ◌, ◌*ℤ◌, neg_ℤ, List, [], ◌∷◌, refl, ap, sym, ◌∙◌, arith}
+use Rattle.std.proofs.Common.{◌≡◌, ◌+◌, ◌^◌, ℕ, ℤ, pos, ◌≤ℤ◌, ◌+ℤ◌, ◌*ℤ◌, List, [], ◌∷◌, refl, ap, ◌∙◌, arith}
 use Rattle.std.proofs.lemmas.Int.{ints}
 use Rattle.position_rank.specs.Placement.{Placement}
 use Rattle.roll_table.specs.Rolls.{Dice, IsRoll, all_rolls}
@@ -8,7 +8,7 @@ use Rattle.move_rules.specs.Listing.{Among}
 use Rattle.directed_fixed.specs.declared.bounds.End.{End}
 use Rattle.directed_fixed.specs.declared.bounds.End.TheVariants.{Lower, Upper}
 use Rattle.directed_fixed.specs.Bounds.{IsNoLooser}
-use Rattle.turn_rule.specs.Turn.{sum_over, greatest}
+use Rattle.turn_rule.specs.Turn.{sum_over}
 use Rattle.turn_rule.specs.Truth.{IsBoundOf}
 use Rattle.turn_rule.proofs.Integers.{le_refl, le_trans, mul_mono, add_mono, distribute}
 use Rattle.turn_rule.proofs.Greatest.{AreRolls, all_rolls-right, greatest-bound, total}

@@ -1,6 +1,6 @@
 -- A turn of the side that follows a policy: it stays within the bound, asks for no words but those of the states that may follow, is tighter over
 -- tighter words, and bounds what following is worth before it.
-use Rattle.std.proofs.Common.{◌≡◌, ◌<◌, ◌≤◌, ◌^◌, ◌*◌, ℕ, zero, suc, ℤ, pos, neg_ℤ, ◌≤ℤ◌, ◌*ℤ◌, List, [], ◌∷◌, map, Option, Some, None, IfSome, inl, inr, refl, sym, ap, ◌∙◌, subst, arith}
+use Rattle.std.proofs.Common.{◌≡◌, ◌<◌, ◌^◌, ◌*◌, ℕ, suc, ℤ, pos, neg_ℤ, ◌≤ℤ◌, ◌*ℤ◌, List, [], ◌∷◌, map, Option, Some, None, IfSome, inl, inr, refl, sym, ap, ◌∙◌, subst, arith}
 use Rattle.std.specs.Int.{int_max, int_min}
 use Rattle.std.proofs.lemmas.Int.{ints, clamps}
 use Rattle.std.proofs.Math.Nat.{mul_comm, pow-succ'}
@@ -12,7 +12,7 @@ use Rattle.game_payoff.specs.declared.payoff.Won.{Won}
 use Rattle.game_payoff.specs.Points.{points}
 use Rattle.directed_fixed.specs.declared.bounds.End.{End}
 use Rattle.directed_fixed.specs.declared.bounds.End.TheVariants.{Lower, Upper}
-use Rattle.directed_fixed.specs.Bounds.{Bounds, IsNoLooser, IsWithin, other, at}
+use Rattle.directed_fixed.specs.Bounds.{IsNoLooser, IsWithin, other, at}
 use Rattle.directed_fixed.specs.Rounding.{floor_36, ceil_36, outwards}
 use Rattle.cube_actions.specs.declared.kind.Double.{Double}
 use Rattle.cube_actions.specs.declared.kind.Taken.{Taken}
@@ -26,15 +26,15 @@ use Rattle.turn_rule.specs.Truth.{IsBoundOf, Encloses, AreWinsWithin, ArePassesW
 use Rattle.turn_rule.specs.Looks.{MayFollow, MayFollowTurn}
 use Rattle.turn_rule.specs.Following.{AgreeOn, AreNoLooserOn, AreBoundsOn, AreWithinOn}
 use Rattle.turn_rule.proofs.Follows.{answer-follows}
-use Rattle.turn_rule.proofs.Integers.{le_refl, neg_le, mul_mono, regroup, times-neg, max_mono, floor_36_below, floor_36_above}
+use Rattle.turn_rule.proofs.Integers.{neg_le, mul_mono, regroup, times-neg, max_mono, floor_36_below, floor_36_above}
 use Rattle.turn_rule.proofs.Greatest.{all_rolls-right, total-all_rolls}
 use Rattle.turn_rule.proofs.Within.{answer-kind, at_member, bound-positive, least-mono, win-within}
 use Rattle.turn_rule.proofs.Tightness.{tight-neg, tight-max, tight-least, tight-times, tight-outwards}
 use Rattle.turn_rule.proofs.Tight.{tight-refl}
 use Rattle.turn_rule.proofs.Fractions.{bound-at, bound-max, bound-least, bound-neg, bound-times, bound-over, bound-outwards}
 use Rattle.best_reply.specs.Policies.{Policy, IsLegalPolicy}
-use Rattle.best_reply.specs.Replies.{sum_by, rolled_by, better_of_by, before_turn_by}
-use Rattle.best_reply.specs.ReplyPairs.{roll_value_by, doubled_by, or_double_by, turn_by}
+use Rattle.best_reply.specs.Replies.{rolled_by, better_of_by, before_turn_by}
+use Rattle.best_reply.specs.ReplyPairs.{roll_value_by, or_double_by, turn_by}
 use Rattle.best_reply.proofs.SumsBy.{bound-sum_by, sum_by-agree, sum_by-from, sum_by-mono, sum_by-upto, tight-sum_by}
 
 least-agree : (X : Type 0) (f g : X → ℤ) (v : ℤ) (xs : List X) → ((x : X) → Among x xs → f x ≡ g x) → least v (map f xs) ≡ least v (map g xs)

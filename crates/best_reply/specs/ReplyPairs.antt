@@ -11,7 +11,7 @@ use Rattle.cube_actions.specs.declared.kind.Taken.{Taken}
 use Rattle.cube_actions.specs.Stakes.{Terms, kind_at}
 use Rattle.turn_rule.specs.declared.game.Game.{Game}
 use Rattle.turn_rule.specs.Turn.{Words, worth, least, turn, bound_words}
-use Rattle.turn_rule.specs.States.{IsState, AreWithin, AreNoLooser, Agree, pair_of}
+use Rattle.turn_rule.specs.States.{AreWithin, AreNoLooser, Agree, pair_of}
 use Rattle.turn_rule.specs.Exact.{Scoring}
 use Rattle.turn_rule.specs.Truth.{Encloses}
 use Rattle.best_reply.specs.Policies.{Policy}

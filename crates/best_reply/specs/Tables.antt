@@ -5,22 +5,20 @@ use Rattle.position_rank.specs.Placement.{Placement, IsLive, swap}
 use Rattle.position_rank.specs.LiveRanks.{live_rank_of}
 use Rattle.roll_table.specs.Rolls.{Dice, IsRoll, all_rolls}
 use Rattle.move_rules.specs.declared.play.Entry.{Entry}
-use Rattle.move_rules.specs.Ends.{legal_ends}
 use Rattle.move_rules.specs.Order.{PlayComesBefore, IsFirst, ends_of, plays_of}
 use Rattle.move_rules.specs.Sequences.{IsLegalEnd}
-use Rattle.game_payoff.specs.declared.payoff.Won.{Won}
 use Rattle.game_payoff.specs.Points.{points}
 use Rattle.directed_fixed.specs.declared.bounds.End.{End}
 use Rattle.directed_fixed.specs.declared.bounds.End.TheVariants.{Lower, Upper}
-use Rattle.directed_fixed.specs.Bounds.{Bounds, IsWithin, IsWithinUnits, at}
+use Rattle.directed_fixed.specs.Bounds.{Bounds, IsWithinUnits, at}
 use Rattle.directed_fixed.specs.Rounding.{outwards}
 use Rattle.cube_actions.specs.declared.kind.Double.{Double}
 use Rattle.cube_actions.specs.declared.kind.Kind.{Kind}
 use Rattle.cube_actions.specs.declared.kind.Taken.{Taken}
 use Rattle.cube_actions.specs.Stakes.{Terms, kind_at, nothing}
 use Rattle.turn_rule.specs.declared.game.Game.{Game}
-use Rattle.turn_rule.specs.Games.{IsGame, kinds_of}
-use Rattle.turn_rule.specs.Turn.{Words, greatest, least, sum_over, turn, worth}
+use Rattle.turn_rule.specs.Games.{kinds_of}
+use Rattle.turn_rule.specs.Turn.{Words, greatest, least, sum_over, worth}
 use Rattle.turn_rule.specs.States.{AreWithin, IsState, pair_of}
 use Rattle.interval_words.specs.Numbers.{state_of}
 use Rattle.interval_words.specs.WordLists.{WordList, states_of, words_in_list}

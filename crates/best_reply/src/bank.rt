@@ -49,7 +49,8 @@ impl Bank {
     pub(crate) fn set(&mut self, rank: u64, kind: usize, pair: Pair)
         requires { rank * self.old.kinds + kind < length self.old.pairs }
         ensures { self.new ≡ record self.old {
-            pairs = slice_set self.old.pairs (rank * self.old.kinds + kind) pair } }
+          pairs = slice_set self.old.pairs (rank * self.old.kinds + kind) pair;
+        } }
     {
         self.pairs[rank as usize * self.kinds + kind] = pair;
     }

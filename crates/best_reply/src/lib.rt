@@ -8,6 +8,8 @@ mod position_lefts;
 mod reply_table;
 mod roll_lefts;
 mod sweep;
+#[cfg(test)]
+mod tests;
 mod turns;
 
 pub use laws::{
@@ -15,5 +17,4 @@ pub use laws::{
     reply_rounds_enclose_longer_games, reply_rounds_stay_within_the_bound, reply_rounds_tighten,
     the_first_row_is_advised,
 };
-
 pub use reply_table::ReplyTable;

@@ -1,4 +1,4 @@
-use Rattle.std.proofs.Common.{take, ap, ◌∙◌, arith}
+use Rattle.std.proofs.Common.{ap, ◌∙◌, arith}
 use Rattle.std.proofs.lemmas.List.{take_all}
 use Rattle.best_reply.specs.Tables.{LeavesPair, best_pair, ends_in, words_by}
 use Rattle.best_reply.specs.declared.left.Left.{Left}

@@ -1,11 +1,8 @@
-use Rattle.std.proofs.Common.{◌≡◌, ◌+◌, false, true, ℕ, ap, sym, subst, ◌∙◌, arith}
 use Rattle.std.proofs.lemmas.Bool.{iff_false}
-use Rattle.directed_fixed.specs.Bounds.{Bounds}
 use Rattle.interval_words.specs.WordLists.{words_in_list}
-use Rattle.play_analyser.specs.Rankings.{IsBetter}
 use Rattle.play_analyser.specs.Regrets.{play_pair}
 use Rattle.best_reply.specs.Tables.{LeavesState}
-use Rattle.best_reply.proofs.Lefts.{IsBestTo, best-changes, best-of_all, best-of_first, best-stays, item-end}
+use Rattle.best_reply.proofs.Lefts.{best-changes, best-of_all, best-of_first, best-stays, item-end}
 use Rattle.best_reply.proofs.roll_lefts.first_best.Goals as goal
 use Rattle.best_reply.proofs.roll_lefts.first_best.Goals.{then-is_better, else-is_better}
 

@@ -1,4 +1,4 @@
-use Rattle.std.proofs.Common.{◌≡◌, ◌<◌, ◌+◌, ◌*◌, ◌^◌, ◌∙◌, None, length, sym, ap, arith}
+use Rattle.std.proofs.Common.{◌≡◌, ◌<◌, ◌∙◌, None, length, sym, ap, arith}
 use Rattle.game_payoff.specs.Points.{points}
 use Rattle.directed_fixed.specs.Bounds.{negated}
 use Rattle.cube_actions.specs.Stakes.{Terms}

@@ -1,10 +1,6 @@
-use Rattle.std.proofs.Common.{◌≡◌, ◌∙◌, ◌++◌, ◌∷◌, [], List, All, length, map, take, ap, sym, subst, arith}
-use Rattle.std.proofs.lemmas.List.{get_or-map, length-map, map-append, take_more}
+use Rattle.std.proofs.Common.{All, sym, subst}
 use Rattle.std.proofs.lemmas.List.Elements.{All-push}
-use Rattle.position_rank.specs.Placement.{Placement}
-use Rattle.move_rules.specs.declared.play.Entry.{Entry}
-use Rattle.best_reply.specs.declared.left.Left.{Left}
-use Rattle.best_reply.specs.Tables.{IsRight, LeavesLive}
+use Rattle.best_reply.specs.Tables.{IsRight}
 use Rattle.best_reply.proofs.Listed.{ends-push, entry-leaves}
 use Rattle.best_reply.proofs.roll_lefts.put_lefts.Goals as goal
 

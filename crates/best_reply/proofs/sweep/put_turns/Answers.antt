@@ -1,6 +1,6 @@
-use Rattle.std.proofs.Common.{◌≡◌, ◌<◌, ◌+◌, ◌*◌, ℕ, length, sym, subst, arith}
+use Rattle.std.proofs.Common.{◌<◌, ◌+◌, ◌*◌, length, arith}
 use Rattle.best_reply.specs.Tables.{sums_in, turn_from}
-use Rattle.best_reply.proofs.Filling.{put-all, put-more, put-none}
+use Rattle.best_reply.proofs.Filling.{put-more, put-none}
 use Rattle.best_reply.proofs.sweep.put_turns.Goals as goal
 
 pub loop-number-init : goal.loop-number-init

@@ -1,10 +1,8 @@
-use Rattle.std.proofs.Common.{◌≡◌, ◌<◌, ◌+◌, ◌∙◌, ℕ, List, sum, ap, sym, subst, arith}
-use Rattle.position_rank.specs.Placement.{Placement, IsPosition, IsLive}
+use Rattle.std.proofs.Common.{◌≡◌, ◌∙◌, List, sum, ap, subst}
+use Rattle.position_rank.specs.Placement.{IsPosition, IsLive}
 use Rattle.position_rank.specs.LiveRanks.{live_rank_of}
 use Rattle.directed_fixed.specs.Bounds.{Bounds}
 use Rattle.cube_actions.specs.Stakes.{Terms, IsValid}
-use Rattle.turn_rule.specs.Games.{kinds_of}
-use Rattle.turn_rule.specs.States.{pair_of}
 use Rattle.best_reply.specs.Sides.{both_words, turned_words}
 use Rattle.best_reply.specs.Tables.{policy_of, sums_in, turn_from, words_by}
 use Rattle.best_reply.proofs.Filling.{bank-place, fill-step, followed-turn, replied-turn}

@@ -1,13 +1,10 @@
-use Rattle.std.proofs.Common.{◌≡◌, ◌<◌, ◌∙◌, length, List, ap, sym, subst}
+use Rattle.std.proofs.Common.{◌<◌, ◌∙◌, length, List, ap, sym, subst}
 use Rattle.position_rank.specs.Placement.{Placement}
-use Rattle.roll_table.specs.Rolls.{Dice}
-use Rattle.directed_fixed.specs.Bounds.{Bounds}
-use Rattle.move_rules.specs.Ends.{legal_ends}
 use Rattle.cube_actions.specs.Stakes.{kind_at}
 use Rattle.turn_rule.specs.States.{IsState}
 use Rattle.play_analyser.specs.Regrets.{play_pair}
-use Rattle.best_reply.specs.Tables.{AreRolled, RollAt, best_pair, policy_of, words_by}
-use Rattle.best_reply.proofs.RollSums.{AreSums, IsKept, all-followed, kept-at, kept-end, kept-few, more-sums, small-sums, followed}
+use Rattle.best_reply.specs.Tables.{RollAt, policy_of, words_by}
+use Rattle.best_reply.proofs.RollSums.{IsKept, all-followed, kept-at, kept-end, kept-few, more-sums, small-sums, followed}
 use Rattle.best_reply.proofs.position_lefts.PositionLefts.follow_sum.Goals as goal
 
 pub follow_pair-requires-clause-state : goal.follow_pair-requires-clause-state

@@ -1,6 +1,5 @@
-use Rattle.std.proofs.Common.{◌≡◌, ◌<◌, ◌∙◌, ℕ, ap, sym, subst, arith}
+use Rattle.std.proofs.Common.{◌<◌, ◌∙◌, ℕ, ap, sym, subst, arith}
 use Rattle.position_rank.specs.LiveRanks.{live_positions}
-use Rattle.turn_rule.specs.Games.{kinds_of}
 use Rattle.turn_rule.specs.States.{IsState, pair_of}
 use Rattle.best_reply.specs.ReplyPairs.{reply_rounds}
 use Rattle.best_reply.specs.Sides.{ReplyState}

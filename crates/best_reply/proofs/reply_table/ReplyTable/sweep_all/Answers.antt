@@ -1,6 +1,4 @@
-use Rattle.std.proofs.Common.{add-one, subst, sym}
-use Rattle.best_reply.specs.declared.sweep.Banks.{Banks}
-use Rattle.best_reply.specs.Sides.{HasRounds, IsReady, IsTurned, ReplyState}
+use Rattle.std.proofs.Common.{add-one}
 use Rattle.best_reply.proofs.Filling.{all-swept, round-more, swept-right}
 use Rattle.best_reply.proofs.reply_table.ReplyTable.sweep_all.Goals as goal
 

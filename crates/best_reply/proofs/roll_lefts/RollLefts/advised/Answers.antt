@@ -1,11 +1,11 @@
-use Rattle.std.proofs.Common.{◌≡◌, ◌∙◌, List, All, ap, sym, subst}
+use Rattle.std.proofs.Common.{◌≡◌, ◌∙◌, List, ap, sym, subst}
 use Rattle.cube_actions.specs.declared.kind.Kind.{Kind}
 use Rattle.cube_actions.specs.Stakes.{Terms, kind_at, IsValid}
 use Rattle.turn_rule.specs.States.{IsState}
 use Rattle.interval_words.specs.WordLists.{words_in_list}
 use Rattle.play_analyser.specs.Regrets.{play_pair}
 use Rattle.best_reply.specs.declared.left.Left.{Left}
-use Rattle.best_reply.specs.Tables.{IsFirstBest, LeavesState, RollAt, ends_in, policy_of}
+use Rattle.best_reply.specs.Tables.{IsFirstBest, RollAt, ends_in, policy_of}
 use Rattle.best_reply.proofs.Lefts.{first-advised}
 use Rattle.best_reply.proofs.Lines.{advised-alone}
 use Rattle.best_reply.proofs.Listed.{listed-states}

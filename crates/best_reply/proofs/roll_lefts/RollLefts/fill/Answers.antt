@@ -1,5 +1,4 @@
-use Rattle.std.proofs.Common.{◌≡◌, ◌↔◌, ◌∙◌, List, All, ap, sym, subst}
-use Rattle.position_rank.specs.Placement.{Placement}
+use Rattle.std.proofs.Common.{◌∙◌, List, All, ap, sym, subst}
 use Rattle.move_rules.specs.declared.play.Entry.{Entry}
 use Rattle.move_rules.specs.Order.{ends_of}
 use Rattle.best_reply.specs.Tables.{LeavesLive}

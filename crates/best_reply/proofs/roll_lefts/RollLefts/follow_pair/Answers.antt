@@ -1,13 +1,9 @@
-use Rattle.std.proofs.Common.{◌≡◌, ◌∙◌, ap, sym, subst}
-use Rattle.position_rank.specs.Placement.{Placement}
-use Rattle.cube_actions.specs.declared.kind.Kind.{Kind}
+use Rattle.std.proofs.Common.{◌≡◌, ◌∙◌, ap, subst}
 use Rattle.cube_actions.specs.Stakes.{Terms, kind_at, IsValid}
-use Rattle.directed_fixed.specs.Bounds.{Bounds, IsWithin}
 use Rattle.interval_words.specs.WordLists.{words_in_list}
 use Rattle.roll_table.specs.Rolls.{IsRoll}
 use Rattle.move_rules.specs.Sequences.{IsLegalEnd}
-use Rattle.play_analyser.specs.Regrets.{play_pair}
-use Rattle.best_reply.specs.Tables.{LeavesPair, RollAt, policy_of, words_by}
+use Rattle.best_reply.specs.Tables.{RollAt, policy_of, words_by}
 use Rattle.best_reply.proofs.Lefts.{bank-inside}
 use Rattle.best_reply.proofs.Lines.{legal-advised}
 use Rattle.best_reply.proofs.Listed.{legal-state, legal-within, small-pair}

@@ -1,12 +1,11 @@
-use Rattle.std.proofs.Common.{◌≡◌, ◌^◌, pos, ◌∙◌, ◌↔◌, List, All, Contains, ap, sym, subst}
-use Rattle.position_rank.specs.Placement.{Placement}
+use Rattle.std.proofs.Common.{◌≡◌, ◌^◌, pos, ◌∙◌, List, ap, sym, subst}
 use Rattle.move_rules.specs.Ends.{legal_ends}
 use Rattle.directed_fixed.specs.Bounds.{IsWithin}
 use Rattle.cube_actions.specs.declared.kind.Kind.{Kind}
 use Rattle.cube_actions.specs.Stakes.{Terms, kind_at, IsValid}
 use Rattle.best_reply.specs.declared.left.Left.{Left}
 use Rattle.turn_rule.specs.States.{IsState}
-use Rattle.best_reply.specs.Tables.{LeavesPair, RollAt, best_pair, ends_in, words_by}
+use Rattle.best_reply.specs.Tables.{RollAt, best_pair, ends_in, words_by}
 use Rattle.best_reply.proofs.Listed.{best-legal, best-within, listed-pairs, small-pair}
 use Rattle.best_reply.proofs.roll_lefts.RollLefts.reply_pair.Goals as goal
 
