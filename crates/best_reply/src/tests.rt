@@ -1,6 +1,6 @@
-ghost use Rattle.std.specs.Prelude.{◌≡◌, ◌<◌, ◌≤◌, ◌*◌, ◌^◌, ℕ, length, sum};
+ghost use Rattle.std.specs.Prelude.{◌≡◌, ◌<◌, ◌≤◌, ◌*◌, ◌^◌, ℕ, IfOk, length, sum};
 ghost use Rattle.position_rank.specs.Placement.{IsPosition, IsLive};
-ghost use Rattle.turn_rule.specs.Games.{kinds_of};
+ghost use Rattle.turn_rule.specs.Games.{game_of};
 ghost use Rattle.turn_rule.specs.States.{IsState};
 ghost use Rattle.interval_words.specs.WordLists.{WordList};
 
@@ -37,6 +37,7 @@ fn opening_words(
 ) -> Result<Words, Fail>
     requires low { 1 ≤ checkers }
     requires high { checkers ≤ 3 }
+    ensures { IfOk result (λ words. words.game ≡ game_of checkers stakes.now) }
 {
     let index = LiveIndex::new(alloc, checkers)?;
     let mut list = Vec::new(alloc);
@@ -78,8 +79,9 @@ fn check(
     assert_eq!(rt; (found.lower().units(), found.upper().units()), reply);
 }
 
-// After one round only the last roll counts: from 24 double sixes win a backgammon, from 6 there are
-// 27 rolls that win a gammon. After two rounds the other side's answer to the other 9 counts too.
+// After one round only the last roll counts: from 24 double sixes win a backgammon. After two rounds
+// the other side's answer counts too: from 6 there are 27 rolls that win a gammon, and after the other
+// 9 it wins one.
 #[test]
 fn follows_and_replies_near_the_end(rt: HostRuntime) -> Result<(), Fail> {
     let stakes = Stakes::cubeless();
@@ -87,9 +89,55 @@ fn follows_and_replies_near_the_end(rt: HostRuntime) -> Result<(), Fail> {
     let far = live(&rt, &[24], &[24], 1);
     let near = live(&rt, &[6], &[1], 1);
     let table = swept(&rt, rt.alloc(), &words, 1);
-    let one_win = (-12_169_074_006, 12_884_901_888);
-    check(&rt, &table, &far, 0, one_win, one_win);
+    let one_roll = (-12_169_074_006, 12_884_901_888);
+    check(&rt, &table, &far, 0, one_roll, one_roll);
     let table = swept(&rt, rt.alloc(), &words, 2);
     check(&rt, &table, &near, 0, (ONE, ONE), (ONE, ONE));
+    Ok(())
+}
+
+// All numbers were found by a plain program that was written apart. From `18 / 8` and `10 / 24` best
+// play on both sides is worth from -1,688,118,044 to -1,682,036,857 units, and from 6,686,870,401 to
+// 6,701,936,669: more than following this advice gives, and less than the best reply.
+#[test]
+fn bad_advice_costs_the_follower(rt: HostRuntime) -> Result<(), Fail> {
+    let stakes = Stakes::cubeless();
+    let words = opening_words(&rt, rt.alloc(), 1, &stakes, 601)?;
+    let table = swept(&rt, rt.alloc(), &words, 16);
+    let contact = live(&rt, &[18], &[8], 1);
+    let follow = (-5_029_463_942, -5_028_957_417);
+    let reply = (-1_469_309_369, -1_465_736_202);
+    check(&rt, &table, &contact, 0, follow, reply);
+    let ahead = live(&rt, &[10], &[24], 1);
+    let follow = (6_491_804_852, 6_502_685_339);
+    let reply = (8_382_957_964, 8_388_338_710);
+    check(&rt, &table, &ahead, 0, follow, reply);
+    Ok(())
+}
+
+// From 6 there are 27 rolls that win and 9 that lose. By the Jacoby rule a game with the cube in the
+// middle counts single: rolling is worth half a point, a take would cost two, so a double is passed.
+#[test]
+fn doubles_at_its_best(rt: HostRuntime) -> Result<(), Fail> {
+    let stakes = Stakes::jacoby();
+    let words = opening_words(&rt, rt.alloc(), 1, &stakes, 1803)?;
+    let table = swept(&rt, rt.alloc(), &words, 2);
+    let near = live(&rt, &[6], &[1], 1);
+    for kind in 0..2 {
+        check(&rt, &table, &near, kind, (ONE, ONE), (ONE, ONE));
+    }
+    Ok(())
+}
+
+// From 5 there are 31 winning rolls. With a checker of each side off each win is a single one: 26
+// points of 36.
+#[test]
+fn follows_and_replies_with_two_checkers(rt: HostRuntime) -> Result<(), Fail> {
+    let stakes = Stakes::cubeless();
+    let words = opening_words(&rt, rt.alloc(), 2, &stakes, 106_552)?;
+    let table = swept(&rt, rt.alloc(), &words, 2);
+    let near = live(&rt, &[5, 0], &[1, 0], 2);
+    let pair = (3_101_920_824, 3_101_920_825);
+    check(&rt, &table, &near, 0, pair, pair);
     Ok(())
 }

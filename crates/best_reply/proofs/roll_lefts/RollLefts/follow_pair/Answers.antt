@@ -19,7 +19,7 @@ left_by-requires-clause-pair c =
     let legal : IsLegalEnd at.position at.roll end = legal-advised game.stakes (words_in_list c.args.words.now) at.position c.args.number at.roll in
     let right : IsRoll at.roll = subst (λ (a : RollAt). IsRoll a.roll) c.self.view_is c.self.invariant.listed.right in
     let leaves = legal-state game valid at.position c.args.number c.requires.state at.roll right end legal in
-    rw (kind, c.advised.ensures.end) (bank-inside game c.args.bank.now c.requires.bank.full (kind_at game.stakes c.args.number).next end leaves)
+    rw (kind, c.advised-left.ensures.end) (bank-inside game c.args.bank.now c.requires.bank.full (kind_at game.stakes c.args.number).next end leaves)
 
 pub returns-clause-small : goal.returns-clause-small
 returns-clause-small c =
@@ -30,4 +30,4 @@ returns-clause-small c =
     let end = policy_of c.args.words.now at.position c.args.number at.roll in
     let legal : IsLegalEnd at.position at.roll end = legal-advised game.stakes (words_in_list c.args.words.now) at.position c.args.number at.roll in
     let right : IsRoll at.roll = subst (λ (a : RollAt). IsRoll a.roll) c.self.view_is c.self.invariant.listed.right in
-    rw (c.left_by.ensures, kind, c.advised.ensures.end) (small-pair game valid at.position c.args.number c.requires.state at.roll right _ (legal-within game valid at.position c.args.number c.requires.state at.roll right (words_by c.args.bank.now) c.requires.bank.within end legal))
+    rw (c.left_by.ensures, kind, c.advised-left.ensures.end) (small-pair game valid at.position c.args.number c.requires.state at.roll right _ (legal-within game valid at.position c.args.number c.requires.state at.roll right (words_by c.args.bank.now) c.requires.bank.within end legal))
