@@ -1,0 +1,11 @@
+pub mod SumsBy
+pub mod TurnsBy
+pub mod Rounds
+pub mod Between
+pub mod Lines
+pub mod Lefts
+pub mod Listed
+pub mod FirstRow
+pub mod RollSums
+pub mod Doubled
+pub mod Filling

@@ -1,0 +1,6 @@
+pub mod Policies
+pub mod Advised
+pub mod Replies
+pub mod ReplyPairs
+pub mod Tables
+pub mod Sides

@@ -1,0 +1,54 @@
+-- Both sides' pairs, round by round.
+use Rattle.std.specs.Prelude.{ℕ}
+use Rattle.turn_rule.specs.declared.game.Game.{Game}
+use Rattle.turn_rule.specs.Games.{IsGame}
+use Rattle.turn_rule.specs.Turn.{turn}
+use Rattle.interval_words.specs.WordLists.{WordList}
+use Rattle.best_reply.specs.declared.sweep.Banks.{Banks}
+use Rattle.best_reply.specs.ReplyPairs.{AgreeReplies, ReplyWords, reply_rounds, turn_by}
+use Rattle.best_reply.specs.Tables.{IsBankOf, IsFilledTo, IsRightBank, policy_of, words_by}
+
+abbrev pub both_words : Banks → ReplyWords
+both_words both = record { follow = words_by both.follow; reply = words_by both.reply }
+
+-- each state's turn, for either side to move, over the other side's words
+abbrev pub turned_words : WordList → ReplyWords → ReplyWords
+turned_words words u = record {
+  follow = turn_by (policy_of words) words.game.stakes u.reply;
+  reply = turn words.game.stakes u.follow;
+}
+
+-- there is a pair for each state on both sides
+pub record AreBanksOf (game : Game) (both : Banks) : Type 0 where
+  pub follow : IsBankOf game both.follow
+  pub reply : IsBankOf game both.reply
+
+-- and each is within the bound, lower at most upper
+pub record AreRightBanks (game : Game) (both : Banks) : Type 0 where
+  pub follow : IsRightBank game both.follow
+  pub reply : IsRightBank game both.reply
+
+-- the positions with a lower live rank than this one have taken their turns
+pub record AreSweptTo (words : WordList) (old : Banks) (rank : ℕ) (new : Banks) : Type 0 where
+  pub follow : IsFilledTo words.game (turned_words words (both_words old)).follow rank new.follow
+  pub reply : IsFilledTo words.game (turned_words words (both_words old)).reply rank new.reply
+
+-- the words that advise, and both sides' pairs
+pub record ReplyState : Type 0 where
+  pub words : WordList
+  pub both : Banks
+
+-- both sides' words are those after so many rounds
+abbrev pub HasRounds : ReplyState → ℕ → Type 0
+HasRounds state r =
+    AgreeReplies state.words.game (both_words state.both) (reply_rounds (policy_of state.words) state.words.game.stakes r)
+
+-- each state has taken its turn over the other side's words
+abbrev pub IsTurned : ReplyState → ReplyState → Type 0
+IsTurned old new = AgreeReplies old.words.game (both_words new.both) (turned_words old.words (both_words old.both))
+
+-- a table whose next round may be made: right pairs, and room for the next ones
+pub record IsReady (words : WordList) (now next : Banks) : Type 0 where
+  pub game : IsGame words.game
+  pub right : AreRightBanks words.game now
+  pub room : AreBanksOf words.game next

@@ -1,0 +1,113 @@
+ghost use Rattle.std.specs.Prelude.{◌≡◌, ◌+◌, ℕ, IfOk};
+ghost use Rattle.turn_rule.specs.Games.{IsGame};
+ghost use Rattle.turn_rule.specs.States.{IsState, pair_of};
+ghost use Rattle.best_reply.specs.ReplyPairs.{reply_rounds};
+ghost use Rattle.best_reply.specs.Tables.{policy_of, words_by};
+ghost use Rattle.best_reply.specs.Sides.{AreBanksOf, HasRounds, IsTurned};
+
+use crate::bank::Bank;
+use crate::position_lefts::PositionLefts;
+use crate::sweep::{Banks, sweep};
+use directed_fixed::Pair;
+use hyper_outside::NoMemory;
+use interval_words::Words;
+use position_rank::Position;
+use std::alloc::Global;
+use std::marker::Model;
+use std::mem;
+
+/// What following the advice of some words guarantees against the best reply: a pair for each
+/// state where the follower is to move and one where the replier is, after some rounds in which
+/// every state takes its turn over the other side's pairs of the round before.
+#[derive(Drop)]
+pub struct ReplyTable<'a> {
+    words: &'a Words,
+    lefts: PositionLefts,
+    current: Banks,
+    next: Banks,
+}
+
+impl<'a> Model for ReplyTable<'a> {
+    ghost use Rattle.best_reply.specs.Sides.{ReplyState, IsReady};
+
+    ghost Value = { ReplyState };
+
+    ghost view = { λ a. record { words = a.words.now; both = a.current } };
+
+    ghost invariant = { λ a. IsReady a.words.now a.current a.next };
+}
+
+/// A pair of which only the bound is known, for every state and either side to move.
+fn opening(alloc: Global, words: &Words) -> Result<Banks, NoMemory>
+    ensures game { IsGame words.now.game }
+    ensures banks { IfOk result (AreBanksOf words.now.game) }
+    ensures rounds { IfOk result (λ banks.
+        HasRounds (record { words = words.now; both = banks }) 0) }
+{
+    // Right words are those of a game.
+    words.right();
+    let stakes = words.stakes();
+    let bound = stakes.bound();
+    let pair = Pair::new(bound.neg(), bound);
+    let states = words.states();
+    Ok(Banks {
+        follow: Bank::filled(alloc, states, stakes.kinds(), pair)?,
+        reply: Bank::filled(alloc, states, stakes.kinds(), pair)?,
+    })
+}
+
+impl<'a> ReplyTable<'a> {
+    /// Before the first round, when only the bound is known of any state. Here all memory is taken;
+    /// there may be none.
+    pub fn new(alloc: Global, words: &'a Words) -> Result<ReplyTable<'a>, NoMemory>
+        ensures words { IfOk result (λ table. table.words ≡ words.now) }
+        ensures rounds { IfOk result (λ table. HasRounds table 0) }
+    {
+        // Some state tells that there is a position.
+        let _states = words.states();
+        let first = words.index().unrank(0);
+        Ok(ReplyTable {
+            words,
+            lefts: PositionLefts::of(alloc, &first, words.index())?,
+            current: opening(alloc, words)?,
+            next: opening(alloc, words)?,
+        })
+    }
+
+    /// One more round: every state takes its turn, for either side to move, over the other side's
+    /// pairs that stood before. It takes no memory.
+    pub fn sweep_all(&mut self)
+        ensures words { self.new.words ≡ self.old.words }
+        ensures turned { IsTurned self.old self.new }
+        ensures rounds { (r : ℕ) → HasRounds self.old r → HasRounds self.new (r + 1) }
+    {
+        sweep(self.words, &mut self.lefts, &self.current, &mut self.next);
+        mem::swap(&mut self.current, &mut self.next);
+    }
+
+    /// The pair of a state where the side is to move that follows the advice.
+    pub fn follow(&self, position: &Position, kind: usize) -> Pair
+        requires { IsState self.now.words.game position.now kind }
+        ensures pair { result ≡ pair_of (words_by self.now.both.follow) position.now kind }
+        ensures rounds { (r : ℕ) → HasRounds self.now r
+            → let words = self.now.words in
+            result ≡ pair_of
+            (reply_rounds (policy_of words) words.game.stakes r).follow position.now kind }
+    {
+        let rank = self.words.index().rank(position);
+        self.current.follow.pair(rank, kind)
+    }
+
+    /// The pair of a state where the side is to move that replies at its best.
+    pub fn reply(&self, position: &Position, kind: usize) -> Pair
+        requires { IsState self.now.words.game position.now kind }
+        ensures pair { result ≡ pair_of (words_by self.now.both.reply) position.now kind }
+        ensures rounds { (r : ℕ) → HasRounds self.now r
+            → let words = self.now.words in
+            result ≡ pair_of
+            (reply_rounds (policy_of words) words.game.stakes r).reply position.now kind }
+    {
+        let rank = self.words.index().rank(position);
+        self.current.reply.pair(rank, kind)
+    }
+}
