@@ -1,0 +1,5 @@
+//! Runs that search the states of files, each with the status and the text that are due.
+#![tactic(auto)]
+
+#[cfg(test)]
+mod tests;
