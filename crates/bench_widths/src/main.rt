@@ -14,8 +14,8 @@ use hyper_outside::NoMemory;
 use interval_words::{Board, BoardSeat, states_are_numbered};
 use position_rank::Position;
 use std::alloc::Global;
-use std::io::Print;
 use std::env;
+use std::io::Print;
 use std::process::ExitCode;
 use std::rt::Env;
 use worker_sweep::{Worker, blocks_of, sweep_block};
@@ -130,7 +130,13 @@ fn print_round<R: Print>(rt: &R, board: &Board, seat: &mut BoardSeat, round: u32
     let lower = print_down(board.read_lower(seat, start));
     let upper = print_up(board.read_upper(seat, start));
     let width = print_up(widest);
-    println!(rt; "{round}\t{}\t{}\t{}", width.as_str(), lower.as_str(), upper.as_str()).is_ok()
+    println!(rt;
+        "{round}\t{}\t{}\t{}",
+        width.as_str(),
+        lower.as_str(),
+        upper.as_str()
+    )
+    .is_ok()
 }
 
 /// Makes so many rounds, and prints a line after each that is a power of two from 4 on. Whether all were printed.
