@@ -59,11 +59,26 @@ fn two_files(alloc: Global) -> Result<MemFiles, Fail> {
     Ok(files)
 }
 
-const REFUSED: [Row; 9] = [
+// The condition is read before the file is asked for.
+const WRONG: [Row; 3] = [
     (&["scan", "c1", "pips=1 |"], 11, "refused 11 condition 2\n"),
-    // the condition is read before the file is asked for
     (&["scan", "x", "pips=1 |"], 11, "refused 11 condition 2\n"),
     (&["scan", "E", " "], 11, "refused 11 condition 0\n"),
+];
+
+#[test]
+fn wrong_conditions_are_refused(rt: HostRuntime) -> Result<(), Fail> {
+    let alloc = rt.alloc();
+    let mut files = two_files(alloc)?;
+    for (words, due, line) in WRONG {
+        let (status, out) = ask(&rt, alloc, &mut files, words)?;
+        assert_eq!(rt; status, due, "at {line}");
+        assert_eq!(rt; str::from_utf8(out.put_bytes()).unwrap_or(""), line);
+    }
+    Ok(())
+}
+
+const REFUSED: [Row; 4] = [
     (&["scan", "x", "pips=1"], 3, "refused 3 missing x\n"),
     (&["scan", "E", "pips=1"], 4, "refused 4 file short 5\n"),
     (
@@ -71,9 +86,7 @@ const REFUSED: [Row; 9] = [
         1,
         "refused 1 words value 3\n",
     ),
-    (&["scan", "c1", ""], 1, "refused 1 words word 2\n"),
     (&["scan", "c1"], 1, "refused 1 words form 0\n"),
-    (&["scan"], 1, "refused 1 words form 0\n"),
 ];
 
 #[test]
