@@ -1,3 +1,7 @@
+ghost use Rattle.std.specs.Prelude.{◌≡◌, IfOk};
+ghost use Rattle.hyper_outside.specs.MemFiles.{no_files, restocked};
+ghost use Rattle.hyper_outside.specs.Store.{no_stock, roomier};
+
 use hyper_outside::MemFiles;
 use memory_runs::{ask, ask_failing};
 use std::alloc::Global;
@@ -22,7 +26,9 @@ pub(crate) const TO_TWO: [&str; 10] = [
 const FILES: [(&str, usize); 3] = [("L.1.1.p", 12148), ("L.1.2.c", 12158), ("L.2.2.n", 36208)];
 
 /// Files with room for those of a match to two points.
-pub(crate) fn room_for_two(alloc: Global) -> Result<MemFiles, Fail> {
+pub(crate) fn room_for_two(alloc: Global) -> Result<MemFiles, Fail>
+    ensures { IfOk result (λ files. files ≡ restocked no_files (roomier no_stock 3 61000)) }
+{
     let mut files = MemFiles::new(alloc);
     files.room(3, 61_000)?;
     Ok(files)

@@ -1,9 +1,15 @@
+ghost use Rattle.std.specs.Prelude.{◌≡◌, ◌++◌, IfOk, OnOk};
+ghost use Rattle.word_pages.specs.Sealed.{sealed};
+ghost use Rattle.memory_runs.specs.Texts.{IsSealedTwice};
+
 use hyper_outside::NoMemory;
 use sha2::{Digest, Sha256};
 use std::alloc::Global;
 
 /// Adds bytes and their digest.
-fn seal(bytes: &[u8], out: &mut Vec<u8>) -> Result<(), NoMemory> {
+fn seal(bytes: &[u8], out: &mut Vec<u8>) -> Result<(), NoMemory>
+    ensures { OnOk result (out.new.items ≡ out.old.items ++ sealed bytes.now) }
+{
     out.extend_from_slice(bytes)?;
     out.extend_from_slice(&Sha256::digest(bytes))?;
     Ok(())
@@ -25,7 +31,9 @@ fn header(alloc: Global, version: u8) -> Result<Vec<u8>, NoMemory> {
 
 /// A file of one checker a side without a cube after 8 rounds, as the format of this version says: of each position the word of
 /// a point lost and that of a point won.
-pub fn cubeless_text(alloc: Global, version: u8) -> Result<Vec<u8>, NoMemory> {
+pub fn cubeless_text(alloc: Global, version: u8) -> Result<Vec<u8>, NoMemory>
+    ensures { IfOk result (λ text. IsSealedTwice text.items) }
+{
     let words: [&[u8]; 2] = if version == 1 {
         [b"\0\0\0\x0f\0\0\0\0", b"\0\0\0\x11\0\0\0\0"]
     } else {

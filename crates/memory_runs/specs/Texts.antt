@@ -1,0 +1,9 @@
+-- Texts of files made by hand.
+use Rattle.std.specs.Prelude.{◌≡◌, ℕ, List, ◌++◌}
+use Rattle.word_pages.specs.Sealed.{sealed}
+
+-- a first part and a page, each followed by its digest
+pub record IsSealedTwice (text : List ℕ) : Type 0 where
+  pub first : List ℕ
+  pub page : List ℕ
+  pub sealed : text ≡ sealed first ++ sealed page
