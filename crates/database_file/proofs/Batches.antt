@@ -159,12 +159,6 @@ fault_of ReadFault same = refl
 fault_of (BadPage flaw) same = absurd (grind (arith, same))
 fault_of NoMemory same = absurd (grind (arith, same))
 
--- where there was no memory, nothing is said
-pub out_of_memory : (T : Type 0) (pages : Pages) (batch : Batch) (all old new : List ℕ) (stop : PagesStop) (result : Result T PagesStop) → stop ≡ NoMemory
-    → IsErrAnd result (λ given. given ≡ stop) → AddsBatch pages batch all old new result
-out_of_memory T pages batch all old new stop (Ok x) is wrong = absurd wrong
-out_of_memory T pages batch all old new stop (Err given) is same = subst (λ (given : PagesStop). AddsBatch {T = T} pages batch all old new (Err given)) (sym (same ∙ is)) tt
-
 -- ---- batch after batch
 
 -- a batch is no longer than so many whole pages

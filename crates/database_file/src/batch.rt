@@ -10,8 +10,8 @@ ghost use Rattle.database_file.specs.Batches.{AddsBatch, AnswersEach, AnswersOn,
 use crate::pages::{Pages, PagesStop};
 use hyper_outside::{Files, fill};
 use std::alloc::Global;
-use std::thread;
 use std::thread::Threads;
+use std::{mem, thread};
 use word_pages::read_page;
 
 /// Some pages that follow one another, from the one with the number `first` to before `past`.
@@ -33,8 +33,9 @@ fn batch_size(pages: &Pages, batch: Batch) -> usize
     before + pages.version.page_size(pages.words_on(last))
 }
 
-/// The words of the page with this number, whose bytes are in memory.
-fn read_one(alloc: Global, pages: &Pages, page: usize, bytes: &[u8]) -> Result<Vec<u64>, PagesStop>
+/// The words of the page with this number, whose bytes are in memory. They take the room of others,
+/// which aren't needed any more.
+fn read_one(pages: &Pages, page: usize, bytes: &[u8], room: Vec<u64>) -> Result<Vec<u64>, PagesStop>
     requires pages { ArePages pages.now }
     requires there { page < page_count pages.now }
     requires places { place_of pages.now page + length bytes.now < 2 ^ 64 }
@@ -42,7 +43,8 @@ fn read_one(alloc: Global, pages: &Pages, page: usize, bytes: &[u8]) -> Result<V
         → AnswersOn pages.now page all result }
     ensures faultless { result ≡ Err ReadFault → ⊥ }
 {
-    let mut words = vec![in alloc; 0u64; pages.words_on(page)]?;
+    let mut words = room;
+    words.resize(pages.words_on(page), 0)?;
     let place = pages.place_of(page);
     read_page(pages.version, pages.bound, place, bytes, &mut words)?;
     Ok(words)
@@ -50,11 +52,11 @@ fn read_one(alloc: Global, pages: &Pages, page: usize, bytes: &[u8]) -> Result<V
 
 /// The words of a page of a batch whose bytes are in memory, as a worker reads them.
 fn read_in_batch(
-    alloc: Global,
     pages: &Pages,
     batch: Batch,
     bytes: &[u8],
     number: usize,
+    room: Vec<u64>,
 ) -> Result<Vec<u64>, PagesStop>
     requires pages { ArePages pages.now }
     requires some { batch.first < batch.past }
@@ -67,11 +69,14 @@ fn read_in_batch(
 {
     let whole = pages.version.page_size(pages.size);
     let from = (number * whole).min(bytes.len());
-    read_one(alloc, pages, batch.first + number, &bytes[from..])
+    read_one(pages, batch.first + number, &bytes[from..], room)
 }
 
 /// Room for what comes of each of so many pages.
-fn make_room(alloc: Global, count: usize) -> Result<Vec<Result<Vec<u64>, PagesStop>>, PagesStop>
+pub(crate) fn make_room(
+    alloc: Global,
+    count: usize,
+) -> Result<Vec<Result<Vec<u64>, PagesStop>>, PagesStop>
     ensures room { IfOk result (λ room. length room.items ≡ count) }
     ensures memory { IfErr result (λ stop. stop ≡ NoMemory) }
 {
@@ -82,8 +87,10 @@ fn make_room(alloc: Global, count: usize) -> Result<Vec<Result<Vec<u64>, PagesSt
     Ok(room)
 }
 
-/// Reads the words of each page of a batch whose bytes are in memory. The pages are shared among so
-/// many workers, each in a thread of its own where one can be started, else in turn.
+/// Reads the words of each page of a batch whose bytes are in memory, in place of what was read of
+/// the batch before, whose room they take: memory that workers ask for and give back again and again
+/// holds them up. The pages are shared among so many workers, each in a thread of its own where one
+/// can be started, else in turn.
 fn read_each<R: Threads + Sync>(
     rt: &R,
     alloc: Global,
@@ -106,7 +113,9 @@ fn read_each<R: Threads + Sync>(
         read,
         workers,
         &|number, page| {
-            *page = read_in_batch(alloc, pages, batch, bytes, number);
+            let before = mem::replace(page, Err(PagesStop::NoMemory));
+            let room = before.unwrap_or(Vec::new(alloc));
+            *page = read_in_batch(pages, batch, bytes, number, room);
         },
     );
 }
@@ -129,7 +138,7 @@ fn add_words(read: &[Result<Vec<u64>, PagesStop>], words: &mut Vec<u64>) -> Resu
 }
 
 /// Reads a batch of pages through a buffer, over as many reads as it takes, has them looked at by so
-/// many workers, and adds their words in order.
+/// many workers, who leave their words in `read`, and adds these in order.
 pub(crate) fn add_batch<R: Threads + Sync, F: Files>(
     rt: &R,
     alloc: Global,
@@ -139,6 +148,7 @@ pub(crate) fn add_batch<R: Threads + Sync, F: Files>(
     batch: Batch,
     workers: usize,
     buf: &mut [u8],
+    read: &mut [Result<Vec<u64>, PagesStop>],
     words: &mut Vec<u64>,
 ) -> Result<(), PagesStop>
     requires pages { ArePages pages.now }
@@ -146,6 +156,7 @@ pub(crate) fn add_batch<R: Threads + Sync, F: Files>(
     requires there { batch.past ≤ page_count pages.now }
     requires workers { 0 < workers }
     requires bytes { (batch.past - batch.first) * whole_page pages.now ≤ length buf.old }
+    requires room { batch.past - batch.first ≤ length read.old }
     ensures part { (part : List ℕ) × (length part ≤ batch_size pages.now batch)
         × ((before : List ℕ) → length before ≡ batch.first * whole_page pages.now
         → AddsBatch pages.now batch (before ++ part) words.old.items words.new.items result) }
@@ -153,6 +164,7 @@ pub(crate) fn add_batch<R: Threads + Sync, F: Files>(
         → AddsBatch pages.now batch (bytes_from pages.now.at (F.held files.old name.now))
         words.old.items words.new.items result }
     ensures buf { length buf.new ≡ length buf.old }
+    ensures kept { length read.new ≡ length read.old }
     ensures same { IsTrue (F.tells files.old)
         → SameFiles (F.held files.old) (F.held files.new) }
     ensures tells { F.tells files.new ≡ F.tells files.old }
@@ -163,7 +175,7 @@ pub(crate) fn add_batch<R: Threads + Sync, F: Files>(
 {
     let size = batch_size(pages, batch);
     let count = fill(files, name, pages.place_of(batch.first), &mut buf[..size])?;
-    let mut read = make_room(alloc, batch.past - batch.first)?;
-    read_each(rt, alloc, pages, batch, &buf[..count], workers, &mut read);
-    add_words(&read, words)
+    let read = &mut read[..batch.past - batch.first];
+    read_each(rt, alloc, pages, batch, &buf[..count], workers, read);
+    add_words(read, words)
 }

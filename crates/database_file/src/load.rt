@@ -94,7 +94,7 @@ fn base_of(alloc: Global, head: Head, list: Vec<u64>) -> Result<Base, NoMemory>
     ensures { IfOk result (λ base. base ≡ base_with head list.items) }
 {
     let index = LiveIndex::new(alloc, head.checkers())?;
-    let words = Words::from_list(index, &head.stakes(), head.rounds(), list).unwrap();
+    let words = Words::of_right_list(index, &head.stakes(), head.rounds(), list);
     Ok(Base { head, words })
 }
 

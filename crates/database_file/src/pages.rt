@@ -5,7 +5,7 @@ ghost use Rattle.word_pages.specs.Pages.{page_size};
 ghost use Rattle.database_file.specs.declared.pages.PagesStop.TheVariants.{ReadFault, BadPage, NoMemory};
 ghost use Rattle.database_file.specs.Pages.{AddsPage, AnswersPages, ArePages, page_count, place_of, stopped_by, whole_page, words_on};
 
-use crate::batch::{Batch, add_batch};
+use crate::batch::{Batch, add_batch, make_room};
 use directed_fixed::Fixed;
 use hyper_outside::{Failed, Files};
 use std::alloc::{AllocError, AllocFailed, Global};
@@ -185,13 +185,14 @@ pub fn read_pages<R: Threads + Sync, F: Files>(
     let count = pages.page_count();
     let most = BATCH_PAGES.min(count);
     let mut buf = vec![in alloc; 0u8; most * pages.version.page_size(pages.size)]?;
+    let mut read = make_room(alloc, most)?;
     let mut words = Vec::with_capacity(alloc, pages.count)?;
     let mut first = 0;
     'batches: while first < count {
         let past = (first + most).min(count);
         let batch = Batch { first, past };
         add_batch(
-            rt, alloc, files, name, pages, batch, workers, &mut buf, &mut words,
+            rt, alloc, files, name, pages, batch, workers, &mut buf, &mut read, &mut words,
         )?;
         first = past;
     }

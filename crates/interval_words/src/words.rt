@@ -112,14 +112,22 @@ impl Words {
     {
         let states = state_count(&index, stakes);
         if list.len() == 2 * states && are_right(&list, states, stakes.bound()) {
-            Some(Words {
-                index,
-                stakes: stakes.copied(),
-                rounds,
-                list,
-            })
+            Some(Words::of_right_list(index, stakes, rounds, list))
         } else {
             None
+        }
+    }
+
+    /// The words of a list as `from_list` takes it, which is known to be right: no word is looked at.
+    pub fn of_right_list(index: LiveIndex, stakes: &Stakes, rounds: u32, list: Vec<u64>) -> Words
+        requires { AreRight (list_of (game_of index stakes.now) rounds list.items) }
+        ensures { result ≡ list_of (game_of index stakes.now) rounds list.items }
+    {
+        Words {
+            index,
+            stakes: stakes.copied(),
+            rounds,
+            list,
         }
     }
 

@@ -7,11 +7,11 @@ use Rattle.database_file.specs.Texts.{game_in}
 use Rattle.database_file.proofs.Bases.{bound-named, words-right}
 use Rattle.database_file.proofs.load.base_of.Goals as goal
 
-pub unwrap-words-requires : goal.unwrap-words-requires
-unwrap-words-requires c =
+pub of_right_list-words-requires : goal.of_right_list-words-requires
+of_right_list-words-requires c =
     let head = c.args.head in
     let list = c.args.list.items in
     let game : game_of c.in_ok-index.index c.stakes.result ≡ game_in head = ap₂ (λ (checkers : ℕ) (stakes : Terms). game_of checkers stakes) (c.in_ok-index.ensures ∙ c.checkers.ensures.checkers) c.stakes.ensures.stakes in
     let bound = bound-named head.name head.starts in
-    c.from_list.ensures.right.1 (words-right (game_of c.in_ok-index.index c.stakes.result) c.rounds.result list (c.requires.long ∙ sym (ap words_in game))
-    (subst (λ (bound : ℤ). AreWithin bound list) (sym (ap (λ (stakes : Terms). stakes.bound) c.stakes.ensures.stakes ∙ bound)) c.requires.within))
+    words-right (game_of c.in_ok-index.index c.stakes.result) c.rounds.result list (c.requires.long ∙ sym (ap words_in game))
+    (subst (λ (bound : ℤ). AreWithin bound list) (sym (ap (λ (stakes : Terms). stakes.bound) c.stakes.ensures.stakes ∙ bound)) c.requires.within)

@@ -1,5 +1,6 @@
-use Rattle.std.proofs.Common.{◌∙◌, ◌<◌, ◌++◌, ℕ, List, Option, IsTrue, Err, length, arith, ap, sym, subst}
+use Rattle.std.proofs.Common.{◌∙◌, ◌<◌, ◌++◌, ℕ, List, Option, IsTrue, Result, Err, Vec, length, arith, ap, sym, subst}
 use Rattle.std.specs.Bool.{⊤}
+use Rattle.std.specs.Global.{Global}
 use Rattle.std.proofs.lemmas.Result.{err_from_is_err_and}
 use Rattle.hyper_outside.specs.Files.{bytes_from}
 use Rattle.database_file.specs.declared.batch.Batch.{Batch}
@@ -50,6 +51,7 @@ batches-preserved g c =
       told = λ tells. subst (λ (file : Option (List ℕ)). AreRead pages (bytes_from pages.at file) batch.first words → AreRead pages (bytes_from pages.at file) batch.past new) (c.batches.invariant.same tells c.args.name.now)
           (c.in_ok-add_batch.ensures.told (subst IsTrue (sym c.batches.invariant.tells) tells)) (c.batches.invariant.told tells);
       buf = kept c.batches.buf.len c.add_batch.new.buf c.deref_mut.result.now c.batches.buf.items c.batches.buf.ok.0 c.add_batch.ensures.buf (ap (λ (bytes : List ℕ). length bytes) c.deref_mut.ensures.value) ∙ c.batches.invariant.buf;
+      room = kept c.batches.read.len c.add_batch.new.read c.deref_mut-in-batches.result.now c.batches.read.items c.batches.read.ok.0 c.add_batch.ensures.kept (ap (λ (read : List (Result (Vec ℕ Global) PagesStop)). length read) c.deref_mut-in-batches.ensures.value) ∙ c.batches.invariant.room;
       same = λ tells name. c.add_batch.ensures.same (subst IsTrue (sym c.batches.invariant.tells) tells) name ∙ c.batches.invariant.same tells name;
       tells = c.add_batch.ensures.tells ∙ c.batches.invariant.tells;
       later = omega (arith, c.batches.invariant.later, c.add_batch.ensures.later);

@@ -10,6 +10,7 @@ invariant-batches g l = record {
   read : (bytes : List ℕ) × (l.first < page_count l.pages → length bytes ≡ l.first * whole_page l.pages) × AreRead l.pages bytes l.first l.words.items;
   told : IsTrue (g.F.Files.tells l.fn.files) → AreRead l.pages (bytes_from l.pages.at (g.F.Files.held l.fn.files l.name)) l.first l.words.items;
   buf : length l.buf.items ≡ l.most * whole_page l.pages;
+  room : length l.read.items ≡ l.most;
   same : IsTrue (g.F.Files.tells l.fn.files) → SameFiles (g.F.Files.held l.fn.files) (g.F.Files.held l.files);
   tells : g.F.Files.tells l.files ≡ g.F.Files.tells l.fn.files;
   later : g.F.Files.read_faults l.fn.files ≤ g.F.Files.read_faults l.files;
