@@ -3,5 +3,6 @@ pub mod Readings
 pub mod Telling
 pub mod AdviceLast
 pub mod Listing
+pub mod Numbered
 pub mod Advised
 pub mod Scans

@@ -3,8 +3,10 @@ use Rattle.std.specs.Prelude.{◌≡◌, ◌<◌, ℕ, List, length, sum, slice_
 use Rattle.position_rank.specs.Placement.{Placement, IsLayout}
 use Rattle.position_rank.specs.Points.{AreOtherPoints}
 use Rattle.position_rank.specs.Ranks.{layouts, rank_of}
-use Rattle.turn_rule.specs.States.{IsState, pair_of}
-use Rattle.interval_words.specs.WordLists.{WordList, words_in_list}
+use Rattle.turn_rule.specs.Games.{kinds_of}
+use Rattle.turn_rule.specs.States.{IsState}
+use Rattle.interval_words.specs.Numbers.{state_of}
+use Rattle.interval_words.specs.WordLists.{WordList, states_of}
 use Rattle.base_scan.specs.declared.numbers.Seen.{Seen}
 use Rattle.base_scan.specs.declared.sides.Listed.{Listed}
 use Rattle.base_scan.specs.declared.sides.Side.{Side}
@@ -33,9 +35,10 @@ pub record AreListed (checkers : ℕ) (all : List Listed) : Type 0 where
 abbrev pub position_of : Listed → Listed → Placement
 position_of mover other = record { mover = mover.layout; other = other.layout }
 
--- a state with its pair, and what tests ask of its sides
+-- a state with its number, and what tests ask of its sides
 pub record IsSeen (words : WordList) (seen : Seen) : Type 0 where
   pub state : IsState words.game seen.position seen.kind
-  pub pair : seen.pair ≡ pair_of (words_in_list words) seen.position seen.kind
+  pub number : seen.state ≡ state_of (kinds_of words.game) seen.position seen.kind
+  pub inside : seen.state < states_of words.game
   pub mover : IsSideOf seen.position.mover seen.mover
   pub other : IsSideOf seen.position.other seen.other

@@ -1,6 +1,9 @@
-ghost use Rattle.std.specs.Prelude.{◌≡◌, ◌<◌, IsOkAnd, pos};
+ghost use Rattle.std.specs.Prelude.{◌≡◌, ◌<◌, ◌*◌, ◌^◌, IsOkAnd, pos, sum};
+ghost use Rattle.position_rank.specs.Placement.{IsLive, IsPosition};
+ghost use Rattle.position_rank.specs.LiveRanks.{live_rank_of};
+ghost use Rattle.position_rank.specs.Ranks.{square_rank_of};
 ghost use Rattle.turn_rule.specs.States.{IsState, pair_of};
-ghost use Rattle.interval_words.specs.WordLists.{words_in_list};
+ghost use Rattle.interval_words.specs.WordLists.{width, words_in_list};
 ghost use Rattle.turn_rule.specs.Games.{kinds_of};
 ghost use Rattle.play_analyser.specs.Advice.{IsCubeAdviceOver};
 ghost use Rattle.base_scan.specs.declared.condition.Field.TheVariants.{Answered, Offered};
@@ -13,7 +16,7 @@ use crate::sides::Side;
 use directed_fixed::Pair;
 use game_record::{Answer, Offer};
 use hyper_outside::LookStop;
-use interval_words::Words;
+use interval_words::{Words, states_are_numbered};
 use play_analyser::{CubeAdvice, cube_advice, one_list_gives_the_advice};
 use position_rank::Position;
 
@@ -22,7 +25,8 @@ use position_rank::Position;
 pub(crate) struct Seen {
     pub(crate) position: Position,
     pub(crate) kind: usize,
-    pub(crate) pair: Pair,
+    /// Its number.
+    pub(crate) state: usize,
     pub(crate) mover: Side,
     pub(crate) other: Side,
 }
@@ -111,15 +115,43 @@ fn kind_number(words: &Words, kind: usize) -> i64
     kind as i64
 }
 
+/// The number of a live position's first state, behind which the others follow by their kinds.
+#[inline]
+pub(crate) fn first_state(words: &Words, position: &Position, square: u64) -> usize
+    requires valid { IsPosition position.now }
+    requires live { IsLive position.now }
+    requires checkers { sum position.now.mover ≡ words.now.game.checkers }
+    requires square { square ≡ square_rank_of position.now }
+    ensures first { result ≡ live_rank_of position.now * kinds_of words.now.game }
+    ensures small { result < 2 ^ 36 }
+{
+    words.index().rank_at(position, square) as usize * words.stakes().kinds()
+}
+
+/// The pair of a state.
+#[inline]
+fn pair_of(words: &Words, seen: &Seen) -> Pair
+    requires { IsSeen words.now seen.now }
+    ensures { result ≡ pair_of (words_in_list words.now) seen.now.position seen.now.kind }
+{
+    words.pair_at(seen.state)
+}
+
+fn width(pair: Pair) -> i64
+    ensures { result ≡ width pair }
+{
+    pair.upper().units() - pair.lower().units()
+}
+
 /// The number of a state that a field asks for.
 fn number_of(field: Field, words: &Words, seen: &Seen) -> i64
     requires { IsSeen words.now seen.now }
     ensures { result ≡ number_of words.now seen.now.position seen.now.kind field }
 {
     match field {
-        Field::LowerWord => seen.pair.lower().units(),
-        Field::UpperWord => seen.pair.upper().units(),
-        Field::Width => seen.pair.upper().units() - seen.pair.lower().units(),
+        Field::LowerWord => pair_of(words, seen).lower().units(),
+        Field::UpperWord => pair_of(words, seen).upper().units(),
+        Field::Width => width(pair_of(words, seen)),
         Field::KindNumber => kind_number(words, seen.kind),
         Field::Pips => i64::from(seen.mover.pips),
         Field::OtherPips => i64::from(seen.other.pips),
@@ -222,10 +254,11 @@ pub fn meets(condition: &Condition, words: &Words, position: &Position, kind: us
     requires { IsState words.now.game position.now kind }
     ensures { result ≡ meets words.now condition.now position.now kind }
 {
+    states_are_numbered();
     let seen = Seen {
         position: *position,
         kind,
-        pair: words.pair(position, kind),
+        state: first_state(words, position, position.square_rank()) + kind,
         mover: Side::of(&position.mover()),
         other: Side::of(&position.other()),
     };

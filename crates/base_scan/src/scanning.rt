@@ -9,10 +9,10 @@ ghost use Rattle.base_scan.specs.Found.{AreFound, AreScanned, IsScanned, IsState
 
 use crate::condition::Condition;
 use crate::found::{Found, State};
-use crate::numbers::{Seen, meets_with};
+use crate::numbers::{Seen, first_state, meets_with};
 use crate::sides::{Listed, all_listed};
 use hyper_outside::NoMemory;
-use interval_words::Words;
+use interval_words::{Words, states_are_numbered};
 use position_rank::{MoverPoints, Position, layout_count};
 use std::alloc::{AllocError, Global};
 use std::thread;
@@ -71,12 +71,14 @@ fn scan_position(
     ensures right { OnOk result (All (IsStateIn words.now.game) found.old.items
         → All (IsStateIn words.now.game) found.new.items) }
 {
+    states_are_numbered();
     let position = Position::new(mover.layout, other.layout).unwrap();
+    let first = first_state(words, &position, square);
     for kind in 0..words.stakes().kinds() {
         let seen = Seen {
             position,
             kind,
-            pair: words.pair_by_square(&position, square, kind),
+            state: first + kind,
             mover: mover.side,
             other: other.side,
         };

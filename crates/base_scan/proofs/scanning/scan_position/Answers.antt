@@ -1,4 +1,5 @@
-use Rattle.std.proofs.Common.{rules, ◌≡◌, ◌<◌, ◌∙◌, sym, ap, subst}
+use Rattle.std.proofs.Common.{rules, ◌≡◌, ◌<◌, ◌*◌, ◌∙◌, refl, sym, ap, subst}
+use Rattle.position_rank.specs.LiveRanks.{live_rank_of}
 use Rattle.position_rank.specs.Placement.{Placement}
 use Rattle.turn_rule.specs.Games.{kinds_of}
 use Rattle.turn_rule.specs.States.{IsState}
@@ -6,8 +7,27 @@ use Rattle.base_scan.specs.declared.found.State.{State}
 use Rattle.base_scan.specs.Found.{IsStateIn}
 use Rattle.base_scan.specs.Meets.{meets}
 use Rattle.base_scan.specs.Sides.{position_of}
+use Rattle.base_scan.proofs.Numbered.{is-seen}
 use Rattle.base_scan.proofs.Scans.{kind-more, right-more, state-at}
 use Rattle.base_scan.proofs.scanning.scan_position.Goals as goal
+
+pub meets_with-kept-requires : goal.meets_with-kept-requires
+meets_with-kept-requires c =
+    let words = c.args.words.now in
+    let kind = c.loop-kind.kind in
+    let p = position_of c.args.mover.now c.args.other.now in
+    let at : c.unwrap-position.result ≡ p = search rules in
+    let low : kind < kinds_of words.game = search rules in
+    let state : IsState words.game p kind =
+    record {
+      position = record { mover = c.requires.mover.valid; other = c.requires.other.valid; same = c.requires.mover.many ∙ sym c.requires.other.many };
+      many = c.requires.mover.many;
+      live = c.requires.live;
+      kind = low;
+    }
+    in
+    is-seen words p kind c.first_state-first.result _ state (c.states_are_numbered.ensures.below words.game p kind state)
+    (c.first_state-first.ensures.first ∙ ap (λ (q : Placement). live_rank_of q * kinds_of words.game) at) at refl refl c.requires.mover.side c.requires.other.side
 
 pub loop-kind-preserved : goal.loop-kind-preserved
 loop-kind-preserved c =
