@@ -1,5 +1,8 @@
 pub mod TestTexts
 pub mod Readings
 pub mod Telling
+pub mod AdviceLast
+pub mod Listing
+pub mod Numbered
 pub mod Advised
 pub mod Scans

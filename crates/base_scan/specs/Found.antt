@@ -32,6 +32,13 @@ states_from game square many = flat_map (states_at game) (range_with_len square 
 abbrev pub squares : Game → ℕ
 squares game = layouts game.checkers * layouts game.checkers
 
+-- the states of the positions of one layout of the mover, and those of so many layouts from one on
+abbrev pub states_of_row : Game → ℕ → List State
+states_of_row game row = states_from game (row * layouts game.checkers) (layouts game.checkers)
+
+abbrev pub states_of_rows : Game → ℕ → ℕ → List State
+states_of_rows game row many = states_from game (row * layouts game.checkers) (many * layouts game.checkers)
+
 -- all states of a game: by rising square of the position, which is to say by rising live rank, and then by kind
 abbrev pub all_states : Game → List State
 all_states game = states_from game 0 (squares game)
@@ -47,15 +54,15 @@ meeting words groups = meeting_among words groups (all_states words.game)
 abbrev pub IsStateIn : Game → State → Type 0
 IsStateIn game state = IsState game state.position state.kind
 
--- where a part of the squares begins, where so many parts share them
-abbrev pub first_square : Game → ℕ → ℕ → ℕ
-first_square game parts number = squares game * number / parts
+-- the rank of the layout of the mover where a part begins, where so many parts share the layouts
+abbrev pub first_row : Game → ℕ → ℕ → ℕ
+first_row game parts number = layouts game.checkers * number / parts
 
 -- a part's states that meet the condition, in their order
 pub record IsScanned (words : WordList) (groups : List (List Test)) (parts number : ℕ) (states : List State) : Type 0 where
   pub found :
-      let from = first_square words.game parts number in
-      states ≡ meeting_among words groups (states_from words.game from (first_square words.game parts (number + 1) - from))
+      let from = first_row words.game parts number in
+      states ≡ meeting_among words groups (states_of_rows words.game from (first_row words.game parts (number + 1) - from))
   pub right : All (IsStateIn words.game) states
 
 -- each of so many parts has its states, unless memory ran out

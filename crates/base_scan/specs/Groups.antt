@@ -24,6 +24,11 @@ grouped (one ∷ tests) = joined_to one.joint one.test (grouped tests)
 abbrev pub groups_of : List Joined → List (List Test)
 groups_of tests = (grouped tests).later
 
+-- a test with this joint begins a group
+abbrev pub begins_group : Joint → Bool
+begins_group And = false
+begins_group Or = true
+
 -- a test that has to come begins a group
 abbrev pub joint_of : Bool → Joint
 joint_of true = Or

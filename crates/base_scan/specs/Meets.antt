@@ -1,5 +1,5 @@
 -- The numbers of a state, and which states meet a condition.
-use Rattle.std.specs.Prelude.{ℕ, ◌*◌, ℤ, pos, int_lt, int_le, Bool, not, ◌&&◌, if◌then◌else◌, List, [], ◌∷◌, map, sum, slice_index, Option, Some, None, Result, Ok, Err}
+use Rattle.std.specs.Prelude.{ℕ, ◌*◌, ℤ, pos, int_lt, int_le, Bool, true, false, not, ◌&&◌, if◌then◌else◌, List, [], ◌∷◌, map, sum, slice_index, Option, Some, None, Result, Ok, Err}
 use Rattle.std.specs.List.{list_all, list_any, range_with_len}
 use Rattle.position_rank.specs.Placement.{Placement}
 use Rattle.directed_fixed.specs.Bounds.{Bounds}
@@ -118,3 +118,29 @@ says_of words p k test = says test (number_of words p k test.field)
 -- a state meets a condition where all tests of some group say yes
 abbrev pub meets : WordList → List (List Test) → Placement → ℕ → Bool
 meets words groups p k = list_any (λ group. list_all (says_of words p k) group) groups
+
+-- ---- what can be said before advice is looked for
+
+-- a test asks for what is advised on the cube
+abbrev pub asks_advice : Field → Bool
+asks_advice LowerWord = false
+asks_advice UpperWord = false
+asks_advice Width = false
+asks_advice KindNumber = false
+asks_advice Pips = false
+asks_advice OtherPips = false
+asks_advice Off = false
+asks_advice OtherOff = false
+asks_advice OnBar = false
+asks_advice OtherOnBar = false
+asks_advice Offered = true
+asks_advice Answered = true
+
+-- what a test says with advice, and without, where one that asks for it says yes
+abbrev pub says_by : Bool → WordList → Placement → ℕ → Test → Bool
+says_by true words p k test = says_of words p k test
+says_by false words p k test = if asks_advice test.field then true else says_of words p k test
+
+-- all tests of some group say yes, with advice or without
+abbrev pub meets_by : Bool → WordList → List (List Test) → Placement → ℕ → Bool
+meets_by advice words groups p k = list_any (λ group. list_all (says_by advice words p k) group) groups

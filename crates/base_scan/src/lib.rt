@@ -6,6 +6,7 @@ mod found;
 mod numbers;
 mod reading;
 mod scanning;
+mod sides;
 #[cfg(test)]
 mod tests;
 mod words;

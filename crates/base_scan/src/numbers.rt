@@ -1,28 +1,34 @@
-ghost use Rattle.std.specs.Prelude.{◌≡◌, ◌<◌, IsOkAnd, pos};
+ghost use Rattle.std.specs.Prelude.{◌≡◌, ◌<◌, ◌*◌, ◌^◌, IsOkAnd, pos, sum};
+ghost use Rattle.position_rank.specs.Placement.{IsLive, IsPosition};
+ghost use Rattle.position_rank.specs.LiveRanks.{live_rank_of};
+ghost use Rattle.position_rank.specs.Ranks.{square_rank_of};
 ghost use Rattle.turn_rule.specs.States.{IsState, pair_of};
-ghost use Rattle.interval_words.specs.WordLists.{words_in_list};
+ghost use Rattle.interval_words.specs.WordLists.{width, words_in_list};
 ghost use Rattle.turn_rule.specs.Games.{kinds_of};
 ghost use Rattle.play_analyser.specs.Advice.{IsCubeAdviceOver};
 ghost use Rattle.base_scan.specs.declared.condition.Field.TheVariants.{Answered, Offered};
-ghost use Rattle.base_scan.specs.Meets.{action_in, answer_number, answer_told, compares, meets, number_of, offer_number, offer_told, pips, says, says_of};
+ghost use Rattle.base_scan.specs.Groups.{begins_group};
+ghost use Rattle.base_scan.specs.Meets.{action_in, answer_number, answer_told, asks_advice, compares, meets, meets_by, number_of, offer_number, offer_told, says, says_by, says_of};
+ghost use Rattle.base_scan.specs.Sides.{IsSeen};
 
 use crate::condition::{Comparison, Condition, Field, Joint, Test};
+use crate::sides::Side;
 use directed_fixed::Pair;
 use game_record::{Answer, Offer};
 use hyper_outside::LookStop;
-use interval_words::Words;
+use interval_words::{Words, states_are_numbered};
 use play_analyser::{CubeAdvice, cube_advice, one_list_gives_the_advice};
-use position_rank::{Layout, Position};
+use position_rank::Position;
 
-/// The sum of the places of a side's checkers.
-fn pips(side: &Layout) -> i64
-    ensures { result ≡ pos (pips side.now) }
-{
-    let mut pips: u32 = 0;
-    for place in 0..26u8 {
-        pips += u32::from(place) * u32::from(side.count(place));
-    }
-    i64::from(pips)
+/// A state with what tests ask of it.
+#[derive(Clone, Copy, Debug)]
+pub(crate) struct Seen {
+    pub(crate) position: Position,
+    pub(crate) kind: usize,
+    /// Its number.
+    pub(crate) state: usize,
+    pub(crate) mover: Side,
+    pub(crate) other: Side,
 }
 
 /// What is advised over the words of a list. There always is some advice.
@@ -109,25 +115,52 @@ fn kind_number(words: &Words, kind: usize) -> i64
     kind as i64
 }
 
+/// The number of a live position's first state, behind which the others follow by their kinds.
+#[inline]
+pub(crate) fn first_state(words: &Words, position: &Position, square: u64) -> usize
+    requires valid { IsPosition position.now }
+    requires live { IsLive position.now }
+    requires checkers { sum position.now.mover ≡ words.now.game.checkers }
+    requires square { square ≡ square_rank_of position.now }
+    ensures first { result ≡ live_rank_of position.now * kinds_of words.now.game }
+    ensures small { result < 2 ^ 36 }
+{
+    words.index().rank_at(position, square) as usize * words.stakes().kinds()
+}
+
+/// The pair of a state.
+#[inline]
+fn pair_of(words: &Words, seen: &Seen) -> Pair
+    requires { IsSeen words.now seen.now }
+    ensures { result ≡ pair_of (words_in_list words.now) seen.now.position seen.now.kind }
+{
+    words.pair_at(seen.state)
+}
+
+fn width(pair: Pair) -> i64
+    ensures { result ≡ width pair }
+{
+    pair.upper().units() - pair.lower().units()
+}
+
 /// The number of a state that a field asks for.
-fn number_of(field: Field, words: &Words, position: &Position, kind: usize, pair: Pair) -> i64
-    requires state { IsState words.now.game position.now kind }
-    requires pair { pair ≡ pair_of (words_in_list words.now) position.now kind }
-    ensures { result ≡ number_of words.now position.now kind field }
+fn number_of(field: Field, words: &Words, seen: &Seen) -> i64
+    requires { IsSeen words.now seen.now }
+    ensures { result ≡ number_of words.now seen.now.position seen.now.kind field }
 {
     match field {
-        Field::LowerWord => pair.lower().units(),
-        Field::UpperWord => pair.upper().units(),
-        Field::Width => pair.upper().units() - pair.lower().units(),
-        Field::KindNumber => kind_number(words, kind),
-        Field::Pips => pips(&position.mover()),
-        Field::OtherPips => pips(&position.other()),
-        Field::Off => i64::from(position.mover_at(0)),
-        Field::OtherOff => i64::from(position.other_at(0)),
-        Field::OnBar => i64::from(position.mover_at(25)),
-        Field::OtherOnBar => i64::from(position.other_at(25)),
-        Field::Offered => advised_offer(words, position, kind),
-        Field::Answered => advised_answer(words, position, kind),
+        Field::LowerWord => pair_of(words, seen).lower().units(),
+        Field::UpperWord => pair_of(words, seen).upper().units(),
+        Field::Width => width(pair_of(words, seen)),
+        Field::KindNumber => kind_number(words, seen.kind),
+        Field::Pips => i64::from(seen.mover.pips),
+        Field::OtherPips => i64::from(seen.other.pips),
+        Field::Off => i64::from(seen.mover.off),
+        Field::OtherOff => i64::from(seen.other.off),
+        Field::OnBar => i64::from(seen.mover.on_bar),
+        Field::OtherOnBar => i64::from(seen.other.on_bar),
+        Field::Offered => advised_offer(words, &seen.position, seen.kind),
+        Field::Answered => advised_answer(words, &seen.position, seen.kind),
     }
 }
 
@@ -150,38 +183,68 @@ fn says(test: &Test, number: i64) -> bool
 }
 
 /// What a test says of a state.
-fn says_of(test: &Test, words: &Words, position: &Position, kind: usize, pair: Pair) -> bool
-    requires state { IsState words.now.game position.now kind }
-    requires pair { pair ≡ pair_of (words_in_list words.now) position.now kind }
-    ensures { result ≡ says_of words.now position.now kind test.now }
+fn says_of(test: &Test, words: &Words, seen: &Seen) -> bool
+    requires { IsSeen words.now seen.now }
+    ensures { result ≡ says_of words.now seen.now.position seen.now.kind test.now }
 {
-    says(test, number_of(test.field, words, position, kind, pair))
+    says(test, number_of(test.field, words, seen))
 }
 
-/// `meets` of a state whose pair is at hand.
-pub(crate) fn meets_with(
-    condition: &Condition,
-    words: &Words,
-    position: &Position,
-    kind: usize,
-    pair: Pair,
-) -> bool
-    requires state { IsState words.now.game position.now kind }
-    requires pair { pair ≡ pair_of (words_in_list words.now) position.now kind }
-    ensures { result ≡ meets words.now condition.now position.now kind }
+/// Whether a field asks for what is advised, which takes long to find.
+fn asks_advice(field: Field) -> bool
+    ensures { result ≡ asks_advice field }
+{
+    match field {
+        Field::Offered | Field::Answered => true,
+        _ => false,
+    }
+}
+
+/// What a test says of a state. Without advice, one that asks for it says yes.
+fn says_by(advice: bool, test: &Test, words: &Words, seen: &Seen) -> bool
+    requires { IsSeen words.now seen.now }
+    ensures { result ≡ says_by advice words.now seen.now.position seen.now.kind test.now }
+{
+    !advice && asks_advice(test.field) || says_of(test, words, seen)
+}
+
+/// Whether a test begins a group.
+fn begins_group(joint: Joint) -> bool
+    ensures { result ≡ begins_group joint }
+{
+    match joint {
+        Joint::And => false,
+        Joint::Or => true,
+    }
+}
+
+/// Whether all tests of some group say yes of a state, with advice or without.
+fn meets_by(advice: bool, condition: &Condition, words: &Words, seen: &Seen) -> bool
+    requires { IsSeen words.now seen.now }
+    ensures { result
+        ≡ meets_by advice words.now condition.now seen.now.position seen.now.kind }
 {
     let mut all = false;
     for joined in condition.tests() {
-        if joined.joint == Joint::Or {
+        if begins_group(joined.joint) {
             if all {
                 return true;
             }
-            all = says_of(&joined.test, words, position, kind, pair);
+            all = says_by(advice, &joined.test, words, seen);
         } else if all {
-            all = says_of(&joined.test, words, position, kind, pair);
+            all = says_by(advice, &joined.test, words, seen);
         }
     }
     all
+}
+
+/// `meets` of a state whose numbers are at hand. Advice is looked for only where the tests that
+/// don't ask for it may be met.
+pub(crate) fn meets_with(condition: &Condition, words: &Words, seen: &Seen) -> bool
+    requires { IsSeen words.now seen.now }
+    ensures { result ≡ meets words.now condition.now seen.now.position seen.now.kind }
+{
+    meets_by(false, condition, words, seen) && meets_by(true, condition, words, seen)
 }
 
 /// Whether a state meets a condition: whether all tests of some group say yes. A test says whether
@@ -191,5 +254,13 @@ pub fn meets(condition: &Condition, words: &Words, position: &Position, kind: us
     requires { IsState words.now.game position.now kind }
     ensures { result ≡ meets words.now condition.now position.now kind }
 {
-    meets_with(condition, words, position, kind, words.pair(position, kind))
+    states_are_numbered();
+    let seen = Seen {
+        position: *position,
+        kind,
+        state: first_state(words, position, position.square_rank()) + kind,
+        mover: Side::of(&position.mover()),
+        other: Side::of(&position.other()),
+    };
+    meets_with(condition, words, &seen)
 }

@@ -1,39 +1,33 @@
-ghost use Rattle.std.specs.Prelude.{◌≡◌, ◌<◌, ◌≤◌, ◌^◌, ◌++◌, ◌∷◌, [], if◌then◌else◌, ℕ, List, All, IfOk, OnOk, sum};
+ghost use Rattle.std.specs.Prelude.{◌≡◌, ◌<◌, ◌≤◌, ◌++◌, ◌∷◌, [], if◌then◌else◌, ℕ, List, All, IfOk, OnOk};
 ghost use Rattle.interval_words.specs.WordLists.{WordList};
 ghost use Rattle.base_scan.specs.declared.condition.Test.{Test};
-ghost use Rattle.position_rank.specs.Placement.{IsLive, IsPosition};
-ghost use Rattle.position_rank.specs.Ranks.{square_rank_of};
+ghost use Rattle.position_rank.specs.Placement.{IsLive};
+ghost use Rattle.position_rank.specs.Ranks.{layouts, square_rank_of};
 ghost use Rattle.turn_rule.specs.Games.{kinds_of};
-ghost use Rattle.base_scan.specs.Found.{AreFound, AreScanned, IsScanned, IsStateIn, first_square, meeting, meeting_among, squares, states_at, with_kinds};
+ghost use Rattle.base_scan.specs.Sides.{AreListed, IsListed, position_of};
+ghost use Rattle.base_scan.specs.Found.{AreFound, AreScanned, IsScanned, IsStateIn, first_row, meeting, meeting_among, states_of_row, with_kinds};
 
 use crate::condition::Condition;
 use crate::found::{Found, State};
-use crate::numbers::meets_with;
+use crate::numbers::{Seen, first_state, meets_with};
+use crate::sides::{Listed, all_listed};
 use hyper_outside::NoMemory;
-use interval_words::Words;
-use position_rank::{Position, layout_count, squares_hold_their_positions};
+use interval_words::{Words, states_are_numbered};
+use position_rank::{MoverPoints, Position, layout_count};
 use std::alloc::{AllocError, Global};
 use std::thread;
 use std::thread::Threads;
 
-/// How many pairs of layouts there are.
-fn square_count(words: &Words) -> u64
-    ensures count { result ≡ squares words.now.game }
-    ensures small { result < 2 ^ 32 }
-{
-    let layouts = u64::from(layout_count(words.checkers()));
-    layouts * layouts
-}
-
-/// Where a part of the squares begins, where so many parts share them.
-fn first_square(words: &Words, parts: usize, number: usize) -> u64
+/// The rank of the mover's layout where a part of the squares begins, where so many parts share
+/// them.
+fn first_row(words: &Words, parts: usize, number: usize) -> u32
     requires some { 0 < parts }
     requires few { parts ≤ 64 }
     requires number { number ≤ parts }
-    ensures start { result ≡ first_square words.now.game parts number }
-    ensures inside { result ≤ squares words.now.game }
+    ensures start { result ≡ first_row words.now.game parts number }
+    ensures inside { result ≤ layouts words.now.game.checkers }
 {
-    square_count(words) * number as u64 / parts as u64
+    layout_count(words.checkers()) * number as u32 / parts as u32
 }
 
 /// A state of a position, of at most 14 kinds.
@@ -63,66 +57,85 @@ fn scan_position(
     found: &mut Vec<State>,
     words: &Words,
     condition: &Condition,
-    position: &Position,
+    mover: &Listed,
+    other: &Listed,
     square: u64,
 ) -> Result<(), AllocError>
-    requires valid { IsPosition position.now }
-    requires live { IsLive position.now }
-    requires checkers { sum position.now.mover ≡ words.now.game.checkers }
-    requires square { square ≡ square_rank_of position.now }
+    requires mover { IsListed words.now.game.checkers mover.now }
+    requires other { IsListed words.now.game.checkers other.now }
+    requires square { square ≡ square_rank_of (position_of mover.now other.now) }
+    requires live { IsLive (position_of mover.now other.now) }
     ensures found { OnOk result (found.new.items ≡ found.old.items
         ++ meeting_among words.now condition.now
-        (with_kinds (kinds_of words.now.game) position.now)) }
+        (with_kinds (kinds_of words.now.game) (position_of mover.now other.now))) }
     ensures right { OnOk result (All (IsStateIn words.now.game) found.old.items
         → All (IsStateIn words.now.game) found.new.items) }
 {
+    states_are_numbered();
+    let position = Position::new(mover.layout, other.layout).unwrap();
+    let first = first_state(words, &position, square);
     for kind in 0..words.stakes().kinds() {
-        let pair = words.pair_by_square(position, square, kind);
-        let kept = meets_with(condition, words, position, kind, pair);
-        push_if(found, kept, state_of(position, kind))?;
+        let seen = Seen {
+            position,
+            kind,
+            state: first + kind,
+            mover: mover.side,
+            other: other.side,
+        };
+        let kept = meets_with(condition, words, &seen);
+        push_if(found, kept, state_of(&position, kind))?;
     }
     Ok(())
 }
 
-/// Adds those states at a square that meet the condition.
-fn scan_square(
+/// Adds those states that meet the condition of the mover's layout with this rank, by the layouts of
+/// the other side.
+fn scan_row(
     found: &mut Vec<State>,
     words: &Words,
     condition: &Condition,
-    square: u64,
+    all: &[Listed],
+    row: u32,
 ) -> Result<(), AllocError>
-    requires { square < squares words.now.game }
+    requires all { AreListed words.now.game.checkers all.now }
+    requires row { row < layouts words.now.game.checkers }
     ensures found { OnOk result (found.new.items ≡ found.old.items
-        ++ meeting_among words.now condition.now (states_at words.now.game square)) }
+        ++ meeting_among words.now condition.now (states_of_row words.now.game row)) }
     ensures right { OnOk result (All (IsStateIn words.now.game) found.old.items
         → All (IsStateIn words.now.game) found.new.items) }
 {
-    squares_hold_their_positions();
-    let position = Position::square_unrank(words.checkers(), square);
-    if !position.is_live() {
-        return Ok(());
+    let mover = &all[row as usize];
+    let points = MoverPoints::of(&mover.layout);
+    let first = row as usize * all.len();
+    for (rank, other) in all.iter().enumerate() {
+        if points.are_live(other.points) {
+            let square = (first + rank) as u64;
+            scan_position(found, words, condition, mover, other, square)?;
+        }
     }
-    scan_position(found, words, condition, &position, square)
+    Ok(())
 }
 
-/// The states at the squares of a part that meet the condition, where so many parts share them.
+/// The states of the rows of a part that meet the condition, where so many parts share them.
 fn scan_part(
     alloc: Global,
     words: &Words,
     condition: &Condition,
+    all: &[Listed],
     parts: usize,
     number: usize,
 ) -> Result<Vec<State>, NoMemory>
+    requires all { AreListed words.now.game.checkers all.now }
     requires few { parts ≤ 64 }
     requires number { number < parts }
     ensures { IfOk result (λ states.
         IsScanned words.now condition.now parts number states.items) }
 {
     let mut found = Vec::new(alloc);
-    let from = first_square(words, parts, number);
-    let to = first_square(words, parts, number + 1);
-    for square in from..to {
-        scan_square(&mut found, words, condition, square)?;
+    let from = first_row(words, parts, number);
+    let to = first_row(words, parts, number + 1);
+    for row in from..to {
+        scan_row(&mut found, words, condition, all, row)?;
     }
     Ok(found)
 }
@@ -134,8 +147,10 @@ fn scan_parts<R: Threads + Sync>(
     alloc: Global,
     words: &Words,
     condition: &Condition,
+    all: &[Listed],
     parts: usize,
 ) -> Result<Vec<Result<Vec<State>, NoMemory>>, AllocError>
+    requires all { AreListed words.now.game.checkers all.now }
     requires few { parts ≤ 64 }
     ensures { IfOk result (λ told. AreScanned words.now condition.now parts told.items) }
 {
@@ -143,7 +158,7 @@ fn scan_parts<R: Threads + Sync>(
         rt,
         alloc,
         parts,
-        &|number| scan_part(alloc, words, condition, parts, number),
+        &|number| scan_part(alloc, words, condition, all, parts, number),
     )
 }
 
@@ -165,8 +180,8 @@ fn joined(alloc: Global, parts: &[Result<Vec<State>, NoMemory>]) -> Result<Vec<S
 
 /// The states of a game whose words meet a condition, by rising live rank and then by kind. It is
 /// the same list for every number of workers, of which there are 1 to 64, each in a thread of its
-/// own where one can be started, else in turn. It asks for memory for the states found alone, and
-/// may answer `NoMemory`.
+/// own where one can be started, else in turn. It asks for memory for a list of all layouts and for
+/// the states found, and may answer `NoMemory`.
 pub fn scan<R: Threads + Sync>(
     rt: &R,
     alloc: Global,
@@ -178,6 +193,14 @@ pub fn scan<R: Threads + Sync>(
     ensures found { IfOk result (λ found. found ≡ meeting words.now condition.now) }
     ensures right { IfOk result (All (IsStateIn words.now.game)) }
 {
-    let parts = scan_parts(rt, alloc, words, condition, workers as usize)?;
+    let all = all_listed(alloc, words.checkers())?;
+    let parts = scan_parts(
+        rt,
+        alloc,
+        words,
+        condition,
+        all.as_slice(),
+        workers as usize,
+    )?;
     Ok(Found::new(joined(alloc, &parts)?))
 }

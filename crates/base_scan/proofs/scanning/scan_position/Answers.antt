@@ -1,17 +1,54 @@
-use Rattle.std.proofs.Common.{rules, sym, subst}
+use Rattle.std.proofs.Common.{rules, ◌≡◌, ◌<◌, ◌*◌, ◌∙◌, refl, sym, ap, subst}
+use Rattle.position_rank.specs.LiveRanks.{live_rank_of}
+use Rattle.position_rank.specs.Placement.{Placement}
+use Rattle.turn_rule.specs.Games.{kinds_of}
 use Rattle.turn_rule.specs.States.{IsState}
 use Rattle.base_scan.specs.declared.found.State.{State}
 use Rattle.base_scan.specs.Found.{IsStateIn}
-use Rattle.base_scan.proofs.Scans.{kind-more, right-more}
+use Rattle.base_scan.specs.Meets.{meets}
+use Rattle.base_scan.specs.Sides.{position_of}
+use Rattle.base_scan.proofs.Numbered.{is-seen}
+use Rattle.base_scan.proofs.Scans.{kind-more, right-more, state-at}
 use Rattle.base_scan.proofs.scanning.scan_position.Goals as goal
+
+pub meets_with-kept-requires : goal.meets_with-kept-requires
+meets_with-kept-requires c =
+    let words = c.args.words.now in
+    let kind = c.loop-kind.kind in
+    let p = position_of c.args.mover.now c.args.other.now in
+    let at : c.unwrap-position.result ≡ p = search rules in
+    let low : kind < kinds_of words.game = search rules in
+    let state : IsState words.game p kind =
+    record {
+      position = record { mover = c.requires.mover.valid; other = c.requires.other.valid; same = c.requires.mover.many ∙ sym c.requires.other.many };
+      many = c.requires.mover.many;
+      live = c.requires.live;
+      kind = low;
+    }
+    in
+    is-seen words p kind c.first_state-first.result _ state (c.states_are_numbered.ensures.below words.game p kind state)
+    (c.first_state-first.ensures.first ∙ ap (λ (q : Placement). live_rank_of q * kinds_of words.game) at) at refl refl c.requires.mover.side c.requires.other.side
 
 pub loop-kind-preserved : goal.loop-kind-preserved
 loop-kind-preserved c =
     let words = c.args.words.now in
-    let state : IsState words.game c.args.position.now c.loop-kind.kind = search rules in
+    let groups = c.args.condition.now in
+    let kind = c.loop-kind.kind in
+    let p = position_of c.args.mover.now c.args.other.now in
+    let at : c.unwrap-position.result ≡ p = search rules in
+    let low : kind < kinds_of words.game = search rules in
+    let state : IsState words.game p kind =
     record {
-      found = kind-more words c.args.condition.now c.args.position.now c.loop-kind.kind c.meets_with-kept.result c.state_of.result c.args.found.now.items c.loop-kind.found.items c.push_if.new.found.items
-          c.meets_with-kept.ensures c.state_of.ensures c.loop-kind.invariant.found c.in_ok-push_if.ensures;
-      right = λ before. right-more words c.args.condition.now c.meets_with-kept.result c.state_of.result c.loop-kind.found.items c.push_if.new.found.items
-          (subst (IsStateIn words.game) (sym c.state_of.ensures) state) (c.loop-kind.invariant.right before) c.in_ok-push_if.ensures;
+      position = record { mover = c.requires.mover.valid; other = c.requires.other.valid; same = c.requires.mover.many ∙ sym c.requires.other.many };
+      many = c.requires.mover.many;
+      live = c.requires.live;
+      kind = low;
+    }
+    in
+    let told = state-at c.unwrap-position.result p kind c.state_of.result c.state_of.ensures at in
+    record {
+      found = kind-more words groups p kind c.meets_with-kept.result c.state_of.result c.args.found.now.items c.loop-kind.found.items c.push_if.new.found.items
+          (c.meets_with-kept.ensures ∙ ap (λ (q : Placement). meets words groups q kind) at) told c.loop-kind.invariant.found c.in_ok-push_if.ensures;
+      right = λ before. right-more words groups c.meets_with-kept.result c.state_of.result c.loop-kind.found.items c.push_if.new.found.items
+          (subst (IsStateIn words.game) (sym told) state) (c.loop-kind.invariant.right before) c.in_ok-push_if.ensures;
     }
