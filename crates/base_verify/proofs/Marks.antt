@@ -1,14 +1,12 @@
 -- The columns that were taken, by their marks.
-use Rattle.std.proofs.Common.{◌≡◌, ◌<◌, ◌≤◌, ◌+◌, ◌∙◌, ℕ, Bool, true, false, IsTrue, Result, Ok, IfOk, IfSome, Option, Some, None, Vec, List, length, replicate, set, sum, get_or, arith, ap, refl, sym, subst, inl, inr}
+use Rattle.std.proofs.Common.{◌≡◌, ◌+◌, ◌∙◌, ℕ, Bool, true, false, List, replicate, set, sum, arith, ap, sym, subst, inl, inr}
 use Rattle.std.proofs.lemmas.Bool.{cases_eq}
 use Rattle.std.proofs.lemmas.List.{get_or-replicate, get_or-set_other, length-replicate, length-set}
-use Rattle.position_rank.specs.Ranks.{layouts, rank_of}
+use Rattle.position_rank.specs.Ranks.{layouts}
 use Rattle.position_rank.proofs.RankLaws.{rank-below}
-use Rattle.hyper_outside.specs.declared.outside.NoMemory.{NoMemory}
 use Rattle.turn_rule.specs.Truth.{AreConsistent}
 use Rattle.interval_words.specs.WordLists.{WordList, words_in_list}
-use Rattle.base_verify.specs.Columns.{AreHeld, AreToldHeld, ColumnsHold}
-use Rattle.base_verify.proofs.ColumnLemmas.{columns-more, no-columns}
+use Rattle.base_verify.specs.Columns.{AreHeld, ColumnsHold}
 
 module _ (words : WordList) where
   pub no-marks : (n : ℕ) → layouts words.game.checkers ≡ n → AreHeld words (replicate n false)

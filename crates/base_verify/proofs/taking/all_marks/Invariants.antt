@@ -1,4 +1,4 @@
-use Rattle.std.proofs.Common.{◌≡◌, ℕ}
+use Rattle.std.proofs.Common.{◌≡◌}
 use Rattle.position_rank.specs.Ranks.{layouts}
 use Rattle.interval_words.specs.WordLists.{WordList}
 use Rattle.base_verify.specs.Columns.{AreHeld, AreToldHeld}
