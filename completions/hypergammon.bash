@@ -2,7 +2,7 @@
 
 _hypergammon() {
     local word=${COMP_WORDS[COMP_CWORD]} before=${COMP_WORDS[COMP_CWORD-1]} command=${COMP_WORDS[1]}
-    local commands='bound race solve show migrate advise verify ladder analyse study make plan scan help'
+    local commands='bound race solve show migrate advise verify ladder analyse study make plan scan reply help'
     local stakes='cubeless money jacoby money-beavers jacoby-beavers'
     COMPREPLY=()
     if [ "$COMP_CWORD" -eq 1 ]; then
@@ -92,6 +92,19 @@ _hypergammon() {
                 *)
                     if [[ $word == -* ]]; then
                         mapfile -t COMPREPLY < <(compgen -W '--workers' -- "$word")
+                    elif [ "$COMP_CWORD" -eq 2 ]; then
+                        mapfile -t COMPREPLY < <(compgen -f -- "$word")
+                    fi
+                    ;;
+            esac
+            ;;
+        reply)
+            case $before in
+                --kind) mapfile -t COMPREPLY < <(compgen -W 'alone centred mine theirs' -- "$word") ;;
+                --rounds) ;;
+                *)
+                    if [[ $word == -* ]]; then
+                        mapfile -t COMPREPLY < <(compgen -W '--kind --rounds' -- "$word")
                     elif [ "$COMP_CWORD" -eq 2 ]; then
                         mapfile -t COMPREPLY < <(compgen -f -- "$word")
                     fi

@@ -16,8 +16,8 @@ use Rattle.command_line.specs.declared.command.Command.TheVariants as command
 use Rattle.command_line.specs.declared.command.CommandName.{CommandName}
 use Rattle.command_line.specs.declared.command.CommandName.TheVariants as name
 use Rattle.command_line.specs.Values.{number_of, number_within, long_number_given, number_given, number_or, stakes_named, stakes_or, kind_given, is_name_within, name_within, file_name, other_name, prefix}
-use Rattle.command_line.specs.Commands.{Asked, checked, refused, bound_values, race_values, solve_values, show_values, migrate_values, advise_values, command_values, command_named, command_form, verify_values, ladder_values, analyse_values, study_values, make_values, plan_values, scan_values}
-use Rattle.command_line.specs.declared.values.TheConstants.{MOST_CHECKERS, MOST_GAMES, MOST_POINTS, MOST_ROUNDS, MOST_WORKERS, USUAL_POINTS, USUAL_ROUNDS}
+use Rattle.command_line.specs.Commands.{Asked, checked, refused, bound_values, race_values, solve_values, show_values, migrate_values, advise_values, command_values, command_named, command_form, verify_values, ladder_values, analyse_values, study_values, make_values, plan_values, scan_values, reply_values}
+use Rattle.command_line.specs.declared.values.TheConstants.{MOST_CHECKERS, MOST_GAMES, MOST_POINTS, MOST_ROUNDS, MOST_WORKERS, USUAL_POINTS, USUAL_REPLY_ROUNDS, USUAL_ROUNDS}
 use Rattle.command_line.specs.Words.{is_faulty, place_at, form_reading, words_reading, reading}
 use Rattle.command_line.specs.Right.{IsName, IsPrefix, IsRightCommand}
 
@@ -314,6 +314,21 @@ scan-right given =
     scan-from (file_name (value_of (codes "FILE") given)) (value_of (codes "CONDITION") given) (number_or MOST_WORKERS 1 workers)
     (named (value_of (codes "FILE") given)) (or-within MOST_WORKERS 1 workers (omega arith, omega arith))
 
+reply-from : (file position : Option Bytes) (kind : Option (Option KindName)) (rounds : Option ℕ) → IfSome file IsName → IfSome rounds (Within MOST_ROUNDS) →
+    Right (checked 1 file (λ file. checked 2 position (λ position. checked 3 kind (λ kind. checked 4 rounds (λ rounds.
+    Ok (command.Reply (record { file = file; position = position; kind = kind; rounds = rounds })))))))
+reply-from None position kind rounds name ended = tt
+reply-from (Some f) None kind rounds name ended = tt
+reply-from (Some f) (Some p) None rounds name ended = tt
+reply-from (Some f) (Some p) (Some k) None name ended = tt
+reply-from (Some f) (Some p) (Some k) (Some r) name ended = record { file = name; begun = ended.0; ended = ended.1 }
+
+reply-right : (given : Values) → Right (reply_values given)
+reply-right given =
+    let rounds = value_of (codes "rounds") given in
+    reply-from (file_name (value_of (codes "FILE") given)) (value_of (codes "POSITION") given) (kind_given (value_of (codes "kind") given)) (number_or MOST_ROUNDS USUAL_REPLY_ROUNDS rounds)
+    (named (value_of (codes "FILE") given)) (or-within MOST_ROUNDS USUAL_REPLY_ROUNDS rounds (omega arith, omega arith))
+
 values-right : (command : CommandName) (given : Values) → Right (command_values command given)
 values-right name.Bound given = bound-right given
 values-right name.Race given = race-right given
@@ -328,6 +343,7 @@ values-right name.Study given = study-right given
 values-right name.Make given = make-right given
 values-right name.Plan given = plan-right given
 values-right name.Scan given = scan-right given
+values-right name.Reply given = reply-right given
 
 form-right : (command : CommandName) (values : Option Values) → Right (option_map_or (command_values command) values (refused Form 0))
 form-right command None = tt

@@ -8,10 +8,10 @@ use Rattle.hyper_outside.specs.declared.outside.WordsKind.TheVariants.{Value}
 use Rattle.cube_actions.specs.declared.name.StakesName.TheVariants.{Jacoby}
 use Rattle.word_forms.specs.Form.{Bytes, Form, Values, value_of}
 use Rattle.command_line.specs.declared.command.Command.{Command}
-use Rattle.command_line.specs.declared.command.Command.TheVariants.{Bound, Race, Solve, Show, Migrate, Advise, Verify, Ladder, Analyse, Study, Make, Plan, Scan}
+use Rattle.command_line.specs.declared.command.Command.TheVariants.{Bound, Race, Solve, Show, Migrate, Advise, Verify, Ladder, Analyse, Study, Make, Plan, Scan, Reply}
 use Rattle.command_line.specs.declared.command.CommandName.{CommandName}
 use Rattle.command_line.specs.declared.command.CommandName.TheVariants as name
-use Rattle.command_line.specs.declared.values.TheConstants.{MOST_CHECKERS, MOST_GAMES, MOST_POINTS, MOST_ROUNDS, MOST_WORKERS, USUAL_POINTS, USUAL_ROUNDS}
+use Rattle.command_line.specs.declared.values.TheConstants.{MOST_CHECKERS, MOST_GAMES, MOST_POINTS, MOST_ROUNDS, MOST_WORKERS, USUAL_POINTS, USUAL_REPLY_ROUNDS, USUAL_ROUNDS}
 use Rattle.command_line.specs.Values.{long_number_given, number_given, number_or, stakes_or, kind_given, file_name, other_name, prefix}
 
 -- what right words ask for
@@ -160,6 +160,18 @@ scan_values given =
     checked 3 (number_or MOST_WORKERS 1 (value_of (codes "workers") given)) (λ workers.
     Ok (Scan (record { file = file; condition = condition; workers = workers })))))
 
+abbrev pub reply_form : Form
+reply_form = record { arguments = codes "FILE" ∷ codes "POSITION" ∷ []; options = codes "kind" ∷ codes "rounds" ∷ [] }
+
+-- a position has no form here
+abbrev pub reply_values : Values → Result Asked BadWords
+reply_values given =
+    checked 1 (file_name (value_of (codes "FILE") given)) (λ file.
+    checked 2 (value_of (codes "POSITION") given) (λ position.
+    checked 3 (kind_given (value_of (codes "kind") given)) (λ kind.
+    checked 4 (number_or MOST_ROUNDS USUAL_REPLY_ROUNDS (value_of (codes "rounds") given)) (λ rounds.
+    Ok (Reply (record { file = file; position = position; kind = kind; rounds = rounds }))))))
+
 -- ---- all of them
 
 abbrev pub command_named : Bytes → Option CommandName
@@ -176,7 +188,8 @@ command_named word =
     else (if bytes_eq word (codes "study") then Some name.Study
     else (if bytes_eq word (codes "make") then Some name.Make
     else (if bytes_eq word (codes "plan") then Some name.Plan
-    else (if bytes_eq word (codes "scan") then Some name.Scan else None))))))))))))
+    else (if bytes_eq word (codes "scan") then Some name.Scan
+    else (if bytes_eq word (codes "reply") then Some name.Reply else None)))))))))))))
 
 abbrev pub command_form : CommandName → Form
 command_form name.Bound = bound_form
@@ -192,6 +205,7 @@ command_form name.Study = study_form
 command_form name.Make = make_form
 command_form name.Plan = plan_form
 command_form name.Scan = scan_form
+command_form name.Reply = reply_form
 
 abbrev pub command_values : CommandName → Values → Result Asked BadWords
 command_values name.Bound given = bound_values given
@@ -207,3 +221,4 @@ command_values name.Study given = study_values given
 command_values name.Make given = make_values given
 command_values name.Plan given = plan_values given
 command_values name.Scan given = scan_values given
+command_values name.Reply given = reply_values given

@@ -11,10 +11,11 @@ use Rattle.command_line.specs.declared.command.Migrate.{Migrate as MigrateWords}
 use Rattle.command_line.specs.declared.command.Advise.{Advise as AdviseWords}
 use Rattle.command_line.specs.declared.command.Analyse.{Analyse as AnalyseWords}
 use Rattle.command_line.specs.declared.command.Command.{Command}
-use Rattle.command_line.specs.declared.command.Command.TheVariants.{Bound, Race, Solve, Show, Migrate, Advise, Verify, Ladder, Analyse, Study, Make, Plan, Scan}
+use Rattle.command_line.specs.declared.command.Command.TheVariants.{Bound, Race, Solve, Show, Migrate, Advise, Verify, Ladder, Analyse, Study, Make, Plan, Scan, Reply}
 use Rattle.command_line.specs.declared.command.Ladder.{Ladder as LadderWords}
 use Rattle.command_line.specs.declared.command.Make.{Make as MakeWords}
 use Rattle.command_line.specs.declared.command.Plan.{Plan as PlanWords}
+use Rattle.command_line.specs.declared.command.Reply.{Reply as ReplyWords}
 use Rattle.command_line.specs.declared.command.Scan.{Scan as ScanWords}
 use Rattle.command_line.specs.declared.command.Study.{Study as StudyWords}
 use Rattle.command_line.specs.declared.command.Verify.{Verify as VerifyWords}
@@ -104,6 +105,11 @@ pub record IsRightScan (scan : ScanWords) : Type 0 where
   pub one : 1 ≤ scan.workers
   pub most : scan.workers ≤ MOST_WORKERS
 
+pub record IsRightReply (reply : ReplyWords) : Type 0 where
+  pub file : IsName reply.file
+  pub begun : 1 ≤ reply.rounds
+  pub ended : reply.rounds ≤ MOST_ROUNDS
+
 -- numbers within their limits, names of files within theirs, and stakes that aren't a match
 abbrev pub IsRightCommand : Command → Type 0
 IsRightCommand (Bound bound) = IsRightBound bound
@@ -119,3 +125,4 @@ IsRightCommand (Study study) = IsRightStudy study
 IsRightCommand (Make make) = IsRightMake make
 IsRightCommand (Plan plan) = IsRightPlan plan
 IsRightCommand (Scan scan) = IsRightScan scan
+IsRightCommand (Reply reply) = IsRightReply reply

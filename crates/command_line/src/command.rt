@@ -145,6 +145,19 @@ pub struct Scan {
     pub workers: u32,
 }
 
+/// A state in which a file's advice is followed against the best reply.
+#[derive(Drop)]
+pub struct Reply {
+    /// The file's name, 1 to 255 bytes.
+    pub file: Text,
+    /// In any form.
+    pub position: Text,
+    /// The kind of state; where none is given, the first of the file's game.
+    pub kind: Option<KindName>,
+    /// 1 to 4096.
+    pub rounds: u32,
+}
+
 /// What a user asks for.
 #[derive(Drop)]
 pub enum Command {
@@ -161,6 +174,7 @@ pub enum Command {
     Make(Make),
     Plan(Plan),
     Scan(Scan),
+    Reply(Reply),
 }
 
 /// The commands.
@@ -179,6 +193,7 @@ pub enum CommandName {
     Make,
     Plan,
     Scan,
+    Reply,
 }
 
 static BOUND: [&str; 3] = ["CHECKERS", "ROUNDS", "POSITION"];
@@ -221,6 +236,10 @@ static SCAN: [&str; 2] = ["FILE", "CONDITION"];
 
 static SCAN_OPTIONS: [&str; 1] = ["workers"];
 
+static REPLY: [&str; 2] = ["FILE", "POSITION"];
+
+static REPLY_OPTIONS: [&str; 2] = ["kind", "rounds"];
+
 static NO_OPTIONS: [&str; 0] = [];
 
 impl CommandName {
@@ -242,6 +261,7 @@ impl CommandName {
             "make" => Some(CommandName::Make),
             "plan" => Some(CommandName::Plan),
             "scan" => Some(CommandName::Scan),
+            "reply" => Some(CommandName::Reply),
             _ => None,
         }
     }
@@ -264,6 +284,7 @@ impl CommandName {
             CommandName::Make => MAKE.as_slice(),
             CommandName::Plan => PLAN.as_slice(),
             CommandName::Scan => SCAN.as_slice(),
+            CommandName::Reply => REPLY.as_slice(),
         }
     }
 
@@ -279,6 +300,7 @@ impl CommandName {
             CommandName::Study => STUDY_OPTIONS.as_slice(),
             CommandName::Plan => PLAN_OPTIONS.as_slice(),
             CommandName::Scan => SCAN_OPTIONS.as_slice(),
+            CommandName::Reply => REPLY_OPTIONS.as_slice(),
             CommandName::Bound
             | CommandName::Race
             | CommandName::Show

@@ -1,18 +1,18 @@
 ghost use Rattle.word_forms.specs.Form.{Values};
 ghost use Rattle.word_forms.specs.Clap.{HasValues};
-ghost use Rattle.command_line.specs.Commands.{bound_values, race_values, solve_values, show_values, migrate_values, advise_values, command_values, verify_values, ladder_values, analyse_values, study_values, make_values, plan_values, scan_values};
+ghost use Rattle.command_line.specs.Commands.{bound_values, race_values, solve_values, show_values, migrate_values, advise_values, command_values, verify_values, ladder_values, analyse_values, study_values, make_values, plan_values, scan_values, reply_values};
 ghost use Rattle.command_line.specs.Reading.{Gives};
 
 use crate::command::{
-    Advise, Analyse, Bound, Command, CommandName, Ladder, Make, Migrate, Plan, Race, Scan, Show,
-    Solve, Study, Verify,
+    Advise, Analyse, Bound, Command, CommandName, Ladder, Make, Migrate, Plan, Race, Reply, Scan,
+    Show, Solve, Study, Verify,
 };
 use crate::stop::{WordsStop, bad_value};
 use crate::text::Text;
 use crate::values::{
-    MOST_CHECKERS, MOST_GAMES, MOST_POINTS, MOST_ROUNDS, MOST_WORKERS, USUAL_POINTS, USUAL_ROUNDS,
-    file_name, kind_given, long_number_given, number_given, number_or, other_name, prefix,
-    stakes_or, text_given,
+    MOST_CHECKERS, MOST_GAMES, MOST_POINTS, MOST_ROUNDS, MOST_WORKERS, USUAL_POINTS,
+    USUAL_REPLY_ROUNDS, USUAL_ROUNDS, file_name, kind_given, long_number_given, number_given,
+    number_or, other_name, prefix, stakes_or, text_given,
 };
 use clap::ArgMatches;
 use cube_actions::StakesName;
@@ -41,6 +41,7 @@ pub(crate) fn read_values(
         CommandName::Make => read_make(alloc, values),
         CommandName::Plan => read_plan(alloc, values),
         CommandName::Scan => read_scan(alloc, values),
+        CommandName::Reply => read_reply(alloc, values),
     }
 }
 
@@ -303,5 +304,30 @@ fn read_scan(alloc: Global, values: &ArgMatches<'_>) -> Result<Command, WordsSto
         file: Text::new(alloc, file)?,
         condition: Text::new(alloc, condition)?,
         workers,
+    }))
+}
+
+fn read_reply(alloc: Global, values: &ArgMatches<'_>) -> Result<Command, WordsStop>
+    ensures { (given : Values) → HasValues given values.now
+        → Gives (reply_values given) result }
+{
+    let Some(file) = file_name(values.get_str("FILE")) else {
+        return Err(bad_value(1));
+    };
+    let Some(position) = values.get_str("POSITION") else {
+        return Err(bad_value(2));
+    };
+    let Some(kind) = kind_given(values.get_str("kind")) else {
+        return Err(bad_value(3));
+    };
+    let given = values.get_str("rounds");
+    let Some(rounds) = number_or(given, MOST_ROUNDS, USUAL_REPLY_ROUNDS) else {
+        return Err(bad_value(4));
+    };
+    Ok(Command::Reply(Reply {
+        file: Text::new(alloc, file)?,
+        position: Text::new(alloc, position)?,
+        kind,
+        rounds,
     }))
 }

@@ -12,13 +12,14 @@ mod values;
 mod words;
 
 pub use command::{
-    Advise, Analyse, Bound, Command, CommandName, Ladder, Make, Migrate, Plan, Race, Scan, Show,
-    Solve, Study, Verify,
+    Advise, Analyse, Bound, Command, CommandName, Ladder, Make, Migrate, Plan, Race, Reply, Scan,
+    Show, Solve, Study, Verify,
 };
 pub use laws::commands_are_right;
 pub use stop::WordsStop;
 pub use text::Text;
 pub use values::{
-    MOST_CHECKERS, MOST_GAMES, MOST_POINTS, MOST_ROUNDS, MOST_WORKERS, USUAL_POINTS, USUAL_ROUNDS,
+    MOST_CHECKERS, MOST_GAMES, MOST_POINTS, MOST_ROUNDS, MOST_WORKERS, USUAL_POINTS,
+    USUAL_REPLY_ROUNDS, USUAL_ROUNDS,
 };
 pub use words::read_words;

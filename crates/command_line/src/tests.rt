@@ -498,3 +498,61 @@ fn scan_takes_any_condition(rt: HostRuntime) -> Result<(), Fail> {
     }
     Ok(())
 }
+
+#[test]
+fn words_of_reply_are_refused(rt: HostRuntime) -> Result<(), Fail> {
+    let cases: [(&[&str], WordsKind, u32); 9] = [
+        (&["reply", "x"], WordsKind::Form, 0),
+        (&["reply", "x", "6 / 1", "y"], WordsKind::Form, 0),
+        (&["reply", "x", "6 / 1", "--workers=1"], WordsKind::Form, 0),
+        (&["reply", "x", "6 / 1", "--roll", "21"], WordsKind::Form, 0),
+        (
+            &["reply", "x\0", "6 / 1", "--rounds=0"],
+            WordsKind::Value,
+            1,
+        ),
+        (
+            &["reply", "x", "6 / 1", "--kind=yours", "--rounds=0"],
+            WordsKind::Value,
+            3,
+        ),
+        (&["reply", "x", "6 / 1", "--rounds=0"], WordsKind::Value, 4),
+        (
+            &["reply", "--rounds", "4097", "x", "6 / 1"],
+            WordsKind::Value,
+            4,
+        ),
+        (&["reply", "x", "6 / 1", "--rounds"], WordsKind::Form, 0),
+    ];
+    for (words, kind, place) in cases.iter() {
+        let found = refusal(rt.alloc(), words)?;
+        assert_eq!(rt; found, Some((*kind, *place)));
+    }
+    Ok(())
+}
+
+#[test]
+fn reply_has_sixteen_rounds_and_no_kind_of_itself(rt: HostRuntime) -> Result<(), Fail> {
+    let cases: [(&[&str], Option<KindName>, u32); 3] = [
+        (&["reply", "x", "6 / 1"], None, 16),
+        (&["reply", "--rounds=1", "x", "6 / 1"], None, 1),
+        (
+            &["reply", "x", "--kind", "mine", "6 / 1", "--rounds=4096"],
+            Some(KindName::Mine),
+            4096,
+        ),
+    ];
+    for (words, kind, rounds) in cases.iter() {
+        let words = owned(rt.alloc(), words)?;
+        match read_words(rt.alloc(), words.as_slice()) {
+            Ok(Command::Reply(asked)) => {
+                assert_eq!(rt; asked.file.as_str(), "x");
+                assert_eq!(rt; asked.position.as_str(), "6 / 1");
+                assert_eq!(rt; asked.kind, *kind);
+                assert_eq!(rt; asked.rounds, *rounds);
+            }
+            _ => panic!(rt; "refused"),
+        }
+    }
+    Ok(())
+}

@@ -17,6 +17,9 @@ pub const MOST_ROUNDS: u32 = 4096;
 /// The rounds that are made where none are given.
 pub const USUAL_ROUNDS: u32 = 64;
 
+/// The rounds of replies that are made where none are given.
+pub const USUAL_REPLY_ROUNDS: u32 = 16;
+
 /// The most workers.
 pub const MOST_WORKERS: u32 = 64;
 

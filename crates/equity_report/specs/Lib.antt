@@ -9,3 +9,4 @@ pub mod Advice
 pub mod Analyses
 pub mod Ladder
 pub mod Scans
+pub mod Replies

@@ -40,7 +40,7 @@ fn add_advised(report: &mut Report, word: &str, choice: &str, bound: Fixed)
 }
 
 /// Adds a line of what something is worth.
-fn add_worth(report: &mut Report, word: &str, pair: Pair)
+pub(crate) fn add_worth(report: &mut Report, word: &str, pair: Pair)
     requires word { length word.now ≤ 16 }
     requires room { length report.old.bytes ≤ 2000 }
     ensures bytes { report.new.bytes ≡ report.old.bytes ++ line word.now (points_text pair) }
@@ -175,7 +175,7 @@ fn add_action(report: &mut Report, action: Option<CubeAction>)
     }
 }
 
-fn add_kind(report: &mut Report, kind: KindName)
+pub(crate) fn add_kind(report: &mut Report, kind: KindName)
     requires { length report.old.bytes ≤ 50 }
     ensures bytes { report.new.bytes ≡ report.old.bytes ++ line (codes "kind") (kind_text kind) }
     ensures length { length report.new.bytes ≤ length report.old.bytes + 22 }

@@ -8,6 +8,7 @@ mod ladder;
 mod race;
 mod record;
 mod refusal;
+mod reply;
 mod report;
 mod scan;
 #[cfg(test)]
@@ -21,6 +22,7 @@ pub use files::{KindRow, Solved, write_migrated, write_shown, write_solved};
 pub use ladder::{write_ladder_end, write_ladder_score};
 pub use race::write_race;
 pub use refusal::{FileName, Refusal, Wanted, write_refusal};
+pub use reply::write_reply;
 pub use report::write_bound;
 pub use scan::write_scan;
 pub use text::GameName;

@@ -51,7 +51,7 @@ advice-not-opened task (Some bytes) (stops.BadFile bad) refusal a t = refuses ta
 advice-not-opened task (Some bytes) stops.ReadFault refusal a t = refuses task (Some bytes) refusal Read t tt
 advice-not-opened task (Some bytes) stops.NoMemory refusal a t = refuses task (Some bytes) refusal Memory t tt
 
-other-wanted : (task : AdviseTask) (bytes : List ℕ) (base : PagedFile) (refusal : Refusal) → AnswersPaged (Some (whole bytes)) (Ok base) → WantsOther task base.head refusal → RefusesAdvice task refusal (Some bytes)
+other-wanted : (task : AdviseTask) (bytes : List ℕ) (base : PagedFile) (refusal : Refusal) → AnswersPaged (Some (whole bytes)) (Ok base) → WantsOther task.position task.kind base.head refusal → RefusesAdvice task refusal (Some bytes)
 other-wanted task bytes base (Words bad) a w = absurd w
 other-wanted task bytes base (Position bad) a w = absurd w
 other-wanted task bytes base (Missing missing) a w = absurd w
@@ -59,14 +59,14 @@ other-wanted task bytes base (File bad) a w = absurd w
 other-wanted task bytes base Read a w = absurd w
 other-wanted task bytes base Write a w = absurd w
 other-wanted task bytes base Memory a w = absurd w
-other-wanted task bytes base (Base wanted found) a w = record { front = a.right; wants = subst (λ (h : FileHead). WantsOther task h (Base wanted found)) a.head w }
+other-wanted task bytes base (Base wanted found) a w = record { front = a.right; wants = subst (λ (h : FileHead). WantsOther task.position task.kind h (Base wanted found)) a.head w }
 other-wanted task bytes base (Roll bad) a w = absurd w
 other-wanted task bytes base (Inconsistent unheld) a w = absurd w
 other-wanted task bytes base Contact a w = absurd w
 other-wanted task bytes base (Condition word) a w = absurd w
 other-wanted task bytes base (Record bad) a w = absurd w
 
-pub not-asked : (task : AdviseTask) (held : Option (List ℕ)) (base : PagedFile) (refusal : Refusal) → AnswersPaged (option_map whole held) (Ok base) → WantsOther task base.head refusal → RefusesAdvice task refusal held
+pub not-asked : (task : AdviseTask) (held : Option (List ℕ)) (base : PagedFile) (refusal : Refusal) → AnswersPaged (option_map whole held) (Ok base) → WantsOther task.position task.kind base.head refusal → RefusesAdvice task refusal held
 not-asked task None base refusal a w = absurd a
 not-asked task (Some bytes) base refusal a w = other-wanted task bytes base refusal a w
 
@@ -76,7 +76,7 @@ same-kinds header head valid name = valid.kinds ∙ ap (λ (n : StakesName). len
 
 -- the state that is asked for is one of the header's game
 pub header-state : (task : AdviseTask) (header : Header) (head : FileHead) (kind : AskedKind) → IsRightAdvise task → IsHeader header → head.checkers ≡ header.checkers → head.name ≡ header.name
-    → AnswersAsked task head (Ok kind) → kind.number < kinds_of (game_in head) → IsStateOf header.checkers header.kinds task.position kind.number
+    → AnswersAsked task.position task.kind head (Ok kind) → kind.number < kinds_of (game_in head) → IsStateOf header.checkers header.kinds task.position kind.number
 header-state task header head kind right valid many name asked inside = record {
   position = right.position;
   many = sym asked.0 ∙ many;
@@ -86,7 +86,7 @@ header-state task header head kind right valid many name asked inside = record {
 
 pub state-opened : (task : AdviseTask) (held : Option (List ℕ)) (base : PagedFile) (kind : AskedKind) → AnswersPaged (option_map whole held) (Ok base)
     → IsRightAdvise task → IsHeader base.header → base.head.checkers ≡ base.header.checkers → base.head.name ≡ base.header.name
-    → AnswersAsked task base.head (Ok kind) → IsGame (game_in base.head) → kind.number < kinds_of (game_in base.head)
+    → AnswersAsked task.position task.kind base.head (Ok kind) → IsGame (game_in base.head) → kind.number < kinds_of (game_in base.head)
     → OfHeld held (λ bytes. IsStateIn task bytes base.head kind × (base.header ≡ header_of_file bytes))
 state-opened task None base kind a right valid many name asked game inside = absurd a
 state-opened task (Some bytes) base kind a right valid many name asked game inside = (

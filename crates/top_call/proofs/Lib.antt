@@ -23,3 +23,4 @@ mod LadderKeeping
 mod PlanLaws
 mod PlanFiles
 mod ScanFiles
+mod ReplyFiles

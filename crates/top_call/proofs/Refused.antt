@@ -4,7 +4,7 @@ use Rattle.equity_report.specs.declared.refusal.Refusal.{Refusal}
 use Rattle.equity_report.specs.declared.refusal.Refusal.TheVariants.{Words, Position, Missing, File, Read, Write, Memory, Base, Roll, Inconsistent, Record, Contact, Condition}
 use Rattle.equity_report.specs.Refusals.{status_of, refusal_text}
 use Rattle.top_call.specs.declared.task.Task.{Task}
-use Rattle.top_call.specs.declared.task.Task.TheVariants.{Bound, Race, Solve, Show, Migrate, Advise, Verify, Ladder, Analyse, Study, Make, Plan, Scan}
+use Rattle.top_call.specs.declared.task.Task.TheVariants.{Bound, Race, Solve, Show, Migrate, Advise, Verify, Ladder, Analyse, Study, Make, Plan, Scan, Reply}
 use Rattle.top_call.specs.Runs.{Ends, EndsBy, EndsTask, EndsWriting, IsOfLoading, IsOfShowing, IsOfScanning, IsOfVerifying, IsStatus, IsOfAnalysing, IsOfReplaying}
 
 -- status 8 is that of want of memory alone
@@ -47,6 +47,7 @@ task-status (Verify task) status ends = by-status IsOfVerifying status ends
 task-status (Analyse task) status ends = by-status IsOfAnalysing status ends
 task-status (Plan task) status ends = by-status IsOfShowing status ends
 task-status (Scan task) status ends = by-status IsOfScanning status ends
+task-status (Reply task) status ends = by-status IsOfShowing status ends
 
 -- however a run ends, its status is 0 or that of a refusal
 pub ends-status : (expected : Result Task Refusal) (status : ℕ) → Ends expected status → IsStatus status

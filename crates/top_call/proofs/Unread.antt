@@ -6,12 +6,13 @@ use Rattle.equity_report.specs.declared.refusal.Refusal.{Refusal}
 use Rattle.equity_report.specs.declared.refusal.Refusal.TheVariants.{Words, Position, Missing, File, Read, Write, Memory, Base, Roll, Inconsistent, Record, Contact, Condition}
 use Rattle.equity_report.specs.Refusals.{status_of, refusal_text}
 use Rattle.top_call.specs.declared.task.Task.{Task}
-use Rattle.top_call.specs.declared.task.Task.TheVariants.{Bound, Race, Solve, Show, Migrate, Advise, Verify, Ladder, Analyse, Study, Make, Plan, Scan}
+use Rattle.top_call.specs.declared.task.Task.TheVariants.{Bound, Race, Solve, Show, Migrate, Advise, Verify, Ladder, Analyse, Study, Make, Plan, Scan, Reply}
 use Rattle.top_call.specs.Advises.{HasAdvised, MayRefuseAdvice}
 use Rattle.top_call.specs.Analyses.{HasAnalysed, MayRefuseAnalysis}
 use Rattle.top_call.specs.Loads.{RefusesLoading}
 use Rattle.top_call.specs.Outcomes.{HasRun, TellsMemory}
 use Rattle.top_call.specs.Plans.{HasPlanned, MayRefusePlanning, RefusesPlanning, first_file}
+use Rattle.top_call.specs.Replies.{HasReplied, MayRefuseReplying, RefusesReplying}
 use Rattle.top_call.specs.Runs.{IsDue, WasPut}
 use Rattle.top_call.specs.Scans.{HasScanned, MayRefuseScanning, RefusesScanning}
 use Rattle.top_call.specs.Studies.{HasStudied, MayRefuseStudy}
@@ -53,6 +54,7 @@ memory-told (Ok (Study task)) old new put = put
 memory-told (Ok (Make task)) old new put = put
 memory-told (Ok (Plan task)) old new put = put
 memory-told (Ok (Scan task)) old new put = put
+memory-told (Ok (Reply task)) old new put = put
 memory-told (Err refusal) old new put = put
 
 -- where there was no memory for the words, nothing is known of what they ask for
@@ -114,6 +116,9 @@ module _ (told : Bool) (before after : Contents) (same : SameFiles before after)
   unheld is put (Ok (Scan task)) =
       no-memory (HasScanned task told (before task.file)) (MayRefuseScanning task told (before task.file)) old new
       (of-file told (before task.file) (RefusesScanning task Memory) (λ _. tt) (None, tt)) status is put
+  unheld is put (Ok (Reply task)) =
+      no-memory (HasReplied task told (before task.file)) (MayRefuseReplying task told (before task.file)) old new
+      (of-file told (before task.file) (RefusesReplying task Memory) (λ _. tt) (None, tt)) status is put
 
   refused : (expected : Result Task Refusal) (refusal : Refusal) → expected ≡ Err refusal → WasPut old new (refusal_text refusal) → Run expected
   refused expected refusal due put = subst Run (sym due) (λ _. put)

@@ -152,27 +152,28 @@ HasAdvised task = HasAdvisedOn task.roll task
 -- ---- why nothing is advised
 
 -- the position has another number of checkers than the head's game
-pub record WantsCheckers (task : AdviseTask) (head : FileHead) (wanted : ℕ) (found : GameName) : Type 0 where
-  pub other : head.checkers ≢ sum task.position.mover
-  pub wanted_is : wanted ≡ sum task.position.mover
+pub record WantsCheckers (p : Placement) (head : FileHead) (wanted : ℕ) (found : GameName) : Type 0 where
+  pub other : head.checkers ≢ sum p.mover
+  pub wanted_is : wanted ≡ sum p.mover
   pub found_is : found ≡ game_told head
 
 -- the position has its checkers, and the game has no kind of the name that is asked for
-pub record WantsKind (task : AdviseTask) (head : FileHead) (wanted : KindName) (found : GameName) : Type 0 where
-  pub checkers : head.checkers ≡ sum task.position.mover
-  pub asked : task.kind ≡ Some wanted
+pub record WantsKind (p : Placement) (asked : Option KindName) (head : FileHead) (wanted : KindName) (found : GameName) : Type 0 where
+  pub checkers : head.checkers ≡ sum p.mover
+  pub is_asked : asked ≡ Some wanted
   pub none : Contains (names_of head.name) wanted → ⊥
   pub found_is : found ≡ game_told head
 
-abbrev pub WantsOther : AdviseTask → FileHead → Refusal → Type 0
-WantsOther task head (Base (Checkers wanted) found) = WantsCheckers task head wanted found
-WantsOther task head (Base (Kind wanted) found) = WantsKind task head wanted found
-WantsOther task head _ = ⊥
+-- a state of this position, and of the kind of this name where one is asked for, is none of the head's game
+abbrev pub WantsOther : Placement → Option KindName → FileHead → Refusal → Type 0
+WantsOther p asked head (Base (Checkers wanted) found) = WantsCheckers p head wanted found
+WantsOther p asked head (Base (Kind wanted) found) = WantsKind p asked head wanted found
+WantsOther p asked head _ = ⊥
 
 -- the file is of another game than the one that is asked for
 pub record IsOfOtherGame (task : AdviseTask) (bytes : List ℕ) (refusal : Refusal) : Type 0 where
   pub front : fault_before_pages (whole bytes) ≡ None
-  pub wants : WantsOther task (head_in (header_of_file bytes) bytes) refusal
+  pub wants : WantsOther task.position task.kind (head_in (header_of_file bytes) bytes) refusal
 
 -- the states on which advice rests
 abbrev pub RestsOn : Option Dice → Terms → Placement → ℕ → States
@@ -215,9 +216,9 @@ TellsAdvice task told held = Tells (HasAdvised task told held) (MayRefuseAdvice 
 -- ---- what look-ups in a file may answer
 
 -- this is the state that is asked for in a game with this head, or this refuses it
-abbrev pub AnswersAsked : AdviseTask → FileHead → Result AskedKind Refusal → Type 0
-AnswersAsked task head (Ok kind) = (head.checkers ≡ sum task.position.mover) × IsKindAsked head task.kind kind
-AnswersAsked task head (Err refusal) = WantsOther task head refusal
+abbrev pub AnswersAsked : Placement → Option KindName → FileHead → Result AskedKind Refusal → Type 0
+AnswersAsked p asked head (Ok kind) = (head.checkers ≡ sum p.mover) × IsKindAsked head asked kind
+AnswersAsked p asked head (Err refusal) = WantsOther p asked head refusal
 
 -- a file was opened for a state of its game, or this refuses that
 abbrev pub AnswersOpened : AdviseTask → Bool → Option (List ℕ) → Result OpenedFile Refusal → Type 0

@@ -17,4 +17,5 @@ pub mod MatchAnalyses
 pub mod Analyses
 pub mod Plans
 pub mod Scans
+pub mod Replies
 pub mod Outcomes

@@ -6,7 +6,7 @@ use Rattle.equity_report.specs.declared.refusal.Refusal.{Refusal}
 use Rattle.equity_report.specs.declared.refusal.Refusal.TheVariants.{Memory, Write, Condition}
 use Rattle.equity_report.specs.Refusals.{status_of, refusal_text}
 use Rattle.top_call.specs.declared.task.Task.{Task}
-use Rattle.top_call.specs.declared.task.Task.TheVariants.{Bound, Race, Solve, Show, Migrate, Advise, Verify, Ladder, Analyse, Study, Make, Plan, Scan}
+use Rattle.top_call.specs.declared.task.Task.TheVariants.{Bound, Race, Solve, Show, Migrate, Advise, Verify, Ladder, Analyse, Study, Make, Plan, Scan, Reply}
 use Rattle.top_call.specs.Advises.{TellsAdvice}
 use Rattle.top_call.specs.Ladders.{KeepsAllBut, SolvesLadder, scores_in}
 use Rattle.top_call.specs.Makes.{Makes}
@@ -14,6 +14,7 @@ use Rattle.top_call.specs.Analyses.{TellsAnalysis}
 use Rattle.top_call.specs.Migrates.{Migrates}
 use Rattle.top_call.specs.Plans.{TellsPlan, first_file}
 use Rattle.top_call.specs.Races.{TellsRace}
+use Rattle.top_call.specs.Replies.{TellsReply}
 use Rattle.top_call.specs.Runs.{WasPut}
 use Rattle.top_call.specs.Scans.{TellsScan}
 use Rattle.top_call.specs.Shows.{TellsShown}
@@ -38,6 +39,7 @@ HasRun (Ok (Make task)) told before after old new status = Makes task told befor
 HasRun (Ok (Analyse task)) told before after old new status = TellsAnalysis task told before old new status
 HasRun (Ok (Plan task)) told before after old new status = TellsPlan task told (before (first_file task)) old new status
 HasRun (Ok (Scan task)) told before after old new status = TellsScan task told (before task.file) old new status
+HasRun (Ok (Reply task)) told before after old new status = TellsReply task told (before task.file) old new status
 HasRun (Err refusal) told before after old new status = status ≡ status_of refusal → WasPut old new (refusal_text refusal)
 
 -- no file changed but the one that is to be written, or those of the scores of a ladder

@@ -16,6 +16,7 @@ use Rattle.command_line.specs.Words.{reading}
 use Rattle.command_line.specs.declared.command.Race.{Race as RaceWords}
 use Rattle.command_line.specs.declared.command.Show.{Show as ShowWords}
 use Rattle.command_line.specs.declared.command.Advise.{Advise as AdviseWords}
+use Rattle.command_line.specs.declared.command.Reply.{Reply as ReplyWords}
 use Rattle.command_line.specs.Right.{IsName, IsRightMake, IsRightStudy, IsRightSolve, IsRightMigrate, IsRightVerify, IsRightLadder, IsRightAnalyse, IsRightPlan, IsRightScan}
 use Rattle.word_forms.specs.Clap.{bytes_of}
 use Rattle.cube_actions.specs.Stakes.{cubeless}
@@ -33,9 +34,10 @@ use Rattle.equity_report.specs.declared.refusal.Wanted.TheVariants.{Checkers}
 use Rattle.top_call.specs.declared.task.AdviseTask.{AdviseTask}
 use Rattle.top_call.specs.declared.task.BoundTask.{BoundTask}
 use Rattle.top_call.specs.declared.task.RaceTask.{RaceTask}
+use Rattle.top_call.specs.declared.task.ReplyTask.{ReplyTask}
 use Rattle.top_call.specs.declared.task.ShowTask.{ShowTask}
 use Rattle.top_call.specs.declared.task.Task.{Task}
-use Rattle.top_call.specs.declared.task.Task.TheVariants.{Bound, Race, Solve, Show, Migrate, Advise, Verify, Ladder, Analyse, Study, Make, Plan, Scan}
+use Rattle.top_call.specs.declared.task.Task.TheVariants.{Bound, Race, Solve, Show, Migrate, Advise, Verify, Ladder, Analyse, Study, Make, Plan, Scan, Reply}
 
 -- a game without a cube, by its checkers
 abbrev pub cubeless_game : ℕ → GameName
@@ -84,6 +86,11 @@ abbrev pub with_advised : AdviseWords → Result Placement BadPosition → Resul
 with_advised advise (Ok p) = with_roll advise p (roll_given advise.roll)
 with_advised advise (Err bad) = Err (Position bad)
 
+-- a state in which a file's advice is followed
+abbrev pub with_replied : ReplyWords → Result Placement BadPosition → Result Task Refusal
+with_replied reply (Ok p) = Ok (Reply (record { file = reply.file; position = p; kind = reply.kind; rounds = reply.rounds }))
+with_replied reply (Err bad) = Err (Position bad)
+
 abbrev pub with_words : Result Command BadWords → Result Task Refusal
 with_words (Ok (commands.Bound bound)) = with_position bound (read_position bound.position)
 with_words (Ok (commands.Race race)) = with_race race (read_position race.position)
@@ -98,6 +105,7 @@ with_words (Ok (commands.Study study)) = Ok (Study study)
 with_words (Ok (commands.Make make)) = Ok (Make make)
 with_words (Ok (commands.Plan plan)) = Ok (Plan plan)
 with_words (Ok (commands.Scan scan)) = Ok (Scan scan)
+with_words (Ok (commands.Reply reply)) = with_replied reply (read_position reply.position)
 with_words (Err bad) = Err (Words bad)
 
 -- The words are read first, then a position, then a roll; then the position's number of checkers is compared, and then it is seen whether it is a
@@ -131,6 +139,12 @@ pub record IsRightAdvise (task : AdviseTask) : Type 0 where
   pub live : IsLive task.position
   pub roll : IfSome task.roll IsRoll
 
+-- a file's name and a live position
+pub record IsRightReply (task : ReplyTask) : Type 0 where
+  pub file : IsName task.file
+  pub position : IsPosition task.position
+  pub live : IsLive task.position
+
 -- the pair of the position after so many rounds of a game without a cube
 abbrev pub bound_report : BoundTask → List ℕ
 bound_report task = bound_text task.position task.rounds (pair_of (rounds cubeless task.rounds) task.position 0)
@@ -153,3 +167,4 @@ IsRightTask (Make task) = IsRightMake task
 IsRightTask (Analyse task) = IsRightAnalyse task
 IsRightTask (Plan task) = IsRightPlan task
 IsRightTask (Scan task) = IsRightScan task
+IsRightTask (Reply task) = IsRightReply task

@@ -58,16 +58,20 @@ pub struct FoundAdvice {
     pub advice: CubeAdvice,
 }
 
-/// The kind of state that is asked for, or a refusal where the head's game has other checkers than the position, or no such kind.
-fn asked_kind(head: &Head, task: &AdviseTask) -> Result<AskedKind, Refusal>
-    requires { IsRightAdvise task.now }
-    ensures asked { AnswersAsked task.now head.now result }
+/// The kind of state that is asked for, the first where none is; or a refusal where the head's game has other checkers than the position, or no
+/// such kind.
+pub(crate) fn asked_kind(
+    head: &Head,
+    position: &Position,
+    asked: Option<KindName>,
+) -> Result<AskedKind, Refusal>
+    ensures asked { AnswersAsked position.now asked head.now result }
     ensures game { IfOk result (λ kind. IsGame (game_in head.now)) }
     ensures number { IfOk result (λ kind. kind.number < kinds_of (game_in head.now)) }
     ensures kinds { IfErr result IsOfShowing }
 {
     let game = game_told(head);
-    let wanted = task.position.checkers();
+    let wanted = position.checkers();
     if wanted != game.checkers {
         return Err(Refusal::Base {
             wanted: Wanted::Checkers(wanted),
@@ -75,7 +79,7 @@ fn asked_kind(head: &Head, task: &AdviseTask) -> Result<AskedKind, Refusal>
         });
     }
     let stakes = head.stakes();
-    let Some(name) = task.kind else {
+    let Some(name) = asked else {
         // What `kinds` ensures says that there is a first one.
         let _kinds = stakes.kinds();
         return Ok(AskedKind {
@@ -119,7 +123,7 @@ fn open_asked<F: Files>(
         Ok(base) => base,
         Err(stop) => return Err(refusal_of(stop, name)),
     };
-    match asked_kind(base.head(), task) {
+    match asked_kind(base.head(), &task.position, task.kind) {
         Ok(kind) => Ok(OpenedFile { base, kind }),
         Err(refusal) => Err(refusal),
     }

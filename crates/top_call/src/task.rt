@@ -2,15 +2,15 @@ ghost use Rattle.std.specs.Prelude.{◌≡◌, ℕ, IfOk, IfSome, option_map};
 ghost use Rattle.position_rank.specs.Placement.{IsLive};
 ghost use Rattle.position_rank.specs.Text.{read_position};
 ghost use Rattle.roll_table.specs.Rolls.{IsRoll};
-ghost use Rattle.command_line.specs.Right.{IsRightAdvise, IsRightShow};
+ghost use Rattle.command_line.specs.Right.{IsRightAdvise, IsRightReply, IsRightShow};
 ghost use Rattle.equity_report.specs.declared.refusal.Refusal.TheVariants.{Base};
 ghost use Rattle.equity_report.specs.declared.refusal.Wanted.TheVariants.{Checkers};
-ghost use Rattle.top_call.specs.Tasks.{IsRightTask, asked, cubeless_game, fitting, racing, roll_given, with_advised, with_position, with_race, with_shown};
+ghost use Rattle.top_call.specs.Tasks.{IsRightTask, asked, cubeless_game, fitting, racing, roll_given, with_advised, with_position, with_race, with_replied, with_shown};
 ghost use Rattle.top_call.specs.Runs.{IsDue};
 
 use command_line::{
-    Advise, Analyse, Bound, Command, Ladder, Make, Migrate, Plan, Race, Scan, Show, Solve, Study,
-    Text, Verify, WordsStop, read_words,
+    Advise, Analyse, Bound, Command, Ladder, Make, Migrate, Plan, Race, Reply, Scan, Show, Solve,
+    Study, Text, Verify, WordsStop, read_words,
 };
 use cube_actions::{KindName, StakesName};
 use equity_report::{GameName, Refusal, Wanted};
@@ -52,6 +52,17 @@ pub struct AdviseTask {
     pub roll: Option<Roll>,
 }
 
+/// A state in which a file's advice is followed against the best reply.
+#[derive(Drop)]
+pub struct ReplyTask {
+    /// The file's name, 1 to 255 bytes.
+    pub file: Text,
+    pub position: Position,
+    /// The kind of state; where none is given, the first of the file's game.
+    pub kind: Option<KindName>,
+    pub rounds: u32,
+}
+
 /// What the program's words ask for.
 #[derive(Drop)]
 pub enum Task {
@@ -68,6 +79,7 @@ pub enum Task {
     Make(Make),
     Plan(Plan),
     Scan(Scan),
+    Reply(ReplyTask),
 }
 
 /// Reads the words, then a position, then a roll, compares its number of checkers with that of the words, and sees whether it is a race.
@@ -89,6 +101,7 @@ pub fn read_task(alloc: Global, words: &[String]) -> Result<Task, Refusal>
         Ok(Command::Scan(scan)) => Ok(Task::Scan(scan)),
         Ok(Command::Show(show)) => show_task(show),
         Ok(Command::Advise(advise)) => advise_task(advise),
+        Ok(Command::Reply(reply)) => reply_task(reply),
         Err(WordsStop::Bad(bad)) => Err(Refusal::Words(bad)),
         Err(WordsStop::NoMemory) => Err(Refusal::Memory),
     }
@@ -160,6 +173,28 @@ fn advise_task(advise: Advise) -> Result<Task, Refusal>
             roll,
         })),
         Err(bad) => Err(Refusal::Roll(bad)),
+    }
+}
+
+fn reply_task(reply: Reply) -> Result<Task, Refusal>
+    requires { IsRightReply reply }
+    ensures task { result ≡ with_replied reply (read_position reply.position) }
+    ensures right { IfOk result IsRightTask }
+{
+    let Reply {
+        file,
+        position,
+        kind,
+        rounds,
+    } = reply;
+    match read_position(position.as_str()) {
+        Ok(position) => Ok(Task::Reply(ReplyTask {
+            file,
+            position,
+            kind,
+            rounds,
+        })),
+        Err(bad) => Err(Refusal::Position(bad)),
     }
 }
 

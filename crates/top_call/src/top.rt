@@ -16,6 +16,7 @@ use crate::migrate::run_migrate;
 use crate::plan::run_plan;
 use crate::put::refuse;
 use crate::race::run_race;
+use crate::reply::run_reply;
 use crate::scan::run_scan;
 use crate::show::run_show;
 use crate::solve::run_solve;
@@ -54,6 +55,10 @@ use std::thread::Threads;
 ///   what a choice loses over them encloses what it loses exactly.
 /// - `scan`: of the states of the file's words that meet the condition, all of them and no others, by rising live rank and then by
 ///   kind, for every number of workers.
+/// - `reply`: of what a state guarantees a side that makes the plays which the file's words advise against the best reply, of what the
+///   best reply to such a side has there, each after the asked rounds, and of the file's own pair. Whatever the words are, the first
+///   two enclose both exactly in every game of at least as many turns, however its unfinished end is scored; exactly, following is
+///   worth no more than best play on both sides, and replying no less.
 /// - `analyse`: of each decision of a recorded game that breaks no rule, with what it loses by the pairs of the file, in a match of
 ///   the file of its score, whose header and pages are right as far as the losses rest on them, and of both players' totals. Where
 ///   the files' pairs enclose what their states are worth exactly in every game of enough turns, and in a match the start pairs in
@@ -74,9 +79,9 @@ use std::thread::Threads;
 /// 3. Of a record that is to be read: 3 where it isn't there; 5 where its file is too long, or a line of it is wrong, with the
 ///    first.
 /// 4. Of a file of bounds that is to be read: 3 where it isn't there; 4 where it isn't one, of `show`, `advise` and `analyse` up to
-///    its pages; 10 where these are asked for a position of another number of checkers, `advise` for a kind that the game hasn't, or
-///    `analyse` for a record of another game, or where the file of `plan` isn't of the first game of the match; 4 where the page of
-///    the position isn't right, or that of a state on which the advice or a loss rests. For a record of a match `analyse` looks at
+///    its pages; 10 where these or `reply` are asked for a position of another number of checkers, `advise` or `reply` for a kind that
+///    the game hasn't, or `analyse` for a record of another game, or where the file of `plan` isn't of the first game of the match; 4
+///    where the page of the position isn't right, or that of a state on which the advice or a loss rests. For a record of a match `analyse` looks at
 ///    what stands before the pages of all files, those of the first games first, before it looks at a page.
 /// 5. 9 where the words of a file that `verify` checks aren't consistent, with the first that doesn't hold by rising live rank, then
 ///    by kind, the lower word before the upper one.
@@ -126,6 +131,7 @@ pub fn run<R: Threads + Sync, F: Files, O: Sink, G: Gate + Sync>(
         Ok(Task::Analyse(task)) => run_analyse(alloc, &task, files, out),
         Ok(Task::Plan(task)) => run_plan(rt, alloc, &task, files, out),
         Ok(Task::Scan(task)) => run_scan(rt, alloc, &task, files, out),
+        Ok(Task::Reply(task)) => run_reply(rt, alloc, &task, files, out),
         Err(refusal) => refuse(out, &refusal),
     }
 }

@@ -79,6 +79,8 @@ fn place_of(command: CommandName, name: &str) -> Option<usize> {
         (CommandName::Study, "workers") => Some(3),
         (CommandName::Plan, "length") => Some(1),
         (CommandName::Scan, "workers") => Some(3),
+        (CommandName::Reply, "kind") => Some(0),
+        (CommandName::Reply, "rounds") => Some(2),
         _ => None,
     }
 }
@@ -189,6 +191,8 @@ fn bad_value(name: CommandName, all: &Given<'_>) -> u32 {
         CommandName::Make if !is_number(second, 1000) => 2,
         CommandName::Plan if !is_number(points, 5) => 2,
         CommandName::Scan if !is_number(workers, 64) => 3,
+        CommandName::Reply if !is_kind(kind) => 3,
+        CommandName::Reply if !is_number(rounds, 4096) => 4,
         _ => 0,
     }
 }
@@ -210,7 +214,8 @@ fn plain(name: CommandName, words: &[&str]) -> Option<(WordsKind, u32)> {
         | CommandName::Migrate
         | CommandName::Advise
         | CommandName::Analyse
-        | CommandName::Scan => 2,
+        | CommandName::Scan
+        | CommandName::Reply => 2,
     };
     match words_given(words, name) {
         Some(all) if all.count == wanted => match bad_value(name, &all) {
@@ -242,11 +247,12 @@ fn random_lines_are_read_as_by_hand(rt: HostRuntime) -> Result<(), Fail> {
         ("make", CommandName::Make),
         ("plan", CommandName::Plan),
         ("scan", CommandName::Scan),
+        ("reply", CommandName::Reply),
     ];
     let mut seed: u32 = 12;
-    for line in 0..1040usize {
+    for line in 0..1120usize {
         seed = next(seed);
-        let (text, name) = names[line % 13];
+        let (text, name) = names[line % 14];
         let count = 1 + (seed >> 16) as usize % 5;
         let mut words = [text; 6];
         for i in 0..count {

@@ -38,3 +38,6 @@ returns-in-Plan c = λ given has. rw c.in-Plan.is (c.read_plan.ensures given has
 
 pub returns-in-Scan : goal.returns-in-Scan
 returns-in-Scan c = λ given has. rw c.in-Scan.is (c.read_scan.ensures given has)
+
+pub returns-in-Reply : goal.returns-in-Reply
+returns-in-Reply c = λ given has. rw c.in-Reply.is (c.read_reply.ensures given has)

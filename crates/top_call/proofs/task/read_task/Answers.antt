@@ -36,3 +36,6 @@ returns-in-Ok-Plan-clause-right c = subst IsRightCommand c.in-Ok-Plan.field-0-is
 
 pub returns-in-Ok-Scan-clause-right : goal.returns-in-Ok-Scan-clause-right
 returns-in-Ok-Scan-clause-right c = subst IsRightCommand c.in-Ok-Scan.field-0-is (command-right (bytes_of c.args.words.now) c.in-Ok-Scan.field-0 c.in-Ok-Scan.ensures)
+
+pub reply_task-requires : goal.reply_task-requires
+reply_task-requires c = subst IsRightCommand c.in-Ok-Reply.field-0-is (command-right (bytes_of c.args.words.now) c.in-Ok-Reply.field-0 c.in-Ok-Reply.ensures)

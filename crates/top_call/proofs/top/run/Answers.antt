@@ -62,3 +62,9 @@ returns-in-Ok-Scan-clause-memory g c = λ e.
     let put = λ (text : List ℕ). WasPut (g.O.Sink.output c.args.out.now) (g.O.Sink.output c.run_scan.new.out) text in
     let refused = c.run_scan.ensures.tells.refused (λ done. absurd (omega (arith, done, e))) (λ write. absurd (omega (arith, write, e))) in
     memory-told (asked c.args.words.now) _ _ (memory-text put refused.refusal (sym refused.is_status ∙ e) refused.line)
+
+pub returns-in-Ok-Reply-clause-memory : goal.returns-in-Ok-Reply-clause-memory
+returns-in-Ok-Reply-clause-memory g c = λ e.
+    let put = λ (text : List ℕ). WasPut (g.O.Sink.output c.args.out.now) (g.O.Sink.output c.run_reply.new.out) text in
+    let refused = c.run_reply.ensures.tells.refused (λ done. absurd (omega (arith, done, e))) (λ write. absurd (omega (arith, write, e))) in
+    memory-told (asked c.args.words.now) _ _ (memory-text put refused.refusal (sym refused.is_status ∙ e) refused.line)

@@ -1,0 +1,135 @@
+ghost use Rattle.std.specs.Prelude.{◌≡◌, IfErr, IfOk, IsTrue, Err};
+ghost use Rattle.hyper_outside.specs.Causes.{Rose};
+ghost use Rattle.hyper_outside.specs.Files.{SameFiles};
+ghost use Rattle.turn_rule.specs.Games.{IsGame};
+ghost use Rattle.turn_rule.specs.States.{IsState};
+ghost use Rattle.equity_report.specs.declared.refusal.Refusal.TheVariants.{Read};
+ghost use Rattle.equity_report.specs.Refusals.{status_of};
+ghost use Rattle.top_call.specs.Tasks.{IsRightReply};
+ghost use Rattle.top_call.specs.Replies.{AnswersLoaded, AreReplies, TellsReply};
+ghost use Rattle.top_call.specs.Runs.{EndsBy, IsOfShowing};
+
+use crate::advise::{AskedKind, asked_kind};
+use crate::load::refusal_of;
+use crate::put::{DONE, refuse};
+use crate::reply_laws::replies_hold_for_any_words;
+use crate::task::ReplyTask;
+use best_reply::ReplyTable;
+use database_file::{Base, load_base};
+use directed_fixed::Pair;
+use equity_report::{Refusal, write_reply};
+use hyper_outside::{Failed, Files, NoMemory, Sink};
+use interval_words::Words;
+use position_rank::Position;
+use std::alloc::Global;
+use std::thread::Threads;
+
+/// A file that was loaded for a state of its game.
+#[derive(Drop)]
+pub struct LoadedFile {
+    pub base: Base,
+    pub kind: AskedKind,
+}
+
+/// What the side to move has in a state.
+#[derive(Clone, Copy, Debug, PartialEq, Eq)]
+pub struct FoundReply {
+    /// Where it makes the plays that some words advise, and the other side replies at its best.
+    pub follow: Pair,
+    /// Where it replies at its best, and the other side makes the plays that the words advise.
+    pub reply: Pair,
+    /// By the words themselves.
+    pub base: Pair,
+}
+
+/// Loads the file of a task, and finds the kind of state that is asked for; or what refuses it.
+fn load_asked<R: Threads + Sync, F: Files>(
+    rt: &R,
+    alloc: Global,
+    task: &ReplyTask,
+    files: &mut F,
+) -> Result<LoadedFile, Refusal>
+    requires { IsRightReply task.now }
+    ensures told { AnswersLoaded task.now (F.tells files.old)
+        (F.held files.old task.now.file) result }
+    ensures game { IfOk result (λ loaded. IsGame loaded.base.words.game) }
+    ensures state { IfOk result (λ loaded.
+        IsState loaded.base.words.game task.now.position loaded.kind.number) }
+    ensures same { IsTrue (F.tells files.old)
+        → SameFiles (F.held files.old) (F.held files.new) }
+    ensures cause { result ≡ Err Read
+        → Rose (F.read_faults files.old) (F.read_faults files.new) }
+    ensures kinds { IfErr result IsOfShowing }
+{
+    let name = task.file.as_str();
+    let base = match load_base(rt, alloc, files, name, 1) {
+        Ok(base) => base,
+        Err(stop) => return Err(refusal_of(stop, name)),
+    };
+    match asked_kind(base.head(), &task.position, task.kind) {
+        Ok(kind) => Ok(LoadedFile { base, kind }),
+        Err(refusal) => Err(refusal),
+    }
+}
+
+/// Both sides' pairs of a state after so many rounds, where one side makes the plays that the words advise, and the words' own.
+fn replies_after(
+    alloc: Global,
+    words: &Words,
+    rounds: u32,
+    position: &Position,
+    kind: usize,
+) -> Result<FoundReply, NoMemory>
+    requires { IsState words.now.game position.now kind }
+    ensures { IfOk result (AreReplies words.now rounds position.now kind) }
+{
+    let mut table = ReplyTable::new(alloc, words)?;
+    for _round in 0..rounds {
+        table.sweep_all();
+    }
+    Ok(FoundReply {
+        follow: table.follow(position, kind),
+        reply: table.reply(position, kind),
+        base: words.pair(position, kind),
+    })
+}
+
+/// Loads the file, sweeps both sides' pairs as often as is asked for and puts the report, or a refusal where the file isn't right or is of another
+/// game, one of these fails or there is no memory.
+pub(crate) fn run_reply<R: Threads + Sync, F: Files, O: Sink>(
+    rt: &R,
+    alloc: Global,
+    task: &ReplyTask,
+    files: &mut F,
+    out: &mut O,
+) -> u8
+    requires { IsRightReply task.now }
+    ensures ends { EndsBy IsOfShowing result }
+    ensures tells { TellsReply task.now (F.tells files.old) (F.held files.old task.now.file)
+        (O.output out.old) (O.output out.new) result }
+    ensures read_cause { result ≡ status_of Read
+        → Rose (F.read_faults files.old) (F.read_faults files.new) }
+    ensures same { IsTrue (F.tells files.old)
+        → SameFiles (F.held files.old) (F.held files.new) }
+{
+    replies_hold_for_any_words();
+    let LoadedFile { base, kind } = match load_asked(rt, alloc, task, files) {
+        Ok(loaded) => loaded,
+        Err(refusal) => return refuse(out, &refusal),
+    };
+    let position = &task.position;
+    let Ok(found) = replies_after(alloc, base.words(), task.rounds, position, kind.number) else {
+        return refuse(out, &Refusal::Memory);
+    };
+    match write_reply(
+        out,
+        position,
+        kind.name,
+        found.follow,
+        found.reply,
+        found.base,
+    ) {
+        Ok(()) => DONE,
+        Err(Failed) => refuse(out, &Refusal::Write),
+    }
+}
