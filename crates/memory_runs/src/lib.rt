@@ -5,4 +5,4 @@ mod runs;
 mod texts;
 
 pub use runs::{ask, ask_at, ask_failing};
-pub use texts::cubeless_text;
+pub use texts::{cubeless_text, opening_text};

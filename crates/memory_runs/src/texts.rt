@@ -29,16 +29,11 @@ fn header(alloc: Global, version: u8) -> Result<Vec<u8>, NoMemory> {
     Ok(head)
 }
 
-/// A file of one checker a side without a cube after 8 rounds, as the format of this version says: of each position the word of
-/// a point lost and that of a point won.
-pub fn cubeless_text(alloc: Global, version: u8) -> Result<Vec<u8>, NoMemory>
+/// A file of one checker a side without a cube after 8 rounds, as the format of this version says: of each position these two
+/// words.
+fn text_of(alloc: Global, version: u8, words: [&[u8]; 2]) -> Result<Vec<u8>, NoMemory>
     ensures { IfOk result (λ text. IsSealedTwice text.items) }
 {
-    let words: [&[u8]; 2] = if version == 1 {
-        [b"\0\0\0\x0f\0\0\0\0", b"\0\0\0\x11\0\0\0\0"]
-    } else {
-        [b"\x0f\0\0\0\0", b"\x11\0\0\0\0"]
-    };
     let mut page = Vec::new(alloc);
     for _ in 0..601 {
         page.extend_from_slice(words[0])?;
@@ -48,4 +43,23 @@ pub fn cubeless_text(alloc: Global, version: u8) -> Result<Vec<u8>, NoMemory>
     seal(&header(alloc, version)?, &mut text)?;
     seal(&page, &mut text)?;
     Ok(text)
+}
+
+/// Such a file of version 1 or 2 with the word of a point lost and that of a point won.
+pub fn cubeless_text(alloc: Global, version: u8) -> Result<Vec<u8>, NoMemory>
+    ensures { IfOk result (λ text. IsSealedTwice text.items) }
+{
+    let words: [&[u8]; 2] = if version == 1 {
+        [b"\0\0\0\x0f\0\0\0\0", b"\0\0\0\x11\0\0\0\0"]
+    } else {
+        [b"\x0f\0\0\0\0", b"\x11\0\0\0\0"]
+    };
+    text_of(alloc, version, words)
+}
+
+/// Such a file of version 2 with the words of three points lost and won, which is all that is known before a first round.
+pub fn opening_text(alloc: Global) -> Result<Vec<u8>, NoMemory>
+    ensures { IfOk result (λ text. IsSealedTwice text.items) }
+{
+    text_of(alloc, 2, [b"\x0d\0\0\0\0", b"\x13\0\0\0\0"])
 }
