@@ -1,4 +1,4 @@
-use Rattle.std.proofs.Common.{◌≡◌, ◌+◌, ◌&&◌, ◌∙◌, Bool, true, false, drop, sym, ap}
+use Rattle.std.proofs.Common.{◌+◌, ◌∙◌, Bool, true, false, drop, sym, ap}
 use Rattle.base_scan.specs.Meets.{says_by}
 use Rattle.base_scan.proofs.Telling.{step-and, step-end, step-or, step-yes, tells}
 use Rattle.base_scan.proofs.numbers.meets_by.Goals as goal

@@ -1,4 +1,4 @@
-use Rattle.std.proofs.Common.{◌≡◌, ◌<◌, ◌∙◌, ◌++◌, ℕ, List, Vec, Result, Ok, IfOk, sym, ap, subst, arith}
+use Rattle.std.proofs.Common.{◌<◌, ◌∙◌, ◌++◌, List, Vec, Result, IfOk, sym, ap, subst, arith}
 use Rattle.std.specs.Global.{Global}
 use Rattle.hyper_outside.specs.declared.outside.NoMemory.{NoMemory}
 use Rattle.base_scan.specs.declared.found.State.{State}

@@ -3,7 +3,6 @@ use Rattle.position_rank.specs.LiveRanks.{live_rank_of}
 use Rattle.position_rank.specs.Placement.{Placement}
 use Rattle.turn_rule.specs.Games.{kinds_of}
 use Rattle.turn_rule.specs.States.{IsState}
-use Rattle.base_scan.specs.declared.found.State.{State}
 use Rattle.base_scan.specs.Found.{IsStateIn}
 use Rattle.base_scan.specs.Meets.{meets}
 use Rattle.base_scan.specs.Sides.{position_of}

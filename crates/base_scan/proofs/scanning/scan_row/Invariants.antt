@@ -1,5 +1,4 @@
 use Rattle.std.proofs.Common.{◌≡◌, ◌*◌, ◌++◌, All}
-use Rattle.position_rank.specs.Points.{AreMoverPoints}
 use Rattle.position_rank.specs.Ranks.{layouts}
 use Rattle.base_scan.specs.Found.{IsStateIn}
 use Rattle.base_scan.proofs.Scans.{scanned}

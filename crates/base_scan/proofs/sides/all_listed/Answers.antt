@@ -1,6 +1,5 @@
-use Rattle.std.proofs.Common.{◌≡◌, ◌<◌, ◌+◌, ◌∙◌, ℕ, length, get_or, sym, arith}
+use Rattle.std.proofs.Common.{◌≡◌, ◌∙◌, sym, arith}
 use Rattle.position_rank.specs.Ranks.{rank_of}
-use Rattle.base_scan.specs.declared.sides.Listed.{Listed}
 use Rattle.base_scan.specs.Sides.{IsListed}
 use Rattle.base_scan.proofs.Listing.{each-more}
 use Rattle.base_scan.proofs.sides.all_listed.Goals as goal

@@ -1,4 +1,4 @@
-use Rattle.std.proofs.Common.{◌≡◌, ◌<◌, ℕ, List, length, slice_index_or}
+use Rattle.std.proofs.Common.{◌≡◌, ◌<◌, ℕ, length, slice_index_or}
 use Rattle.position_rank.specs.Ranks.{rank_of}
 use Rattle.base_scan.specs.declared.sides.Listed.{Listed}
 use Rattle.base_scan.specs.Sides.{IsListed}
