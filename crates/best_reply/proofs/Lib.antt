@@ -9,3 +9,4 @@ pub mod FirstRow
 pub mod RollSums
 pub mod Doubled
 pub mod Filling
+pub mod ColumnLemmas

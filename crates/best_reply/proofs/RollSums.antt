@@ -4,15 +4,14 @@ use Rattle.std.proofs.lemmas.Int.{ints}
 use Rattle.std.proofs.lemmas.List.{length-map, take_all}
 use Rattle.position_rank.specs.Placement.{Placement}
 use Rattle.roll_table.specs.Rolls.{Dice, all_rolls}
-use Rattle.move_rules.specs.Ends.{legal_ends}
 use Rattle.directed_fixed.specs.declared.bounds.End.TheVariants.{Lower, Upper}
 use Rattle.directed_fixed.specs.Bounds.{Bounds, IsWithin, IsWithinUnits}
 use Rattle.cube_actions.specs.Stakes.{Terms, kind_at}
-use Rattle.turn_rule.specs.Turn.{Words, greatest, sum_over, worth}
+use Rattle.turn_rule.specs.Turn.{Words, worth}
 use Rattle.turn_rule.proofs.Greatest.{length-all_rolls, roll_at}
 use Rattle.best_reply.specs.Policies.{Policy}
 use Rattle.best_reply.specs.Replies.{sum_by}
-use Rattle.best_reply.specs.Tables.{AreRolled, IsSmall, RollAt, follow_sum, reply_sum, weighted}
+use Rattle.best_reply.specs.Tables.{AreRolled, IsSmall, RollAt, follow_sum, weighted}
 
 -- over some rolls, the sum of a value of each, as often as it comes
 abbrev weighted_sum : List (Dice × ℕ) → (Dice → ℤ) → ℤ
@@ -22,10 +21,6 @@ weighted_sum (roll ∷ rolls) value = pos roll.1 *ℤ value roll.0 +ℤ weighted
 sum-of_plays : (rolls : List (Dice × ℕ)) (f : Placement → ℤ) (play : Dice → Placement) → weighted_sum rolls (λ roll. f (play roll)) ≡ sum_by rolls f play
 sum-of_plays [] f play = refl
 sum-of_plays (roll ∷ rolls) f play = ap (λ (z : ℤ). pos roll.1 *ℤ f (play roll.0) +ℤ z) (sum-of_plays rolls f play)
-
-sum-of_best : (rolls : List (Dice × ℕ)) (f : Placement → ℤ) (p : Placement) → weighted_sum rolls (λ roll. greatest f (legal_ends p roll)) ≡ sum_over rolls f p
-sum-of_best [] f p = refl
-sum-of_best (roll ∷ rolls) f p = ap (λ (z : ℤ). pos roll.1 *ℤ greatest f (legal_ends p roll.0) +ℤ z) (sum-of_best rolls f p)
 
 first_of : (a : ℤ) → a +ℤ pos 0 ≡ pos 0 +ℤ a
 first_of a = omega (arith, ints)
@@ -135,18 +130,8 @@ module _ (stakes : Terms) (u : Words) (p : Placement) (k : ℕ) where
   abbrev pub followed : Policy → Dice → Bounds
   followed policy roll = record { lower = worth Lower (kind_at stakes k) u (policy p k roll); upper = worth Upper (kind_at stakes k) u (policy p k roll) }
 
-  -- what the best play of a roll leaves
-  abbrev pub replied : Dice → Bounds
-  replied roll = record { lower = greatest (worth Lower (kind_at stakes k) u) (legal_ends p roll); upper = greatest (worth Upper (kind_at stakes k) u) (legal_ends p roll) }
-
   pub all-followed : (policy : Policy) (i : ℕ) (sum : Bounds) → length all_rolls ≤ i → AreSums (followed policy) i sum → sum ≡ follow_sum policy stakes u p k
   all-followed policy i sum past are =
       all-sums (followed policy) i sum past are
       ∙ (ap (λ (z : ℤ). record { lower = z; upper = weighted_sum all_rolls (λ roll. (followed policy roll).upper) }) (sum-of_plays all_rolls (worth Lower (kind_at stakes k) u) (policy p k))
       ∙ ap (λ (z : ℤ). record { lower = sum_by all_rolls (worth Lower (kind_at stakes k) u) (policy p k); upper = z }) (sum-of_plays all_rolls (worth Upper (kind_at stakes k) u) (policy p k)))
-
-  pub all-replied : (i : ℕ) (sum : Bounds) → length all_rolls ≤ i → AreSums replied i sum → sum ≡ reply_sum stakes u p k
-  all-replied i sum past are =
-      all-sums replied i sum past are
-      ∙ (ap (λ (z : ℤ). record { lower = z; upper = weighted_sum all_rolls (λ roll. (replied roll).upper) }) (sum-of_best all_rolls (worth Lower (kind_at stakes k) u) p)
-      ∙ ap (λ (z : ℤ). record { lower = sum_over all_rolls (worth Lower (kind_at stakes k) u) p; upper = z }) (sum-of_best all_rolls (worth Upper (kind_at stakes k) u) p))

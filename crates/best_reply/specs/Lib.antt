@@ -3,4 +3,5 @@ pub mod Advised
 pub mod Replies
 pub mod ReplyPairs
 pub mod Tables
+pub mod Columns
 pub mod Sides

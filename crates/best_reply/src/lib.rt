@@ -2,6 +2,8 @@
 #![tactic(auto)]
 
 mod bank;
+mod bank_reader;
+mod columns;
 mod laws;
 mod left;
 mod position_lefts;

@@ -7,7 +7,6 @@ ghost use Rattle.best_reply.specs.Tables.{
   IsSmall,
   follow_sum,
   policy_of,
-  reply_sum,
   weighted,
   words_by,
 };
@@ -117,21 +116,6 @@ impl PositionLefts {
         let mut sum = Pair::exactly(Fixed::whole(0));
         for one in self.kept.as_slice() {
             sum = add_times(sum, one.times(), one.follow_pair(number, words, bank));
-        }
-        sum
-    }
-
-    /// The sum over the 36 ways of two dice of what the best plays leave in a kind, by these pairs.
-    pub(crate) fn reply_sum(&self, number: usize, words: &Words, bank: &Bank) -> Pair
-        requires state { IsState words.now.game self.now number }
-        requires bank { IsRightBank words.now.game bank.now }
-        ensures sum { result ≡ reply_sum words.now.game.stakes
-            (words_by bank.now) self.now number }
-        ensures small { IsSmall result }
-    {
-        let mut sum = Pair::exactly(Fixed::whole(0));
-        for one in self.kept.as_slice() {
-            sum = add_times(sum, one.times(), one.reply_pair(number, words, bank));
         }
         sum
     }

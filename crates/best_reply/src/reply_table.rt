@@ -8,6 +8,7 @@ ghost use Rattle.best_reply.specs.Sides.{AreBanksOf, HasRounds, IsTurned};
 use crate::bank::Bank;
 use crate::position_lefts::PositionLefts;
 use crate::sweep::{Banks, sweep};
+use column_turns::ColumnTurns;
 use directed_fixed::Pair;
 use hyper_outside::NoMemory;
 use interval_words::Words;
@@ -23,6 +24,7 @@ use std::mem;
 pub struct ReplyTable<'a> {
     words: &'a Words,
     lefts: PositionLefts,
+    turns: ColumnTurns,
     current: Banks,
     next: Banks,
 }
@@ -34,7 +36,7 @@ impl<'a> Model for ReplyTable<'a> {
 
     ghost view = { λ a. record { words = a.words.now; both = a.current } };
 
-    ghost invariant = { λ a. IsReady a.words.now a.current a.next };
+    ghost invariant = { λ a. IsReady a.words.now a.turns a.current a.next };
 }
 
 /// A pair of which only the bound is known, for every state and either side to move.
@@ -69,6 +71,7 @@ impl<'a> ReplyTable<'a> {
         Ok(ReplyTable {
             words,
             lefts: PositionLefts::of(alloc, &first, words.index())?,
+            turns: ColumnTurns::new(alloc, words.checkers(), words.stakes())?,
             current: opening(alloc, words)?,
             next: opening(alloc, words)?,
         })
@@ -81,7 +84,13 @@ impl<'a> ReplyTable<'a> {
         ensures turned { IsTurned self.old self.new }
         ensures rounds { (r : ℕ) → HasRounds self.old r → HasRounds self.new (r + 1) }
     {
-        sweep(self.words, &mut self.lefts, &self.current, &mut self.next);
+        sweep(
+            self.words,
+            &mut self.lefts,
+            &mut self.turns,
+            &self.current,
+            &mut self.next,
+        );
         mem::swap(&mut self.current, &mut self.next);
     }
 
