@@ -14,7 +14,7 @@ use Rattle.game_payoff.specs.Points.{points}
 use Rattle.directed_fixed.specs.declared.bounds.End.TheVariants.{Lower, Upper}
 use Rattle.directed_fixed.specs.Bounds.{Bounds, negated}
 use Rattle.cube_actions.specs.declared.kind.Kind.{Kind}
-use Rattle.cube_actions.specs.Stakes.{Terms, kind_at, nothing}
+use Rattle.cube_actions.specs.Stakes.{Terms, kind_at}
 use Rattle.turn_rule.specs.declared.game.Game.{Game}
 use Rattle.turn_rule.specs.Games.{kinds_of}
 use Rattle.turn_rule.specs.Turn.{Words, if_won, win}
@@ -27,7 +27,7 @@ use Rattle.play_analyser.specs.Regrets.{play_pair}
 use Rattle.best_reply.specs.declared.left.Left.{Left}
 use Rattle.best_reply.specs.Advised.{IsAdvised}
 use Rattle.best_reply.proofs.Lines.{before-trans, better-then, better-trans, never-better}
-use Rattle.best_reply.specs.Tables.{AreListed, IsBankOf, IsFirstBest, LeavesPair, LeavesState, RollAt, StatePairs, ends_in, words_by}
+use Rattle.best_reply.specs.Tables.{AreListed, IsBankOf, IsFirstBest, LeavesPair, LeavesState, RollAt, StatePairs, ends_in}
 
 -- ---- one play
 
@@ -45,13 +45,9 @@ goes-on kind u q on =
       upper = if_won o (λ won. (win kind won).upper) (neg_ℤ (u Lower (swap q) kind.next));
     }) on
 
-place-is : (kinds rank next : ℕ) (p : Placement) → rank ≡ live_rank_of p → rank * kinds + next ≡ state_of kinds p next
+pub place-is : (kinds rank next : ℕ) (p : Placement) → rank ≡ live_rank_of p → rank * kinds + next ≡ state_of kinds p next
 unfolding state_of
 place-is kinds rank next p is = ap (λ (n : ℕ). n * kinds + next) is
-
-pub left-by : (kind : Kind) (bank : StatePairs) (left : Left) (pair : Bounds) → points left.end ≡ None → left.rank ≡ live_rank_of (swap left.end) → pair ≡ negated (get_or bank.pairs (left.rank * bank.kinds + kind.next) nothing) → pair ≡ play_pair kind (words_by bank) left.end
-left-by kind bank left pair on rank is =
-    is ∙ (ap (λ (i : ℕ). negated (get_or bank.pairs i nothing)) (place-is bank.kinds left.rank kind.next (swap left.end) rank) ∙ sym (goes-on kind (words_by bank) left.end on))
 
 pub left-over : (kind : Kind) (words : WordList) (left : Left) (pair : Bounds) (kinds : ℕ) → kinds ≡ kinds_of words.game → points left.end ≡ None → left.rank ≡ live_rank_of (swap left.end) → pair ≡ negated (pair_at words.list (left.rank * kinds + kind.next)) → pair ≡ play_pair kind (words_in_list words) left.end
 left-over kind words left pair kinds all on rank is =
@@ -62,8 +58,8 @@ over-inside kind words left kinds all rank state =
     subst (λ (i : ℕ). i < states_of words.game) (sym (ap (λ (n : ℕ). left.rank * n + kind.next) all ∙ place-is (kinds_of words.game) left.rank kind.next (swap left.end) rank))
     (state-in words.game.checkers (kinds_of words.game) (swap left.end) kind.next state)
 
-pub small-place : (rank kinds next : ℕ) → rank < 2 ^ 32 → kinds ≤ 14 → next < kinds → rank * kinds + next < 2 ^ 36
-small-place rank kinds next small few inside = omega (arith, mul-add-lt rank kinds next (2 ^ 32) small inside)
+pub small-place : (rank kinds next : ℕ) → rank < 2 ^ 24 → kinds ≤ 14 → next < kinds → rank * kinds + next < 2 ^ 36
+small-place rank kinds next small few inside = omega (arith, mul-add-lt rank kinds next (2 ^ 24) small inside)
 
 pub bank-inside : (game : Game) (bank : StatePairs) → IsBankOf game bank → (next : ℕ) (end : Placement) → LeavesState game next end → LeavesPair bank next end
 bank-inside game bank full next end leaves on =

@@ -10,3 +10,4 @@ pub mod RollSums
 pub mod Doubled
 pub mod Filling
 pub mod ColumnLemmas
+pub mod OutcomeLemmas

@@ -1,5 +1,5 @@
 -- Both sides' pairs, round by round.
-use Rattle.std.specs.Prelude.{ℕ}
+use Rattle.std.specs.Prelude.{ℕ, List}
 use Rattle.position_rank.specs.LiveRanks.{live_positions}
 use Rattle.turn_rule.specs.declared.game.Game.{Game}
 use Rattle.turn_rule.specs.Games.{IsGame}
@@ -7,6 +7,8 @@ use Rattle.turn_rule.specs.Turn.{turn}
 use Rattle.column_turns.specs.Columns.{ColumnPairs}
 use Rattle.interval_words.specs.WordLists.{WordList}
 use Rattle.best_reply.specs.Columns.{HasRoomFor}
+use Rattle.best_reply.specs.Outcomes.{IsAdvisedTo}
+use Rattle.best_reply.specs.declared.outcome.Outcome.{Outcome}
 use Rattle.best_reply.specs.declared.sweep.Banks.{Banks}
 use Rattle.best_reply.specs.ReplyPairs.{AgreeReplies, ReplyWords, reply_rounds, turn_by}
 use Rattle.best_reply.specs.Tables.{IsBankOf, IsFilledTo, IsRightBank, policy_of, words_by}
@@ -50,9 +52,10 @@ HasRounds state r =
 abbrev pub IsTurned : ReplyState → ReplyState → Type 0
 IsTurned old new = AgreeReplies old.words.game (both_words new.both) (turned_words old.words (both_words old.both))
 
--- a table whose next round may be made: right pairs, and room for a column and for the next pairs
-pub record IsReady (words : WordList) (column : ColumnPairs) (now next : Banks) : Type 0 where
+-- a table whose next round may be made: the advised plays, right pairs, and room for a column and for the next pairs
+pub record IsReady (words : WordList) (advice : List Outcome) (column : ColumnPairs) (now next : Banks) : Type 0 where
   pub game : IsGame words.game
+  pub advised : IsAdvisedTo words (live_positions words.game.checkers) advice
   pub columns : HasRoomFor words.game column
   pub right : AreRightBanks words.game now
   pub room : AreBanksOf words.game next

@@ -31,7 +31,7 @@ use Rattle.best_reply.specs.Replies.{sum_by}
 pub record IsRight (left : Left) : Type 0 where
   pub won : left.won ≡ points left.end
   pub rank : points left.end ≡ None → left.rank ≡ live_rank_of (swap left.end)
-  pub small : left.rank < 2 ^ 32
+  pub small : left.rank < 2 ^ 24
 
 abbrev pub ends_in : List Left → List Placement
 ends_in lefts = map (λ (left : Left). left.end) lefts

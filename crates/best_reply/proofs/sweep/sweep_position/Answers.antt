@@ -1,11 +1,10 @@
-use Rattle.std.proofs.Common.{◌≡◌, ◌∙◌, List, sum, ap, subst}
-use Rattle.position_rank.specs.Placement.{IsPosition, IsLive}
-use Rattle.position_rank.specs.LiveRanks.{live_rank_of}
+use Rattle.std.proofs.Common.{◌∙◌, List, ap}
 use Rattle.directed_fixed.specs.Bounds.{Bounds}
 use Rattle.cube_actions.specs.Stakes.{Terms, IsValid}
 use Rattle.best_reply.specs.ReplyPairs.{turn_by}
 use Rattle.best_reply.specs.Tables.{policy_of, sums_in, turn_from, words_by}
 use Rattle.best_reply.proofs.Filling.{bank-place, fill-step, followed-turn}
+use Rattle.best_reply.proofs.OutcomeLemmas.{some-at}
 use Rattle.best_reply.proofs.sweep.sweep_position.Goals as goal
 
 pub put_turns-requires-clause-inside : goal.put_turns-requires-clause-inside
@@ -18,16 +17,14 @@ returns c =
     let rank = c.args.rank in
     let u = words_by c.args.old.now in
     let target = turn_by (policy_of words) game.stakes u in
-    let q = c.fill.new.self in
-    let here : q ≡ c.unrank-position.result = c.fill.ensures in
-    let position : IsPosition q = rw here c.unrank-position.ensures.valid in
-    let live : IsLive q = rw here c.unrank-position.ensures.live in
-    let many : sum q.mover ≡ game.checkers = rw here (c.unrank-position.ensures.checkers ∙ c.index.ensures) in
-    let is : live_rank_of q ≡ rank = rw here c.unrank-position.ensures.rank in
-    let valid : IsValid game.stakes = subst IsValid c.stakes.ensures c.put_turns.ensures.valid in
-    fill-step game target rank q position live many is (turn_from c.stakes.result.now (sums_in c.deref.result.now)) c.args.new.now c.put_turns.new.bank
+    let valid : IsValid game.stakes = c.requires.game.stakes in
+    let at = some-at game c.requires.game rank 0 c.requires.rank valid.some in
+    let q = at.position in
+    let state = at.state in
+    fill-step game target rank q state.position state.live state.many at.ranked (turn_from c.stakes.result.now (sums_in c.deref.result.now)) c.args.new.now c.put_turns.new.bank
     (λ k inside.
     ap (λ (s : Terms). turn_from s (sums_in c.deref.result.now) k) c.stakes.ensures
     ∙ (ap (λ (xs : List Bounds). turn_from game.stakes (sums_in xs) k) c.deref.ensures.0
-    ∙ followed-turn game target rank q position live many is valid c.follow_sums-sums.result.items (policy_of words) u c.follow_sums-sums.ensures.sums k inside))
+    ∙ followed-turn game target rank q state.position state.live state.many at.ranked valid c.follow_sums-sums.result.items (policy_of words) u
+    (λ j kind. c.follow_sums-sums.ensures.sums q j (record { position = state.position; many = state.many; live = state.live; kind = kind }) at.ranked) k inside))
     c.requires.before c.put_turns.ensures.put

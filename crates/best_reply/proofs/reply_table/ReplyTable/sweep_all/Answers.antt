@@ -10,6 +10,7 @@ invariant_of-self c =
     let right = swept-right self.words.now ready.game self.current new ready.right c.sweep.ensures.swept in
     rw (c.swap.ensures.x_after, c.swap.ensures.y_after) (record {
       game = ready.game;
+      advised = ready.advised;
       columns = c.sweep.ensures.room;
       right = right;
       room = record { follow = ready.right.follow.full; reply = ready.right.reply.full };

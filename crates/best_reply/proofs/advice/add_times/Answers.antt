@@ -1,5 +1,5 @@
 use Rattle.turn_rule.proofs.Integers.{add_mono, mul_mono}
-use Rattle.best_reply.proofs.position_lefts.add_times.Goals as goal
+use Rattle.best_reply.proofs.advice.add_times.Goals as goal
 
 pub new-requires : goal.new-requires
 new-requires c =
