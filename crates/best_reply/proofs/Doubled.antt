@@ -9,12 +9,12 @@ use Rattle.directed_fixed.specs.Bounds.{Bounds, at}
 use Rattle.cube_actions.specs.declared.kind.Double.{Double}
 use Rattle.cube_actions.specs.declared.kind.Taken.{Taken}
 use Rattle.cube_actions.specs.Stakes.{Terms, kind_at, no_kind, IsRightAnswer, IsRightDouble, IsValid}
-use Rattle.turn_rule.specs.Turn.{Words, least, or_double, roll_value, turn}
+use Rattle.turn_rule.specs.Turn.{Words, least}
 use Rattle.move_rules.specs.Listing.{Among}
 use Rattle.turn_rule.proofs.Within.{at_member}
 use Rattle.best_reply.specs.Policies.{Policy}
 use Rattle.best_reply.specs.ReplyPairs.{or_double_by, roll_value_by, turn_by}
-use Rattle.best_reply.specs.Tables.{IsAnswerIn, doubled_from, follow_sum, mean_pair, or_double_from, reply_sum, turn_from}
+use Rattle.best_reply.specs.Tables.{IsAnswerIn, doubled_from, follow_sum, mean_pair, or_double_from, turn_from}
 
 abbrev value_of : End → (ℕ → Bounds) → Taken → ℤ
 value_of end sums taken = at end (mean_pair taken.factor (sums taken.kind))
@@ -72,30 +72,16 @@ module _ (stakes : Terms) (valid : IsValid stakes) (sums others : ℕ → Bounds
       ap (λ (z : ℤ). record { lower = z; upper = or_double_from Upper sums (mean_pair 1 (sums k)).upper double }) lower
       ∙ ap (λ (z : ℤ). record { lower = or_double_from Lower others (mean_pair 1 (others k)).lower double; upper = z }) upper
 
--- a turn of the replier from the sums of the best plays
-module _ (stakes : Terms) (u : Words) (p : Placement) where
-  replied-double : (end : End) → ((factor k : ℕ) → at end (mean_pair factor (reply_sum stakes u p k)) ≡ roll_value end stakes u p k factor) → (o : Option Double) (plain : ℤ) → or_double_from end (reply_sum stakes u p) plain o ≡ or_double end stakes u p plain o
-  replied-double end means None plain = refl
-  replied-double end means (Some double) plain =
-      ap (λ (z : ℤ). int_max plain z) (least-same (value_of end (reply_sum stakes u p)) (λ taken. roll_value end stakes u p taken.kind taken.factor) (at end double.pass) double.answers.items (λ taken m. means taken.factor taken.kind))
+-- a turn of the follower from the sums of the policy's plays
+module _ (stakes : Terms) (u : Words) (p : Placement) (policy : Policy) where
+  followed-double : (end : End) → ((factor k : ℕ) → at end (mean_pair factor (follow_sum policy stakes u p k)) ≡ roll_value_by policy end stakes u p k factor) → (o : Option Double) (plain : ℤ) → or_double_from end (follow_sum policy stakes u p) plain o ≡ or_double_by policy end stakes u p plain o
+  followed-double end means None plain = refl
+  followed-double end means (Some double) plain =
+      ap (λ (z : ℤ). int_max plain z) (least-same (value_of end (follow_sum policy stakes u p)) (λ taken. roll_value_by policy end stakes u p taken.kind taken.factor) (at end double.pass) double.answers.items (λ taken m. means taken.factor taken.kind))
 
-  pub turn-replied : (k : ℕ) → turn_from stakes (reply_sum stakes u p) k ≡ record { lower = turn stakes u Lower p k; upper = turn stakes u Upper p k }
-  unfolding turn
-  turn-replied k =
+  pub turn-followed : (k : ℕ) → turn_from stakes (follow_sum policy stakes u p) k ≡ record { lower = turn_by policy stakes u Lower p k; upper = turn_by policy stakes u Upper p k }
+  unfolding turn_by
+  turn-followed k =
       let double = (kind_at stakes k).double in
-      ap (λ (z : ℤ). record { lower = z; upper = or_double_from Upper (reply_sum stakes u p) (roll_value Upper stakes u p k 1) double }) (replied-double Lower (λ factor k. refl) double (roll_value Lower stakes u p k 1))
-      ∙ ap (λ (z : ℤ). record { lower = or_double Lower stakes u p (roll_value Lower stakes u p k 1) double; upper = z }) (replied-double Upper (λ factor k. refl) double (roll_value Upper stakes u p k 1))
-
-  -- a turn of the follower from the sums of the policy's plays
-  module _ (policy : Policy) where
-    followed-double : (end : End) → ((factor k : ℕ) → at end (mean_pair factor (follow_sum policy stakes u p k)) ≡ roll_value_by policy end stakes u p k factor) → (o : Option Double) (plain : ℤ) → or_double_from end (follow_sum policy stakes u p) plain o ≡ or_double_by policy end stakes u p plain o
-    followed-double end means None plain = refl
-    followed-double end means (Some double) plain =
-        ap (λ (z : ℤ). int_max plain z) (least-same (value_of end (follow_sum policy stakes u p)) (λ taken. roll_value_by policy end stakes u p taken.kind taken.factor) (at end double.pass) double.answers.items (λ taken m. means taken.factor taken.kind))
-
-    pub turn-followed : (k : ℕ) → turn_from stakes (follow_sum policy stakes u p) k ≡ record { lower = turn_by policy stakes u Lower p k; upper = turn_by policy stakes u Upper p k }
-    unfolding turn_by
-    turn-followed k =
-        let double = (kind_at stakes k).double in
-        ap (λ (z : ℤ). record { lower = z; upper = or_double_from Upper (follow_sum policy stakes u p) (roll_value_by policy Upper stakes u p k 1) double }) (followed-double Lower (λ factor k. refl) double (roll_value_by policy Lower stakes u p k 1))
-        ∙ ap (λ (z : ℤ). record { lower = or_double_by policy Lower stakes u p (roll_value_by policy Lower stakes u p k 1) double; upper = z }) (followed-double Upper (λ factor k. refl) double (roll_value_by policy Upper stakes u p k 1))
+      ap (λ (z : ℤ). record { lower = z; upper = or_double_from Upper (follow_sum policy stakes u p) (roll_value_by policy Upper stakes u p k 1) double }) (followed-double Lower (λ factor k. refl) double (roll_value_by policy Lower stakes u p k 1))
+      ∙ ap (λ (z : ℤ). record { lower = or_double_by policy Lower stakes u p (roll_value_by policy Lower stakes u p k 1) double; upper = z }) (followed-double Upper (λ factor k. refl) double (roll_value_by policy Upper stakes u p k 1))

@@ -1,6 +1,6 @@
 -- Pairs that are put position by position, and both sides' rounds.
-use Rattle.std.proofs.Common.{◌≡◌, ◌<◌, ◌≤◌, ◌+◌, ◌*◌, ◌∙◌, ℕ, zero, suc, ℤ, List, length, replicate, get_or, set, sum, inl, inr, refl, ap, sym, subst, length-set, get_or-set_same, get_or-set_other, arith}
-use Rattle.std.proofs.lemmas.Bool.{cases_lt}
+use Rattle.std.proofs.Common.{◌≡◌, ◌≢◌, ◌<◌, ◌≤◌, ◌+◌, ◌*◌, ◌∙◌, ℕ, zero, suc, ℤ, List, length, replicate, get_or, set, sum, inl, inr, refl, ap, sym, subst, length-set, get_or-set_same, get_or-set_other, arith}
+use Rattle.std.proofs.lemmas.Bool.{cases_eq, cases_lt}
 use Rattle.std.proofs.lemmas.List.{length-replicate}
 use Rattle.std.proofs.Math.Nat.{mul-le-mul_right}
 use Rattle.position_rank.specs.Placement.{Placement, IsPosition, IsLive}
@@ -11,8 +11,9 @@ use Rattle.directed_fixed.specs.declared.bounds.End.TheVariants.{Lower, Upper}
 use Rattle.directed_fixed.specs.Bounds.{Bounds, at}
 use Rattle.cube_actions.specs.Stakes.{nothing, IsValid}
 use Rattle.turn_rule.specs.declared.game.Game.{Game}
+use Rattle.column_turns.proofs.Places.{places-same}
 use Rattle.turn_rule.specs.Games.{IsGame, kinds_of}
-use Rattle.turn_rule.specs.Turn.{Words, bound_pair, bound_words, turn}
+use Rattle.turn_rule.specs.Turn.{Words, bound_pair, bound_words}
 use Rattle.turn_rule.specs.States.{Agree, AreWithin, IsState, pair_of}
 use Rattle.turn_rule.proofs.Within.{opening-within, turn-within}
 use Rattle.interval_words.specs.Numbers.{state_of, states_in}
@@ -21,9 +22,9 @@ use Rattle.interval_words.proofs.Places.{state-in}
 use Rattle.best_reply.specs.declared.sweep.Banks.{Banks}
 use Rattle.best_reply.specs.Policies.{IsLegalPolicy}
 use Rattle.best_reply.specs.ReplyPairs.{AgreeReplies, reply_rounds, turn_by}
-use Rattle.best_reply.specs.Sides.{AreBanksOf, AreRightBanks, AreSweptTo, HasRounds, both_words, turned_words}
-use Rattle.best_reply.specs.Tables.{IsBankOf, IsFilledTo, IsPut, IsRightBank, StatePairs, follow_sum, policy_of, reply_sum, sums_in, turn_from, words_by}
-use Rattle.best_reply.proofs.Doubled.{from-same, turn-followed, turn-replied}
+use Rattle.best_reply.specs.Sides.{AreBanksOf, AreRightBanks, AreSwept, HasRounds, both_words, turned_words}
+use Rattle.best_reply.specs.Tables.{IsBankOf, IsFilledTo, IsPut, IsRightBank, StatePairs, follow_sum, policy_of, sums_in, turn_from, words_by}
+use Rattle.best_reply.proofs.Doubled.{from-same, turn-followed}
 use Rattle.best_reply.proofs.Lines.{legal-advised}
 use Rattle.best_reply.proofs.Rounds.{round-agrees, turn_by-stays}
 
@@ -34,15 +35,15 @@ pub record IsPutTo (rank : ℕ) (pair : ℕ → Bounds) (old : StatePairs) (n : 
   pub kinds : new.kinds ≡ old.kinds
   pub many : length new.pairs ≡ length old.pairs
   pub put : (k : ℕ) → k < n → get_or new.pairs (rank * old.kinds + k) nothing ≡ pair k
-  pub before : (place : ℕ) → place < rank * old.kinds → get_or new.pairs place nothing ≡ get_or old.pairs place nothing
+  pub rest : (other k : ℕ) → other ≢ rank → k < old.kinds → get_or new.pairs (other * old.kinds + k) nothing ≡ get_or old.pairs (other * old.kinds + k) nothing
 
 pub put-none : (rank : ℕ) (pair : ℕ → Bounds) (old : StatePairs) → IsPutTo rank pair old 0 old
-put-none rank pair old = record { kinds = refl; many = refl; put = λ k below. absurd (omega arith); before = λ place below. refl }
+put-none rank pair old = record { kinds = refl; many = refl; put = λ k below. absurd (omega arith); rest = λ other k apart below. refl }
 
 -- one kind more
-pub put-more : (rank : ℕ) (pair : ℕ → Bounds) (old : StatePairs) (n : ℕ) (mid new : StatePairs) (value : Bounds) → IsPutTo rank pair old n mid → rank * mid.kinds + n < length mid.pairs → value ≡ pair n
+pub put-more : (rank : ℕ) (pair : ℕ → Bounds) (old : StatePairs) (n : ℕ) (mid new : StatePairs) (value : Bounds) → IsPutTo rank pair old n mid → n < old.kinds → rank * mid.kinds + n < length mid.pairs → value ≡ pair n
     → new ≡ record mid { pairs = set mid.pairs (rank * mid.kinds + n) value } → IsPutTo rank pair old (n + 1) new
-put-more rank pair old n mid new value so_far inside is made =
+put-more rank pair old n mid new value so_far kind inside is made =
     let here : rank * mid.kinds + n ≡ rank * old.kinds + n = ap (λ (k : ℕ). rank * k + n) so_far.kinds in
     let pairs : new.pairs ≡ set mid.pairs (rank * old.kinds + n) value = ap (λ (b : StatePairs). b.pairs) made ∙ ap (λ (i : ℕ). set mid.pairs i value) here in
     let room : rank * old.kinds + n < length mid.pairs = subst (λ (i : ℕ). i < length mid.pairs) here inside in
@@ -57,11 +58,13 @@ put-more rank pair old n mid new value so_far inside is made =
             at (rank * old.kinds + k) ∙ (ap (λ (i : ℕ). get_or (set mid.pairs (rank * old.kinds + n) value) (rank * old.kinds + i) nothing) last
             ∙ (get_or-set_same mid.pairs (rank * old.kinds + n) value nothing room ∙ (is ∙ ap pair (sym last)))))
       ];
-      before = λ place below. at place ∙ (get_or-set_other mid.pairs (rank * old.kinds + n) place value nothing (λ e. absurd (omega (arith, e, below))) ∙ so_far.before place below);
+      rest = λ other k apart below.
+          at (other * old.kinds + k)
+          ∙ (get_or-set_other mid.pairs (rank * old.kinds + n) (other * old.kinds + k) value nothing (λ e. apart (places-same old.kinds other rank k n below kind e).0) ∙ so_far.rest other k apart below);
     }
 
 pub put-all : (rank : ℕ) (pair : ℕ → Bounds) (old : StatePairs) (n : ℕ) (new : StatePairs) → old.kinds ≤ n → IsPutTo rank pair old n new → IsPut rank pair old new
-put-all rank pair old n new past so_far = record { kinds = so_far.kinds; many = so_far.many; put = λ k below. so_far.put k (omega (arith, past, below)); before = so_far.before }
+put-all rank pair old n new past so_far = record { kinds = so_far.kinds; many = so_far.many; put = λ k below. so_far.put k (omega (arith, past, below)); rest = so_far.rest }
 
 -- there is a place for each kind of each live rank
 pub bank-place : (game : Game) (bank : StatePairs) (rank : ℕ) → IsBankOf game bank → rank < live_positions game.checkers → (k : ℕ) → k < bank.kinds → rank * bank.kinds + k < length bank.pairs
@@ -77,30 +80,45 @@ module _ (game : Game) (target : Words) (rank : ℕ) (q : Placement) (position :
   pub state-at : (k : ℕ) → k < kinds_of game → IsState game q k
   state-at k inside = record { position = position; many = many; live = live; kind = inside }
 
+  -- once this position has got the words, all that had them still have them
+  module _ (pair : ℕ → Bounds) (old new : StatePairs) (turned : (k : ℕ) → k < kinds_of game → pair k ≡ pair_of target q k) (full : IsBankOf game old) (put : IsPut rank pair old new) where
+    pub put-full : IsBankOf game new
+    put-full = record { kinds = put.kinds ∙ full.kinds; many = put.many ∙ full.many }
+
+    old-kinds : (n k : ℕ) → get_or new.pairs (n * new.kinds + k) nothing ≡ get_or new.pairs (n * old.kinds + k) nothing
+    old-kinds n k = ap (λ (kinds : ℕ). get_or new.pairs (n * kinds + k) nothing) put.kinds
+
+    pub put-here : (k : ℕ) → k < kinds_of game → pair_of (words_by new) q k ≡ pair_of target q k
+    unfolding state_of
+    put-here k inside =
+        let kind : k < old.kinds = omega (arith, inside, full.kinds) in
+        old-kinds (live_rank_of q) k ∙ (ap (λ (n : ℕ). get_or new.pairs (n * old.kinds + k) nothing) is ∙ (put.put k kind ∙ turned k inside))
+
+    pub put-keeps : (p : Placement) (k : ℕ) → IsState game p k → pair_of (words_by old) p k ≡ pair_of target p k → pair_of (words_by new) p k ≡ pair_of target p k
+    unfolding state_of
+    put-keeps p k state had = elim (cases_eq (live_rank_of p) rank) [
+      | inl last ↦ (
+          let same : q ≡ p = live-same q p position state.position live state.live (many ∙ sym state.many) (is ∙ sym last) in
+          subst (λ (r : Placement). pair_of (words_by new) r k ≡ pair_of target r k) same (put-here k state.kind))
+      | inr apart ↦ (
+          let kind : k < old.kinds = omega (arith, state.kind, full.kinds) in
+          old-kinds (live_rank_of p) k ∙ (put.rest (live_rank_of p) k apart kind ∙ had))
+    ]
+
   pub fill-step : (pair : ℕ → Bounds) (old new : StatePairs) → ((k : ℕ) → k < kinds_of game → pair k ≡ pair_of target q k) → IsFilledTo game target rank old → IsPut rank pair old new → IsFilledTo game target (rank + 1) new
-  unfolding state_of
   fill-step pair old new turned filled put = record {
-    full = record { kinds = put.kinds ∙ filled.full.kinds; many = put.many ∙ filled.full.many };
-    so_far = λ p k state below.
-        let kind : k < old.kinds = omega (arith, state.kind, filled.full.kinds) in
-        let place : get_or new.pairs (live_rank_of p * new.kinds + k) nothing ≡ get_or new.pairs (live_rank_of p * old.kinds + k) nothing = ap (λ (n : ℕ). get_or new.pairs (live_rank_of p * n + k) nothing) put.kinds in
-        elim (cases_lt (live_rank_of p) rank) [
-          | inl less ↦ (
-              let room : (live_rank_of p + 1) * old.kinds ≤ rank * old.kinds = mul-le-mul_right old.kinds (omega arith) in
-              place ∙ (put.before (live_rank_of p * old.kinds + k) (omega (arith, room, kind)) ∙ filled.so_far p k state less))
-          | inr more ↦ (
-              let last : live_rank_of p ≡ rank = omega (arith, below, more) in
-              let same : q ≡ p = live-same q p position state.position live state.live (many ∙ sym state.many) (is ∙ sym last) in
-              let here : get_or new.pairs (rank * old.kinds + k) nothing ≡ pair_of target q k = put.put k kind ∙ turned k state.kind in
-              place ∙ (ap (λ (n : ℕ). get_or new.pairs (n * old.kinds + k) nothing) last ∙ (here ∙ ap (λ (r : Placement). pair_of target r k) same)))
-        ];
+    full = put-full pair old new turned filled.full put;
+    so_far = λ p k state below. elim (cases_lt (live_rank_of p) rank) [
+      | inl less ↦ put-keeps pair old new turned filled.full put p k state (filled.so_far p k state less)
+      | inr more ↦ (
+          let last : live_rank_of p ≡ rank = omega (arith, below, more) in
+          let same : q ≡ p = live-same q p position state.position live state.live (many ∙ sym state.many) (is ∙ sym last) in
+          subst (λ (r : Placement). pair_of (words_by new) r k ≡ pair_of target r k) same (put-here pair old new turned filled.full put k state.kind))
+    ];
   }
 
   -- what the sums of all kinds give is the turn
   module _ (valid : IsValid game.stakes) (sums : List Bounds) where
-    pub replied-turn : (u : Words) → ((k : ℕ) → k < kinds_of game → sums_in sums k ≡ reply_sum game.stakes u q k) → (k : ℕ) → k < kinds_of game → turn_from game.stakes (sums_in sums) k ≡ pair_of (turn game.stakes u) q k
-    replied-turn u same k inside = from-same game.stakes valid (sums_in sums) (reply_sum game.stakes u q) same k inside ∙ turn-replied game.stakes u q k
-
     pub followed-turn : (policy : _) (u : Words) → ((k : ℕ) → k < kinds_of game → sums_in sums k ≡ follow_sum policy game.stakes u q k) → (k : ℕ) → k < kinds_of game → turn_from game.stakes (sums_in sums) k ≡ pair_of (turn_by policy game.stakes u) q k
     followed-turn policy u same k inside = from-same game.stakes valid (sums_in sums) (follow_sum policy game.stakes u q) same k inside ∙ turn-followed game.stakes u q policy k
 
@@ -130,13 +148,13 @@ module _ (words : WordList) (game_is : IsGame words.game) where
   legal p k roll = legal-advised game.stakes (words_in_list words) p k roll
 
   -- once each has been swept
-  pub all-swept : (old new : Banks) → AreSweptTo words old (live_positions game.checkers) new → AgreeReplies game (both_words new) (turned_words words (both_words old))
+  pub all-swept : (old new : Banks) → AreSwept words old new → AgreeReplies game (both_words new) (turned_words words (both_words old))
   all-swept old new swept = record {
     follow = all-filled game (turned_words words (both_words old)).follow new.follow swept.follow;
     reply = all-filled game (turned_words words (both_words old)).reply new.reply swept.reply;
   }
 
-  pub swept-right : (old new : Banks) → AreRightBanks game old → AreSweptTo words old (live_positions game.checkers) new → AreRightBanks game new
+  pub swept-right : (old new : Banks) → AreRightBanks game old → AreSwept words old new → AreRightBanks game new
   swept-right old new right swept =
       let same = all-swept old new swept in
       record {
@@ -148,7 +166,7 @@ module _ (words : WordList) (game_is : IsGame words.game) where
   agree-trans u v w h k end p j state = h end p j state ∙ k end p j state
 
   -- one round more
-  pub round-more : (old new : Banks) (r : ℕ) → AreSweptTo words old (live_positions game.checkers) new → HasRounds (record { words = words; both = old }) r → HasRounds (record { words = words; both = new }) (suc r)
+  pub round-more : (old new : Banks) (r : ℕ) → AreSwept words old new → HasRounds (record { words = words; both = old }) r → HasRounds (record { words = words; both = new }) (suc r)
   round-more old new r swept has =
       let turned = all-swept old new swept in
       let next = round-agrees (policy_of words) legal game game_is.stakes r (both_words old) has in

@@ -1,9 +1,8 @@
 -- What the plays of a roll leave, and which of them is advised.
-use Rattle.std.proofs.Common.{◌≡◌, ◌<◌, ◌≤◌, ◌+◌, ◌*◌, ◌^◌, ◌∙◌, ℕ, zero, suc, ℤ, neg_ℤ, List, [], ◌∷◌, ◌++◌, length, get_or, take, All, Option, None, inl, inr, refl, ap, sym, subst, arith}
-use Rattle.std.specs.Int.{int_max}
+use Rattle.std.proofs.Common.{◌≡◌, ◌<◌, ◌≤◌, ◌+◌, ◌*◌, ◌^◌, ◌∙◌, ℕ, zero, suc, ℤ, neg_ℤ, List, [], ◌∷◌, length, get_or, All, Option, None, inl, inr, refl, ap, sym, subst, arith}
 use Rattle.std.proofs.lemmas.Bool.{cases_lt, cases_order}
 use Rattle.std.proofs.lemmas.Nat.{mul-add-lt}
-use Rattle.std.proofs.lemmas.List.{get_or-map, get_or_default, length-map, map-append, take_more}
+use Rattle.std.proofs.lemmas.List.{get_or-map, get_or_default, length-map}
 use Rattle.position_rank.specs.Placement.{Placement, swap}
 use Rattle.position_rank.specs.LiveRanks.{live_rank_of}
 use Rattle.move_rules.specs.declared.play.Entry.{Entry}
@@ -15,12 +14,11 @@ use Rattle.game_payoff.specs.Points.{points}
 use Rattle.directed_fixed.specs.declared.bounds.End.TheVariants.{Lower, Upper}
 use Rattle.directed_fixed.specs.Bounds.{Bounds, negated}
 use Rattle.cube_actions.specs.declared.kind.Kind.{Kind}
-use Rattle.cube_actions.specs.Stakes.{Terms, kind_at, nothing}
+use Rattle.cube_actions.specs.Stakes.{Terms, kind_at}
 use Rattle.turn_rule.specs.declared.game.Game.{Game}
 use Rattle.turn_rule.specs.Games.{kinds_of}
-use Rattle.turn_rule.specs.Turn.{Words, greatest, if_won, win, worth}
+use Rattle.turn_rule.specs.Turn.{Words, if_won, win}
 use Rattle.turn_rule.specs.States.{IsState}
-use Rattle.turn_rule.proofs.Greatest.{greatest-append}
 use Rattle.interval_words.specs.Numbers.{state_of}
 use Rattle.interval_words.specs.WordLists.{WordList, pair_at, states_of, words_in_list}
 use Rattle.interval_words.proofs.Places.{state-in}
@@ -29,7 +27,7 @@ use Rattle.play_analyser.specs.Regrets.{play_pair}
 use Rattle.best_reply.specs.declared.left.Left.{Left}
 use Rattle.best_reply.specs.Advised.{IsAdvised}
 use Rattle.best_reply.proofs.Lines.{before-trans, better-then, better-trans, never-better}
-use Rattle.best_reply.specs.Tables.{AreListed, IsBankOf, best_pair, IsFirstBest, LeavesPair, LeavesState, RollAt, StatePairs, ends_in, words_by}
+use Rattle.best_reply.specs.Tables.{AreListed, IsBankOf, IsFirstBest, LeavesPair, LeavesState, RollAt, StatePairs, ends_in}
 
 -- ---- one play
 
@@ -47,13 +45,9 @@ goes-on kind u q on =
       upper = if_won o (λ won. (win kind won).upper) (neg_ℤ (u Lower (swap q) kind.next));
     }) on
 
-place-is : (kinds rank next : ℕ) (p : Placement) → rank ≡ live_rank_of p → rank * kinds + next ≡ state_of kinds p next
+pub place-is : (kinds rank next : ℕ) (p : Placement) → rank ≡ live_rank_of p → rank * kinds + next ≡ state_of kinds p next
 unfolding state_of
 place-is kinds rank next p is = ap (λ (n : ℕ). n * kinds + next) is
-
-pub left-by : (kind : Kind) (bank : StatePairs) (left : Left) (pair : Bounds) → points left.end ≡ None → left.rank ≡ live_rank_of (swap left.end) → pair ≡ negated (get_or bank.pairs (left.rank * bank.kinds + kind.next) nothing) → pair ≡ play_pair kind (words_by bank) left.end
-left-by kind bank left pair on rank is =
-    is ∙ (ap (λ (i : ℕ). negated (get_or bank.pairs i nothing)) (place-is bank.kinds left.rank kind.next (swap left.end) rank) ∙ sym (goes-on kind (words_by bank) left.end on))
 
 pub left-over : (kind : Kind) (words : WordList) (left : Left) (pair : Bounds) (kinds : ℕ) → kinds ≡ kinds_of words.game → points left.end ≡ None → left.rank ≡ live_rank_of (swap left.end) → pair ≡ negated (pair_at words.list (left.rank * kinds + kind.next)) → pair ≡ play_pair kind (words_in_list words) left.end
 left-over kind words left pair kinds all on rank is =
@@ -64,8 +58,8 @@ over-inside kind words left kinds all rank state =
     subst (λ (i : ℕ). i < states_of words.game) (sym (ap (λ (n : ℕ). left.rank * n + kind.next) all ∙ place-is (kinds_of words.game) left.rank kind.next (swap left.end) rank))
     (state-in words.game.checkers (kinds_of words.game) (swap left.end) kind.next state)
 
-pub small-place : (rank kinds next : ℕ) → rank < 2 ^ 32 → kinds ≤ 14 → next < kinds → rank * kinds + next < 2 ^ 36
-small-place rank kinds next small few inside = omega (arith, mul-add-lt rank kinds next (2 ^ 32) small inside)
+pub small-place : (rank kinds next : ℕ) → rank < 2 ^ 24 → kinds ≤ 14 → next < kinds → rank * kinds + next < 2 ^ 36
+small-place rank kinds next small few inside = omega (arith, mul-add-lt rank kinds next (2 ^ 24) small inside)
 
 pub bank-inside : (game : Game) (bank : StatePairs) → IsBankOf game bank → (next : ℕ) (end : Placement) → LeavesState game next end → LeavesPair bank next end
 bank-inside game bank full next end leaves on =
@@ -82,28 +76,6 @@ of-ends P lefts all i none inside =
 -- an item of the list
 pub item-end : (P : Placement → Type 0) (lefts : List Left) → All P (ends_in lefts) → (i : ℕ) (left : Left) → i < length lefts → left ≡ get_or lefts i left → P left.end
 item-end P lefts all i left inside is = subst (λ (l : Left). P l.end) (sym is) (of-ends P lefts all i left inside)
-
-add-last : (lefts : List Left) (i : ℕ) (left : Left) → i < length lefts → left ≡ get_or lefts i left → ends_in (take (i + 1) lefts) ≡ ends_in (take i lefts) ++ left.end ∷ []
-add-last lefts i left inside is =
-    ap ends_in (take_more lefts i left inside ∙ ap (λ (x : Left). take i lefts ++ x ∷ []) (sym is)) ∙ map-append (λ (l : Left). l.end) (take i lefts) (left ∷ [])
-
-greatest-last : (f : Placement → ℤ) (lefts : List Left) (i : ℕ) (left : Left) → 0 < i → i < length lefts → left ≡ get_or lefts i left → greatest f (ends_in (take (i + 1) lefts)) ≡ int_max (greatest f (ends_in (take i lefts))) (f left.end)
-greatest-last f [] i left low inside is = absurd (omega arith)
-greatest-last f (first ∷ rest) zero left low inside is = absurd (omega arith)
-greatest-last f (first ∷ rest) (suc i) left low inside is =
-    ap (greatest f) (add-last (first ∷ rest) (suc i) left inside is) ∙ greatest-append f first.end left.end (ends_in (take i rest))
-
--- the best of one play more
-pub best-next : (kind : Kind) (u : Words) (lefts : List Left) (i : ℕ) (left : Left) (best pair new : Bounds) → 0 < i → i < length lefts → left ≡ get_or lefts i left → best ≡ best_pair kind u (ends_in (take i lefts)) → pair ≡ play_pair kind u left.end
-    → new.lower ≡ int_max best.lower pair.lower → new.upper ≡ int_max best.upper pair.upper → new ≡ best_pair kind u (ends_in (take (i + 1) lefts))
-best-next kind u lefts i left best pair new low inside is before here lower upper =
-    both_ends new _ _
-    (lower ∙ (ap (λ (b : Bounds). int_max b.lower pair.lower) before ∙ (ap (λ (b : Bounds). int_max (greatest (worth Lower kind u) (ends_in (take i lefts))) b.lower) here ∙ sym (greatest-last (worth Lower kind u) lefts i left low inside is))))
-    (upper ∙ (ap (λ (b : Bounds). int_max b.upper pair.upper) before ∙ (ap (λ (b : Bounds). int_max (greatest (worth Upper kind u) (ends_in (take i lefts))) b.upper) here ∙ sym (greatest-last (worth Upper kind u) lefts i left low inside is))))
-
-pub best-first : (kind : Kind) (u : Words) (lefts : List Left) (left : Left) (pair : Bounds) → 0 < length lefts → left ≡ get_or lefts 0 left → pair ≡ play_pair kind u left.end → pair ≡ best_pair kind u (ends_in (take 1 lefts))
-best-first kind u [] left pair some is here = absurd (omega arith)
-best-first kind u (first ∷ rest) left pair some is here = here ∙ ap (λ (l : Left). play_pair kind u l.end) is
 
 -- ---- the first of the best
 

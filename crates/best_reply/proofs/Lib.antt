@@ -9,3 +9,5 @@ pub mod FirstRow
 pub mod RollSums
 pub mod Doubled
 pub mod Filling
+pub mod ColumnLemmas
+pub mod OutcomeLemmas

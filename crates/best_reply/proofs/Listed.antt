@@ -1,17 +1,13 @@
 -- The listed plays of a roll: what they leave is a state, whose pair is within the bound.
-use Rattle.std.proofs.Common.{◌≡◌, ◌<◌, ◌+◌, ◌++◌, ◌∷◌, [], ◌∙◌, ◌↔◌, ◌^◌, ℕ, ℤ, pos, neg_ℤ, List, length, get_or, take, sum, All, AllPairs, Contains, Option, Some, None, refl, ap, sym, subst, arith}
+use Rattle.std.proofs.Common.{◌≡◌, ◌<◌, ◌+◌, ◌++◌, ◌∷◌, [], ◌∙◌, ◌↔◌, ◌^◌, ℕ, pos, neg_ℤ, List, length, get_or, take, sum, All, AllPairs, Contains, Option, Some, None, refl, ap, sym, subst, arith}
 use Rattle.std.proofs.lemmas.Int.{ints}
 use Rattle.std.proofs.lemmas.List.{get_or-map, length-map, map-append, take_more}
 use Rattle.std.proofs.lemmas.List.Elements.{Contains-get_or}
 use Rattle.position_rank.specs.Placement.{Placement, IsPosition, IsLive, swap}
 use Rattle.roll_table.specs.Rolls.{Dice, IsRoll}
 use Rattle.move_rules.specs.declared.play.Entry.{Entry}
-use Rattle.move_rules.specs.Ends.{legal_ends}
-use Rattle.move_rules.specs.Listing.{Among}
 use Rattle.move_rules.specs.Order.{PlayComesBefore, IsFirst, ends_of, plays_of}
 use Rattle.move_rules.specs.Sequences.{IsLegalEnd}
-use Rattle.move_rules.proofs.EndsExact.{legal_ends-complete, legal_ends-sound}
-use Rattle.move_rules.proofs.Members.{Among-Contains, Contains-Among}
 use Rattle.move_rules.proofs.StayLive.{legal_end-stays}
 use Rattle.game_payoff.specs.declared.payoff.Won.{Won}
 use Rattle.game_payoff.specs.Points.{points}
@@ -20,15 +16,13 @@ use Rattle.directed_fixed.specs.Bounds.{Bounds, IsWithin}
 use Rattle.cube_actions.specs.declared.kind.Kind.{Kind}
 use Rattle.cube_actions.specs.Stakes.{kind_at, no_kind, IsValid}
 use Rattle.turn_rule.specs.declared.game.Game.{Game}
-use Rattle.turn_rule.specs.Turn.{Words, greatest, if_won, win, worth}
+use Rattle.turn_rule.specs.Turn.{Words, if_won, win}
 use Rattle.turn_rule.specs.States.{AreWithin, IsState}
-use Rattle.turn_rule.proofs.Greatest.{greatest-from, greatest-mono, greatest-same, greatest-upto}
 use Rattle.turn_rule.proofs.Integers.{neg_le}
 use Rattle.turn_rule.proofs.Within.{bound-positive, bound-small, follow-state, in_play, win-within}
 use Rattle.play_analyser.specs.Regrets.{play_pair}
 use Rattle.best_reply.specs.declared.left.Left.{Left}
-use Rattle.best_reply.specs.Tables.{AreListed, IsRightBank, LeavesLive, LeavesPair, LeavesState, StatePairs, best_pair, ends_in}
-use Rattle.best_reply.proofs.Lefts.{bank-inside}
+use Rattle.best_reply.specs.Tables.{AreListed, LeavesLive, LeavesState, ends_in}
 
 -- what a legal play leaves
 pub legal-live : (checkers : ℕ) (p : Placement) (roll : Dice) (q : Placement) → IsRoll roll → IsPosition p → IsLive p → sum p.mover ≡ checkers → IsLegalEnd p roll q → LeavesLive checkers q
@@ -69,9 +63,6 @@ module _ (game : Game) (valid : IsValid game.stakes) (p : Placement) (k : ℕ) (
   pub listed-states : (ends : List Placement) → ((q : Placement) → Contains ends q ↔ IsLegalEnd p roll q) → All (LeavesState game kind.next) ends
   listed-states ends legal i none inside = legal-state (get_or ends i none) ((legal (get_or ends i none)).0 (Contains-get_or ends i none inside))
 
-  pub listed-pairs : (bank : StatePairs) → IsRightBank game bank → (ends : List Placement) → ((q : Placement) → Contains ends q ↔ IsLegalEnd p roll q) → All (LeavesPair bank kind.next) ends
-  listed-pairs bank is ends legal i none inside = bank-inside game bank is.full kind.next (get_or ends i none) (listed-states ends legal i none inside)
-
   pub legal-within : (u : Words) → AreWithin game u → (q : Placement) → IsLegalEnd p roll q → IsWithin game.stakes.bound (play_pair kind u q)
   legal-within u words q legal = by_points (points q) refl where
     by_points : (o : Option Won) → points q ≡ o → IsWithin game.stakes.bound (record { lower = if_won o (λ won. (win kind won).lower) (neg_ℤ (u Upper (swap q) kind.next)); upper = if_won o (λ won. (win kind won).upper) (neg_ℤ (u Lower (swap q) kind.next)) })
@@ -85,24 +76,6 @@ module _ (game : Game) (valid : IsValid game.stakes) (p : Placement) (k : ℕ) (
   small-pair pair h =
       let small = bound-small game.stakes valid in
       record { from = (let low = h.from in omega (arith, ints, low, small)); in_order = h.in_order; to = (let high = h.to in omega (arith, ints, high, small)) }
-
-  -- the best of them is the best of the legal ones, and within the bound
-  pub best-legal : (u : Words) (ends : List Placement) → ((q : Placement) → Contains ends q ↔ IsLegalEnd p roll q) → best_pair kind u ends ≡ best_pair kind u (legal_ends p roll)
-  best-legal u ends legal =
-      let to : (q : Placement) → Among q ends → Among q (legal_ends p roll) = λ q m. Contains-Among q _ (legal_ends-complete p roll q ((legal q).0 (Among-Contains q _ m))) in
-      let of : (q : Placement) → Among q (legal_ends p roll) → Among q ends = λ q m. Contains-Among q _ ((legal q).1 (legal_ends-sound p roll q (Among-Contains q _ m))) in
-      ap (λ (z : ℤ). record { lower = z; upper = greatest (worth Upper kind u) ends }) (greatest-same (worth Lower kind u) ends (legal_ends p roll) to of)
-      ∙ ap (λ (z : ℤ). record { lower = greatest (worth Lower kind u) (legal_ends p roll); upper = z }) (greatest-same (worth Upper kind u) ends (legal_ends p roll) to of)
-
-  pub best-within : (u : Words) → AreWithin game u → IsWithin game.stakes.bound (best_pair kind u (legal_ends p roll))
-  best-within u words =
-      let positive = bound-positive game.stakes valid in
-      let each : (q : Placement) → Among q (legal_ends p roll) → IsWithin game.stakes.bound (play_pair kind u q) = λ q m. legal-within u words q (legal_ends-sound p roll q (Among-Contains q _ m)) in
-      record {
-        from = greatest-from (worth Lower kind u) (neg_ℤ game.stakes.bound) (omega (arith, ints, positive)) (legal_ends p roll) (λ q m. (each q m).from);
-        in_order = greatest-mono (worth Lower kind u) (worth Upper kind u) (legal_ends p roll) (λ q m. (each q m).in_order);
-        to = greatest-upto (worth Upper kind u) game.stakes.bound positive (legal_ends p roll) (λ q m. (each q m).to);
-      }
 
 -- ---- lists that grow by one
 

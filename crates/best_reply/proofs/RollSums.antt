@@ -3,16 +3,15 @@ use Rattle.std.proofs.Common.{◌≡◌, ◌≤◌, ◌<◌, ◌+◌, ◌*◌, �
 use Rattle.std.proofs.lemmas.Int.{ints}
 use Rattle.std.proofs.lemmas.List.{length-map, take_all}
 use Rattle.position_rank.specs.Placement.{Placement}
-use Rattle.roll_table.specs.Rolls.{Dice, all_rolls}
-use Rattle.move_rules.specs.Ends.{legal_ends}
+use Rattle.roll_table.specs.Rolls.{Dice, IsRoll, all_rolls}
 use Rattle.directed_fixed.specs.declared.bounds.End.TheVariants.{Lower, Upper}
 use Rattle.directed_fixed.specs.Bounds.{Bounds, IsWithin, IsWithinUnits}
 use Rattle.cube_actions.specs.Stakes.{Terms, kind_at}
-use Rattle.turn_rule.specs.Turn.{Words, greatest, sum_over, worth}
-use Rattle.turn_rule.proofs.Greatest.{length-all_rolls, roll_at}
+use Rattle.turn_rule.specs.Turn.{Words, worth}
+use Rattle.turn_rule.proofs.Greatest.{AreRolls, all_rolls-right, all_rolls-small, at_roll, length-all_rolls}
 use Rattle.best_reply.specs.Policies.{Policy}
 use Rattle.best_reply.specs.Replies.{sum_by}
-use Rattle.best_reply.specs.Tables.{AreRolled, IsSmall, RollAt, follow_sum, reply_sum, weighted}
+use Rattle.best_reply.specs.Tables.{AreRolled, IsSmall, RollAt, follow_sum, weighted}
 
 -- over some rolls, the sum of a value of each, as often as it comes
 abbrev weighted_sum : List (Dice × ℕ) → (Dice → ℤ) → ℤ
@@ -22,10 +21,6 @@ weighted_sum (roll ∷ rolls) value = pos roll.1 *ℤ value roll.0 +ℤ weighted
 sum-of_plays : (rolls : List (Dice × ℕ)) (f : Placement → ℤ) (play : Dice → Placement) → weighted_sum rolls (λ roll. f (play roll)) ≡ sum_by rolls f play
 sum-of_plays [] f play = refl
 sum-of_plays (roll ∷ rolls) f play = ap (λ (z : ℤ). pos roll.1 *ℤ f (play roll.0) +ℤ z) (sum-of_plays rolls f play)
-
-sum-of_best : (rolls : List (Dice × ℕ)) (f : Placement → ℤ) (p : Placement) → weighted_sum rolls (λ roll. greatest f (legal_ends p roll)) ≡ sum_over rolls f p
-sum-of_best [] f p = refl
-sum-of_best (roll ∷ rolls) f p = ap (λ (z : ℤ). pos roll.1 *ℤ greatest f (legal_ends p roll.0) +ℤ z) (sum-of_best rolls f p)
 
 first_of : (a : ℤ) → a +ℤ pos 0 ≡ pos 0 +ℤ a
 first_of a = omega (arith, ints)
@@ -45,31 +40,41 @@ kept-weight [] i one h e = absurd (omega arith)
 kept-weight (k ∷ kept) zero one h e = ap weighted e
 kept-weight (k ∷ kept) (suc i) one h e = kept-weight kept i one (omega arith) e
 
-kept-many : (p : Placement) (kept : List RollAt) → AreRolled p kept → length kept ≡ 21
+pub kept-many : (p : Placement) (kept : List RollAt) → AreRolled p kept → length kept ≡ 21
 kept-many p kept rolled = sym (length-map kept weighted) ∙ (ap length rolled.rolls ∙ length-all_rolls)
-
-pub kept-end : (p : Placement) (kept : List RollAt) (i : ℕ) → AreRolled p kept → length kept ≤ i → length all_rolls ≤ i
-kept-end p kept i rolled h = omega (arith, h, kept-many p kept rolled, length-all_rolls)
-
-pub kept-few : (p : Placement) (kept : List RollAt) (i : ℕ) → AreRolled p kept → i ≤ length kept → i ≤ 21
-kept-few p kept i rolled h = omega (arith, h, kept-many p kept rolled)
 
 pub record IsKept (p : Placement) (i : ℕ) (one : RollAt) : Type 0 where
   pub here : i < length all_rolls
   pub weight : weighted one ≡ get_or all_rolls i (weighted one)
-  pub times : one.times ≤ 2
   pub position : one.position ≡ p
 
 pub kept-at : (p : Placement) (kept : List RollAt) (i : ℕ) (one : RollAt) → AreRolled p kept → i < length kept → one ≡ get_or kept i one → IsKept p i one
-kept-at p kept i one rolled h e =
-    let weight : weighted one ≡ get_or all_rolls i (weighted one) = subst (λ (xs : List (Dice × ℕ)). weighted one ≡ get_or xs i (weighted one)) rolled.rolls (kept-weight kept i one h e) in
-    let roll = roll_at all_rolls i (weighted one) refl (omega (arith, h, kept-many p kept rolled)) weight in
-    record {
-      here = roll.0;
-      weight = weight;
-      times = roll.2;
-      position = ap (λ (at : RollAt). at.position) e ∙ rolled.position i one h;
-    }
+kept-at p kept i one rolled h e = record {
+  here = omega (arith, h, kept-many p kept rolled, length-all_rolls);
+  weight = subst (λ (xs : List (Dice × ℕ)). weighted one ≡ get_or xs i (weighted one)) rolled.rolls (kept-weight kept i one h e);
+  position = ap (λ (at : RollAt). at.position) e ∙ rolled.position i one h;
+}
+
+-- ---- one of all rolls
+
+roll-right : (rolls : List (Dice × ℕ)) (i : ℕ) (roll : Dice × ℕ) → AreRolls rolls → i < length rolls → roll ≡ get_or rolls i roll → IsRoll roll.0
+roll-right [] i roll a h e = absurd (omega arith)
+roll-right (r ∷ rolls) zero roll a h e = subst (λ (x : Dice × ℕ). IsRoll x.0) (sym e) a.0
+roll-right (r ∷ rolls) (suc i) roll a h e = roll-right rolls i roll a.1 (omega arith) e
+
+pub record IsRollAt (i : ℕ) (roll : Dice × ℕ) : Type 0 where
+  pub here : i < length all_rolls
+  pub is : roll ≡ get_or all_rolls i roll
+  pub times : roll.1 ≤ 2
+  pub right : IsRoll roll.0
+
+pub all-at : (i : ℕ) (roll : Dice × ℕ) → i < length all_rolls → roll ≡ get_or all_rolls i roll → IsRollAt i roll
+all-at i roll here is = record {
+  here = here;
+  is = is;
+  times = all_rolls-small roll (at_roll all_rolls i roll here is);
+  right = roll-right all_rolls i roll all_rolls-right here is;
+}
 
 -- ---- the sums over the first few rolls
 
@@ -109,17 +114,17 @@ both-units bound pair h = (
 )
 
 -- one roll more
-pub more-sums : (value : Dice → Bounds) (p : Placement) (i : ℕ) (one : RollAt) (sum pair new : Bounds) → IsKept p i one → AreSums value i sum → pair ≡ value one.roll → IsWithin (pos (2 ^ 36)) pair
-    → new.lower ≡ sum.lower +ℤ pos one.times *ℤ pair.lower → new.upper ≡ sum.upper +ℤ pos one.times *ℤ pair.upper → AreSums value (i + 1) new
-more-sums value p i one sum pair new kept before is within lower upper =
+pub more-sums : (value : Dice → Bounds) (i : ℕ) (roll : Dice × ℕ) (sum pair new : Bounds) → IsRollAt i roll → AreSums value i sum → pair ≡ value roll.0 → IsWithin (pos (2 ^ 36)) pair
+    → new.lower ≡ sum.lower +ℤ pos roll.1 *ℤ pair.lower → new.upper ≡ sum.upper +ℤ pos roll.1 *ℤ pair.upper → AreSums value (i + 1) new
+more-sums value i roll sum pair new at before is within lower upper =
     let ends = both-units (pos (2 ^ 36)) pair within in
     record {
-      low = lower ∙ (ap (λ (z : ℤ). z +ℤ pos one.times *ℤ pair.lower) before.low ∙ (ap (λ (b : Bounds). weighted_sum (take i all_rolls) (λ roll. (value roll).lower) +ℤ pos one.times *ℤ b.lower) is
-          ∙ (sym (sum-next (λ roll. (value roll).lower) all_rolls i (weighted one) kept.here kept.weight) ∙ ap (λ (n : ℕ). weighted_sum (take n all_rolls) (λ roll. (value roll).lower)) (sym (add-one i)))));
-      high = upper ∙ (ap (λ (z : ℤ). z +ℤ pos one.times *ℤ pair.upper) before.high ∙ (ap (λ (b : Bounds). weighted_sum (take i all_rolls) (λ roll. (value roll).upper) +ℤ pos one.times *ℤ b.upper) is
-          ∙ (sym (sum-next (λ roll. (value roll).upper) all_rolls i (weighted one) kept.here kept.weight) ∙ ap (λ (n : ℕ). weighted_sum (take n all_rolls) (λ roll. (value roll).upper)) (sym (add-one i)))));
-      low_small = added-small i sum.lower (pos one.times *ℤ pair.lower) new.lower lower before.low_small (twice one.times pair.lower kept.times ends.0);
-      high_small = added-small i sum.upper (pos one.times *ℤ pair.upper) new.upper upper before.high_small (twice one.times pair.upper kept.times ends.1);
+      low = lower ∙ (ap (λ (z : ℤ). z +ℤ pos roll.1 *ℤ pair.lower) before.low ∙ (ap (λ (b : Bounds). weighted_sum (take i all_rolls) (λ roll. (value roll).lower) +ℤ pos roll.1 *ℤ b.lower) is
+          ∙ (sym (sum-next (λ roll. (value roll).lower) all_rolls i roll at.here at.is) ∙ ap (λ (n : ℕ). weighted_sum (take n all_rolls) (λ roll. (value roll).lower)) (sym (add-one i)))));
+      high = upper ∙ (ap (λ (z : ℤ). z +ℤ pos roll.1 *ℤ pair.upper) before.high ∙ (ap (λ (b : Bounds). weighted_sum (take i all_rolls) (λ roll. (value roll).upper) +ℤ pos roll.1 *ℤ b.upper) is
+          ∙ (sym (sum-next (λ roll. (value roll).upper) all_rolls i roll at.here at.is) ∙ ap (λ (n : ℕ). weighted_sum (take n all_rolls) (λ roll. (value roll).upper)) (sym (add-one i)))));
+      low_small = added-small i sum.lower (pos roll.1 *ℤ pair.lower) new.lower lower before.low_small (twice roll.1 pair.lower at.times ends.0);
+      high_small = added-small i sum.upper (pos roll.1 *ℤ pair.upper) new.upper upper before.high_small (twice roll.1 pair.upper at.times ends.1);
     }
 
 all-sums : (value : Dice → Bounds) (i : ℕ) (sum : Bounds) → length all_rolls ≤ i → AreSums value i sum → sum ≡ record { lower = weighted_sum all_rolls (λ roll. (value roll).lower); upper = weighted_sum all_rolls (λ roll. (value roll).upper) }
@@ -135,18 +140,8 @@ module _ (stakes : Terms) (u : Words) (p : Placement) (k : ℕ) where
   abbrev pub followed : Policy → Dice → Bounds
   followed policy roll = record { lower = worth Lower (kind_at stakes k) u (policy p k roll); upper = worth Upper (kind_at stakes k) u (policy p k roll) }
 
-  -- what the best play of a roll leaves
-  abbrev pub replied : Dice → Bounds
-  replied roll = record { lower = greatest (worth Lower (kind_at stakes k) u) (legal_ends p roll); upper = greatest (worth Upper (kind_at stakes k) u) (legal_ends p roll) }
-
   pub all-followed : (policy : Policy) (i : ℕ) (sum : Bounds) → length all_rolls ≤ i → AreSums (followed policy) i sum → sum ≡ follow_sum policy stakes u p k
   all-followed policy i sum past are =
       all-sums (followed policy) i sum past are
       ∙ (ap (λ (z : ℤ). record { lower = z; upper = weighted_sum all_rolls (λ roll. (followed policy roll).upper) }) (sum-of_plays all_rolls (worth Lower (kind_at stakes k) u) (policy p k))
       ∙ ap (λ (z : ℤ). record { lower = sum_by all_rolls (worth Lower (kind_at stakes k) u) (policy p k); upper = z }) (sum-of_plays all_rolls (worth Upper (kind_at stakes k) u) (policy p k)))
-
-  pub all-replied : (i : ℕ) (sum : Bounds) → length all_rolls ≤ i → AreSums replied i sum → sum ≡ reply_sum stakes u p k
-  all-replied i sum past are =
-      all-sums replied i sum past are
-      ∙ (ap (λ (z : ℤ). record { lower = z; upper = weighted_sum all_rolls (λ roll. (replied roll).upper) }) (sum-of_best all_rolls (worth Lower (kind_at stakes k) u) p)
-      ∙ ap (λ (z : ℤ). record { lower = sum_over all_rolls (worth Lower (kind_at stakes k) u) p; upper = z }) (sum-of_best all_rolls (worth Upper (kind_at stakes k) u) p))

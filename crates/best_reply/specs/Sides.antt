@@ -1,9 +1,14 @@
 -- Both sides' pairs, round by round.
-use Rattle.std.specs.Prelude.{ℕ}
+use Rattle.std.specs.Prelude.{ℕ, List}
+use Rattle.position_rank.specs.LiveRanks.{live_positions}
 use Rattle.turn_rule.specs.declared.game.Game.{Game}
 use Rattle.turn_rule.specs.Games.{IsGame}
 use Rattle.turn_rule.specs.Turn.{turn}
+use Rattle.column_turns.specs.Columns.{ColumnPairs}
 use Rattle.interval_words.specs.WordLists.{WordList}
+use Rattle.best_reply.specs.Columns.{HasRoomFor}
+use Rattle.best_reply.specs.Outcomes.{IsAdvisedTo}
+use Rattle.best_reply.specs.declared.outcome.Outcome.{Outcome}
 use Rattle.best_reply.specs.declared.sweep.Banks.{Banks}
 use Rattle.best_reply.specs.ReplyPairs.{AgreeReplies, ReplyWords, reply_rounds, turn_by}
 use Rattle.best_reply.specs.Tables.{IsBankOf, IsFilledTo, IsRightBank, policy_of, words_by}
@@ -28,10 +33,10 @@ pub record AreRightBanks (game : Game) (both : Banks) : Type 0 where
   pub follow : IsRightBank game both.follow
   pub reply : IsRightBank game both.reply
 
--- the positions with a lower live rank than this one have taken their turns
-pub record AreSweptTo (words : WordList) (old : Banks) (rank : ℕ) (new : Banks) : Type 0 where
-  pub follow : IsFilledTo words.game (turned_words words (both_words old)).follow rank new.follow
-  pub reply : IsFilledTo words.game (turned_words words (both_words old)).reply rank new.reply
+-- every state has taken its turn, for either side to move
+pub record AreSwept (words : WordList) (old new : Banks) : Type 0 where
+  pub follow : IsFilledTo words.game (turned_words words (both_words old)).follow (live_positions words.game.checkers) new.follow
+  pub reply : IsFilledTo words.game (turned_words words (both_words old)).reply (live_positions words.game.checkers) new.reply
 
 -- the words that advise, and both sides' pairs
 pub record ReplyState : Type 0 where
@@ -47,8 +52,10 @@ HasRounds state r =
 abbrev pub IsTurned : ReplyState → ReplyState → Type 0
 IsTurned old new = AgreeReplies old.words.game (both_words new.both) (turned_words old.words (both_words old.both))
 
--- a table whose next round may be made: right pairs, and room for the next ones
-pub record IsReady (words : WordList) (now next : Banks) : Type 0 where
+-- a table whose next round may be made: the advised plays, right pairs, and room for a column and for the next pairs
+pub record IsReady (words : WordList) (advice : List Outcome) (column : ColumnPairs) (now next : Banks) : Type 0 where
   pub game : IsGame words.game
+  pub advised : IsAdvisedTo words (live_positions words.game.checkers) advice
+  pub columns : HasRoomFor words.game column
   pub right : AreRightBanks words.game now
   pub room : AreBanksOf words.game next

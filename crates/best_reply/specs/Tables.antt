@@ -1,5 +1,5 @@
 -- A table of both sides' pairs, and what a sweep of it finds on the way.
-use Rattle.std.specs.Prelude.{◌≡◌, ◌<◌, ◌≤◌, ◌↔◌, ℕ, ◌*◌, ◌^◌, ℤ, pos, ◌*ℤ◌, List, length, map, All, AllPairs, Contains, Option, Some, None, slice_index_or, ◌+◌, sum}
+use Rattle.std.specs.Prelude.{◌≡◌, ◌≢◌, ◌<◌, ◌≤◌, ◌↔◌, ℕ, ◌*◌, ◌^◌, ℤ, pos, ◌*ℤ◌, List, length, map, All, AllPairs, Contains, Option, Some, None, slice_index_or, ◌+◌, sum}
 use Rattle.std.specs.Int.{int_max}
 use Rattle.position_rank.specs.Placement.{Placement, IsLive, swap}
 use Rattle.position_rank.specs.LiveRanks.{live_rank_of}
@@ -13,12 +13,11 @@ use Rattle.directed_fixed.specs.declared.bounds.End.TheVariants.{Lower, Upper}
 use Rattle.directed_fixed.specs.Bounds.{Bounds, IsWithinUnits, at}
 use Rattle.directed_fixed.specs.Rounding.{outwards}
 use Rattle.cube_actions.specs.declared.kind.Double.{Double}
-use Rattle.cube_actions.specs.declared.kind.Kind.{Kind}
 use Rattle.cube_actions.specs.declared.kind.Taken.{Taken}
 use Rattle.cube_actions.specs.Stakes.{Terms, kind_at, nothing}
 use Rattle.turn_rule.specs.declared.game.Game.{Game}
 use Rattle.turn_rule.specs.Games.{kinds_of}
-use Rattle.turn_rule.specs.Turn.{Words, greatest, least, sum_over, worth}
+use Rattle.turn_rule.specs.Turn.{Words, least, worth}
 use Rattle.turn_rule.specs.States.{AreWithin, IsState, pair_of}
 use Rattle.interval_words.specs.Numbers.{state_of}
 use Rattle.interval_words.specs.WordLists.{WordList, states_of, words_in_list}
@@ -32,7 +31,7 @@ use Rattle.best_reply.specs.Replies.{sum_by}
 pub record IsRight (left : Left) : Type 0 where
   pub won : left.won ≡ points left.end
   pub rank : points left.end ≡ None → left.rank ≡ live_rank_of (swap left.end)
-  pub small : left.rank < 2 ^ 32
+  pub small : left.rank < 2 ^ 24
 
 abbrev pub ends_in : List Left → List Placement
 ends_in lefts = map (λ (left : Left). left.end) lefts
@@ -106,13 +105,6 @@ pub record IsRightBank (game : Game) (bank : StatePairs) : Type 0 where
   pub full : IsBankOf game bank
   pub within : AreWithin game (words_by bank)
 
--- at both ends, what the best of some plays leaves the mover
-abbrev pub best_pair : Kind → Words → List Placement → Bounds
-best_pair kind u ends = record {
-  lower = greatest (worth Lower kind u) ends;
-  upper = greatest (worth Upper kind u) ends;
-}
-
 -- the policy that the words advise
 abbrev pub policy_of : WordList → Policy
 policy_of words = advised words.game.stakes (words_in_list words)
@@ -129,13 +121,6 @@ abbrev pub follow_sum : Policy → Terms → Words → Placement → ℕ → Bou
 follow_sum policy stakes u p k = record {
   lower = sum_by all_rolls (worth Lower (kind_at stakes k) u) (policy p k);
   upper = sum_by all_rolls (worth Upper (kind_at stakes k) u) (policy p k);
-}
-
--- of what the best plays leave
-abbrev pub reply_sum : Terms → Words → Placement → ℕ → Bounds
-reply_sum stakes u p k = record {
-  lower = sum_over all_rolls (worth Lower (kind_at stakes k) u) p;
-  upper = sum_over all_rolls (worth Upper (kind_at stakes k) u) p;
 }
 
 -- a 36th of a sum that counts so many times, rounded outwards
@@ -172,14 +157,14 @@ pub record IsAnswerIn (kinds : ℕ) (taken : Taken) : Type 0 where
 abbrev pub sums_in : List Bounds → ℕ → Bounds
 sums_in sums k = slice_index_or sums k nothing
 
--- the kinds of a position have got these pairs, and no pair of a lower rank has changed
+-- the kinds of a position have got these pairs, and no pair of another position has changed
 pub record IsPut (rank : ℕ) (pair : ℕ → Bounds) (old new : StatePairs) : Type 0 where
   pub kinds : new.kinds ≡ old.kinds
   pub many : length new.pairs ≡ length old.pairs
   pub put : (k : ℕ) → k < old.kinds → slice_index_or new.pairs (rank * old.kinds + k) nothing ≡ pair k
-  pub before :
-      (place : ℕ) → place < rank * old.kinds
-      → slice_index_or new.pairs place nothing ≡ slice_index_or old.pairs place nothing
+  pub rest :
+      (other k : ℕ) → other ≢ rank → k < old.kinds
+      → slice_index_or new.pairs (other * old.kinds + k) nothing ≡ slice_index_or old.pairs (other * old.kinds + k) nothing
 
 -- there is a pair for each state, and those of the positions with a lower live rank than this one are these words
 pub record IsFilledTo (game : Game) (target : Words) (rank : ℕ) (bank : StatePairs) : Type 0 where

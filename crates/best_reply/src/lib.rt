@@ -1,9 +1,13 @@
 //! What following advice guarantees against the best reply.
 #![tactic(auto)]
 
+mod advice;
 mod bank;
+mod bank_reader;
+mod columns;
 mod laws;
 mod left;
+mod outcome;
 mod position_lefts;
 mod reply_table;
 mod roll_lefts;

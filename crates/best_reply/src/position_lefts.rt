@@ -1,43 +1,20 @@
-ghost use Rattle.std.specs.Prelude.{◌≡◌, ◌<◌, ◌≤◌, ◌^◌, pos, ◌+ℤ◌, ◌*ℤ◌, All, IfOk, length, map, sum};
+ghost use Rattle.std.specs.Prelude.{◌≡◌, ◌+◌, ◌*◌, All, IfOk, OnOk, length, map, sum};
 ghost use Rattle.position_rank.specs.Placement.{IsPosition, IsLive};
-ghost use Rattle.directed_fixed.specs.Bounds.{IsWithin, IsWithinUnits};
+ghost use Rattle.turn_rule.specs.Games.{kinds_of};
 ghost use Rattle.turn_rule.specs.States.{IsState};
-ghost use Rattle.best_reply.specs.Tables.{
-  IsRightBank,
-  IsSmall,
-  follow_sum,
-  policy_of,
-  reply_sum,
-  weighted,
-  words_by,
-};
+ghost use Rattle.interval_words.specs.Numbers.{state_of};
+ghost use Rattle.best_reply.specs.Tables.{weighted};
+ghost use Rattle.best_reply.specs.Outcomes.{AreAdvised};
 
-use crate::bank::Bank;
+use crate::outcome::Outcome;
 use crate::roll_lefts::RollLefts;
-use directed_fixed::{Fixed, Pair};
 use hyper_outside::NoMemory;
 use interval_words::{LiveIndex, Words};
 use move_rules::PlayList;
 use position_rank::Position;
 use roll_table::rolls;
-use std::alloc::Global;
+use std::alloc::{AllocError, Global};
 use std::marker::Model;
-
-/// One more pair, so many times.
-#[inline]
-fn add_times(sum: Pair, times: u64, pair: Pair) -> Pair
-    requires sum { IsSmall sum }
-    requires times { times ≤ 2 }
-    requires pair { IsWithin (pos (2 ^ 36)) pair }
-    ensures lower { result.lower ≡ (sum.lower +ℤ pos times *ℤ pair.lower) }
-    ensures upper { result.upper ≡ (sum.upper +ℤ pos times *ℤ pair.upper) }
-{
-    let times = times as u32;
-    Pair::new(
-        sum.lower().add(pair.lower().times(times)),
-        sum.upper().add(pair.upper().times(times)),
-    )
-}
 
 /// Puts what the plays of another position leave in place of what stands there, for each roll.
 fn fill_all(position: &Position, index: &LiveIndex, list: &mut PlayList, kept: &mut [RollLefts])
@@ -105,34 +82,25 @@ impl PositionLefts {
         fill_all(position, index, list, self.kept.as_mut_slice());
     }
 
-    /// The sum over the 36 ways of two dice of what the advised plays leave in a kind, by these
-    /// pairs.
-    pub(crate) fn follow_sum(&self, number: usize, words: &Words, bank: &Bank) -> Pair
+    /// Puts the outcomes of the advised plays of a kind behind those of the states before, a roll
+    /// after the other.
+    pub(crate) fn push_advised(
+        &self,
+        number: usize,
+        words: &Words,
+        outcomes: &mut Vec<Outcome>,
+    ) -> Result<(), AllocError>
         requires state { IsState words.now.game self.now number }
-        requires bank { IsRightBank words.now.game bank.now }
-        ensures sum { result ≡ follow_sum (policy_of words.now) words.now.game.stakes
-            (words_by bank.now) self.now number }
-        ensures small { IsSmall result }
+        requires advised { AreAdvised words.now outcomes.old.items }
+        requires many { length outcomes.old.items
+            ≡ state_of (kinds_of words.now.game) self.now number * 21 }
+        ensures advised { OnOk result (AreAdvised words.now outcomes.new.items) }
+        ensures many { OnOk result (length outcomes.new.items
+            ≡ (state_of (kinds_of words.now.game) self.now number + 1) * 21) }
     {
-        let mut sum = Pair::exactly(Fixed::whole(0));
         for one in self.kept.as_slice() {
-            sum = add_times(sum, one.times(), one.follow_pair(number, words, bank));
+            outcomes.push(Outcome::of(&one.advised(number, words)))?;
         }
-        sum
-    }
-
-    /// The sum over the 36 ways of two dice of what the best plays leave in a kind, by these pairs.
-    pub(crate) fn reply_sum(&self, number: usize, words: &Words, bank: &Bank) -> Pair
-        requires state { IsState words.now.game self.now number }
-        requires bank { IsRightBank words.now.game bank.now }
-        ensures sum { result ≡ reply_sum words.now.game.stakes
-            (words_by bank.now) self.now number }
-        ensures small { IsSmall result }
-    {
-        let mut sum = Pair::exactly(Fixed::whole(0));
-        for one in self.kept.as_slice() {
-            sum = add_times(sum, one.times(), one.reply_pair(number, words, bank));
-        }
-        sum
+        Ok(())
     }
 }

@@ -5,9 +5,10 @@ ghost use Rattle.best_reply.specs.ReplyPairs.{reply_rounds};
 ghost use Rattle.best_reply.specs.Tables.{policy_of, words_by};
 ghost use Rattle.best_reply.specs.Sides.{AreBanksOf, HasRounds, IsTurned};
 
+use crate::advice::Advice;
 use crate::bank::Bank;
-use crate::position_lefts::PositionLefts;
 use crate::sweep::{Banks, sweep};
+use column_turns::ColumnTurns;
 use directed_fixed::Pair;
 use hyper_outside::NoMemory;
 use interval_words::Words;
@@ -22,7 +23,8 @@ use std::mem;
 #[derive(Drop)]
 pub struct ReplyTable<'a> {
     words: &'a Words,
-    lefts: PositionLefts,
+    advice: Advice,
+    turns: ColumnTurns,
     current: Banks,
     next: Banks,
 }
@@ -34,7 +36,7 @@ impl<'a> Model for ReplyTable<'a> {
 
     ghost view = { λ a. record { words = a.words.now; both = a.current } };
 
-    ghost invariant = { λ a. IsReady a.words.now a.current a.next };
+    ghost invariant = { λ a. IsReady a.words.now a.advice a.turns a.current a.next };
 }
 
 /// A pair of which only the bound is known, for every state and either side to move.
@@ -57,18 +59,17 @@ fn opening(alloc: Global, words: &Words) -> Result<Banks, NoMemory>
 }
 
 impl<'a> ReplyTable<'a> {
-    /// Before the first round, when only the bound is known of any state. Here all memory is taken;
-    /// there may be none.
+    /// Before the first round, when only the bound is known of any state. Here all memory is taken,
+    /// mostly for the advised plays, which are found once: 84 bytes for each state, 27 MB for two
+    /// checkers a side by the Jacoby rule and 2 GB for three. There may be none.
     pub fn new(alloc: Global, words: &'a Words) -> Result<ReplyTable<'a>, NoMemory>
         ensures words { IfOk result (λ table. table.words ≡ words.now) }
         ensures rounds { IfOk result (λ table. HasRounds table 0) }
     {
-        // Some state tells that there is a position.
-        let _states = words.states();
-        let first = words.index().unrank(0);
         Ok(ReplyTable {
             words,
-            lefts: PositionLefts::of(alloc, &first, words.index())?,
+            advice: Advice::of(alloc, words)?,
+            turns: ColumnTurns::new(alloc, words.checkers(), words.stakes())?,
             current: opening(alloc, words)?,
             next: opening(alloc, words)?,
         })
@@ -81,7 +82,13 @@ impl<'a> ReplyTable<'a> {
         ensures turned { IsTurned self.old self.new }
         ensures rounds { (r : ℕ) → HasRounds self.old r → HasRounds self.new (r + 1) }
     {
-        sweep(self.words, &mut self.lefts, &self.current, &mut self.next);
+        sweep(
+            self.words,
+            &self.advice,
+            &mut self.turns,
+            &self.current,
+            &mut self.next,
+        );
         mem::swap(&mut self.current, &mut self.next);
     }
 

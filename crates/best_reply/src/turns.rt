@@ -1,5 +1,5 @@
 ghost use Rattle.std.specs.Prelude.{◌≡◌, ◌<◌, ◌≤◌, ◌^◌, pos, ◌*ℤ◌, All, length};
-ghost use Rattle.std.specs.Int.{int_min};
+ghost use Rattle.std.specs.Int.{int_max, int_min};
 ghost use Rattle.directed_fixed.specs.declared.bounds.End.TheVariants.{Lower, Upper};
 ghost use Rattle.directed_fixed.specs.Bounds.{IsWithinUnits};
 ghost use Rattle.best_reply.specs.Tables.{
@@ -11,7 +11,6 @@ ghost use Rattle.best_reply.specs.Tables.{
   turn_from,
 };
 
-use crate::roll_lefts::better;
 use cube_actions::{Double, Stakes};
 use directed_fixed::{Fixed, Pair, ceil_div, floor_div};
 
@@ -33,6 +32,18 @@ fn mean(factor: u8, sum: Pair) -> Pair
     let lower = floor_div(product(factor, sum.lower()), 36);
     let upper = ceil_div(product(factor, sum.upper()), 36);
     Pair::new(Fixed::new(lower).unwrap(), Fixed::new(upper).unwrap())
+}
+
+/// At each end the better of two.
+#[inline]
+fn better(one: Pair, another: Pair) -> Pair
+    ensures lower { result.lower ≡ int_max one.lower another.lower }
+    ensures upper { result.upper ≡ int_max one.upper another.upper }
+{
+    Pair::new(
+        one.lower().max(another.lower()),
+        one.upper().max(another.upper()),
+    )
 }
 
 /// At each end the worse of two.

@@ -14,4 +14,4 @@ loop-number-preserved c =
     let before = c.loop-number.invariant in
     let kind : n < old.kinds = omega (arith, c.loop-number-test.true, c.kinds-number-end.ensures.kinds, c.requires.kinds) in
     let room : c.args.rank * mid.kinds + n < length mid.pairs = rw (before.kinds, before.many) (c.requires.inside n kind) in
-    put-more c.args.rank (turn_from c.args.stakes.now (sums_in c.args.sums.now)) old n mid c.set.new.self c.turn.result before room c.turn.ensures c.set.ensures
+    put-more c.args.rank (turn_from c.args.stakes.now (sums_in c.args.sums.now)) old n mid c.set.new.self c.turn.result before kind room c.turn.ensures c.set.ensures

@@ -1,45 +1,30 @@
-use Rattle.std.proofs.Common.{◌≡◌, ◌∙◌, List, sum, ap, subst}
-use Rattle.position_rank.specs.Placement.{IsPosition, IsLive}
-use Rattle.position_rank.specs.LiveRanks.{live_rank_of}
+use Rattle.std.proofs.Common.{◌∙◌, List, ap}
 use Rattle.directed_fixed.specs.Bounds.{Bounds}
 use Rattle.cube_actions.specs.Stakes.{Terms, IsValid}
-use Rattle.best_reply.specs.Sides.{both_words, turned_words}
+use Rattle.best_reply.specs.ReplyPairs.{turn_by}
 use Rattle.best_reply.specs.Tables.{policy_of, sums_in, turn_from, words_by}
-use Rattle.best_reply.proofs.Filling.{bank-place, fill-step, followed-turn, replied-turn}
+use Rattle.best_reply.proofs.Filling.{bank-place, fill-step, followed-turn}
+use Rattle.best_reply.proofs.OutcomeLemmas.{some-at}
 use Rattle.best_reply.proofs.sweep.sweep_position.Goals as goal
 
 pub put_turns-requires-clause-inside : goal.put_turns-requires-clause-inside
-put_turns-requires-clause-inside c = bank-place c.args.words.now.game c.args.new.now.follow c.args.rank c.requires.before.follow.full c.requires.rank
-
-pub put_turns-requires-2-clause-inside : goal.put_turns-requires-2-clause-inside
-put_turns-requires-2-clause-inside c = bank-place c.args.words.now.game c.args.new.now.reply c.args.rank c.requires.before.reply.full c.requires.rank
+put_turns-requires-clause-inside c = bank-place c.args.words.now.game c.args.new.now c.args.rank c.requires.before.full c.requires.rank
 
 pub returns : goal.returns
 returns c =
     let words = c.args.words.now in
     let game = words.game in
     let rank = c.args.rank in
-    let old = both_words c.args.old.now in
-    let q = c.fill.new.self in
-    let here : q ≡ c.unrank-position.result = c.fill.ensures in
-    let position : IsPosition q = rw here c.unrank-position.ensures.valid in
-    let live : IsLive q = rw here c.unrank-position.ensures.live in
-    let many : sum q.mover ≡ game.checkers = rw here (c.unrank-position.ensures.checkers ∙ c.index.ensures) in
-    let is : live_rank_of q ≡ rank = rw here c.unrank-position.ensures.rank in
-    let valid : IsValid game.stakes = subst IsValid c.stakes.ensures c.put_turns.ensures.valid in
-    let follow_list = c.follow_sums-follow.result.items in
-    let reply_list = c.reply_sums-reply.result.items in
-    record {
-      follow = fill-step game (turned_words words old).follow rank q position live many is (turn_from c.stakes.result.now (sums_in c.deref.result.now)) c.args.new.now.follow c.put_turns.new.bank
-          (λ k inside.
-          ap (λ (s : Terms). turn_from s (sums_in c.deref.result.now) k) c.stakes.ensures
-          ∙ (ap (λ (xs : List Bounds). turn_from game.stakes (sums_in xs) k) c.deref.ensures.0
-          ∙ followed-turn game (turned_words words old).follow rank q position live many is valid follow_list (policy_of words) (words_by c.args.old.now.reply) c.follow_sums-follow.ensures.sums k inside))
-          c.requires.before.follow c.put_turns.ensures.put;
-      reply = fill-step game (turned_words words old).reply rank q position live many is (turn_from c.stakes-2.result.now (sums_in c.deref-2.result.now)) c.args.new.now.reply c.put_turns-2.new.bank
-          (λ k inside.
-          ap (λ (s : Terms). turn_from s (sums_in c.deref-2.result.now) k) c.stakes-2.ensures
-          ∙ (ap (λ (xs : List Bounds). turn_from game.stakes (sums_in xs) k) c.deref-2.ensures.0
-          ∙ replied-turn game (turned_words words old).reply rank q position live many is valid reply_list (words_by c.args.old.now.follow) c.reply_sums-reply.ensures.sums k inside))
-          c.requires.before.reply c.put_turns-2.ensures.put;
-    }
+    let u = words_by c.args.old.now in
+    let target = turn_by (policy_of words) game.stakes u in
+    let valid : IsValid game.stakes = c.requires.game.stakes in
+    let at = some-at game c.requires.game rank 0 c.requires.rank valid.some in
+    let q = at.position in
+    let state = at.state in
+    fill-step game target rank q state.position state.live state.many at.ranked (turn_from c.stakes.result.now (sums_in c.deref.result.now)) c.args.new.now c.put_turns.new.bank
+    (λ k inside.
+    ap (λ (s : Terms). turn_from s (sums_in c.deref.result.now) k) c.stakes.ensures
+    ∙ (ap (λ (xs : List Bounds). turn_from game.stakes (sums_in xs) k) c.deref.ensures.0
+    ∙ followed-turn game target rank q state.position state.live state.many at.ranked valid c.follow_sums-sums.result.items (policy_of words) u
+    (λ j kind. c.follow_sums-sums.ensures.sums q j (record { position = state.position; many = state.many; live = state.live; kind = kind }) at.ranked) k inside))
+    c.requires.before c.put_turns.ensures.put
