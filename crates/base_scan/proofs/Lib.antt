@@ -1,7 +1,7 @@
 pub mod TestTexts
 pub mod Readings
 pub mod Telling
-pub mod AdviceLast
+pub mod Looks
 pub mod Listing
 pub mod Numbered
 pub mod Advised

@@ -22,6 +22,8 @@ use Rattle.interval_words.specs.WordLists.{WordList, width, words_in_list}
 use Rattle.base_scan.specs.declared.condition.Test.{Test}
 use Rattle.base_scan.specs.declared.condition.Field.{Field}
 use Rattle.base_scan.specs.declared.condition.Field.TheVariants.{LowerWord, UpperWord, Width, KindNumber, Pips, OtherPips, Off, OtherOff, OnBar, OtherOnBar, Offered, Answered}
+use Rattle.base_scan.specs.declared.numbers.Depth.{Depth}
+use Rattle.base_scan.specs.declared.numbers.Depth.TheVariants.{Checkers, Words, Advice}
 use Rattle.base_scan.specs.declared.condition.Comparison.{Comparison}
 use Rattle.base_scan.specs.declared.condition.Comparison.TheVariants.{Below, Equal, Above}
 
@@ -119,28 +121,40 @@ says_of words p k test = says test (number_of words p k test.field)
 abbrev pub meets : WordList → List (List Test) → Placement → ℕ → Bool
 meets words groups p k = list_any (λ group. list_all (says_of words p k) group) groups
 
--- ---- what can be said before advice is looked for
+-- ---- looks that don't go all the way
 
--- a test asks for what is advised on the cube
-abbrev pub asks_advice : Field → Bool
-asks_advice LowerWord = false
-asks_advice UpperWord = false
-asks_advice Width = false
-asks_advice KindNumber = false
-asks_advice Pips = false
-asks_advice OtherPips = false
-asks_advice Off = false
-asks_advice OtherOff = false
-asks_advice OnBar = false
-asks_advice OtherOnBar = false
-asks_advice Offered = true
-asks_advice Answered = true
+-- a field asks for more than a look finds that goes so far
+abbrev pub asks_more : Depth → Field → Bool
+asks_more Checkers LowerWord = true
+asks_more Checkers UpperWord = true
+asks_more Checkers Width = true
+asks_more Checkers KindNumber = true
+asks_more Checkers Pips = false
+asks_more Checkers OtherPips = false
+asks_more Checkers Off = false
+asks_more Checkers OtherOff = false
+asks_more Checkers OnBar = false
+asks_more Checkers OtherOnBar = false
+asks_more Checkers Offered = true
+asks_more Checkers Answered = true
+asks_more Words LowerWord = false
+asks_more Words UpperWord = false
+asks_more Words Width = false
+asks_more Words KindNumber = false
+asks_more Words Pips = false
+asks_more Words OtherPips = false
+asks_more Words Off = false
+asks_more Words OtherOff = false
+asks_more Words OnBar = false
+asks_more Words OtherOnBar = false
+asks_more Words Offered = true
+asks_more Words Answered = true
+asks_more Advice field = false
 
--- what a test says with advice, and without, where one that asks for it says yes
-abbrev pub says_by : Bool → WordList → Placement → ℕ → Test → Bool
-says_by true words p k test = says_of words p k test
-says_by false words p k test = if asks_advice test.field then true else says_of words p k test
+-- what a test says by a look that goes so far: yes where it asks for more
+abbrev pub says_by : Depth → WordList → Placement → ℕ → Test → Bool
+says_by depth words p k test = if asks_more depth test.field then true else says_of words p k test
 
--- all tests of some group say yes, with advice or without
-abbrev pub meets_by : Bool → WordList → List (List Test) → Placement → ℕ → Bool
-meets_by advice words groups p k = list_any (λ group. list_all (says_by advice words p k) group) groups
+-- all tests of some group say yes by a look that goes so far
+abbrev pub meets_by : Depth → WordList → List (List Test) → Placement → ℕ → Bool
+meets_by depth words groups p k = list_any (λ group. list_all (says_by depth words p k) group) groups

@@ -1,4 +1,4 @@
-ghost use Rattle.std.specs.Prelude.{◌≡◌, ◌<◌, ◌*◌, ◌^◌, IsOkAnd, pos, sum};
+ghost use Rattle.std.specs.Prelude.{◌≡◌, ◌<◌, ◌*◌, ◌^◌, IsFalse, IsOkAnd, pos, sum};
 ghost use Rattle.position_rank.specs.Placement.{IsLive, IsPosition};
 ghost use Rattle.position_rank.specs.LiveRanks.{live_rank_of};
 ghost use Rattle.position_rank.specs.Ranks.{square_rank_of};
@@ -7,8 +7,9 @@ ghost use Rattle.interval_words.specs.WordLists.{width, words_in_list};
 ghost use Rattle.turn_rule.specs.Games.{kinds_of};
 ghost use Rattle.play_analyser.specs.Advice.{IsCubeAdviceOver};
 ghost use Rattle.base_scan.specs.declared.condition.Field.TheVariants.{Answered, Offered};
+ghost use Rattle.base_scan.specs.declared.numbers.Depth.TheVariants.{Checkers};
 ghost use Rattle.base_scan.specs.Groups.{begins_group};
-ghost use Rattle.base_scan.specs.Meets.{action_in, answer_number, answer_told, asks_advice, compares, meets, meets_by, number_of, offer_number, offer_told, says, says_by, says_of};
+ghost use Rattle.base_scan.specs.Meets.{action_in, answer_number, answer_told, asks_more, compares, meets, meets_by, number_of, offer_number, offer_told, says, says_by, says_of};
 ghost use Rattle.base_scan.specs.Sides.{IsSeen};
 
 use crate::condition::{Comparison, Condition, Field, Joint, Test};
@@ -19,6 +20,17 @@ use hyper_outside::LookStop;
 use interval_words::{Words, states_are_numbered};
 use play_analyser::{CubeAdvice, cube_advice, one_list_gives_the_advice};
 use position_rank::Position;
+
+/// How far a look at a state goes. A test that asks for more says yes.
+#[derive(Clone, Copy, Debug)]
+pub(crate) enum Depth {
+    /// To the checkers of both sides.
+    Checkers,
+    /// To all but what is advised, which takes long to find.
+    Words,
+    /// To all that a test can ask for.
+    Advice,
+}
 
 /// A state with what tests ask of it.
 #[derive(Clone, Copy, Debug)]
@@ -190,22 +202,33 @@ fn says_of(test: &Test, words: &Words, seen: &Seen) -> bool
     says(test, number_of(test.field, words, seen))
 }
 
-/// Whether a field asks for what is advised, which takes long to find.
-fn asks_advice(field: Field) -> bool
-    ensures { result ≡ asks_advice field }
+/// Whether a field asks for more than a look finds that goes so far.
+#[inline]
+pub(crate) fn asks_more(depth: Depth, field: Field) -> bool
+    ensures { result ≡ asks_more depth field }
 {
-    match field {
-        Field::Offered | Field::Answered => true,
-        _ => false,
+    match depth {
+        Depth::Checkers => match field {
+            Field::Pips | Field::OtherPips => false,
+            Field::Off | Field::OtherOff => false,
+            Field::OnBar | Field::OtherOnBar => false,
+            _ => true,
+        },
+        Depth::Words => match field {
+            Field::Offered | Field::Answered => true,
+            _ => false,
+        },
+        Depth::Advice => false,
     }
 }
 
-/// What a test says of a state. Without advice, one that asks for it says yes.
-fn says_by(advice: bool, test: &Test, words: &Words, seen: &Seen) -> bool
+/// What a test says of a state by a look that goes so far.
+#[inline]
+fn says_by(depth: Depth, test: &Test, words: &Words, seen: &Seen) -> bool
     requires { IsSeen words.now seen.now }
-    ensures { result ≡ says_by advice words.now seen.now.position seen.now.kind test.now }
+    ensures { result ≡ says_by depth words.now seen.now.position seen.now.kind test.now }
 {
-    !advice && asks_advice(test.field) || says_of(test, words, seen)
+    asks_more(depth, test.field) || says_of(test, words, seen)
 }
 
 /// Whether a test begins a group.
@@ -218,11 +241,12 @@ fn begins_group(joint: Joint) -> bool
     }
 }
 
-/// Whether all tests of some group say yes of a state, with advice or without.
-fn meets_by(advice: bool, condition: &Condition, words: &Words, seen: &Seen) -> bool
+/// Whether all tests of some group say yes of a state by a look that goes so far.
+#[inline]
+fn meets_by(depth: Depth, condition: &Condition, words: &Words, seen: &Seen) -> bool
     requires { IsSeen words.now seen.now }
     ensures { result
-        ≡ meets_by advice words.now condition.now seen.now.position seen.now.kind }
+        ≡ meets_by depth words.now condition.now seen.now.position seen.now.kind }
 {
     let mut all = false;
     for joined in condition.tests() {
@@ -230,12 +254,27 @@ fn meets_by(advice: bool, condition: &Condition, words: &Words, seen: &Seen) -> 
             if all {
                 return true;
             }
-            all = says_by(advice, &joined.test, words, seen);
+            all = says_by(depth, &joined.test, words, seen);
         } else if all {
-            all = says_by(advice, &joined.test, words, seen);
+            all = says_by(depth, &joined.test, words, seen);
         }
     }
     all
+}
+
+/// Whether a position with this state may meet a condition. Where no test asks for checkers it may.
+#[inline]
+pub(crate) fn may_meet(
+    asks_checkers: bool,
+    condition: &Condition,
+    words: &Words,
+    seen: &Seen,
+) -> bool
+    requires { IsSeen words.now seen.now }
+    ensures { IsFalse result → IsFalse
+        (meets_by Checkers words.now condition.now seen.now.position seen.now.kind) }
+{
+    !asks_checkers || meets_by(Depth::Checkers, condition, words, seen)
 }
 
 /// `meets` of a state whose numbers are at hand. Advice is looked for only where the tests that
@@ -244,7 +283,8 @@ pub(crate) fn meets_with(condition: &Condition, words: &Words, seen: &Seen) -> b
     requires { IsSeen words.now seen.now }
     ensures { result ≡ meets words.now condition.now seen.now.position seen.now.kind }
 {
-    meets_by(false, condition, words, seen) && meets_by(true, condition, words, seen)
+    meets_by(Depth::Words, condition, words, seen)
+        && meets_by(Depth::Advice, condition, words, seen)
 }
 
 /// Whether a state meets a condition: whether all tests of some group say yes. A test says whether

@@ -9,7 +9,7 @@ ghost use Rattle.base_scan.specs.Found.{AreFound, AreScanned, IsScanned, IsState
 
 use crate::condition::Condition;
 use crate::found::{Found, State};
-use crate::numbers::{Seen, first_state, meets_with};
+use crate::numbers::{Depth, Seen, asks_more, first_state, may_meet, meets_with};
 use crate::sides::{Listed, all_listed};
 use hyper_outside::NoMemory;
 use interval_words::{Words, states_are_numbered};
@@ -28,6 +28,16 @@ fn first_row(words: &Words, parts: usize, number: usize) -> u32
     ensures inside { result ≤ layouts words.now.game.checkers }
 {
     layout_count(words.checkers()) * number as u32 / parts as u32
+}
+
+/// Whether a test of a condition asks for the checkers of a side, and for no more.
+fn asks_checkers(condition: &Condition) -> bool {
+    for joined in condition.tests() {
+        if !asks_more(Depth::Checkers, joined.test.field) {
+            return true;
+        }
+    }
+    false
 }
 
 /// A state of a position, of at most 14 kinds.
@@ -60,6 +70,7 @@ fn scan_position(
     mover: &Listed,
     other: &Listed,
     square: u64,
+    asks_checkers: bool,
 ) -> Result<(), AllocError>
     requires mover { IsListed words.now.game.checkers mover.now }
     requires other { IsListed words.now.game.checkers other.now }
@@ -74,7 +85,16 @@ fn scan_position(
     states_are_numbered();
     let position = Position::new(mover.layout, other.layout).unwrap();
     let first = first_state(words, &position, square);
-    for kind in 0..words.stakes().kinds() {
+    let kinds = words.stakes().kinds();
+    let one = Seen {
+        position,
+        kind: 0,
+        state: first,
+        mover: mover.side,
+        other: other.side,
+    };
+    let may = may_meet(asks_checkers, condition, words, &one);
+    for kind in 0..kinds {
         let seen = Seen {
             position,
             kind,
@@ -82,7 +102,7 @@ fn scan_position(
             mover: mover.side,
             other: other.side,
         };
-        let kept = meets_with(condition, words, &seen);
+        let kept = may && meets_with(condition, words, &seen);
         push_if(found, kept, state_of(&position, kind))?;
     }
     Ok(())
@@ -96,6 +116,7 @@ fn scan_row(
     condition: &Condition,
     all: &[Listed],
     row: u32,
+    asks_checkers: bool,
 ) -> Result<(), AllocError>
     requires all { AreListed words.now.game.checkers all.now }
     requires row { row < layouts words.now.game.checkers }
@@ -110,7 +131,7 @@ fn scan_row(
     for (rank, other) in all.iter().enumerate() {
         if points.are_live(other.points) {
             let square = (first + rank) as u64;
-            scan_position(found, words, condition, mover, other, square)?;
+            scan_position(found, words, condition, mover, other, square, asks_checkers)?;
         }
     }
     Ok(())
@@ -132,10 +153,11 @@ fn scan_part(
         IsScanned words.now condition.now parts number states.items) }
 {
     let mut found = Vec::new(alloc);
+    let asks_checkers = asks_checkers(condition);
     let from = first_row(words, parts, number);
     let to = first_row(words, parts, number + 1);
     for row in from..to {
-        scan_row(&mut found, words, condition, all, row)?;
+        scan_row(&mut found, words, condition, all, row, asks_checkers)?;
     }
     Ok(found)
 }

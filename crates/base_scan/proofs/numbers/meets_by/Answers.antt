@@ -6,7 +6,7 @@ use Rattle.base_scan.proofs.numbers.meets_by.Goals.{then-begins_group+else-all, 
 
 pub returns-then-all : goal.returns-then-all
 returns-then-all c =
-    let f = says_by c.args.advice c.args.words.now c.args.seen.now.position c.args.seen.now.kind in
+    let f = says_by c.args.depth c.args.words.now c.args.seen.now.position c.args.seen.now.kind in
     let items = c.tests-joined-items.result.now in
     sym (c.loop-joined.invariant
     ∙ (ap (λ (all : Bool). tells f all (drop c.loop-joined.joined-index items)) c.if-all.true
@@ -14,7 +14,7 @@ returns-then-all c =
 
 pub loop-joined-preserved : goal.loop-joined-preserved
 loop-joined-preserved c =
-    let f = says_by c.args.advice c.args.words.now c.args.seen.now.position c.args.seen.now.kind in
+    let f = says_by c.args.depth c.args.words.now c.args.seen.now.position c.args.seen.now.kind in
     let items = c.tests-joined-items.result.now in
     let i = c.loop-joined.joined-index in
     c.loop-joined.invariant
@@ -35,5 +35,5 @@ loop-joined-preserved c =
 
 pub returns : goal.returns
 returns c =
-    let f = says_by c.args.advice c.args.words.now c.args.seen.now.position c.args.seen.now.kind in
+    let f = says_by c.args.depth c.args.words.now c.args.seen.now.position c.args.seen.now.kind in
     sym (c.loop-joined.invariant ∙ step-end f c.tests-joined-items.result.now c.loop-joined.joined-index c.loop-joined.all c.loop-joined-test.false)

@@ -1,5 +1,5 @@
 use Rattle.std.proofs.Common.{◌∙◌, sym}
-use Rattle.base_scan.proofs.AdviceLast.{no-advice}
+use Rattle.base_scan.proofs.Looks.{no-advice}
 use Rattle.base_scan.proofs.numbers.meets_with.Goals as goal
 
 pub returns-else-meets_by : goal.returns-else-meets_by
