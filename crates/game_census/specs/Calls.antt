@@ -1,5 +1,5 @@
--- What is advised on the cube, and the number of that among all calls.
-use Rattle.std.specs.Prelude.{◌≡◌, ◌+◌, ◌↔◌, ℕ, pos, ◌≤ℤ◌, IsTrue, if◌then◌else◌}
+-- What is advised on the cube, its number among all calls, and how often each came.
+use Rattle.std.specs.Prelude.{◌+◌, ◌-◌, ◌^◌, ℕ, pos, min, List, slice_index, slice_set, int_le, if◌then◌else◌}
 use Rattle.game_record.specs.declared.decision.Offer.{Offer}
 use Rattle.game_record.specs.declared.decision.Offer.TheVariants.{NoDouble, Double}
 use Rattle.game_record.specs.declared.decision.Answer.{Answer}
@@ -8,11 +8,13 @@ use Rattle.play_analyser.specs.declared.advice.CubeAction.{CubeAction}
 use Rattle.game_census.specs.declared.call.Call.{Call}
 
 -- the advised offer and answer, and whether each loses at most nothing
-pub record IsCallOf (action : CubeAction) (call : Call) : Type 0 where
-  pub offer : call.offer ≡ action.offer
-  pub answer : call.answer ≡ action.answer
-  pub sure_offer : IsTrue call.sure_offer ↔ (action.offer_bound ≤ℤ pos 0)
-  pub sure_answer : IsTrue call.sure_answer ↔ (action.answer_bound ≤ℤ pos 0)
+abbrev pub call_of : CubeAction → Call
+call_of action = record {
+  offer = action.offer;
+  answer = action.answer;
+  sure_offer = int_le action.offer_bound (pos 0);
+  sure_answer = int_le action.answer_bound (pos 0);
+}
 
 abbrev pub offer_number : Offer → ℕ
 offer_number NoDouble = 0
@@ -28,3 +30,11 @@ abbrev pub call_number : Call → ℕ
 call_number call =
     offer_number call.offer + answer_number call.answer
     + (if call.sure_offer then 0 else 2) + (if call.sure_answer then 0 else 1)
+
+-- one more, or the greatest number that is kept
+abbrev pub one_more : ℕ → ℕ
+one_more count = min (count + 1) (2 ^ 64 - 1)
+
+-- the counts of all calls, by their numbers, after one call more
+abbrev pub counted : List ℕ → Call → List ℕ
+counted counts call = slice_set counts (call_number call) (one_more (slice_index counts (call_number call)))

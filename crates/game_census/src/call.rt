@@ -1,5 +1,5 @@
-ghost use Rattle.std.specs.Prelude.{◌≡◌, ◌<◌, ◌≤◌, length};
-ghost use Rattle.game_census.specs.Calls.{IsCallOf, call_number};
+ghost use Rattle.std.specs.Prelude.{◌≡◌, ◌<◌, length};
+ghost use Rattle.game_census.specs.Calls.{call_number, call_of};
 
 use game_record::{Answer, Offer};
 use play_analyser::CubeAction;
@@ -27,7 +27,7 @@ pub(crate) struct Call {
 impl Call {
     /// What is advised of an action.
     pub(crate) fn of(action: &CubeAction) -> Call
-        ensures { IsCallOf action.now result }
+        ensures { result ≡ call_of action.now }
     {
         Call {
             offer: action.offer,

@@ -1,14 +1,16 @@
-ghost use Rattle.std.specs.Prelude.{◌≡◌, ◌<◌, ◌≤◌, ◌-◌, ◌*◌, ◌/◌, ◌^◌, IsOkAnd};
+ghost use Rattle.std.specs.Prelude.{◌≡◌, ◌<◌, ◌≤◌, ◌-◌, ◌*◌, ◌/◌, ◌^◌, ◌≢◌, IfErr, IsOkAnd, IsOkUnless};
 ghost use Rattle.position_rank.specs.LiveRanks.{live_positions};
 ghost use Rattle.turn_rule.specs.Games.{kinds_of};
 ghost use Rattle.turn_rule.specs.States.{IsState};
 ghost use Rattle.interval_words.specs.WordLists.{words_in_list};
 ghost use Rattle.play_analyser.specs.Advice.{IsCubeAdviceOver};
+ghost use Rattle.game_census.specs.declared.stop.Stop.TheVariants.{BadWords, Unprinted};
+ghost use Rattle.game_census.specs.Censuses.{AddsState, IsCensus};
 
 use crate::kind_census::KindCensus;
 use crate::report::print_census;
 use crate::stop::Stop;
-use crate::words::{CubeTask, Part};
+use crate::task::{CubeTask, Part};
 use database_file::load_base;
 use hyper_outside::{LookStop, RealFiles};
 use interval_words::Words;
@@ -16,20 +18,18 @@ use play_analyser::{CubeAdvice, cube_advice, one_list_gives_the_advice};
 use position_rank::Position;
 use std::alloc::Global;
 use std::io::Print;
-use std::ops::Range;
 use std::rt::Files;
 use std::thread::Threads;
 
-/// The numbers of the live positions of a part, among so many.
-fn ranks_of(part: &Part, live: u64) -> Range<u64>
-    requires { live < 2 ^ 32 }
-    ensures start { result.start ≡ live * (part.now.number - 1) / part.now.of }
-    ensures end { result.end ≡ live * part.now.number / part.now.of }
-    ensures inside { result.end ≤ live }
+/// How many of so many live positions stand in the first of some equal parts.
+fn share(live: u64, number: u32, of: u32) -> u64
+    requires live { live < 2 ^ 32 }
+    requires some { 0 < of }
+    requires number { number ≤ of }
+    ensures share { result ≡ live * number / of }
+    ensures inside { result ≤ live }
 {
-    let of = u64::from(part.of);
-    let number = u64::from(part.number);
-    live * (number - 1) / of..live * number / of
+    live * u64::from(number) / u64::from(of)
 }
 
 /// What is advised over the words of a list. There always is some advice.
@@ -43,37 +43,44 @@ fn advice_over(words: &Words, position: &Position, kind: usize) -> Result<CubeAd
     cube_advice(words.stakes(), position, kind, &mut reader)
 }
 
-/// Adds what is advised in a state, where the mover may double.
-fn add_state(census: &mut KindCensus, words: &Words, position: &Position, kind: usize)
-    requires { IsState words.now.game position.now kind }
+/// Adds what is advised in the state of this live rank.
+fn add_state(census: &mut KindCensus, words: &Words, kind: usize, rank: u64)
+    requires kind { kind < kinds_of words.now.game }
+    requires rank { rank < live_positions words.now.game.checkers }
+    ensures { AddsState words.now kind rank census.old census.new }
 {
-    let advice = advice_over(words, position, kind).unwrap();
+    let position = words.index().unrank(rank);
+    let advice = advice_over(words, &position, kind).unwrap();
     if let Some(action) = &advice.action {
-        census.add(position, advice.no_double, action);
+        census.add(&position, advice.no_double, action);
     }
 }
 
-/// What is advised in a kind, over the live positions with these numbers.
-fn census_of(words: &Words, kind: usize, ranks: &Range<u64>) -> KindCensus
+/// What is advised in a kind, over the live positions from one live rank up to another.
+fn census_of(words: &Words, kind: usize, from: u64, to: u64) -> KindCensus
     requires kind { kind < kinds_of words.now.game }
-    requires ranks { ranks.now.end ≤ live_positions words.now.game.checkers }
+    requires order { from ≤ to }
+    requires to { to ≤ live_positions words.now.game.checkers }
+    ensures { IsCensus words.now kind from (to - from) result }
 {
     let mut census = KindCensus::new();
-    for rank in ranks.start..ranks.end {
-        let position = words.index().unrank(rank);
-        add_state(&mut census, words, &position, kind);
+    for rank in from..to {
+        add_state(&mut census, words, kind, rank);
     }
     census
 }
 
-/// Counts what is advised in each kind in which the mover may double, and prints it.
-fn count_kinds<R: Print>(rt: &R, words: &Words, ranks: &Range<u64>) -> Result<(), Stop>
-    requires { ranks.now.end ≤ live_positions words.now.game.checkers }
+/// Counts what is advised in each kind in which the mover may double, over a part of the live positions, and prints it.
+fn count_kinds<R: Print>(rt: &R, words: &Words, part: &Part) -> Result<(), Stop>
+    ensures { IsOkUnless result Unprinted }
 {
+    let live = words.index().count();
+    let from = share(live, part.number - 1, part.of);
+    let to = share(live, part.number, part.of);
     let stakes = words.stakes();
     for kind in 0..stakes.kinds() {
         if stakes.kind(kind).double.is_some() {
-            let census = census_of(words, kind, ranks);
+            let census = census_of(words, kind, from, to);
             print_census(rt, stakes.kind_name(kind), &census)?;
         }
     }
@@ -85,10 +92,10 @@ pub(crate) fn count_calls<R: Threads + Sync + Print + Files>(
     rt: &R,
     alloc: Global,
     task: &CubeTask,
-) -> Result<(), Stop> {
+) -> Result<(), Stop>
+    ensures { IfErr result (λ stop. stop ≢ BadWords) }
+{
     let mut files = RealFiles::new(rt);
     let base = load_base(rt, alloc, &mut files, task.file, 1)?;
-    let words = base.words();
-    let ranks = ranks_of(&task.part, words.index().count());
-    count_kinds(rt, words, &ranks)
+    count_kinds(rt, base.words(), &task.part)
 }

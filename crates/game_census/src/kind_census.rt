@@ -1,10 +1,11 @@
-ghost use Rattle.std.specs.Prelude.{◌≡◌, None};
+ghost use Rattle.std.specs.Prelude.{◌≡◌};
 ghost use Rattle.std.specs.Int.{int_min};
 ghost use Rattle.play_analyser.specs.Advice.{doubling_of};
-ghost use Rattle.game_census.specs.Gaps.{IsNearestOf, answer_gap, offer_gap};
+ghost use Rattle.game_census.specs.Censuses.{no_census, with_action};
+ghost use Rattle.game_census.specs.Gaps.{answer_gap, offer_gap};
 
 use crate::call::Call;
-use crate::gap::{Gap, Near, nearer};
+use crate::gap::{Border, Gap, Near};
 use crate::tally::Tally;
 use directed_fixed::Pair;
 use play_analyser::CubeAction;
@@ -15,9 +16,9 @@ use position_rank::Position;
 pub(crate) struct KindCensus {
     pub(crate) tally: Tally,
     /// Where a take and a pass lead nearest to the same for the side that doubles.
-    pub(crate) answer: Option<Near>,
+    pub(crate) answer: Border,
     /// Where a double and rolling on do.
-    pub(crate) offer: Option<Near>,
+    pub(crate) offer: Border,
 }
 
 /// At each end the smaller one.
@@ -59,33 +60,27 @@ fn offer_gap(rolling: Pair, action: &CubeAction) -> Gap
 impl KindCensus {
     /// Nothing was looked at.
     pub(crate) fn new() -> KindCensus
-        ensures answer { result.answer ≡ None }
-        ensures offer { result.offer ≡ None }
+        ensures { result ≡ no_census }
     {
         KindCensus {
             tally: Tally::new(),
-            answer: None,
-            offer: None,
+            answer: Border::nowhere(),
+            offer: Border::nowhere(),
         }
     }
 
     /// One more position in which the mover may double.
     pub(crate) fn add(&mut self, position: &Position, rolling: Pair, action: &CubeAction)
-        ensures answer { IsNearestOf self.old.answer
-            (record { position = position.now; gap = answer_gap action.now }) self.new.answer }
-        ensures offer { IsNearestOf self.old.offer
-            (record { position = position.now; gap = offer_gap rolling action.now }) self.new.offer }
+        ensures { self.new ≡ with_action self.old position.now rolling action.now }
     {
         self.tally.add(Call::of(action));
-        let answer = Near {
+        self.answer = self.answer.with(&Near {
             position: *position,
             gap: answer_gap(action),
-        };
-        let offer = Near {
+        });
+        self.offer = self.offer.with(&Near {
             position: *position,
             gap: offer_gap(rolling, action),
-        };
-        self.answer = nearer(self.answer, answer);
-        self.offer = nearer(self.offer, offer);
+        });
     }
 }

@@ -10,26 +10,38 @@ mod races;
 mod report;
 mod stop;
 mod tally;
+mod task;
 mod words;
 
 use crate::cube::count_calls;
 use crate::races::count_races;
 use crate::stop::Stop;
-use crate::words::{Task, read_task, words_of};
+use crate::task::Task;
+use crate::words::read_task;
 use std::alloc::Global;
-use std::io::{Eprint, Print};
+use std::io::Print;
 use std::process::ExitCode;
 use std::rt::{Env, Files};
 use std::thread::Threads;
+use std::{env, io};
+
+/// The words after the program's name.
+fn words_of<R: Env + AllocGlobal>(rt: &R) -> io::Result<Vec<String>> {
+    let mut words = Vec::new(rt.alloc());
+    for word in env::args(rt)?.skip(1) {
+        words.push(word)?;
+    }
+    Ok(words)
+}
 
 /// Reads the words after the program's name, and does what they ask for.
 fn run<R: Threads + Sync + Env + Print + Files + AllocGlobal>(
     rt: &R,
     alloc: Global,
 ) -> Result<(), Stop> {
-    let words = words_of(rt).map_err(|_| Stop::Words)?;
+    let words = words_of(rt).map_err(|_| Stop::BadWords)?;
     match read_task(words.as_slice()) {
-        None => Err(Stop::Words),
+        None => Err(Stop::BadWords),
         Some(Task::Cube(task)) => count_calls(rt, alloc, &task),
         Some(Task::Races(task)) => count_races(rt, alloc, &task),
     }

@@ -1,7 +1,10 @@
+ghost use Rattle.std.specs.Prelude.{IsOkUnless};
+ghost use Rattle.game_census.specs.declared.stop.Stop.TheVariants.{Unprinted};
+
 use crate::call::{ANSWERS, Call, OFFERS, answer_name, certainty_name, offer_name};
 use crate::gap::Near;
 use crate::kind_census::KindCensus;
-use crate::stop::Stop;
+use crate::stop::{Stop, printed};
 use crate::tally::Tally;
 use cube_actions::KindName;
 use game_record::{Answer, Offer};
@@ -9,18 +12,19 @@ use position_rank::print_position;
 use std::io::Print;
 
 /// A line for a call that came.
-fn print_call<R: Print>(rt: &R, kind: &str, call: Call, count: u64) -> Result<(), Stop> {
+fn print_call<R: Print>(rt: &R, kind: &str, call: Call, count: u64) -> Result<(), Stop>
+    ensures { IsOkUnless result Unprinted }
+{
     if count == 0 {
         return Ok(());
     }
-    println!(rt;
+    printed(println!(rt;
         "count\t{kind}\t{}\t{}\t{}\t{}\t{count}",
         offer_name(call.offer),
         answer_name(call.answer),
         certainty_name(call.sure_offer),
         certainty_name(call.sure_answer)
-    )
-    .map_err(|_| Stop::Unprinted)
+    ))
 }
 
 /// The lines for the calls of an offer and an answer.
@@ -30,7 +34,9 @@ fn print_sureness<R: Print>(
     tally: &Tally,
     offer: Offer,
     answer: Answer,
-) -> Result<(), Stop> {
+) -> Result<(), Stop>
+    ensures { IsOkUnless result Unprinted }
+{
     for (sure_offer, sure_answer) in [(true, true), (true, false), (false, true), (false, false)] {
         let call = Call {
             offer,
@@ -44,7 +50,9 @@ fn print_sureness<R: Print>(
 }
 
 /// The lines for the calls of an offer.
-fn print_answers<R: Print>(rt: &R, kind: &str, tally: &Tally, offer: Offer) -> Result<(), Stop> {
+fn print_answers<R: Print>(rt: &R, kind: &str, tally: &Tally, offer: Offer) -> Result<(), Stop>
+    ensures { IsOkUnless result Unprinted }
+{
     for answer in ANSWERS {
         print_sureness(rt, kind, tally, offer, answer)?;
     }
@@ -52,7 +60,9 @@ fn print_answers<R: Print>(rt: &R, kind: &str, tally: &Tally, offer: Offer) -> R
 }
 
 /// The lines for all calls that came.
-fn print_tally<R: Print>(rt: &R, kind: &str, tally: &Tally) -> Result<(), Stop> {
+fn print_tally<R: Print>(rt: &R, kind: &str, tally: &Tally) -> Result<(), Stop>
+    ensures { IsOkUnless result Unprinted }
+{
     for offer in OFFERS {
         print_answers(rt, kind, tally, offer)?;
     }
@@ -60,18 +70,19 @@ fn print_tally<R: Print>(rt: &R, kind: &str, tally: &Tally) -> Result<(), Stop> 
 }
 
 /// A line for the nearest position, where there is one.
-fn print_near<R: Print>(rt: &R, name: &str, kind: &str, near: Option<Near>) -> Result<(), Stop> {
+fn print_near<R: Print>(rt: &R, name: &str, kind: &str, near: Option<Near>) -> Result<(), Stop>
+    ensures { IsOkUnless result Unprinted }
+{
     let Some(Near { position, gap }) = near else {
         return Ok(());
     };
     let text = print_position(&position);
-    println!(rt;
+    printed(println!(rt;
         "{name}\t{kind}\t{}\t{}\t{}",
         text.as_str(),
         gap.low,
         gap.up
-    )
-    .map_err(|_| Stop::Unprinted)
+    ))
 }
 
 /// Prints what was counted in a kind: the calls that came, by offer and answer, then the nearest positions.
@@ -79,10 +90,14 @@ pub(crate) fn print_census<R: Print>(
     rt: &R,
     kind: KindName,
     census: &KindCensus,
-) -> Result<(), Stop> {
+) -> Result<(), Stop>
+    ensures { IsOkUnless result Unprinted }
+{
     let name = kind.print();
     let kind = name.as_str();
     print_tally(rt, kind, &census.tally)?;
-    print_near(rt, "near-answer", kind, census.answer)?;
-    print_near(rt, "near-offer", kind, census.offer)
+    print_near(rt, "near-answer", kind, census.answer.nearest)?;
+    print_near(rt, "decided-answer", kind, census.answer.decided)?;
+    print_near(rt, "near-offer", kind, census.offer.nearest)?;
+    print_near(rt, "decided-offer", kind, census.offer.decided)
 }

@@ -1,16 +1,17 @@
-ghost use Rattle.std.specs.Prelude.{◌≡◌, ◌<◌, length};
-ghost use Rattle.game_census.specs.declared.stop.Stop.TheVariants.{Memory};
+ghost use Rattle.std.specs.Prelude.{◌≡◌, ◌<◌, ◌↔◌, IsOk, IsOkUnless, length};
+ghost use Rattle.game_census.specs.declared.stop.Stop.TheVariants.{Memory, Unprinted};
 ghost use Rattle.game_census.specs.Stops.{told_of};
 
 use database_file::LoadStop;
 use hyper_outside::NoMemory;
 use std::alloc::AllocError;
+use std::io;
 
 /// Why a run ended before it had counted all.
 #[derive(Clone, Copy)]
 pub(crate) enum Stop {
     /// The words ask for nothing that it counts.
-    Words,
+    BadWords,
     /// There is no file of this name.
     NoFile,
     /// The file isn't one of bounds.
@@ -29,13 +30,24 @@ impl Stop {
         ensures { 0 < length result.now }
     {
         match self {
-            Stop::Words => "the words are cube FILE PART PARTS, or races CHECKERS",
+            Stop::BadWords => "the words are cube FILE PART PARTS, or races CHECKERS",
             Stop::NoFile => "there is no file of this name",
             Stop::NoBounds => "the file isn't one of bounds",
             Stop::Unread => "the file can't be read",
             Stop::Memory => "there isn't memory enough",
             Stop::Unprinted => "a line couldn't be printed",
         }
+    }
+}
+
+/// A stop where a line couldn't be printed.
+pub(crate) fn printed(line: io::Result<()>) -> Result<(), Stop>
+    ensures ok { IsOk result ↔ IsOk line }
+    ensures only { IsOkUnless result Unprinted }
+{
+    match line {
+        Ok(()) => Ok(()),
+        Err(_) => Err(Stop::Unprinted),
     }
 }
 

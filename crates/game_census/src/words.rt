@@ -1,47 +1,7 @@
-ghost use Rattle.std.specs.Prelude.{◌≡◌, ◌≤◌, ◌<◌, ◌^◌, IfSome, slice_get, Some};
+ghost use Rattle.std.specs.Prelude.{◌≡◌, ◌≤◌, IfSome, length};
+ghost use Rattle.game_census.specs.Tasks.{word_count};
 
-use std::rt::Env;
-use std::{env, io};
-
-/// A part of a file's live positions, from 1, where so many equal parts share them.
-#[derive(Clone, Copy)]
-pub(crate) struct Part {
-    pub(crate) number: u32,
-    pub(crate) of: u32,
-    ghost from: { 1 ≤ number },
-    ghost to: { number ≤ of },
-}
-
-/// What is advised on the cube is to be counted, over a part of a file.
-#[derive(Clone, Copy)]
-pub(crate) struct CubeTask<'a> {
-    pub(crate) file: &'a str,
-    pub(crate) part: Part,
-}
-
-/// The races of so many checkers are to be counted.
-#[derive(Clone, Copy)]
-pub(crate) struct RaceTask {
-    pub(crate) checkers: u8,
-    ghost low: { 1 ≤ checkers },
-    ghost high: { checkers ≤ 3 },
-}
-
-/// What is to be counted.
-#[derive(Clone, Copy)]
-pub(crate) enum Task<'a> {
-    Cube(CubeTask<'a>),
-    Races(RaceTask),
-}
-
-/// The words after the program's name.
-pub(crate) fn words_of<R: Env + AllocGlobal>(rt: &R) -> io::Result<Vec<String>> {
-    let mut words = Vec::new(rt.alloc());
-    for word in env::args(rt)?.skip(1) {
-        words.push(word)?;
-    }
-    Ok(words)
-}
+use crate::task::{CubeTask, Part, RaceTask, Task};
 
 /// A number from 1 to the greatest that is taken.
 fn number_upto(word: &str, greatest: u32) -> Option<u32>
@@ -62,19 +22,25 @@ fn part_of(number: &str, of: &str) -> Option<Part> {
 }
 
 /// What `cube` asks for with these words after it.
-fn cube_task<'a>(file: &'a str, number: &str, of: &str) -> Option<Task<'a>> {
+fn cube_task<'a>(file: &'a str, number: &str, of: &str) -> Option<Task<'a>>
+    ensures { IfSome result (λ task. word_count task ≡ 4) }
+{
     let part = part_of(number, of)?;
     Some(Task::Cube(CubeTask { file, part }))
 }
 
 /// What `races` asks for with this word after it.
-fn race_task(checkers: &str) -> Option<Task<'static>> {
+fn race_task(checkers: &str) -> Option<Task<'static>>
+    ensures { IfSome result (λ task. word_count task ≡ 2) }
+{
     let checkers = number_upto(checkers, 3)? as u8;
     Some(Task::Races(RaceTask { checkers }))
 }
 
 /// What the words ask for.
-pub(crate) fn read_task(words: &[String]) -> Option<Task<'_>> {
+pub(crate) fn read_task(words: &[String]) -> Option<Task<'_>>
+    ensures { IfSome result (λ task. length words.now ≡ word_count task) }
+{
     match words {
         [command, file, number, of] if command.as_str() == "cube" => {
             cube_task(file.as_str(), number.as_str(), of.as_str())
