@@ -1,0 +1,55 @@
+-- What is advised in a kind, over some live positions by rising live rank.
+use Rattle.std.specs.Prelude.{◌≡◌, ◌+◌, ℕ, zero, suc, sum, Option, Some, None, replicate}
+use Rattle.position_rank.specs.Placement.{Placement, IsPosition, IsLive}
+use Rattle.position_rank.specs.LiveRanks.{live_rank_of}
+use Rattle.directed_fixed.specs.Bounds.{Bounds}
+use Rattle.interval_words.specs.WordLists.{WordList, words_in_list}
+use Rattle.play_analyser.specs.declared.advice.CubeAction.{CubeAction}
+use Rattle.play_analyser.specs.declared.advice.CubeAdvice.{CubeAdvice}
+use Rattle.play_analyser.specs.Advice.{IsCubeAdviceOver}
+use Rattle.game_census.specs.declared.gap.Border.{Border}
+use Rattle.game_census.specs.declared.kind_census.KindCensus.{KindCensus}
+use Rattle.game_census.specs.Calls.{call_of, counted}
+use Rattle.game_census.specs.Gaps.{answer_gap, offer_gap, with_near}
+
+-- this is the live position of so many checkers with that live rank
+pub record IsRanked (checkers rank : ℕ) (p : Placement) : Type 0 where
+  pub position : IsPosition p
+  pub live : IsLive p
+  pub many : sum p.mover ≡ checkers
+  pub number : live_rank_of p ≡ rank
+
+-- no position in which a choice is near
+abbrev pub nowhere : Border
+nowhere = record { nearest = None; decided = None }
+
+-- no call, of 24
+abbrev pub no_census : KindCensus
+no_census = record { tally = record { counts = replicate 24 0 }; answer = nowhere; offer = nowhere }
+
+-- after one more position in which the mover may double
+abbrev pub with_action : KindCensus → Placement → Bounds → CubeAction → KindCensus
+with_action census p rolling action = record {
+  tally = record { counts = counted census.tally.counts (call_of action) };
+  answer = with_near census.answer (record { position = p; gap = answer_gap action });
+  offer = with_near census.offer (record { position = p; gap = offer_gap rolling action });
+}
+
+-- after advice on one more position: nothing is counted where the mover may not double
+abbrev pub with_advice : KindCensus → Placement → Bounds → Option CubeAction → KindCensus
+with_advice census p rolling None = census
+with_advice census p rolling (Some action) = with_action census p rolling action
+
+-- the state of a live rank was added: by what is advised over the words
+pub record AddsState (words : WordList) (k rank : ℕ) (before after : KindCensus) : Type 0 where
+  pub p : Placement
+  pub ranked : IsRanked words.game.checkers rank p
+  pub advice : CubeAdvice
+  pub advised : IsCubeAdviceOver words.game.stakes (words_in_list words) p k advice
+  pub added : after ≡ with_advice before p advice.no_double advice.action
+
+-- so many states from a live rank on were added one after another
+abbrev pub IsCensus : WordList → ℕ → ℕ → ℕ → KindCensus → Type 0
+IsCensus words k from zero census = census ≡ no_census
+IsCensus words k from (suc many) census =
+    (before : KindCensus) × IsCensus words k from many before × AddsState words k (from + many) before census

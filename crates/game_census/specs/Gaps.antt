@@ -1,0 +1,44 @@
+-- How far apart two choices are, and the positions in which they are nearest.
+use Rattle.std.specs.Prelude.{◌-ℤ◌, ◌||◌, ℕ, pos, max, unsigned_abs, int_lt, nat_le, Bool, Option, Some, None, if◌then◌else◌}
+use Rattle.directed_fixed.specs.Bounds.{Bounds}
+use Rattle.play_analyser.specs.declared.advice.CubeAction.{CubeAction}
+use Rattle.play_analyser.specs.Advice.{doubling_of}
+use Rattle.game_census.specs.declared.gap.Gap.{Gap}
+use Rattle.game_census.specs.declared.gap.Near.{Near}
+use Rattle.game_census.specs.declared.gap.Border.{Border}
+
+-- how much more one choice leads to than another, at least and at most
+abbrev pub between : Bounds → Bounds → Gap
+between one another = record { low = one.lower -ℤ another.upper; up = one.upper -ℤ another.lower }
+
+-- by how much two choices differ at most
+abbrev pub farthest : Gap → ℕ
+farthest gap = max (unsigned_abs gap.low) (unsigned_abs gap.up)
+
+-- whether one of the choices is known to lead to more
+abbrev pub is_decided : Gap → Bool
+is_decided gap = int_lt (pos 0) gap.low || int_lt gap.up (pos 0)
+
+-- how much more a take gives the doubler than a pass
+abbrev pub answer_gap : CubeAction → Gap
+answer_gap action = between action.take action.pass
+
+-- how much more a double gives, as the other side answers it best, than rolling on
+abbrev pub offer_gap : Bounds → CubeAction → Gap
+offer_gap rolling action = between (doubling_of action) rolling
+
+-- the one found, unless the next is known to be nearer
+abbrev pub nearest : Option Near → Near → Near
+nearest None next = next
+nearest (Some near) next = if nat_le (farthest near.gap) (farthest next.gap) then near else next
+
+-- the nearest of those that are decided, after one more position
+abbrev pub nearest_decided : Option Near → Near → Option Near
+nearest_decided found next = if is_decided next.gap then Some (nearest found next) else found
+
+-- after one more position: the nearest of all, and the nearest of those that are decided
+abbrev pub with_near : Border → Near → Border
+with_near border next = record {
+  nearest = Some (nearest border.nearest next);
+  decided = nearest_decided border.decided next;
+}
