@@ -2,4 +2,6 @@
 #![tactic(auto)]
 
 #[cfg(test)]
+mod rounds;
+#[cfg(test)]
 mod tests;

@@ -2,4 +2,6 @@
 #![tactic(auto)]
 
 #[cfg(test)]
+mod every_state;
+#[cfg(test)]
 mod tests;
