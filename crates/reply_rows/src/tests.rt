@@ -139,7 +139,7 @@ fn replies_are_refused(rt: HostRuntime) -> Result<(), Fail> {
 
 const WRONG: [Row; 4] = [
     (&["reply", "c1"], 1, "refused 1 words form 0\n"),
-    (&["reply", "", "6 / 1"], 1, "refused 1 words value 1\n"),
+    (&["reply", "", "6 / 1"], 1, "refused 1 words word 1\n"),
     (
         &["reply", "c1", "6 / 1", "--kind=hers"],
         1,
