@@ -1,69 +1,31 @@
-//! Tells how tight the words of a game are after some rounds of one worker: the width of the widest pair, and the start's pair in its
-//! first kind. Its words are the checkers a side, the stakes and the rounds; it prints a line after 4, 8, 16 and so on of these.
+//! Solves a game by rounds of one worker and tells how tight its words are meanwhile: the width of the widest pair, and the start's pair in
+//! its first kind. Its words are the checkers a side, the stakes, the rounds, and the file that is to be written, if any. It prints a line
+//! after 4, 8, 16 and so on of the rounds and, from the fourth on, after the last one, and then writes the words as a file of bounds.
 #![tactic(auto)]
 
-ghost use Rattle.std.specs.Prelude.{◌≡◌, ◌≤◌, ◌<◌, IfSome};
+mod saving;
+mod stop;
+mod task;
+
+ghost use Rattle.std.specs.Prelude.{◌≡◌, ◌<◌, ◌^◌, IfOk};
 ghost use Rattle.interval_words.specs.Seats.{IsNumber, SitsAt};
 ghost use Rattle.interval_words.specs.WordLists.{states_of};
 ghost use Rattle.worker_sweep.specs.Workers.{WorksAt};
+ghost use Rattle.database_file.specs.Texts.{game_in};
 
+use crate::saving::save;
+use crate::stop::Stop;
+use crate::task::{Task, task_of};
+use base_head::Head;
 use block_claims::Claims;
-use cube_actions::Stakes;
 use directed_fixed::{Fixed, print_down, print_up};
-use hyper_outside::NoMemory;
+use hyper_outside::{Files, RealFiles};
 use interval_words::{Board, BoardSeat, states_are_numbered};
 use position_rank::Position;
 use std::alloc::Global;
-use std::env;
 use std::io::Print;
 use std::process::ExitCode;
-use std::rt::Env;
 use worker_sweep::{Worker, blocks_of, sweep_block};
-
-/// What is to be solved.
-#[derive(Drop)]
-struct Task {
-    checkers: u8,
-    stakes: Stakes,
-    rounds: u32,
-    ghost checkers_in: { (1 ≤ checkers) × (checkers ≤ 3) },
-}
-
-/// The stakes of a name.
-fn stakes_of(name: &str) -> Option<Stakes> {
-    match name {
-        "cubeless" => Some(Stakes::cubeless()),
-        "money" => Some(Stakes::money()),
-        "jacoby" => Some(Stakes::jacoby()),
-        "money-beavers" => Some(Stakes::money_beavers()),
-        "jacoby-beavers" => Some(Stakes::jacoby_beavers()),
-        _ => None,
-    }
-}
-
-/// A number from 1 to the greatest that is taken.
-fn number_upto(word: &str, greatest: u32) -> Option<u32>
-    ensures { IfSome result (λ number. (1 ≤ number) × (number ≤ greatest)) }
-{
-    let number = word.parse().ok()?;
-    if number < 1 || number > greatest {
-        return None;
-    }
-    Some(number)
-}
-
-/// Reads the words after the program's name.
-fn task_of<R: Env + AllocGlobal>(rt: &R) -> Option<Task> {
-    let mut words = env::args(rt).ok()?.skip(1);
-    let checkers = number_upto(words.next()?.as_str(), 3)? as u8;
-    let stakes = stakes_of(words.next()?.as_str())?;
-    let rounds = number_upto(words.next()?.as_str(), 4_096)?;
-    Some(Task {
-        checkers,
-        stakes,
-        rounds,
-    })
-}
 
 /// A round of one worker.
 fn sweep_all(worker: &mut Worker, board: &Board)
@@ -90,8 +52,9 @@ fn width_of(board: &Board, seat: &mut BoardSeat, state: u64) -> i64
 }
 
 /// How many states the board's game has.
-fn state_count(board: &Board) -> u64
-    ensures { result ≡ states_of board.now.game }
+pub(crate) fn state_count(board: &Board) -> u64
+    ensures states { result ≡ states_of board.now.game }
+    ensures small { result < 2 ^ 36 }
 {
     board.index().count() * board.stakes().kinds() as u64
 }
@@ -139,7 +102,7 @@ fn print_round<R: Print>(rt: &R, board: &Board, seat: &mut BoardSeat, round: u32
     .is_ok()
 }
 
-/// Makes so many rounds, and prints a line after each that is a power of two from 4 on. Whether all were printed.
+/// Makes so many rounds, and prints a line after those from 4 on that are powers of two, and after the last one. Whether all were printed.
 fn print_rounds<R: Print>(
     rt: &R,
     board: &Board,
@@ -149,32 +112,49 @@ fn print_rounds<R: Print>(
 ) -> bool
     requires sits { SitsAt board.now seat.old }
     requires works { WorksAt board.now worker.old }
+    ensures { SitsAt board.now seat.new }
 {
     for round in 1..=rounds {
         sweep_all(worker, board);
-        if round >= 4 && round.is_power_of_two() && !print_round(rt, board, seat, round) {
+        let is_told = round >= 4 && (round.is_power_of_two() || round == rounds);
+        if is_told && !print_round(rt, board, seat, round) {
             return false;
         }
     }
     true
 }
 
-/// Solves a game by so many rounds of one worker, and prints how tight it is meanwhile. Whether all was printed.
-fn run<R: Print>(rt: &R, alloc: Global, task: &Task) -> Result<bool, NoMemory> {
-    let (board, mut seat) = Board::new(alloc, task.checkers, &task.stakes)?;
+/// Solves a game by the rounds of one worker, and prints how tight it is meanwhile.
+fn solve<R: Print>(rt: &R, alloc: Global, head: &Head) -> Result<(Board, BoardSeat), Stop>
+    ensures game { IfOk result (λ made. made.0.game ≡ game_in head.now) }
+    ensures seat { IfOk result (λ made. SitsAt made.0 made.1) }
+{
+    let (board, mut seat) = Board::new(alloc, head.checkers(), &head.stakes())?;
     let (_, claim_seat) = Claims::new(alloc, 1)?;
     let own = board.split(&mut seat);
     let mut worker = Worker::new(alloc, &board, own, claim_seat, 0)?;
-    Ok(print_rounds(rt, &board, &mut seat, &mut worker, task.rounds))
+    if !print_rounds(rt, &board, &mut seat, &mut worker, head.rounds()) {
+        return Err(Stop::Unprinted);
+    }
+    Ok((board, seat))
+}
+
+/// Solves a game, prints how tight it is meanwhile, and writes its file where one is named.
+fn run<R: Print, F: Files>(rt: &R, alloc: Global, task: &Task, files: &mut F) -> Result<(), Stop> {
+    let (board, mut seat) = solve(rt, alloc, &task.head)?;
+    match &task.file {
+        Some(file) => save(alloc, &board, &mut seat, &task.head, file.as_str(), files),
+        None => Ok(()),
+    }
 }
 
 fn main(rt: HostRuntime) -> ExitCode {
     let Some(task) = task_of(&rt) else {
         return ExitCode::from(1);
     };
-    match run(&rt, rt.alloc(), &task) {
-        Ok(true) => ExitCode::SUCCESS,
-        Ok(false) => ExitCode::from(7),
-        Err(NoMemory) => ExitCode::from(8),
+    match run(&rt, rt.alloc(), &task, &mut RealFiles::new(&rt)) {
+        Ok(()) => ExitCode::SUCCESS,
+        Err(Stop::Unprinted | Stop::Unsaved) => ExitCode::from(7),
+        Err(Stop::Memory) => ExitCode::from(8),
     }
 }

@@ -1,4 +1,4 @@
-use Rattle.std.proofs.Common.{◌∙◌, ◌<◌, ℕ, length, ap, subst, sym}
+use Rattle.std.proofs.Common.{◌∙◌, ◌<◌, length, subst}
 use Rattle.cube_actions.specs.Stakes.{Terms}
 use Rattle.bench_widths.proofs.start_number.Goals as goal
 

@@ -4,9 +4,9 @@ use Rattle.cube_actions.specs.Stakes.{Terms}
 use Rattle.interval_words.specs.Numbers.{states_in}
 use Rattle.bench_widths.proofs.state_count.Goals as goal
 
-pub returns : goal.returns
+pub returns-clause-states : goal.returns-clause-states
 unfolding states_in
-returns c =
+returns-clause-states c =
     let count : c.count.result ≡ live_positions c.args.board.now.game.checkers = c.count.ensures.count ∙ ap (λ (n : ℕ). live_positions n) c.index.ensures in
     let kinds : c.kinds.result ≡ length c.args.board.now.game.stakes.kinds = c.kinds.ensures.kinds ∙ ap (λ (t : Terms). length t.kinds) c.stakes.ensures in
     ap (λ (n : ℕ). n * c.kinds.result) count ∙ ap (λ (n : ℕ). live_positions c.args.board.now.game.checkers * n) kinds
