@@ -14,12 +14,14 @@ use crate::task::{CubeTask, Part};
 use database_file::load_base;
 use hyper_outside::{LookStop, RealFiles};
 use interval_words::Words;
-use play_analyser::{CubeAdvice, cube_advice, one_list_gives_the_advice};
+use move_rules::PlayList;
+use play_analyser::{CubeAdvice, cube_advice_of, one_list_gives_the_advice};
 use position_rank::Position;
 use std::alloc::Global;
 use std::io::Print;
 use std::rt::Files;
 use std::thread::Threads;
+use turn_rule::RollEnds;
 
 /// How many of so many live positions stand in the first of some equal parts.
 fn share(live: u64, number: u32, of: u32) -> u64
@@ -33,24 +35,32 @@ fn share(live: u64, number: u32, of: u32) -> u64
 }
 
 /// What is advised over the words of a list. There always is some advice.
-fn advice_over(words: &Words, position: &Position, kind: usize) -> Result<CubeAdvice, LookStop>
-    requires { IsState words.now.game position.now kind }
+fn advice_over(words: &Words, ends: &RollEnds, kind: usize) -> Result<CubeAdvice, LookStop>
+    requires { IsState words.now.game ends.now kind }
     ensures { IsOkAnd result
-        (IsCubeAdviceOver words.now.game.stakes (words_in_list words.now) position.now kind) }
+        (IsCubeAdviceOver words.now.game.stakes (words_in_list words.now) ends.now kind) }
 {
     one_list_gives_the_advice();
     let mut reader = words.reader();
-    cube_advice(words.stakes(), position, kind, &mut reader)
+    cube_advice_of(words.stakes(), ends, kind, &mut reader)
+}
+
+/// Room for the plays of a position, which are listed for one position after the other.
+#[derive(Drop)]
+struct Plays {
+    list: PlayList,
+    ends: RollEnds,
 }
 
 /// Adds what is advised in the state of this live rank.
-fn add_state(census: &mut KindCensus, words: &Words, kind: usize, rank: u64)
+fn add_state(census: &mut KindCensus, words: &Words, kind: usize, rank: u64, plays: &mut Plays)
     requires kind { kind < kinds_of words.now.game }
     requires rank { rank < live_positions words.now.game.checkers }
     ensures { AddsState words.now kind rank census.old census.new }
 {
     let position = words.index().unrank(rank);
-    let advice = advice_over(words, &position, kind).unwrap();
+    plays.ends.fill(&position, &mut plays.list);
+    let advice = advice_over(words, &plays.ends, kind).unwrap();
     if let Some(action) = &advice.action {
         census.add(&position, advice.no_double, action);
     }
@@ -64,8 +74,11 @@ fn census_of(words: &Words, kind: usize, from: u64, to: u64) -> KindCensus
     ensures { IsCensus words.now kind from (to - from) result }
 {
     let mut census = KindCensus::new();
+    let mut list = PlayList::new();
+    let ends = RollEnds::of(&Position::start(words.checkers()), &mut list);
+    let mut plays = Plays { list, ends };
     for rank in from..to {
-        add_state(&mut census, words, kind, rank);
+        add_state(&mut census, words, kind, rank, &mut plays);
     }
     census
 }

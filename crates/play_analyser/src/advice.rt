@@ -121,6 +121,39 @@ fn action_of(rolling: Pair, pass: Pair, taken: &[Pair]) -> CubeAction
     }
 }
 
+/// As `cube_advice`, of a position whose plays are at hand.
+pub fn cube_advice_of<P: Pairs>(
+    stakes: &Stakes,
+    ends: &RollEnds,
+    kind: usize,
+    pairs: &mut P,
+) -> Result<CubeAdvice, LookStop>
+    requires stakes { AreStakesOf (P.seen pairs.old).source stakes.now }
+    requires state { IsSourceState (P.seen pairs.old).source ends.now kind }
+    ensures looked { LooksUp (P.seen pairs.old) (P.seen pairs.new)
+        (HasDamage (P.seen pairs.old).source (MayFollowTurn stakes.now ends.now kind))
+        (IsCubeAdvice stakes.now ends.now kind
+        (P.seen pairs.old).source (P.seen pairs.new).notes) result }
+    ensures source { (P.seen pairs.new).source ≡ (P.seen pairs.old).source }
+    ensures stays { P.stays pairs.new ≡ P.stays pairs.old }
+{
+    let no_double = ends.roll_bounds(stakes, kind, 1, pairs)?;
+    match &stakes.kind(kind).double {
+        None => Ok(CubeAdvice {
+            no_double,
+            action: None,
+        }),
+        Some(double) => {
+            let taken = answer_pairs(ends, stakes, double, pairs)?;
+            let action = action_of(no_double, double.pass, taken.as_slice());
+            Ok(CubeAdvice {
+                no_double,
+                action: Some(action),
+            })
+        }
+    }
+}
+
 /// What rolling, doubling and each answer give, and the offer and the answer that are advised, each
 /// with what it can lose at most.
 ///
@@ -144,19 +177,5 @@ pub fn cube_advice<P: Pairs>(
 {
     let mut list = PlayList::new();
     let ends = RollEnds::of(position, &mut list);
-    let no_double = ends.roll_bounds(stakes, kind, 1, pairs)?;
-    match &stakes.kind(kind).double {
-        None => Ok(CubeAdvice {
-            no_double,
-            action: None,
-        }),
-        Some(double) => {
-            let taken = answer_pairs(&ends, stakes, double, pairs)?;
-            let action = action_of(no_double, double.pass, taken.as_slice());
-            Ok(CubeAdvice {
-                no_double,
-                action: Some(action),
-            })
-        }
-    }
+    cube_advice_of(stakes, &ends, kind, pairs)
 }

@@ -13,7 +13,7 @@ mod ranking;
 #[cfg(test)]
 mod tests;
 
-pub use advice::{CubeAction, CubeAdvice, cube_advice};
+pub use advice::{CubeAction, CubeAdvice, cube_advice, cube_advice_of};
 pub use examples::{advice_examples, loss_examples};
 pub use laws::{losses_enclose_regrets, tighter_words_give_tighter_losses};
 pub use look_laws::{
