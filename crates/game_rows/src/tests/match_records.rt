@@ -1,4 +1,4 @@
-use crate::tests::{TO_TWO, room_for_two};
+use super::matches::{TO_TWO, room_for_two};
 use hyper_outside::{HonestSink, MemFiles};
 use memory_runs::ask;
 use std::alloc::Global;

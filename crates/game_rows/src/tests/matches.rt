@@ -2,6 +2,7 @@ ghost use Rattle.std.specs.Prelude.{◌≡◌, IfOk};
 ghost use Rattle.hyper_outside.specs.MemFiles.{no_files, restocked};
 ghost use Rattle.hyper_outside.specs.Store.{no_stock, roomier};
 
+use super::millionths;
 use hyper_outside::MemFiles;
 use memory_runs::{ask, ask_failing};
 use std::alloc::Global;
@@ -37,23 +38,6 @@ pub(crate) fn room_for_two(alloc: Global) -> Result<MemFiles, Fail>
 /// How many lines a text has.
 fn line_count(text: &str) -> usize {
     text.lines().count()
-}
-
-/// A number with six decimals, in millionths.
-fn millionths(word: &str) -> Option<i64> {
-    let (whole, parts) = word.split_once(".")?;
-    let (negative, whole) = match whole.strip_prefix("-") {
-        Some(rest) => (true, rest),
-        None => (false, whole),
-    };
-    let whole = whole.parse::<i64>().ok()?;
-    let parts = parts.parse::<i64>().ok()?;
-    let number = whole.saturating_mul(1_000_000).saturating_add(parts);
-    Some(if negative {
-        number.saturating_neg()
-    } else {
-        number
-    })
 }
 
 /// The pair of the start in a score's line, in millionths; none where this is no line of that score.

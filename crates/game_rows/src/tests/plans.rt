@@ -1,3 +1,4 @@
+use super::millionths;
 use hyper_outside::MemFiles;
 use memory_runs::{ask, ask_failing};
 use std::alloc::Global;
@@ -143,16 +144,8 @@ fn a_plan_that_is_not_put_is_told(rt: HostRuntime) -> Result<(), Fail> {
     Ok(())
 }
 
-/// A number with six decimals, in millionths.
-fn millionths(word: &str) -> Option<u64> {
-    let (whole, parts) = word.split_once(".")?;
-    let whole = whole.parse::<u64>().ok()?;
-    let parts = parts.parse::<u64>().ok()?;
-    Some(whole.saturating_mul(1_000_000).saturating_add(parts))
-}
-
 /// The two numbers behind some words in a text, in millionths; none where they don't stand there.
-fn ends_behind(text: &str, words: &str) -> Option<(u64, u64)> {
+fn ends_behind(text: &str, words: &str) -> Option<(i64, i64)> {
     let (_before, rest) = text.split_once(words)?;
     let (low, rest) = rest.split_once(" ")?;
     let end = rest.find([' ', '\n'])?;
@@ -161,7 +154,7 @@ fn ends_behind(text: &str, words: &str) -> Option<(u64, u64)> {
 
 // What a plain program in floating point finds of a match to three points with one checker a side, from what the near side has before the first
 // play: 0.455064132 at 1-3 in the Crawford game, 0.122514962 at 2-3, and 0 at all other scores.
-const FOUND: [(&str, u64); 5] = [
+const FOUND: [(&str, i64); 5] = [
     // a pass leaves an even game, and what is played for at 2 is the match
     ("\n2.2.n near take ", 500_000),
     ("\n1.2.p near take ", 500_000),

@@ -1,2 +1,0 @@
-mod advice;
-mod verifies;
