@@ -39,7 +39,11 @@ fn number_upto(word: &str, greatest: u32) -> Option<u32>
 }
 
 /// Reads the words after the program's name.
-pub(crate) fn task_of<R: Env + AllocGlobal>(rt: &R) -> Option<Task> {
+pub(crate) fn task_of<R: Env + AllocGlobal>(rt: &R) -> Option<Task>
+    ensures stakes { IfSome result (λ task. is_match task.head.name ≡ false) }
+    ensures rounds { IfSome result
+        (λ task. (1 ≤ task.head.rounds) × (task.head.rounds ≤ 4096)) }
+{
     let mut words = env::args(rt).ok()?.skip(1);
     let checkers = number_upto(words.next()?.as_str(), 3)? as u8;
     let stakes = stakes_named(words.next()?.as_str())?;
