@@ -1,7 +1,9 @@
-//! Runs of the program over files in memory, for the tests of its commands.
+//! Runs of the program over files in memory, by which its commands are tested.
 #![tactic(auto)]
 
 mod runs;
+#[cfg(test)]
+mod tests;
 mod texts;
 
 pub use runs::{ask, ask_at, ask_failing};

@@ -1,8 +1,9 @@
 //! Files whose words are checked: solved ones, ones of the widest pairs, and ones with a word that is too tight.
+use super::rows::{FailingPut, failing_run_answers, run_answers, runs_succeed};
 use hyper_outside::MemFiles;
-use memory_runs::{ask, ask_failing};
 use sha2::{Digest, Sha256};
 use std::alloc::Global;
+use std::process::Abort;
 use std::test::Fail;
 use std::thread::Threads;
 
@@ -50,10 +51,14 @@ fn held(alloc: Global, files: &MemFiles, name: &str) -> Result<Vec<u8>, Fail> {
 }
 
 /// Files in which a game was solved by these words, as "c1".
-fn solved<R: Threads + Sync>(rt: &R, alloc: Global, words: &[&str]) -> Result<MemFiles, Fail> {
+fn solved<R: Threads + Sync + Abort>(
+    rt: &R,
+    alloc: Global,
+    words: &[&str],
+) -> Result<MemFiles, Fail> {
     let mut files = MemFiles::new(alloc);
     files.room(2, 3_300_000)?;
-    let (_status, _out) = ask(rt, alloc, &mut files, words)?;
+    runs_succeed(rt, alloc, &mut files, &[words])?;
     Ok(files)
 }
 
@@ -72,9 +77,7 @@ const YES: &str = "consistent checkers 1 stakes cubeless rounds 8 positions 601\
 fn a_unit_more_is_found(rt: HostRuntime) -> Result<(), Fail> {
     let alloc = rt.alloc();
     let mut files = solved(&rt, alloc, &CUBELESS)?;
-    let (status, out) = ask(&rt, alloc, &mut files, &["verify", "c1"])?;
-    assert_eq!(rt; status, 0);
-    assert_eq!(rt; out.put_bytes(), YES.as_bytes());
+    run_answers(&rt, alloc, &mut files, &["verify", "c1"], 0, YES)?;
     let mut text = held(alloc, &files, "c1")?;
     assert_eq!(rt;
         text.get(1296..1306),
@@ -82,10 +85,8 @@ fn a_unit_more_is_found(rt: HostRuntime) -> Result<(), Fail> {
     );
     put_pair(&mut text, 120, POINT + 1, POINT + 1);
     files.with_file("c1", &text)?;
-    let (status, out) = ask(&rt, alloc, &mut files, &["verify", "c1"])?;
-    assert_eq!(rt; status, 9);
     let line = "refused 9 inconsistent lower alone 4294967297 4294967296 6 / 1\n";
-    assert_eq!(rt; out.put_bytes(), line.as_bytes());
+    run_answers(&rt, alloc, &mut files, &["verify", "c1"], 9, line)?;
     assert_eq!(rt; files.held("c1"), Some(text.as_slice()));
     Ok(())
 }
@@ -104,12 +105,8 @@ fn the_widest_pairs_pass(rt: HostRuntime) -> Result<(), Fail> {
     files.with_file("c1", &text)?;
     let line = "refused 9 inconsistent lower alone 12884901888 8589934592 1 / 1\n";
     for workers in ["--workers=1", "--workers=3", "--workers=64"] {
-        let (status, out) = ask(&rt, alloc, &mut files, &["verify", "wide", workers])?;
-        assert_eq!(rt; status, 0);
-        assert_eq!(rt; out.put_bytes(), YES.as_bytes());
-        let (status, out) = ask(&rt, alloc, &mut files, &["verify", "c1", workers])?;
-        assert_eq!(rt; status, 9);
-        assert_eq!(rt; out.put_bytes(), line.as_bytes());
+        run_answers(&rt, alloc, &mut files, &["verify", "wide", workers], 0, YES)?;
+        run_answers(&rt, alloc, &mut files, &["verify", "c1", workers], 9, line)?;
     }
     Ok(())
 }
@@ -133,8 +130,7 @@ fn solved_games_pass(rt: HostRuntime) -> Result<(), Fail> {
             let words = ["solve", "c1", checkers, rounds, workers, stakes];
             let mut files = solved(&rt, alloc, &words)?;
             assert!(rt; files.held("c1").is_some());
-            let (status, _out) = ask(&rt, alloc, &mut files, &["verify", "c1", workers])?;
-            assert_eq!(rt; status, 0);
+            runs_succeed(&rt, alloc, &mut files, &[&["verify", "c1", workers]])?;
         }
     }
     Ok(())
@@ -155,9 +151,7 @@ fn a_failing_read_is_told(rt: HostRuntime) -> Result<(), Fail> {
         let mut files = MemFiles::new(alloc);
         files.with_file("c1", &text)?;
         files.fail_call(call, 0)?;
-        let (status, out) = ask(&rt, alloc, &mut files, &["verify", "c1"])?;
-        assert_eq!(rt; status, answer);
-        assert_eq!(rt; out.put_bytes(), line.as_bytes());
+        run_answers(&rt, alloc, &mut files, &["verify", "c1"], answer, line)?;
         assert_eq!(rt; files.held("c1"), Some(text.as_slice()));
     }
     Ok(())
@@ -176,9 +170,8 @@ fn a_failing_output_is_told(rt: HostRuntime) -> Result<(), Fail> {
         ("no", 9, 9, "refused 9"),
     ] {
         let words = ["verify", name];
-        let (status, out) = ask_failing(&rt, alloc, &mut files, &words, 1, prefix)?;
-        assert_eq!(rt; status, answer);
-        assert_eq!(rt; out.put_bytes(), line.as_bytes());
+        let failing = FailingPut(1, prefix);
+        failing_run_answers(&rt, alloc, &mut files, &words, failing, (answer, line))?;
     }
     Ok(())
 }

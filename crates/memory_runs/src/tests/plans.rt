@@ -1,6 +1,7 @@
 use super::millionths;
+use super::rows::{FailingPut, Row, failing_run_answers, run_answers, runs_answer, runs_succeed};
+use crate::ask;
 use hyper_outside::MemFiles;
-use memory_runs::{ask, ask_failing};
 use std::alloc::Global;
 use std::process::Abort;
 use std::test::Fail;
@@ -16,11 +17,11 @@ const TO_TWO: [&str; 6] = [
 ];
 
 /// Files with those of a match to two points.
-fn solved_to_two<R: Threads + Sync>(rt: &R, alloc: Global) -> Result<(u8, MemFiles), Fail> {
+fn solved_to_two<R: Threads + Sync + Abort>(rt: &R, alloc: Global) -> Result<MemFiles, Fail> {
     let mut files = MemFiles::new(alloc);
     files.room(4, 97_000)?;
-    let (status, _out) = ask(rt, alloc, &mut files, &TO_TWO)?;
-    Ok((status, files))
+    runs_succeed(rt, alloc, &mut files, &[&TO_TWO])?;
+    Ok(files)
 }
 
 // One point is won by whoever wins at all. In the Crawford game nobody doubles, and where a side needs one point a gammon wins it no more.
@@ -35,8 +36,7 @@ const LINES: [&str; 5] = [
 #[test]
 fn a_match_to_two_points_is_planned(rt: HostRuntime) -> Result<(), Fail> {
     let alloc = rt.alloc();
-    let (solved, mut files) = solved_to_two(&rt, alloc)?;
-    assert_eq!(rt; solved, 0);
+    let mut files = solved_to_two(&rt, alloc)?;
     let (status, out) = ask(&rt, alloc, &mut files, &["plan", "L", "--length", "2"])?;
     assert_eq!(rt; status, 0);
     let text = str::from_utf8(out.put_bytes()).unwrap_or("");
@@ -47,10 +47,7 @@ fn a_match_to_two_points_is_planned(rt: HostRuntime) -> Result<(), Fail> {
     Ok(())
 }
 
-/// The words, and what the run puts that is refused so.
-type Refused = (&'static [&'static str], u8, &'static str);
-
-const REFUSED: [Refused; 8] = [
+const REFUSED: [Row; 8] = [
     (&["plan", "L"], 3, "refused 3 missing L.3.3.n\n"),
     (
         &["plan", "L", "--length=3"],
@@ -81,15 +78,9 @@ const REFUSED: [Refused; 8] = [
 #[test]
 fn plans_are_refused(rt: HostRuntime) -> Result<(), Fail> {
     let alloc = rt.alloc();
-    let (solved, mut files) = solved_to_two(&rt, alloc)?;
-    assert_eq!(rt; solved, 0);
+    let mut files = solved_to_two(&rt, alloc)?;
     files.with_file("E.4.4.n", b"empty")?;
-    for (words, due, line) in REFUSED {
-        let (status, out) = ask(&rt, alloc, &mut files, words)?;
-        assert_eq!(rt; status, due);
-        let text = str::from_utf8(out.put_bytes()).unwrap_or("");
-        assert_eq!(rt; text, line);
-    }
+    runs_answer(&rt, alloc, &mut files, &REFUSED)?;
     Ok(())
 }
 
@@ -105,13 +96,16 @@ fn a_file_of_another_game_is_refused(rt: HostRuntime) -> Result<(), Fail> {
         "--stakes=cubeless",
         "--rounds=1",
     ];
-    let (solved, _out) = ask(&rt, alloc, &mut files, &words)?;
-    assert_eq!(rt; solved, 0);
-    let (status, out) = ask(&rt, alloc, &mut files, &["plan", "C", "--length=2"])?;
-    assert_eq!(rt; status, 10);
+    runs_succeed(&rt, alloc, &mut files, &[&words])?;
     let line = "refused 10 base wanted stakes match 2 2.2.n found checkers 1 stakes cubeless\n";
-    let text = str::from_utf8(out.put_bytes()).unwrap_or("");
-    assert_eq!(rt; text, line);
+    run_answers(
+        &rt,
+        alloc,
+        &mut files,
+        &["plan", "C", "--length=2"],
+        10,
+        line,
+    )?;
     Ok(())
 }
 
@@ -120,13 +114,11 @@ fn a_file_of_another_game_is_refused(rt: HostRuntime) -> Result<(), Fail> {
 fn a_read_that_fails_is_told(rt: HostRuntime) -> Result<(), Fail> {
     let alloc = rt.alloc();
     for call in 0..3u64 {
-        let (solved, mut files) = solved_to_two(&rt, alloc)?;
-        assert_eq!(rt; solved, 0);
+        let mut files = solved_to_two(&rt, alloc)?;
         // Each of three files was begun and appended to three times.
         files.fail_call(13 + call, 0)?;
-        let (status, out) = ask(&rt, alloc, &mut files, &["plan", "L", "--length=2"])?;
-        assert_eq!(rt; status, 6);
-        assert_eq!(rt; out.put_bytes(), b"refused 6 read\n".as_slice());
+        let words = ["plan", "L", "--length=2"];
+        run_answers(&rt, alloc, &mut files, &words, 6, "refused 6 read\n")?;
     }
     Ok(())
 }
@@ -134,13 +126,10 @@ fn a_read_that_fails_is_told(rt: HostRuntime) -> Result<(), Fail> {
 #[test]
 fn a_plan_that_is_not_put_is_told(rt: HostRuntime) -> Result<(), Fail> {
     let alloc = rt.alloc();
-    let (solved, mut files) = solved_to_two(&rt, alloc)?;
-    assert_eq!(rt; solved, 0);
+    let mut files = solved_to_two(&rt, alloc)?;
     let words = ["plan", "L", "--length=2"];
-    let (status, out) = ask_failing(&rt, alloc, &mut files, &words, 1, 12)?;
-    assert_eq!(rt; status, 7);
-    let text = b"1.1.p start refused 7 write\n";
-    assert_eq!(rt; out.put_bytes(), text.as_slice());
+    let due = (7, "1.1.p start refused 7 write\n");
+    failing_run_answers(&rt, alloc, &mut files, &words, FailingPut(1, 12), due)?;
     Ok(())
 }
 
@@ -171,8 +160,7 @@ fn plans_enclose_what_a_plain_program_finds(rt: HostRuntime) -> Result<(), Fail>
     let mut files = MemFiles::new(alloc);
     files.room(7, 206_000)?;
     let words = ["ladder", "m", "--checkers=1", "--rounds=12", "--workers=2"];
-    let (solved, _out) = ask(&rt, alloc, &mut files, &words)?;
-    assert_eq!(rt; solved, 0);
+    runs_succeed(&rt, alloc, &mut files, &[&words])?;
     let (status, out) = ask(&rt, alloc, &mut files, &["plan", "m"])?;
     assert_eq!(rt; status, 0);
     let text = str::from_utf8(out.put_bytes()).unwrap_or("");
@@ -194,8 +182,7 @@ fn a_match_to_five_points_is_planned(rt: HostRuntime) -> Result<(), Fail> {
     let mut files = MemFiles::new(alloc);
     files.room(18, 900_000)?;
     let words = ["ladder", "five", "--checkers=1", "--length=5", "--rounds=2"];
-    let (solved, _out) = ask(&rt, alloc, &mut files, &words)?;
-    assert_eq!(rt; solved, 0);
+    runs_succeed(&rt, alloc, &mut files, &[&words])?;
     let (status, out) = ask(&rt, alloc, &mut files, &["plan", "five", "--length=5"])?;
     assert_eq!(rt; status, 0);
     let text = str::from_utf8(out.put_bytes()).unwrap_or("");

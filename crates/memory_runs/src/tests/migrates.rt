@@ -1,5 +1,6 @@
+use super::rows::run_answers;
+use crate::{ask, cubeless_text};
 use hyper_outside::MemFiles;
-use memory_runs::{ask, cubeless_text};
 use std::test::Fail;
 
 const MIGRATE: [&str; 3] = ["migrate", "old", "new"];
@@ -12,10 +13,8 @@ fn a_file_is_written_anew(rt: HostRuntime) -> Result<(), Fail> {
     let mut files = MemFiles::new(alloc);
     files.with_file("old", &old)?;
     files.room(1, 10_000)?;
-    let (status, out) = ask(&rt, alloc, &mut files, &MIGRATE)?;
-    assert_eq!(rt; status, 0);
     let report = "migrated checkers 1 stakes cubeless rounds 8\nfile new bytes 6138\n";
-    assert_eq!(rt; out.put_bytes(), report.as_bytes());
+    run_answers(&rt, alloc, &mut files, &MIGRATE, 0, report)?;
     let new = cubeless_text(alloc, 2)?;
     assert_eq!(rt; files.held("new"), Some(new.as_slice()));
     assert_eq!(rt; files.held("old"), Some(old.as_slice()));
@@ -39,9 +38,7 @@ fn a_damaged_file_is_refused(rt: HostRuntime) -> Result<(), Fail> {
         }
         let mut files = MemFiles::new(alloc);
         files.with_file("old", &old)?;
-        let (status, out) = ask(&rt, alloc, &mut files, &MIGRATE)?;
-        assert_eq!(rt; status, 4);
-        assert_eq!(rt; out.put_bytes(), line.as_bytes());
+        run_answers(&rt, alloc, &mut files, &MIGRATE, 4, line)?;
         assert_eq!(rt; files.held("new"), None);
     }
     Ok(())

@@ -1,5 +1,0 @@
-//! Runs of commands on files of bounds, each with the status and the bytes that are due.
-#![tactic(auto)]
-
-#[cfg(test)]
-mod tests;
