@@ -12,8 +12,8 @@ use std::alloc::{AllocError, AllocFailed, Global};
 use std::thread::Threads;
 use word_pages::{Flaw, PageStop, Version, load_page};
 
-/// How many pages are read together. A thread for each few of them costs little beside their digests.
-const BATCH_PAGES: usize = 64;
+/// How many pages are read together: so many that the workers seldom wait for the slowest of them, which they do once for each batch.
+const BATCH_PAGES: usize = 256;
 
 /// Pages of words that follow one another in a file.
 #[derive(Clone, Copy)]
