@@ -1,9 +1,7 @@
-//! Runs of the program over files in memory, by which its commands are tested.
+//! Runs of the program over files in memory, for the tests of its commands.
 #![tactic(auto)]
 
 mod runs;
-#[cfg(test)]
-mod tests;
 mod texts;
 
 pub use runs::{ask, ask_at, ask_failing};

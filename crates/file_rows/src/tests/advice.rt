@@ -1,6 +1,5 @@
-use super::rows::{FailingPut, Row, failing_run_answers, run_answers, runs_answer, runs_succeed};
-use crate::cubeless_text;
 use hyper_outside::MemFiles;
+use memory_runs::{ask, ask_failing, cubeless_text};
 use std::test::Fail;
 
 // Words that solve a game, each within a second.
@@ -31,7 +30,7 @@ const SOLVES: [&[&str]; 5] = [
 ];
 
 // Words, the status and all that is put, each worked out by hand.
-const ADVICE: [Row; 15] = [
+const ADVICE: [(&[&str], u8, &str); 15] = [
     (
         &["advise", "m1", "6 / 1", "--kind", "mine"],
         0,
@@ -108,7 +107,10 @@ fn advice_is_as_worked_by_hand(rt: HostRuntime) -> Result<(), Fail> {
     let alloc = rt.alloc();
     let mut files = MemFiles::new(alloc);
     files.room(5, 3_400_000)?;
-    runs_succeed(&rt, alloc, &mut files, &SOLVES)?;
+    for words in SOLVES {
+        let (status, _out) = ask(&rt, alloc, &mut files, words)?;
+        assert_eq!(rt; status, 0);
+    }
     let mut damaged = Vec::new(alloc);
     damaged.extend_from_slice(files.held("j2").unwrap_or(b""))?;
     assert_eq!(rt; damaged.len(), 3_200_016);
@@ -116,7 +118,11 @@ fn advice_is_as_worked_by_hand(rt: HostRuntime) -> Result<(), Fail> {
         *cell ^= 1;
     }
     files.with_file("j2", &damaged)?;
-    runs_answer(&rt, alloc, &mut files, &ADVICE)?;
+    for (words, answer, text) in ADVICE {
+        let (status, out) = ask(&rt, alloc, &mut files, words)?;
+        assert_eq!(rt; status, answer, "at {text}");
+        assert_eq!(rt; out.put_bytes(), text.as_bytes());
+    }
     Ok(())
 }
 
@@ -142,9 +148,15 @@ fn a_damaged_page_counts_where_advice_rests_on_it(rt: HostRuntime) -> Result<(),
     }
     let mut files = MemFiles::new(alloc);
     files.with_file("c1", &bytes)?;
-    run_answers(&rt, alloc, &mut files, &PLAY, 0, PLAY_TEXT)?;
-    let refusal = "refused 4 file page-digest 6106\n";
-    run_answers(&rt, alloc, &mut files, &CUBE, 4, refusal)?;
+    let (status, out) = ask(&rt, alloc, &mut files, &PLAY)?;
+    assert_eq!(rt; status, 0);
+    assert_eq!(rt; out.put_bytes(), PLAY_TEXT.as_bytes());
+    let (status, out) = ask(&rt, alloc, &mut files, &CUBE)?;
+    assert_eq!(rt; status, 4);
+    assert_eq!(rt;
+        out.put_bytes(),
+        "refused 4 file page-digest 6106\n".as_bytes()
+    );
     Ok(())
 }
 
@@ -167,8 +179,9 @@ fn a_failing_read_is_told_of_advice(rt: HostRuntime) -> Result<(), Fail> {
         let mut files = MemFiles::new(alloc);
         files.with_file("c1", &whole)?;
         files.fail_call(call, 0)?;
-        let due = if text == READ { 6 } else { 0 };
-        run_answers(&rt, alloc, &mut files, words, due, text)?;
+        let (status, out) = ask(&rt, alloc, &mut files, words)?;
+        assert_eq!(rt; status, if text == READ { 6 } else { 0 });
+        assert_eq!(rt; out.put_bytes(), text.as_bytes());
         assert_eq!(rt; files.held("c1"), Some(whole.as_slice()));
     }
     Ok(())
@@ -182,8 +195,9 @@ fn a_failing_output_is_told_of_advice(rt: HostRuntime) -> Result<(), Fail> {
     for words in [CUBE.as_slice(), PLAY.as_slice()] {
         let mut files = MemFiles::new(alloc);
         files.with_file("c1", &whole)?;
-        let due = (7, "positionrefused 7 write\n");
-        failing_run_answers(&rt, alloc, &mut files, words, FailingPut(1, 8), due)?;
+        let (status, out) = ask_failing(&rt, alloc, &mut files, words, 1, 8)?;
+        assert_eq!(rt; status, 7);
+        assert_eq!(rt; out.put_bytes(), "positionrefused 7 write\n".as_bytes());
     }
     Ok(())
 }

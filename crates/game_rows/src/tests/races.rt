@@ -1,6 +1,5 @@
-use super::rows::{FailingPut, Row, failing_run_answers, run_answers};
-use crate::ask;
 use hyper_outside::MemFiles;
+use memory_runs::{ask, ask_failing};
 use std::alloc::Global;
 use std::process::Abort;
 use std::test::Fail;
@@ -8,7 +7,7 @@ use std::thread::Threads;
 
 // The words, the status, and all that is put. From 1 each roll bears the last checker off, which wins a gammon. From 6 there are 27 rolls of 36 that
 // do; after the other 9 the other side wins one. From 5 there are 31; with a checker of each side off each win counts one point.
-const ROWS: [Row; 17] = [
+const ROWS: [(&[&str], u8, &str); 17] = [
     (
         &["race", "1", "1 / 1"],
         0,
@@ -55,32 +54,33 @@ const ROWS: [Row; 17] = [
 #[test]
 fn each_line_has_its_answer(rt: HostRuntime) -> Result<(), Fail> {
     let alloc = rt.alloc();
-    for (words, due, text) in ROWS {
+    for (words, status, text) in ROWS {
         let mut files = MemFiles::new(alloc);
-        run_answers(&rt, alloc, &mut files, words, due, text)?;
+        let (answer, out) = ask(&rt, alloc, &mut files, words)?;
+        assert_eq!(rt; answer, status, "at {text}");
+        assert_eq!(rt; out.put_bytes(), text.as_bytes());
     }
     Ok(())
 }
 
 const PUT: &str = "position 1 / 1\nturns 1\nalone 2.000000 2.000000 8589934592 8589934592\n";
 
-// What fails, and the status with what is put.
-const PUTS: [(FailingPut, (u8, &str)); 3] = [
-    (FailingPut(1, 0), (7, "refused 7 write\n")),
-    (
-        FailingPut(1, 17),
-        (7, "position 1 / 1\nturefused 7 write\n"),
-    ),
-    (FailingPut(2, 0), (0, PUT)),
+// The output's call that fails, after how many bytes, the status, and what is put.
+const PUTS: [(u64, usize, u8, &str); 3] = [
+    (1, 0, 7, "refused 7 write\n"),
+    (1, 17, 7, "position 1 / 1\nturefused 7 write\n"),
+    (2, 0, 0, PUT),
 ];
 
 #[test]
 fn a_failing_output_is_told(rt: HostRuntime) -> Result<(), Fail> {
     let alloc = rt.alloc();
-    for (failing, answer) in PUTS {
+    for (call, prefix, answer, text) in PUTS {
         let mut files = MemFiles::new(alloc);
         let words = ["race", "1", "1 / 1"];
-        failing_run_answers(&rt, alloc, &mut files, &words, failing, answer)?;
+        let (status, out) = ask_failing(&rt, alloc, &mut files, &words, call, prefix)?;
+        assert_eq!(rt; status, answer);
+        assert_eq!(rt; out.put_bytes(), text.as_bytes());
     }
     Ok(())
 }

@@ -1,10 +1,7 @@
 use super::matches::{TO_TWO, room_for_two};
-use super::rows::{run_answers, runs_succeed};
-use super::tells_lines;
-use crate::ask;
-use hyper_outside::MemFiles;
+use hyper_outside::{HonestSink, MemFiles};
+use memory_runs::ask;
 use std::alloc::Global;
-use std::process::Abort;
 use std::test::Fail;
 use std::thread::Threads;
 
@@ -25,6 +22,20 @@ const LINES: [(&str, &str); 5] = [
     ("B decisions 1 loss ", ""),
 ];
 
+/// Whether a text was put of as many lines as are told, each with this beginning and this end.
+fn tells(out: &HonestSink, lines: &[(&str, &str)]) -> bool {
+    let text = str::from_utf8(out.put_bytes()).unwrap_or("");
+    if text.lines().count() != lines.len() {
+        return false;
+    }
+    for (line, (begin, end)) in text.lines().zip(lines) {
+        if !line.starts_with(begin) || !line.ends_with(end) {
+            return false;
+        }
+    }
+    true
+}
+
 #[test]
 fn a_recorded_match_is_studied(rt: HostRuntime) -> Result<(), Fail> {
     let alloc = rt.alloc();
@@ -32,14 +43,14 @@ fn a_recorded_match_is_studied(rt: HostRuntime) -> Result<(), Fail> {
     files.with_file("r", ONE_GAME.as_bytes())?;
     let (status, out) = ask(&rt, alloc, &mut files, &["study", "r", "--rounds", "4"])?;
     assert_eq!(rt; status, 0);
-    assert!(rt; tells_lines(out.put_bytes(), &LINES));
+    assert!(rt; tells(&out, &LINES));
     Ok(())
 }
 
 /// The files of a solved match to two points, and the records of one and of two games.
-fn solved<R: Threads + Sync + Abort>(rt: &R, alloc: Global) -> Result<MemFiles, Fail> {
+fn solved<R: Threads + Sync>(rt: &R, alloc: Global) -> Result<MemFiles, Fail> {
     let mut files = room_for_two(alloc)?;
-    runs_succeed(rt, alloc, &mut files, &[&TO_TWO])?;
+    let (_status, _out) = ask(rt, alloc, &mut files, &TO_TWO)?;
     files.with_file("r", ONE_GAME.as_bytes())?;
     files.with_file("s", TWO_GAMES.as_bytes())?;
     Ok(files)
@@ -51,7 +62,7 @@ fn a_recorded_match_is_analysed(rt: HostRuntime) -> Result<(), Fail> {
     let mut files = solved(&rt, alloc)?;
     let (status, out) = ask(&rt, alloc, &mut files, &["analyse", "L", "r"])?;
     assert_eq!(rt; status, 0);
-    assert!(rt; tells_lines(out.put_bytes(), &LINES));
+    assert!(rt; tells(&out, &LINES));
     let (status, out) = ask(&rt, alloc, &mut files, &["analyse", "L", "s"])?;
     assert_eq!(rt; status, 0);
     let lines = [
@@ -62,7 +73,7 @@ fn a_recorded_match_is_analysed(rt: HostRuntime) -> Result<(), Fail> {
         ("A decisions 2 loss ", ""),
         ("B decisions 2 loss ", ""),
     ];
-    assert!(rt; tells_lines(out.put_bytes(), &lines));
+    assert!(rt; tells(&out, &lines));
     Ok(())
 }
 
@@ -130,7 +141,9 @@ fn matches_are_refused_in_order(rt: HostRuntime) -> Result<(), Fail> {
     let solved = solved(&rt, alloc)?;
     for (names, rec, due, told) in ROWS {
         let mut files = renamed(alloc, &solved, names)?;
-        run_answers(&rt, alloc, &mut files, &["analyse", "L", rec], due, told)?;
+        let (status, out) = ask(&rt, alloc, &mut files, &["analyse", "L", rec])?;
+        assert_eq!(rt; status, due, "at {told}");
+        assert_eq!(rt; out.put_bytes(), told.as_bytes());
     }
     Ok(())
 }

@@ -1,6 +1,5 @@
-use super::rows::{Row, run_answers, runs_answer, runs_succeed};
-use crate::cubeless_text;
 use hyper_outside::MemFiles;
+use memory_runs::{ask, cubeless_text};
 use std::test::Fail;
 
 // Words that solve a game, each within a second.
@@ -17,7 +16,7 @@ const SOLVES: [&[&str]; 3] = [
 ];
 
 // Words, the status and all that is put. The pair of `12 / 9` was tightened in the same round as those that it rests on.
-const SHOWS: [Row; 6] = [
+const SHOWS: [(&[&str], u8, &str); 6] = [
     (
         &["show", "g1", "12 / 9"],
         0,
@@ -48,7 +47,10 @@ fn solved_games_are_shown(rt: HostRuntime) -> Result<(), Fail> {
     let alloc = rt.alloc();
     let mut files = MemFiles::new(alloc);
     files.room(3, 3_300_000)?;
-    runs_succeed(&rt, alloc, &mut files, &SOLVES)?;
+    for words in SOLVES {
+        let (status, _out) = ask(&rt, alloc, &mut files, words)?;
+        assert_eq!(rt; status, 0);
+    }
     let mut damaged = Vec::new(alloc);
     damaged.extend_from_slice(files.held("j2").unwrap_or(b""))?;
     assert_eq!(rt; damaged.len(), 3_200_016);
@@ -56,8 +58,13 @@ fn solved_games_are_shown(rt: HostRuntime) -> Result<(), Fail> {
         *cell ^= 1;
     }
     files.with_file("j2", &damaged)?;
-    runs_answer(&rt, alloc, &mut files, &SHOWS)?;
-    runs_succeed(&rt, alloc, &mut files, &[&["show", "j2", "6 off / 1 off"]])?;
+    for (words, answer, text) in SHOWS {
+        let (status, out) = ask(&rt, alloc, &mut files, words)?;
+        assert_eq!(rt; status, answer);
+        assert_eq!(rt; out.put_bytes(), text.as_bytes());
+    }
+    let (status, _out) = ask(&rt, alloc, &mut files, &["show", "j2", "6 off / 1 off"])?;
+    assert_eq!(rt; status, 0);
     Ok(())
 }
 
@@ -66,26 +73,27 @@ const SHOW: [&str; 3] = ["show", "c1", "6 / 1"];
 const SHOWN: &str =
     "position 6 / 1\ncheckers 1 stakes cubeless rounds 8\nalone -1.000000 1.000000 -4294967296 4294967296\n";
 
-// How many bytes of the file are kept, what stands behind them, the status, and what is put.
-const LENGTHS: [(usize, &[u8], u8, &str); 4] = [
-    (6137, b"", 4, "refused 4 file short 6137\n"),
-    (6138, b"\0", 4, "refused 4 file long 6138\n"),
-    (6137, b"\0", 4, "refused 4 file page-digest 6106\n"),
-    (6138, b"", 0, SHOWN),
+// How many bytes of the file are kept, what stands behind them, and what is put.
+const LENGTHS: [(usize, &[u8], &str); 4] = [
+    (6137, b"", "refused 4 file short 6137\n"),
+    (6138, b"\0", "refused 4 file long 6138\n"),
+    (6137, b"\0", "refused 4 file page-digest 6106\n"),
+    (6138, b"", SHOWN),
 ];
 
 #[test]
 fn a_damaged_file_is_not_shown(rt: HostRuntime) -> Result<(), Fail> {
     let alloc = rt.alloc();
     let whole = cubeless_text(alloc, 2)?;
-    for (kept, rest, due, text) in LENGTHS {
+    for (kept, rest, text) in LENGTHS {
         let mut bytes = Vec::new(alloc);
         bytes.extend_from_slice(whole.get(..kept).unwrap_or(b""))?;
         bytes.extend_from_slice(rest)?;
         let mut files = MemFiles::new(alloc);
         files.with_file("c1", &bytes)?;
         files.short_reads(1);
-        run_answers(&rt, alloc, &mut files, &SHOW, due, text)?;
+        let (_status, out) = ask(&rt, alloc, &mut files, &SHOW)?;
+        assert_eq!(rt; out.put_bytes(), text.as_bytes());
     }
     Ok(())
 }
@@ -95,16 +103,17 @@ fn a_damaged_file_is_not_shown(rt: HostRuntime) -> Result<(), Fail> {
 fn a_failing_read_is_told(rt: HostRuntime) -> Result<(), Fail> {
     let alloc = rt.alloc();
     let whole = cubeless_text(alloc, 2)?;
-    for (call, due, text) in [
-        (1, 6, "refused 6 read\n"),
-        (2, 6, "refused 6 read\n"),
-        (3, 6, "refused 6 read\n"),
-        (4, 0, SHOWN),
+    for (call, text) in [
+        (1, "refused 6 read\n"),
+        (2, "refused 6 read\n"),
+        (3, "refused 6 read\n"),
+        (4, SHOWN),
     ] {
         let mut files = MemFiles::new(alloc);
         files.with_file("c1", &whole)?;
         files.fail_call(call, 0)?;
-        run_answers(&rt, alloc, &mut files, &SHOW, due, text)?;
+        let (_status, out) = ask(&rt, alloc, &mut files, &SHOW)?;
+        assert_eq!(rt; out.put_bytes(), text.as_bytes());
     }
     Ok(())
 }

@@ -1,6 +1,5 @@
-use super::rows::run_answers;
-use crate::ask;
 use hyper_outside::{HonestFiles, MemFiles};
+use memory_runs::ask;
 use std::test::Fail;
 
 // A game of one checker, and what is said of it. How wide the widest pair is no one reckoned by hand.
@@ -49,7 +48,9 @@ fn a_failing_file_is_told(rt: HostRuntime) -> Result<(), Fail> {
         files.with_file("c1", b"old")?;
         files.room(0, 10_000)?;
         files.fail_call(call, prefix)?;
-        run_answers(&rt, alloc, &mut files, &SOLVE, 7, "refused 7 write\n")?;
+        let (status, out) = ask(&rt, alloc, &mut files, &SOLVE)?;
+        assert_eq!(rt; status, 7);
+        assert_eq!(rt; out.put_bytes(), "refused 7 write\n".as_bytes());
         assert_eq!(rt; files.held("c1").map(|file| file.len()), Some(length));
     }
     Ok(())

@@ -1,9 +1,7 @@
-use super::rows::{FailingPut, Row, failing_run_answers, run_answers, runs_answer, runs_succeed};
 use super::tells_lines;
-use crate::{ask, cubeless_text};
 use hyper_outside::MemFiles;
+use memory_runs::{ask, ask_failing, cubeless_text};
 use std::alloc::Global;
-use std::process::Abort;
 use std::test::Fail;
 use std::thread::Threads;
 
@@ -42,10 +40,10 @@ const SOLVE: [&str; 5] = [
 ];
 
 /// The files of these records, of a solved game with a cube, and of one without a cube.
-fn solved<R: Threads + Sync + Abort>(rt: &R, alloc: Global) -> Result<MemFiles, Fail> {
+fn solved<R: Threads + Sync>(rt: &R, alloc: Global) -> Result<MemFiles, Fail> {
     let mut files = MemFiles::new(alloc);
     files.room(1, 20_000)?;
-    runs_succeed(rt, alloc, &mut files, &[&SOLVE])?;
+    let (_status, _out) = ask(rt, alloc, &mut files, &SOLVE)?;
     files.with_file("c1", &cubeless_text(alloc, 2)?)?;
     files.with_file("game", GAME.as_bytes())?;
     files.with_file("point", ONE_POINT.as_bytes())?;
@@ -90,7 +88,7 @@ fn a_recorded_game_is_analysed(rt: HostRuntime) -> Result<(), Fail> {
 }
 
 // Words, the status and all that is put.
-const ROWS: [Row; 10] = [
+const ROWS: [(&[&str], u8, &str); 10] = [
     (&["analyse", "j1", "forced"], 0, FORCED_TEXT),
     (
         &["analyse", "c1", "game"],
@@ -124,7 +122,11 @@ const ROWS: [Row; 10] = [
 fn analyses_are_refused_in_order(rt: HostRuntime) -> Result<(), Fail> {
     let alloc = rt.alloc();
     let mut files = solved(&rt, alloc)?;
-    runs_answer(&rt, alloc, &mut files, &ROWS)?;
+    for (words, answer, text) in ROWS {
+        let (status, out) = ask(&rt, alloc, &mut files, words)?;
+        assert_eq!(rt; status, answer, "at {text}");
+        assert_eq!(rt; out.put_bytes(), text.as_bytes());
+    }
     Ok(())
 }
 
@@ -141,23 +143,15 @@ fn a_damaged_page_counts_where_a_loss_rests_on_it(rt: HostRuntime) -> Result<(),
         *cell ^= 1;
     }
     files.with_file("j1", &damaged)?;
-    run_answers(
-        &rt,
-        alloc,
-        &mut files,
-        &["analyse", "j1", "forced"],
-        0,
-        FORCED_TEXT,
-    )?;
-    let refusal = "refused 4 file page-digest 18126\n";
-    run_answers(
-        &rt,
-        alloc,
-        &mut files,
-        &["analyse", "j1", "game"],
-        4,
-        refusal,
-    )?;
+    let (status, out) = ask(&rt, alloc, &mut files, &["analyse", "j1", "forced"])?;
+    assert_eq!(rt; status, 0);
+    assert_eq!(rt; out.put_bytes(), FORCED_TEXT.as_bytes());
+    let (status, out) = ask(&rt, alloc, &mut files, &["analyse", "j1", "game"])?;
+    assert_eq!(rt; status, 4);
+    assert_eq!(rt;
+        out.put_bytes(),
+        "refused 4 file page-digest 18126\n".as_bytes()
+    );
     Ok(())
 }
 
@@ -191,15 +185,9 @@ fn a_failing_read_is_told_of_an_analysis(rt: HostRuntime) -> Result<(), Fail> {
         files.with_file("c1", &whole)?;
         files.with_file("game", CHOSEN.as_bytes())?;
         files.fail_call(call, 0)?;
-        let due = if text == READ { 6 } else { 0 };
-        run_answers(
-            &rt,
-            alloc,
-            &mut files,
-            &["analyse", "c1", "game"],
-            due,
-            text,
-        )?;
+        let (status, out) = ask(&rt, alloc, &mut files, &["analyse", "c1", "game"])?;
+        assert_eq!(rt; status, if text == READ { 6 } else { 0 });
+        assert_eq!(rt; out.put_bytes(), text.as_bytes());
         assert_eq!(rt; files.held("c1"), Some(whole.as_slice()));
     }
     Ok(())
@@ -213,35 +201,32 @@ fn a_record_that_is_too_long_is_not_read(rt: HostRuntime) -> Result<(), Fail> {
     let mut files = MemFiles::new(alloc);
     files.with_file("long", &long)?;
     files.fail_call(2, 0)?;
-    let refusal = "refused 5 record 0 too-long\n";
-    run_answers(
-        &rt,
-        alloc,
-        &mut files,
-        &["analyse", "x", "long"],
-        5,
-        refusal,
-    )?;
+    let (status, out) = ask(&rt, alloc, &mut files, &["analyse", "x", "long"])?;
+    assert_eq!(rt; status, 5);
+    assert_eq!(rt; out.put_bytes(), "refused 5 record 0 too-long\n".as_bytes());
     Ok(())
 }
 
 // The output's call that fails after eight bytes: a line of a decision, or the totals. Behind the front of the report stands the refusal.
-const STOPS: [(u64, (u8, &str)); 3] = [
-    (1, (7, "1 5 A plrefused 7 write\n")),
+const STOPS: [(u64, u8, &str); 3] = [
+    (1, 7, "1 5 A plrefused 7 write\n"),
     (
         2,
-        (7, "1 5 A play 0.000000 0.000000\nA decisirefused 7 write\n"),
+        7,
+        "1 5 A play 0.000000 0.000000\nA decisirefused 7 write\n",
     ),
-    (3, (0, FORCED_TEXT)),
+    (3, 0, FORCED_TEXT),
 ];
 
 #[test]
 fn a_failing_output_is_told_of_an_analysis(rt: HostRuntime) -> Result<(), Fail> {
     let alloc = rt.alloc();
     let mut files = solved(&rt, alloc)?;
-    for (call, answer) in STOPS {
+    for (call, answer, text) in STOPS {
         let words = ["analyse", "j1", "forced"];
-        failing_run_answers(&rt, alloc, &mut files, &words, FailingPut(call, 8), answer)?;
+        let (status, out) = ask_failing(&rt, alloc, &mut files, &words, call, 8)?;
+        assert_eq!(rt; status, answer);
+        assert_eq!(rt; out.put_bytes(), text.as_bytes());
     }
     Ok(())
 }

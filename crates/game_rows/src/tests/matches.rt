@@ -3,9 +3,8 @@ ghost use Rattle.hyper_outside.specs.MemFiles.{no_files, restocked};
 ghost use Rattle.hyper_outside.specs.Store.{no_stock, roomier};
 
 use super::millionths;
-use super::rows::runs_succeed;
-use crate::{ask, ask_failing};
 use hyper_outside::MemFiles;
+use memory_runs::{ask, ask_failing};
 use std::alloc::Global;
 use std::test::Fail;
 use std::thread::Threads;
@@ -97,7 +96,8 @@ const ANSWERS: [(&[&str], &str); 5] = [
 fn files_of_a_match_are_asked(rt: HostRuntime) -> Result<(), Fail> {
     let alloc = rt.alloc();
     let mut files = room_for_two(alloc)?;
-    runs_succeed(&rt, alloc, &mut files, &[&TO_TWO])?;
+    let (solved, _out) = ask(&rt, alloc, &mut files, &TO_TWO)?;
+    assert_eq!(rt; solved, 0);
     for (words, begin) in ANSWERS {
         let (status, out) = ask(&rt, alloc, &mut files, words)?;
         assert_eq!(rt; status, 0);
@@ -168,7 +168,8 @@ fn no_other_file_changes(rt: HostRuntime) -> Result<(), Fail> {
     }
     files.with_file("L.1.2.c", b"old")?;
     files.room(3, 61_000)?;
-    runs_succeed(&rt, alloc, &mut files, &[&TO_TWO])?;
+    let (status, _out) = ask(&rt, alloc, &mut files, &TO_TWO)?;
+    assert_eq!(rt; status, 0);
     for (name, text) in OTHERS {
         assert_eq!(rt; files.held(name), Some(text));
     }

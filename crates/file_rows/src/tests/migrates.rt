@@ -1,6 +1,5 @@
-use super::rows::run_answers;
-use crate::{ask, cubeless_text};
 use hyper_outside::MemFiles;
+use memory_runs::{ask, cubeless_text};
 use std::test::Fail;
 
 const MIGRATE: [&str; 3] = ["migrate", "old", "new"];
@@ -13,8 +12,10 @@ fn a_file_is_written_anew(rt: HostRuntime) -> Result<(), Fail> {
     let mut files = MemFiles::new(alloc);
     files.with_file("old", &old)?;
     files.room(1, 10_000)?;
+    let (status, out) = ask(&rt, alloc, &mut files, &MIGRATE)?;
+    assert_eq!(rt; status, 0);
     let report = "migrated checkers 1 stakes cubeless rounds 8\nfile new bytes 6138\n";
-    run_answers(&rt, alloc, &mut files, &MIGRATE, 0, report)?;
+    assert_eq!(rt; out.put_bytes(), report.as_bytes());
     let new = cubeless_text(alloc, 2)?;
     assert_eq!(rt; files.held("new"), Some(new.as_slice()));
     assert_eq!(rt; files.held("old"), Some(old.as_slice()));
@@ -38,7 +39,9 @@ fn a_damaged_file_is_refused(rt: HostRuntime) -> Result<(), Fail> {
         }
         let mut files = MemFiles::new(alloc);
         files.with_file("old", &old)?;
-        run_answers(&rt, alloc, &mut files, &MIGRATE, 4, line)?;
+        let (status, out) = ask(&rt, alloc, &mut files, &MIGRATE)?;
+        assert_eq!(rt; status, 4);
+        assert_eq!(rt; out.put_bytes(), line.as_bytes());
         assert_eq!(rt; files.held("new"), None);
     }
     Ok(())

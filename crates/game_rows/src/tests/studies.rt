@@ -1,8 +1,7 @@
 use super::analyses::{GAME, IN_MATCH, LINES, ONE_POINT};
-use super::rows::{FailingPut, failing_run_answers, run_answers};
 use super::tells_lines;
-use crate::{ask, ask_failing};
 use hyper_outside::MemFiles;
+use memory_runs::{ask, ask_failing};
 use std::test::Fail;
 
 // The game is solved by eight rounds and four workers on the way, and no file of bounds is there.
@@ -56,14 +55,9 @@ fn each_record_has_its_answer(rt: HostRuntime) -> Result<(), Fail> {
         }
     }
     let mut none = MemFiles::new(alloc);
-    run_answers(
-        &rt,
-        alloc,
-        &mut none,
-        &["study", "game"],
-        3,
-        "refused 3 missing game\n",
-    )?;
+    let (status, out) = ask(&rt, alloc, &mut none, &["study", "game"])?;
+    assert_eq!(rt; status, 3);
+    assert_eq!(rt; out.put_bytes(), "refused 3 missing game\n".as_bytes());
     Ok(())
 }
 
@@ -158,8 +152,9 @@ fn a_record_that_cant_be_written_is_told(rt: HostRuntime) -> Result<(), Fail> {
         files.with_file("r", b"old")?;
         files.room(0, 20_000)?;
         files.fail_call(call, prefix)?;
-        let words = ["make", "7", "1", "r"];
-        run_answers(&rt, alloc, &mut files, &words, 7, "refused 7 write\n")?;
+        let (status, out) = ask(&rt, alloc, &mut files, &["make", "7", "1", "r"])?;
+        assert_eq!(rt; status, 7);
+        assert_eq!(rt; out.put_bytes(), "refused 7 write\n".as_bytes());
         assert_eq!(rt; files.held("r").map(|file| file.len()), Some(length));
     }
     Ok(())
@@ -172,8 +167,9 @@ fn a_report_that_cant_be_put_is_told(rt: HostRuntime) -> Result<(), Fail> {
     let mut files = MemFiles::new(alloc);
     files.room(1, 20_000)?;
     let words = ["make", "7", "1", "r"];
-    let due = (7, "made refused 7 write\n");
-    failing_run_answers(&rt, alloc, &mut files, &words, FailingPut(1, 5), due)?;
+    let (status, out) = ask_failing(&rt, alloc, &mut files, &words, 1, 5)?;
+    assert_eq!(rt; status, 7);
+    assert_eq!(rt; out.put_bytes(), "made refused 7 write\n".as_bytes());
     assert!(rt; files.held("r").is_some());
     Ok(())
 }

@@ -1,24 +1,12 @@
-//! Runs of the commands, each with the status, the files and the bytes that are due.
-mod advice;
 mod analyses;
-mod every_state;
 mod match_records;
 mod matches;
-mod meeting;
-mod migrates;
 mod plans;
 mod race_rounds;
 mod races;
-mod replies;
-mod rows;
-mod searches;
-mod shows;
-mod solves;
 mod studies;
-mod verifies;
-mod words;
 
-/// Whether a text has as many lines as are told, each with this beginning and this end.
+// Whether a text has as many lines as are told, each with this beginning and this end.
 fn tells_lines(text: &[u8], told: &[(&str, &str)]) -> bool {
     let Ok(text) = std::str::from_utf8(text) else {
         return false;

@@ -1,8 +1,10 @@
-use super::rows::{Row, run_answers, runs_answer, runs_succeed};
-use crate::{ask, ask_failing, cubeless_text};
 use hyper_outside::MemFiles;
+use memory_runs::{ask, ask_failing, cubeless_text};
 use std::alloc::Global;
 use std::test::Fail;
+
+/// The words, the status, and all that is put.
+type Row = (&'static [&'static str], u8, &'static str);
 
 // From 1 each roll bears the last checker off, and whoever then has one on his point 19 or higher loses three points. After eight rounds the bounds of
 // these positions have met; the other side can't stand on its point 24, where the mover does.
@@ -39,8 +41,13 @@ fn states_of_a_solved_file_are_found(rt: HostRuntime) -> Result<(), Fail> {
         "--stakes=cubeless",
         "--rounds=8",
     ];
-    runs_succeed(&rt, alloc, &mut files, &[&words])?;
-    runs_answer(&rt, alloc, &mut files, &ROWS)?;
+    let (solved, _out) = ask(&rt, alloc, &mut files, &words)?;
+    assert_eq!(rt; solved, 0);
+    for (words, due, text) in ROWS {
+        let (status, out) = ask(&rt, alloc, &mut files, words)?;
+        assert_eq!(rt; status, due, "at {text}");
+        assert_eq!(rt; str::from_utf8(out.put_bytes()).unwrap_or(""), text);
+    }
     Ok(())
 }
 
@@ -63,7 +70,11 @@ const WRONG: [Row; 3] = [
 fn wrong_conditions_are_refused(rt: HostRuntime) -> Result<(), Fail> {
     let alloc = rt.alloc();
     let mut files = two_files(alloc)?;
-    runs_answer(&rt, alloc, &mut files, &WRONG)?;
+    for (words, due, line) in WRONG {
+        let (status, out) = ask(&rt, alloc, &mut files, words)?;
+        assert_eq!(rt; status, due, "at {line}");
+        assert_eq!(rt; str::from_utf8(out.put_bytes()).unwrap_or(""), line);
+    }
     Ok(())
 }
 
@@ -82,7 +93,11 @@ const REFUSED: [Row; 4] = [
 fn searches_are_refused(rt: HostRuntime) -> Result<(), Fail> {
     let alloc = rt.alloc();
     let mut files = two_files(alloc)?;
-    runs_answer(&rt, alloc, &mut files, &REFUSED)?;
+    for (words, due, line) in REFUSED {
+        let (status, out) = ask(&rt, alloc, &mut files, words)?;
+        assert_eq!(rt; status, due, "at {line}");
+        assert_eq!(rt; str::from_utf8(out.put_bytes()).unwrap_or(""), line);
+    }
     Ok(())
 }
 
@@ -114,8 +129,9 @@ fn a_read_that_fails_is_told(rt: HostRuntime) -> Result<(), Fail> {
     for call in 1..4u64 {
         let mut files = two_files(alloc)?;
         files.fail_call(call, 0)?;
-        let words = ["scan", "c1", BARS];
-        run_answers(&rt, alloc, &mut files, &words, 6, "refused 6 read\n")?;
+        let (status, out) = ask(&rt, alloc, &mut files, &["scan", "c1", BARS])?;
+        assert_eq!(rt; status, 6);
+        assert_eq!(rt; out.put_bytes(), b"refused 6 read\n".as_slice());
     }
     Ok(())
 }

@@ -1,7 +1,6 @@
 use super::millionths;
-use super::rows::{FailingPut, Row, failing_run_answers, run_answers, runs_answer, runs_succeed};
-use crate::ask;
 use hyper_outside::MemFiles;
+use memory_runs::{ask, ask_failing};
 use std::alloc::Global;
 use std::process::Abort;
 use std::test::Fail;
@@ -17,11 +16,11 @@ const TO_TWO: [&str; 6] = [
 ];
 
 /// Files with those of a match to two points.
-fn solved_to_two<R: Threads + Sync + Abort>(rt: &R, alloc: Global) -> Result<MemFiles, Fail> {
+fn solved_to_two<R: Threads + Sync>(rt: &R, alloc: Global) -> Result<(u8, MemFiles), Fail> {
     let mut files = MemFiles::new(alloc);
     files.room(4, 97_000)?;
-    runs_succeed(rt, alloc, &mut files, &[&TO_TWO])?;
-    Ok(files)
+    let (status, _out) = ask(rt, alloc, &mut files, &TO_TWO)?;
+    Ok((status, files))
 }
 
 // One point is won by whoever wins at all. In the Crawford game nobody doubles, and where a side needs one point a gammon wins it no more.
@@ -36,7 +35,8 @@ const LINES: [&str; 5] = [
 #[test]
 fn a_match_to_two_points_is_planned(rt: HostRuntime) -> Result<(), Fail> {
     let alloc = rt.alloc();
-    let mut files = solved_to_two(&rt, alloc)?;
+    let (solved, mut files) = solved_to_two(&rt, alloc)?;
+    assert_eq!(rt; solved, 0);
     let (status, out) = ask(&rt, alloc, &mut files, &["plan", "L", "--length", "2"])?;
     assert_eq!(rt; status, 0);
     let text = str::from_utf8(out.put_bytes()).unwrap_or("");
@@ -47,7 +47,10 @@ fn a_match_to_two_points_is_planned(rt: HostRuntime) -> Result<(), Fail> {
     Ok(())
 }
 
-const REFUSED: [Row; 8] = [
+/// The words, and what the run puts that is refused so.
+type Refused = (&'static [&'static str], u8, &'static str);
+
+const REFUSED: [Refused; 8] = [
     (&["plan", "L"], 3, "refused 3 missing L.3.3.n\n"),
     (
         &["plan", "L", "--length=3"],
@@ -78,9 +81,15 @@ const REFUSED: [Row; 8] = [
 #[test]
 fn plans_are_refused(rt: HostRuntime) -> Result<(), Fail> {
     let alloc = rt.alloc();
-    let mut files = solved_to_two(&rt, alloc)?;
+    let (solved, mut files) = solved_to_two(&rt, alloc)?;
+    assert_eq!(rt; solved, 0);
     files.with_file("E.4.4.n", b"empty")?;
-    runs_answer(&rt, alloc, &mut files, &REFUSED)?;
+    for (words, due, line) in REFUSED {
+        let (status, out) = ask(&rt, alloc, &mut files, words)?;
+        assert_eq!(rt; status, due);
+        let text = str::from_utf8(out.put_bytes()).unwrap_or("");
+        assert_eq!(rt; text, line);
+    }
     Ok(())
 }
 
@@ -96,16 +105,13 @@ fn a_file_of_another_game_is_refused(rt: HostRuntime) -> Result<(), Fail> {
         "--stakes=cubeless",
         "--rounds=1",
     ];
-    runs_succeed(&rt, alloc, &mut files, &[&words])?;
+    let (solved, _out) = ask(&rt, alloc, &mut files, &words)?;
+    assert_eq!(rt; solved, 0);
+    let (status, out) = ask(&rt, alloc, &mut files, &["plan", "C", "--length=2"])?;
+    assert_eq!(rt; status, 10);
     let line = "refused 10 base wanted stakes match 2 2.2.n found checkers 1 stakes cubeless\n";
-    run_answers(
-        &rt,
-        alloc,
-        &mut files,
-        &["plan", "C", "--length=2"],
-        10,
-        line,
-    )?;
+    let text = str::from_utf8(out.put_bytes()).unwrap_or("");
+    assert_eq!(rt; text, line);
     Ok(())
 }
 
@@ -114,11 +120,13 @@ fn a_file_of_another_game_is_refused(rt: HostRuntime) -> Result<(), Fail> {
 fn a_read_that_fails_is_told(rt: HostRuntime) -> Result<(), Fail> {
     let alloc = rt.alloc();
     for call in 0..3u64 {
-        let mut files = solved_to_two(&rt, alloc)?;
+        let (solved, mut files) = solved_to_two(&rt, alloc)?;
+        assert_eq!(rt; solved, 0);
         // Each of three files was begun and appended to three times.
         files.fail_call(13 + call, 0)?;
-        let words = ["plan", "L", "--length=2"];
-        run_answers(&rt, alloc, &mut files, &words, 6, "refused 6 read\n")?;
+        let (status, out) = ask(&rt, alloc, &mut files, &["plan", "L", "--length=2"])?;
+        assert_eq!(rt; status, 6);
+        assert_eq!(rt; out.put_bytes(), b"refused 6 read\n".as_slice());
     }
     Ok(())
 }
@@ -126,10 +134,13 @@ fn a_read_that_fails_is_told(rt: HostRuntime) -> Result<(), Fail> {
 #[test]
 fn a_plan_that_is_not_put_is_told(rt: HostRuntime) -> Result<(), Fail> {
     let alloc = rt.alloc();
-    let mut files = solved_to_two(&rt, alloc)?;
+    let (solved, mut files) = solved_to_two(&rt, alloc)?;
+    assert_eq!(rt; solved, 0);
     let words = ["plan", "L", "--length=2"];
-    let due = (7, "1.1.p start refused 7 write\n");
-    failing_run_answers(&rt, alloc, &mut files, &words, FailingPut(1, 12), due)?;
+    let (status, out) = ask_failing(&rt, alloc, &mut files, &words, 1, 12)?;
+    assert_eq!(rt; status, 7);
+    let text = b"1.1.p start refused 7 write\n";
+    assert_eq!(rt; out.put_bytes(), text.as_slice());
     Ok(())
 }
 
@@ -160,7 +171,8 @@ fn plans_enclose_what_a_plain_program_finds(rt: HostRuntime) -> Result<(), Fail>
     let mut files = MemFiles::new(alloc);
     files.room(7, 206_000)?;
     let words = ["ladder", "m", "--checkers=1", "--rounds=12", "--workers=2"];
-    runs_succeed(&rt, alloc, &mut files, &[&words])?;
+    let (solved, _out) = ask(&rt, alloc, &mut files, &words)?;
+    assert_eq!(rt; solved, 0);
     let (status, out) = ask(&rt, alloc, &mut files, &["plan", "m"])?;
     assert_eq!(rt; status, 0);
     let text = str::from_utf8(out.put_bytes()).unwrap_or("");
@@ -182,7 +194,8 @@ fn a_match_to_five_points_is_planned(rt: HostRuntime) -> Result<(), Fail> {
     let mut files = MemFiles::new(alloc);
     files.room(18, 900_000)?;
     let words = ["ladder", "five", "--checkers=1", "--length=5", "--rounds=2"];
-    runs_succeed(&rt, alloc, &mut files, &[&words])?;
+    let (solved, _out) = ask(&rt, alloc, &mut files, &words)?;
+    assert_eq!(rt; solved, 0);
     let (status, out) = ask(&rt, alloc, &mut files, &["plan", "five", "--length=5"])?;
     assert_eq!(rt; status, 0);
     let text = str::from_utf8(out.put_bytes()).unwrap_or("");

@@ -1,8 +1,10 @@
-use super::rows::{FailingPut, Row, failing_run_answers, run_answers, runs_answer, runs_succeed};
-use crate::{ask, cubeless_text, opening_text};
 use hyper_outside::MemFiles;
+use memory_runs::{ask, ask_failing, cubeless_text, opening_text};
 use std::alloc::Global;
 use std::test::Fail;
+
+/// The words, the status, and all that is put.
+type Row = (&'static [&'static str], u8, &'static str);
 
 const SOLVED: [&[&str]; 2] = [
     &[
@@ -52,8 +54,15 @@ fn replies_to_solved_files(rt: HostRuntime) -> Result<(), Fail> {
     let alloc = rt.alloc();
     let mut files = MemFiles::new(alloc);
     files.room(2, 30_000)?;
-    runs_succeed(&rt, alloc, &mut files, &SOLVED)?;
-    runs_answer(&rt, alloc, &mut files, &ROWS)?;
+    for words in SOLVED {
+        let (solved, _out) = ask(&rt, alloc, &mut files, words)?;
+        assert_eq!(rt; solved, 0);
+    }
+    for (words, due, text) in ROWS {
+        let (status, out) = ask(&rt, alloc, &mut files, words)?;
+        assert_eq!(rt; status, due, "at {text}");
+        assert_eq!(rt; str::from_utf8(out.put_bytes()).unwrap_or(""), text);
+    }
     let words = ["reply", "c1", "24 / 24", "--rounds", "1"];
     let (status, out) = ask(&rt, alloc, &mut files, &words)?;
     assert_eq!(rt; status, 0);
@@ -93,7 +102,11 @@ const BAD: [Row; 2] = [
 fn bad_advice_costs_whoever_follows(rt: HostRuntime) -> Result<(), Fail> {
     let alloc = rt.alloc();
     let mut files = three_files(alloc)?;
-    runs_answer(&rt, alloc, &mut files, &BAD)?;
+    for (words, due, text) in BAD {
+        let (status, out) = ask(&rt, alloc, &mut files, words)?;
+        assert_eq!(rt; status, due, "at {text}");
+        assert_eq!(rt; str::from_utf8(out.put_bytes()).unwrap_or(""), text);
+    }
     Ok(())
 }
 
@@ -116,7 +129,11 @@ const REFUSED: [Row; 4] = [
 fn replies_are_refused(rt: HostRuntime) -> Result<(), Fail> {
     let alloc = rt.alloc();
     let mut files = three_files(alloc)?;
-    runs_answer(&rt, alloc, &mut files, &REFUSED)?;
+    for (words, due, line) in REFUSED {
+        let (status, out) = ask(&rt, alloc, &mut files, words)?;
+        assert_eq!(rt; status, due, "at {line}");
+        assert_eq!(rt; str::from_utf8(out.put_bytes()).unwrap_or(""), line);
+    }
     Ok(())
 }
 
@@ -139,7 +156,11 @@ const WRONG: [Row; 4] = [
 fn wrong_words_are_refused(rt: HostRuntime) -> Result<(), Fail> {
     let alloc = rt.alloc();
     let mut files = three_files(alloc)?;
-    runs_answer(&rt, alloc, &mut files, &WRONG)?;
+    for (words, due, line) in WRONG {
+        let (status, out) = ask(&rt, alloc, &mut files, words)?;
+        assert_eq!(rt; status, due, "at {line}");
+        assert_eq!(rt; str::from_utf8(out.put_bytes()).unwrap_or(""), line);
+    }
     Ok(())
 }
 
@@ -154,7 +175,9 @@ fn a_read_that_fails_is_told(rt: HostRuntime) -> Result<(), Fail> {
         files.fail_call(call, 0)?;
         let (wrong, _out) = ask(&rt, alloc, &mut files, &["reply", "c1", "6 / 19"])?;
         assert_eq!(rt; wrong, 2);
-        run_answers(&rt, alloc, &mut files, &LAST, 6, "refused 6 read\n")?;
+        let (status, out) = ask(&rt, alloc, &mut files, &LAST)?;
+        assert_eq!(rt; status, 6);
+        assert_eq!(rt; out.put_bytes(), b"refused 6 read\n".as_slice());
     }
     Ok(())
 }
@@ -164,8 +187,12 @@ fn a_read_that_fails_is_told(rt: HostRuntime) -> Result<(), Fail> {
 fn a_report_that_is_not_put_is_told(rt: HostRuntime) -> Result<(), Fail> {
     let alloc = rt.alloc();
     let mut files = three_files(alloc)?;
-    let due = (7, "position 6 / refused 7 write\n");
-    failing_run_answers(&rt, alloc, &mut files, &LAST, FailingPut(1, 13), due)?;
+    let (status, out) = ask_failing(&rt, alloc, &mut files, &LAST, 1, 13)?;
+    assert_eq!(rt; status, 7);
+    assert_eq!(rt;
+        str::from_utf8(out.put_bytes()).unwrap_or(""),
+        "position 6 / refused 7 write\n"
+    );
     let (status, out) = ask(&rt, alloc, &mut files, &LAST)?;
     assert_eq!(rt; status, 0);
     let text = str::from_utf8(out.put_bytes()).unwrap_or("");

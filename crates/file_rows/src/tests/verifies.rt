@@ -1,9 +1,8 @@
 //! Files whose words are checked: solved ones, ones of the widest pairs, and ones with a word that is too tight.
-use super::rows::{FailingPut, failing_run_answers, run_answers, runs_succeed};
 use hyper_outside::MemFiles;
+use memory_runs::{ask, ask_failing};
 use sha2::{Digest, Sha256};
 use std::alloc::Global;
-use std::process::Abort;
 use std::test::Fail;
 use std::thread::Threads;
 
@@ -51,14 +50,10 @@ fn held(alloc: Global, files: &MemFiles, name: &str) -> Result<Vec<u8>, Fail> {
 }
 
 /// Files in which a game was solved by these words, as "c1".
-fn solved<R: Threads + Sync + Abort>(
-    rt: &R,
-    alloc: Global,
-    words: &[&str],
-) -> Result<MemFiles, Fail> {
+fn solved<R: Threads + Sync>(rt: &R, alloc: Global, words: &[&str]) -> Result<MemFiles, Fail> {
     let mut files = MemFiles::new(alloc);
     files.room(2, 3_300_000)?;
-    runs_succeed(rt, alloc, &mut files, &[words])?;
+    let (_status, _out) = ask(rt, alloc, &mut files, words)?;
     Ok(files)
 }
 
@@ -77,7 +72,9 @@ const YES: &str = "consistent checkers 1 stakes cubeless rounds 8 positions 601\
 fn a_unit_more_is_found(rt: HostRuntime) -> Result<(), Fail> {
     let alloc = rt.alloc();
     let mut files = solved(&rt, alloc, &CUBELESS)?;
-    run_answers(&rt, alloc, &mut files, &["verify", "c1"], 0, YES)?;
+    let (status, out) = ask(&rt, alloc, &mut files, &["verify", "c1"])?;
+    assert_eq!(rt; status, 0);
+    assert_eq!(rt; out.put_bytes(), YES.as_bytes());
     let mut text = held(alloc, &files, "c1")?;
     assert_eq!(rt;
         text.get(1296..1306),
@@ -85,8 +82,10 @@ fn a_unit_more_is_found(rt: HostRuntime) -> Result<(), Fail> {
     );
     put_pair(&mut text, 120, POINT + 1, POINT + 1);
     files.with_file("c1", &text)?;
+    let (status, out) = ask(&rt, alloc, &mut files, &["verify", "c1"])?;
+    assert_eq!(rt; status, 9);
     let line = "refused 9 inconsistent lower alone 4294967297 4294967296 6 / 1\n";
-    run_answers(&rt, alloc, &mut files, &["verify", "c1"], 9, line)?;
+    assert_eq!(rt; out.put_bytes(), line.as_bytes());
     assert_eq!(rt; files.held("c1"), Some(text.as_slice()));
     Ok(())
 }
@@ -105,8 +104,12 @@ fn the_widest_pairs_pass(rt: HostRuntime) -> Result<(), Fail> {
     files.with_file("c1", &text)?;
     let line = "refused 9 inconsistent lower alone 12884901888 8589934592 1 / 1\n";
     for workers in ["--workers=1", "--workers=3", "--workers=64"] {
-        run_answers(&rt, alloc, &mut files, &["verify", "wide", workers], 0, YES)?;
-        run_answers(&rt, alloc, &mut files, &["verify", "c1", workers], 9, line)?;
+        let (status, out) = ask(&rt, alloc, &mut files, &["verify", "wide", workers])?;
+        assert_eq!(rt; status, 0);
+        assert_eq!(rt; out.put_bytes(), YES.as_bytes());
+        let (status, out) = ask(&rt, alloc, &mut files, &["verify", "c1", workers])?;
+        assert_eq!(rt; status, 9);
+        assert_eq!(rt; out.put_bytes(), line.as_bytes());
     }
     Ok(())
 }
@@ -130,7 +133,8 @@ fn solved_games_pass(rt: HostRuntime) -> Result<(), Fail> {
             let words = ["solve", "c1", checkers, rounds, workers, stakes];
             let mut files = solved(&rt, alloc, &words)?;
             assert!(rt; files.held("c1").is_some());
-            runs_succeed(&rt, alloc, &mut files, &[&["verify", "c1", workers]])?;
+            let (status, _out) = ask(&rt, alloc, &mut files, &["verify", "c1", workers])?;
+            assert_eq!(rt; status, 0);
         }
     }
     Ok(())
@@ -151,7 +155,9 @@ fn a_failing_read_is_told(rt: HostRuntime) -> Result<(), Fail> {
         let mut files = MemFiles::new(alloc);
         files.with_file("c1", &text)?;
         files.fail_call(call, 0)?;
-        run_answers(&rt, alloc, &mut files, &["verify", "c1"], answer, line)?;
+        let (status, out) = ask(&rt, alloc, &mut files, &["verify", "c1"])?;
+        assert_eq!(rt; status, answer);
+        assert_eq!(rt; out.put_bytes(), line.as_bytes());
         assert_eq!(rt; files.held("c1"), Some(text.as_slice()));
     }
     Ok(())
@@ -170,8 +176,9 @@ fn a_failing_output_is_told(rt: HostRuntime) -> Result<(), Fail> {
         ("no", 9, 9, "refused 9"),
     ] {
         let words = ["verify", name];
-        let failing = FailingPut(1, prefix);
-        failing_run_answers(&rt, alloc, &mut files, &words, failing, (answer, line))?;
+        let (status, out) = ask_failing(&rt, alloc, &mut files, &words, 1, prefix)?;
+        assert_eq!(rt; status, answer);
+        assert_eq!(rt; out.put_bytes(), line.as_bytes());
     }
     Ok(())
 }

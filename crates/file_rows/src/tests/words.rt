@@ -1,10 +1,10 @@
-use super::rows::{FailingPut, Row, failing_run_answers, run_answers};
 use hyper_outside::{HonestSink, MemFiles};
+use memory_runs::{ask, ask_failing};
 use std::test::Fail;
 use top_call::refuse_unread;
 
 // The words, the status, and all that is put.
-const ROWS: [Row; 38] = [
+const ROWS: [(&[&str], u8, &str); 38] = [
     (
         &["bound", "1", "1", "24 / 24"],
         0,
@@ -124,18 +124,20 @@ const ROWS: [Row; 38] = [
 #[test]
 fn each_line_has_its_answer(rt: HostRuntime) -> Result<(), Fail> {
     let alloc = rt.alloc();
-    for (words, due, text) in ROWS {
+    for (words, status, text) in ROWS {
         let mut files = MemFiles::new(alloc);
-        run_answers(&rt, alloc, &mut files, words, due, text)?;
+        let (answer, out) = ask(&rt, alloc, &mut files, words)?;
+        assert_eq!(rt; answer, status, "at {text}");
+        assert_eq!(rt; out.put_bytes(), text.as_bytes());
     }
     Ok(())
 }
 
-// The words, what fails, and the status with what is put.
-const PUTS: [(&[&str], FailingPut, (u8, &str)); 3] = [
-    (&BOUND, FailingPut(1, 8), (7, "positionrefused 7 write\n")),
-    (&["fly"], FailingPut(1, 7), (1, "refused")),
-    (&BOUND, FailingPut(2, 0), (0, BOUNDED)),
+// The words, the output's call that fails, after how many bytes, the status, and what is put.
+const PUTS: [(&[&str], u64, usize, u8, &str); 3] = [
+    (&BOUND, 1, 8, 7, "positionrefused 7 write\n"),
+    (&["fly"], 1, 7, 1, "refused"),
+    (&BOUND, 2, 0, 0, BOUNDED),
 ];
 
 const BOUND: [&str; 4] = ["bound", "1", "1", "1 / 1"];
@@ -145,9 +147,11 @@ const BOUNDED: &str = "position 1 / 1\nrounds 1\nalone 2.000000 2.000000 8589934
 #[test]
 fn a_failing_output_is_told(rt: HostRuntime) -> Result<(), Fail> {
     let alloc = rt.alloc();
-    for (words, failing, answer) in PUTS {
+    for (words, call, prefix, answer, text) in PUTS {
         let mut files = MemFiles::new(alloc);
-        failing_run_answers(&rt, alloc, &mut files, words, failing, answer)?;
+        let (status, out) = ask_failing(&rt, alloc, &mut files, words, call, prefix)?;
+        assert_eq!(rt; status, answer);
+        assert_eq!(rt; out.put_bytes(), text.as_bytes());
     }
     Ok(())
 }

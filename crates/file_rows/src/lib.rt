@@ -1,0 +1,5 @@
+//! Runs of commands on files of bounds, each with the status and the bytes that are due.
+#![tactic(auto)]
+
+#[cfg(test)]
+mod tests;

@@ -1,0 +1,10 @@
+mod advice;
+mod every_state;
+mod meeting;
+mod migrates;
+mod replies;
+mod searches;
+mod shows;
+mod solves;
+mod verifies;
+mod words;

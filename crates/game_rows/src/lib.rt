@@ -1,0 +1,5 @@
+//! Runs on recorded games, matches and races, each with the status, the files and the bytes that are due.
+#![tactic(auto)]
+
+#[cfg(test)]
+mod tests;
