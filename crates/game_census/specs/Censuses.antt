@@ -1,8 +1,9 @@
 -- What is advised in a kind, over some live positions by rising live rank.
-use Rattle.std.specs.Prelude.{◌≡◌, ◌+◌, ℕ, zero, suc, sum, Option, Some, None, replicate}
+use Rattle.std.specs.Prelude.{◌≡◌, ◌+◌, ◌<◌, ℕ, zero, suc, sum, Option, Some, None, IsSome, List, length, replicate, slice_index, slice_index_or}
 use Rattle.position_rank.specs.Placement.{Placement, IsPosition, IsLive}
 use Rattle.position_rank.specs.LiveRanks.{live_rank_of}
 use Rattle.directed_fixed.specs.Bounds.{Bounds}
+use Rattle.cube_actions.specs.Stakes.{Terms, kind_at}
 use Rattle.interval_words.specs.WordLists.{WordList, words_in_list}
 use Rattle.play_analyser.specs.declared.advice.CubeAction.{CubeAction}
 use Rattle.play_analyser.specs.declared.advice.CubeAdvice.{CubeAdvice}
@@ -53,3 +54,21 @@ abbrev pub IsCensus : WordList → ℕ → ℕ → ℕ → KindCensus → Type 0
 IsCensus words k from zero census = census ≡ no_census
 IsCensus words k from (suc many) census =
     (before : KindCensus) × IsCensus words k from many before × AddsState words k (from + many) before census
+
+-- in states of this kind the mover may double
+abbrev pub MayDouble : Terms → ℕ → Type 0
+MayDouble stakes k = IsSome (kind_at stakes k).double
+
+-- the census with this number
+abbrev pub census_at : List KindCensus → ℕ → KindCensus
+census_at censuses i = slice_index_or censuses i no_census
+
+-- the states of a live rank in these kinds were added, each to the census with its kind's number among them
+abbrev pub AddsPosition : WordList → List ℕ → ℕ → List KindCensus → List KindCensus → Type 0
+AddsPosition words kinds rank before after =
+    (i : ℕ) → i < length kinds → AddsState words (slice_index kinds i) rank (census_at before i) (census_at after i)
+
+-- for each of these kinds, so many states from a live rank on were added one after another
+abbrev pub AreCensuses : WordList → List ℕ → ℕ → ℕ → List KindCensus → Type 0
+AreCensuses words kinds from many censuses =
+    (i : ℕ) → i < length kinds → IsCensus words (slice_index kinds i) from many (census_at censuses i)

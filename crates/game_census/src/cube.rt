@@ -1,16 +1,19 @@
-ghost use Rattle.std.specs.Prelude.{◌≡◌, ◌<◌, ◌≤◌, ◌-◌, ◌*◌, ◌/◌, ◌^◌, ◌≢◌, IfErr, IsOkAnd, IsOkUnless};
-ghost use Rattle.position_rank.specs.LiveRanks.{live_positions};
+ghost use Rattle.std.specs.Prelude.{◌≡◌, ◌<◌, ◌≤◌, ◌-◌, ◌*◌, ◌/◌, ◌^◌, ◌≢◌, ◌↔◌, ℕ, All, IfErr, IsOkAnd, IsOkUnless, length};
+ghost use Rattle.std.specs.List.{Contains};
+ghost use Rattle.position_rank.specs.LiveRanks.{live_positions, live_rank_of};
 ghost use Rattle.turn_rule.specs.Games.{kinds_of};
 ghost use Rattle.turn_rule.specs.States.{IsState};
 ghost use Rattle.interval_words.specs.WordLists.{words_in_list};
 ghost use Rattle.play_analyser.specs.Advice.{IsCubeAdviceOver};
 ghost use Rattle.game_census.specs.declared.stop.Stop.TheVariants.{BadWords, Unprinted};
-ghost use Rattle.game_census.specs.Censuses.{AddsState, IsCensus};
+ghost use Rattle.game_census.specs.Censuses.{AddsPosition, AddsState, AreCensuses, MayDouble};
 
 use crate::kind_census::KindCensus;
 use crate::report::print_census;
 use crate::stop::Stop;
 use crate::task::{CubeTask, Part};
+use arrayvec::ArrayVec;
+use cube_actions::Stakes;
 use database_file::load_base;
 use hyper_outside::{LookStop, RealFiles};
 use interval_words::Words;
@@ -45,42 +48,86 @@ fn advice_over(words: &Words, ends: &RollEnds, kind: usize) -> Result<CubeAdvice
     cube_advice_of(words.stakes(), ends, kind, &mut reader)
 }
 
-/// Room for the plays of a position, which are listed for one position after the other.
-#[derive(Drop)]
-struct Plays {
-    list: PlayList,
-    ends: RollEnds,
+/// The most kinds that stakes have.
+const MOST_KINDS: usize = 14;
+
+/// The kinds in which the mover may double, in their order.
+fn doubling_kinds(stakes: &Stakes) -> ArrayVec<usize, MOST_KINDS>
+    ensures only { All (λ kind. kind < length stakes.now.kinds) result.items }
+    ensures each { (kind : ℕ) → kind < length stakes.now.kinds
+        → Contains result.items kind ↔ MayDouble stakes.now kind }
+{
+    let mut found = ArrayVec::new();
+    for kind in 0..stakes.kinds() {
+        if stakes.kind(kind).double.is_some() {
+            found.push(kind);
+        }
+    }
+    found
 }
 
-/// Adds what is advised in the state of this live rank.
-fn add_state(census: &mut KindCensus, words: &Words, kind: usize, rank: u64, plays: &mut Plays)
-    requires kind { kind < kinds_of words.now.game }
-    requires rank { rank < live_positions words.now.game.checkers }
-    ensures { AddsState words.now kind rank census.old census.new }
+/// Adds what is advised in a kind, where these are the ends of the plays.
+fn add_state(census: &mut KindCensus, words: &Words, kind: usize, ends: &RollEnds)
+    requires state { IsState words.now.game ends.now kind }
+    ensures { (rank : ℕ) → live_rank_of ends.now ≡ rank
+        → AddsState words.now kind rank census.old census.new }
 {
-    let position = words.index().unrank(rank);
-    plays.ends.fill(&position, &mut plays.list);
-    let advice = advice_over(words, &plays.ends, kind).unwrap();
+    let advice = advice_over(words, ends, kind).unwrap();
     if let Some(action) = &advice.action {
-        census.add(&position, advice.no_double, action);
+        census.add(ends.position(), advice.no_double, action);
     }
 }
 
-/// What is advised in a kind, over the live positions from one live rank up to another.
-fn census_of(words: &Words, kind: usize, from: u64, to: u64) -> KindCensus
-    requires kind { kind < kinds_of words.now.game }
+/// Adds what is advised in each of these kinds, where these are the ends of the plays.
+fn add_states(
+    censuses: &mut [KindCensus; MOST_KINDS],
+    words: &Words,
+    kinds: &[usize],
+    ends: &RollEnds,
+)
+    requires few { length kinds.now ≤ MOST_KINDS }
+    requires states { All (IsState words.now.game ends.now) kinds.now }
+    ensures { (rank : ℕ) → live_rank_of ends.now ≡ rank
+        → AddsPosition words.now kinds.now rank censuses.old censuses.new }
+{
+    for i in 0..kinds.len() {
+        add_state(&mut censuses[i], words, kinds[i], ends);
+    }
+}
+
+/// Adds what is advised in the position of this live rank in each of these kinds. Its plays are listed once.
+fn add_position(
+    censuses: &mut [KindCensus; MOST_KINDS],
+    words: &Words,
+    kinds: &[usize],
+    rank: u64,
+    list: &mut PlayList,
+    ends: &mut RollEnds,
+)
+    requires few { length kinds.now ≤ MOST_KINDS }
+    requires kinds { All (λ kind. kind < kinds_of words.now.game) kinds.now }
+    requires rank { rank < live_positions words.now.game.checkers }
+    ensures { AddsPosition words.now kinds.now rank censuses.old censuses.new }
+{
+    ends.fill(&words.index().unrank(rank), list);
+    add_states(censuses, words, kinds, ends);
+}
+
+/// What is advised in each of these kinds, over the live positions from one live rank up to another.
+fn censuses_of(words: &Words, kinds: &[usize], from: u64, to: u64) -> [KindCensus; MOST_KINDS]
+    requires few { length kinds.now ≤ MOST_KINDS }
+    requires kinds { All (λ kind. kind < kinds_of words.now.game) kinds.now }
     requires order { from ≤ to }
     requires to { to ≤ live_positions words.now.game.checkers }
-    ensures { IsCensus words.now kind from (to - from) result }
+    ensures { AreCensuses words.now kinds.now from (to - from) result }
 {
-    let mut census = KindCensus::new();
+    let mut censuses = [KindCensus::new(); MOST_KINDS];
     let mut list = PlayList::new();
-    let ends = RollEnds::of(&Position::start(words.checkers()), &mut list);
-    let mut plays = Plays { list, ends };
+    let mut ends = RollEnds::of(&Position::start(words.checkers()), &mut list);
     for rank in from..to {
-        add_state(&mut census, words, kind, rank, &mut plays);
+        add_position(&mut censuses, words, kinds, rank, &mut list, &mut ends);
     }
-    census
+    censuses
 }
 
 /// Counts what is advised in each kind in which the mover may double, over a part of the live positions, and prints it.
@@ -91,11 +138,10 @@ fn count_kinds<R: Print>(rt: &R, words: &Words, part: &Part) -> Result<(), Stop>
     let from = share(live, part.number - 1, part.of);
     let to = share(live, part.number, part.of);
     let stakes = words.stakes();
-    for kind in 0..stakes.kinds() {
-        if stakes.kind(kind).double.is_some() {
-            let census = census_of(words, kind, from, to);
-            print_census(rt, stakes.kind_name(kind), &census)?;
-        }
+    let kinds = doubling_kinds(stakes);
+    let censuses = censuses_of(words, &kinds, from, to);
+    for (kind, census) in kinds.iter().zip(&censuses) {
+        print_census(rt, stakes.kind_name(*kind), census)?;
     }
     Ok(())
 }
