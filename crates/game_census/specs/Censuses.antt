@@ -1,7 +1,8 @@
 -- What is advised in a kind, over some live positions by rising live rank.
-use Rattle.std.specs.Prelude.{◌≡◌, ◌+◌, ◌<◌, ℕ, zero, suc, sum, Option, Some, None, IsSome, List, length, replicate, slice_index, slice_index_or}
+use Rattle.std.specs.Prelude.{◌≡◌, ◌+◌, ◌-◌, ◌*◌, ◌/◌, ◌<◌, ℕ, zero, suc, sum, Bool, Option, Some, None, is_some, List, filter, length, replicate, slice_index, slice_index_or}
+use Rattle.std.specs.List.{range_with_len}
 use Rattle.position_rank.specs.Placement.{Placement, IsPosition, IsLive}
-use Rattle.position_rank.specs.LiveRanks.{live_rank_of}
+use Rattle.position_rank.specs.LiveRanks.{live_positions, live_rank_of}
 use Rattle.directed_fixed.specs.Bounds.{Bounds}
 use Rattle.cube_actions.specs.Stakes.{Terms, kind_at}
 use Rattle.interval_words.specs.WordLists.{WordList, words_in_list}
@@ -10,6 +11,8 @@ use Rattle.play_analyser.specs.declared.advice.CubeAdvice.{CubeAdvice}
 use Rattle.play_analyser.specs.Advice.{IsCubeAdviceOver}
 use Rattle.game_census.specs.declared.gap.Border.{Border}
 use Rattle.game_census.specs.declared.kind_census.KindCensus.{KindCensus}
+use Rattle.game_census.specs.declared.cube.PartCensus.{PartCensus}
+use Rattle.game_census.specs.declared.task.Part.{Part}
 use Rattle.game_census.specs.Calls.{call_of, counted}
 use Rattle.game_census.specs.Gaps.{answer_gap, offer_gap, with_near}
 
@@ -55,9 +58,13 @@ IsCensus words k from zero census = census ≡ no_census
 IsCensus words k from (suc many) census =
     (before : KindCensus) × IsCensus words k from many before × AddsState words k (from + many) before census
 
--- in states of this kind the mover may double
-abbrev pub MayDouble : Terms → ℕ → Type 0
-MayDouble stakes k = IsSome (kind_at stakes k).double
+-- whether the mover may double in states of this kind
+abbrev pub may_double : Terms → ℕ → Bool
+may_double stakes kind = is_some (kind_at stakes kind).double
+
+-- the kinds in which the mover may double, each once, in their order
+abbrev pub doubling_kinds : Terms → List ℕ
+doubling_kinds stakes = filter (may_double stakes) (range_with_len 0 (length stakes.kinds))
 
 -- the census with this number
 abbrev pub census_at : List KindCensus → ℕ → KindCensus
@@ -72,3 +79,16 @@ AddsPosition words kinds rank before after =
 abbrev pub AreCensuses : WordList → List ℕ → ℕ → ℕ → List KindCensus → Type 0
 AreCensuses words kinds from many censuses =
     (i : ℕ) → i < length kinds → IsCensus words (slice_index kinds i) from many (census_at censuses i)
+
+-- how many of so many live positions stand in the first ones of some equal parts
+abbrev pub share : ℕ → ℕ → ℕ → ℕ
+share live number of = live * number / of
+
+-- over the live positions of a part: the kinds in which the mover may double, and what is advised in each
+pub record IsPartCensus (words : WordList) (part : Part) (census : PartCensus) : Type 0 where
+  pub kinds : census.kinds.items ≡ doubling_kinds words.game.stakes
+  pub censuses :
+      let live = live_positions words.game.checkers in
+      let from = share live (part.number - 1) part.of in
+      let to = share live part.number part.of in
+      AreCensuses words census.kinds.items from (to - from) census.censuses

@@ -1,12 +1,11 @@
-ghost use Rattle.std.specs.Prelude.{◌≡◌, ◌<◌, ◌≤◌, ◌-◌, ◌*◌, ◌/◌, ◌^◌, ◌≢◌, ◌↔◌, ℕ, All, IfErr, IsOkAnd, IsOkUnless, length};
-ghost use Rattle.std.specs.List.{Contains};
+ghost use Rattle.std.specs.Prelude.{◌≡◌, ◌<◌, ◌≤◌, ◌-◌, ◌*◌, ◌/◌, ◌^◌, ◌≢◌, ℕ, All, IfErr, IsOkAnd, IsOkUnless, length};
 ghost use Rattle.position_rank.specs.LiveRanks.{live_positions, live_rank_of};
 ghost use Rattle.turn_rule.specs.Games.{kinds_of};
 ghost use Rattle.turn_rule.specs.States.{IsState};
 ghost use Rattle.interval_words.specs.WordLists.{words_in_list};
 ghost use Rattle.play_analyser.specs.Advice.{IsCubeAdviceOver};
 ghost use Rattle.game_census.specs.declared.stop.Stop.TheVariants.{BadWords, Unprinted};
-ghost use Rattle.game_census.specs.Censuses.{AddsPosition, AddsState, AreCensuses, MayDouble};
+ghost use Rattle.game_census.specs.Censuses.{AddsPosition, AddsState, AreCensuses, IsPartCensus, doubling_kinds, share};
 
 use crate::kind_census::KindCensus;
 use crate::report::print_census;
@@ -31,7 +30,7 @@ fn share(live: u64, number: u32, of: u32) -> u64
     requires live { live < 2 ^ 32 }
     requires some { 0 < of }
     requires number { number ≤ of }
-    ensures share { result ≡ live * number / of }
+    ensures share { result ≡ share live number of }
     ensures inside { result ≤ live }
 {
     live * u64::from(number) / u64::from(of)
@@ -51,11 +50,10 @@ fn advice_over(words: &Words, ends: &RollEnds, kind: usize) -> Result<CubeAdvice
 /// The most kinds that stakes have.
 const MOST_KINDS: usize = 14;
 
-/// The kinds in which the mover may double, in their order.
+/// The kinds in which the mover may double, each once, in their order.
 fn doubling_kinds(stakes: &Stakes) -> ArrayVec<usize, MOST_KINDS>
-    ensures only { All (λ kind. kind < length stakes.now.kinds) result.items }
-    ensures each { (kind : ℕ) → kind < length stakes.now.kinds
-        → Contains result.items kind ↔ MayDouble stakes.now kind }
+    ensures kinds { result.items ≡ doubling_kinds stakes.now }
+    ensures there { All (λ kind. kind < length stakes.now.kinds) result.items }
 {
     let mut found = ArrayVec::new();
     for kind in 0..stakes.kinds() {
@@ -130,20 +128,39 @@ fn censuses_of(words: &Words, kinds: &[usize], from: u64, to: u64) -> [KindCensu
     censuses
 }
 
-/// Counts what is advised in each kind in which the mover may double, over a part of the live positions, and prints it.
-fn count_kinds<R: Print>(rt: &R, words: &Words, part: &Part) -> Result<(), Stop>
-    ensures { IsOkUnless result Unprinted }
-{
-    let live = words.index().count();
-    let from = share(live, part.number - 1, part.of);
-    let to = share(live, part.number, part.of);
-    let stakes = words.stakes();
-    let kinds = doubling_kinds(stakes);
-    let censuses = censuses_of(words, &kinds, from, to);
-    for (kind, census) in kinds.iter().zip(&censuses) {
-        print_census(rt, stakes.kind_name(*kind), census)?;
+/// What is advised in each kind in which the mover may double, over a part of the live positions.
+#[derive(Drop)]
+pub(crate) struct PartCensus {
+    /// The kinds, in their order.
+    kinds: ArrayVec<usize, MOST_KINDS>,
+    /// For each of the kinds what is advised in it; those behind the last one count nothing.
+    censuses: [KindCensus; MOST_KINDS],
+}
+
+impl PartCensus {
+    /// Counts what is advised over the words of a file.
+    fn of(words: &Words, part: &Part) -> PartCensus
+        ensures census { IsPartCensus words.now part.now result }
+        ensures there { All (λ kind. kind < kinds_of words.now.game) result.kinds.items }
+    {
+        let live = words.index().count();
+        let from = share(live, part.number - 1, part.of);
+        let to = share(live, part.number, part.of);
+        let kinds = doubling_kinds(words.stakes());
+        let censuses = censuses_of(words, &kinds, from, to);
+        PartCensus { kinds, censuses }
     }
-    Ok(())
+
+    /// Prints it, kind by kind.
+    fn print<R: Print>(&self, rt: &R, stakes: &Stakes) -> Result<(), Stop>
+        requires { All (λ kind. kind < length stakes.now.kinds) self.now.kinds.items }
+        ensures { IsOkUnless result Unprinted }
+    {
+        for (kind, census) in self.kinds.iter().zip(&self.censuses) {
+            print_census(rt, stakes.kind_name(*kind), census)?;
+        }
+        Ok(())
+    }
 }
 
 /// Loads a file of bounds, and counts and prints what is advised on the cube in a part of it.
@@ -156,5 +173,6 @@ pub(crate) fn count_calls<R: Threads + Sync + Print + Files>(
 {
     let mut files = RealFiles::new(rt);
     let base = load_base(rt, alloc, &mut files, task.file, 1)?;
-    count_kinds(rt, base.words(), &task.part)
+    let words = base.words();
+    PartCensus::of(words, &task.part).print(rt, words.stakes())
 }

@@ -1,4 +1,6 @@
-ghost use Rattle.std.specs.Prelude.{◌≡◌, ◌≤◌, ◌+◌, ◌≤ℤ◌, ℕ, IfOk, IsTrue};
+ghost use Rattle.std.specs.Prelude.{◌≡◌, ◌≤◌, ◌+◌, ◌≤ℤ◌, ◌↔◌, ℕ, IfOk, IsTrue};
+ghost use Rattle.directed_fixed.specs.Bounds.{AreNoLooserPairs};
+ghost use Rattle.cube_actions.specs.Stakes.{cubeless};
 ghost use Rattle.turn_rule.specs.States.{pair_of};
 ghost use Rattle.race_table.specs.Races.{IsRaceOf};
 ghost use Rattle.race_table.specs.RacePairs.{race_pair};
@@ -22,6 +24,7 @@ pub(crate) struct BesideRounds {
     table: PlainTable,
     ghost some: { 1 ≤ checkers },
     ghost few: { checkers ≤ 3 },
+    ghost without_cube: { stakes ≡ cubeless },
     ghost of_races: { races ≡ checkers },
     ghost of_table: { (table.table.checkers ≡ checkers) × (table.stakes ≡ stakes) },
 }
@@ -64,8 +67,8 @@ impl BesideRounds {
 
     /// Whether a position is a race of as many checkers that may still take so many turns, and no more.
     pub(crate) fn takes(&self, position: &Position, turns: u32) -> bool
-        ensures race { IsTrue result → IsRaceOf self.now.checkers position.now }
-        ensures turns { IsTrue result → turns_left position.now ≡ turns }
+        ensures { IsTrue result
+            ↔ IsRaceOf self.now.checkers position.now × (turns_left position.now ≡ turns) }
     {
         if position.checkers() != self.checkers || !position.is_live() || !is_race(position) {
             return false;
@@ -82,10 +85,9 @@ impl BesideRounds {
         ensures upper { IsTrue result
             → (race_pair position.now).upper
             ≤ℤ (pair_of (words_of self.now.table.table) position.now 0).upper }
+        ensures each { AreNoLooserPairs (race_pair position.now)
+            (pair_of (words_of self.now.table.table) position.now 0) → IsTrue result }
     {
-        if self.stakes.kinds() == 0 {
-            return false;
-        }
         let race = self.races.pair(position);
         let round = self.table.pair(position, 0);
         round.lower().units() <= race.lower().units()

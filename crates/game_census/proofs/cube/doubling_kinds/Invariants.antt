@@ -1,12 +1,12 @@
-use Rattle.std.proofs.Common.{◌≤◌, ◌<◌, ◌↔◌, ℕ, All, length}
-use Rattle.std.specs.List.{Contains}
-use Rattle.game_census.specs.Censuses.{MayDouble}
+use Rattle.std.proofs.Common.{◌≡◌, ◌≤◌, ◌<◌, ℕ, All, length}
+use Rattle.std.specs.List.{filter, range_with_len}
+use Rattle.game_census.specs.Censuses.{may_double}
 use Rattle.game_census.proofs.cube.doubling_kinds.Given as goal
 
--- each was found among the kinds before this one
+-- those among the kinds before this one were found
 abbrev pub invariant-loop-kind : goal.invariant-loop-kind
 invariant-loop-kind l = record {
   few : length l.found.items ≤ l.kind;
-  kinds : All (λ (kind : ℕ). kind < l.kind) l.found.items;
-  each : (kind : ℕ) → kind < l.kind → Contains l.found.items kind ↔ MayDouble l.stakes kind;
+  there : All (λ (kind : ℕ). kind < l.kind) l.found.items;
+  found : l.found.items ≡ filter (may_double l.stakes) (range_with_len 0 l.kind);
 }
