@@ -1,5 +1,5 @@
 -- What is advised on the cube, its number among all calls, and how often each came.
-use Rattle.std.specs.Prelude.{◌+◌, ◌-◌, ◌^◌, ℕ, pos, min, List, slice_index, slice_set, int_le, if◌then◌else◌}
+use Rattle.std.specs.Prelude.{◌+◌, ◌-◌, ◌^◌, ℕ, pos, min, Bool, true, false, List, codes, slice_index, slice_set, int_le, if◌then◌else◌}
 use Rattle.game_record.specs.declared.decision.Offer.{Offer}
 use Rattle.game_record.specs.declared.decision.Offer.TheVariants.{NoDouble, Double}
 use Rattle.game_record.specs.declared.decision.Answer.{Answer}
@@ -38,3 +38,19 @@ one_more count = min (count + 1) (2 ^ 64 - 1)
 -- the counts of all calls, by their numbers, after one call more
 abbrev pub counted : List ℕ → Call → List ℕ
 counted counts call = slice_set counts (call_number call) (one_more (slice_index counts (call_number call)))
+
+-- what is told of an offer
+abbrev pub offer_text : Offer → List ℕ
+offer_text NoDouble = codes "no-double"
+offer_text Double = codes "double"
+
+-- what is told of an answer
+abbrev pub answer_text : Answer → List ℕ
+answer_text Take = codes "take"
+answer_text Beaver = codes "beaver"
+answer_text Pass = codes "pass"
+
+-- what is told of a choice that loses at most nothing, or of one that may lose
+abbrev pub certainty_text : Bool → List ℕ
+certainty_text true = codes "certain"
+certainty_text false = codes "open"

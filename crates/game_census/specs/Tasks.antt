@@ -1,5 +1,7 @@
 -- What is to be counted, as the words ask for it.
-use Rattle.std.specs.Prelude.{ℕ}
+use Rattle.std.specs.Prelude.{◌≡◌, ◌≤◌, ℕ, List}
+use Rattle.std.specs.Str.Parse.{IsNumeral, digits_value, without_leading_plus}
+use Rattle.game_census.specs.declared.task.Part.{Part}
 use Rattle.game_census.specs.declared.task.Task.{Task}
 use Rattle.game_census.specs.declared.task.Task.TheVariants.{Cube, Races}
 
@@ -7,3 +9,34 @@ use Rattle.game_census.specs.declared.task.Task.TheVariants.{Cube, Races}
 abbrev pub word_count : Task → ℕ
 word_count (Cube task) = 4
 word_count (Races task) = 2
+
+-- the number that a word says by its digits; a plus may stand before them
+abbrev pub number_of : List ℕ → ℕ
+number_of word = digits_value 10 (without_leading_plus word)
+
+-- the word says a number from 1 to the greatest that is taken
+pub record SaysUpto (greatest : ℕ) (word : List ℕ) : Type 0 where
+  pub numeral : IsNumeral 10 (without_leading_plus word)
+  pub least : 1 ≤ number_of word
+  pub most : number_of word ≤ greatest
+
+-- two words say a part, its number and of how many: there are at most a million
+pub record SayPart (number many : List ℕ) : Type 0 where
+  pub many_said : SaysUpto 1000000 many
+  pub number_said : SaysUpto (number_of many) number
+
+-- this is the part that they say
+pub record IsPartOf (number many : List ℕ) (part : Part) : Type 0 where
+  pub said : SayPart number many
+  pub number_is : part.number ≡ number_of number
+  pub of_is : part.of ≡ number_of many
+
+-- the task asks for the calls over the part of a file that the words say
+abbrev pub AsksCalls : List ℕ → List ℕ → List ℕ → Task → Type 0
+AsksCalls file number many (Cube task) = (task.file.now ≡ file) × IsPartOf number many task.part
+AsksCalls file number many (Races task) = ⊥
+
+-- the task asks for the races of as many checkers as the word says
+abbrev pub AsksRaces : List ℕ → Task → Type 0
+AsksRaces word (Cube task) = ⊥
+AsksRaces word (Races task) = SaysUpto 3 word × (task.checkers ≡ number_of word)

@@ -1,5 +1,5 @@
-ghost use Rattle.std.specs.Prelude.{◌≡◌, ◌<◌, length};
-ghost use Rattle.game_census.specs.Calls.{call_number, call_of};
+ghost use Rattle.std.specs.Prelude.{◌≡◌, ◌<◌};
+ghost use Rattle.game_census.specs.Calls.{answer_text, call_number, call_of, certainty_text, offer_text};
 
 use game_record::{Answer, Offer};
 use play_analyser::CubeAction;
@@ -59,7 +59,7 @@ impl Call {
 
 /// The name of an offer.
 pub(crate) fn offer_name(offer: Offer) -> &'static str
-    ensures { 0 < length result.now }
+    ensures { result.now ≡ offer_text offer }
 {
     match offer {
         Offer::NoDouble => "no-double",
@@ -69,7 +69,7 @@ pub(crate) fn offer_name(offer: Offer) -> &'static str
 
 /// The name of an answer.
 pub(crate) fn answer_name(answer: Answer) -> &'static str
-    ensures { 0 < length result.now }
+    ensures { result.now ≡ answer_text answer }
 {
     match answer {
         Answer::Take => "take",
@@ -80,7 +80,7 @@ pub(crate) fn answer_name(answer: Answer) -> &'static str
 
 /// How it is told whether something loses at most nothing.
 pub(crate) fn certainty_name(sure: bool) -> &'static str
-    ensures { 0 < length result.now }
+    ensures { result.now ≡ certainty_text sure }
 {
     if sure { "certain" } else { "open" }
 }
