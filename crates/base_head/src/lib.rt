@@ -8,8 +8,6 @@ mod head;
 mod header;
 mod laws;
 mod reading;
-#[cfg(test)]
-mod tests;
 
 pub use fault::{BadFile, FileFault};
 pub use front::put_front;

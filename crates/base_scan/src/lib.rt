@@ -7,8 +7,6 @@ mod numbers;
 mod reading;
 mod scanning;
 mod sides;
-#[cfg(test)]
-mod tests;
 mod words;
 
 pub use condition::{BadCondition, Comparison, Condition, Field, MOST_TESTS, Test};

@@ -7,8 +7,6 @@ mod finding;
 mod laws;
 mod states;
 mod taking;
-#[cfg(test)]
-mod tests;
 
 pub use consistency::verify;
 pub use finding::{Finding, VerifyStop};

@@ -12,8 +12,6 @@ mod position_lefts;
 mod reply_table;
 mod roll_lefts;
 mod sweep;
-#[cfg(test)]
-mod tests;
 mod turns;
 
 pub use laws::{

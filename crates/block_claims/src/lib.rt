@@ -3,8 +3,6 @@
 
 mod claims;
 mod laws;
-#[cfg(test)]
-mod tests;
 mod views;
 
 pub use claims::{ClaimSeat, Claims};

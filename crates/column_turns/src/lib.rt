@@ -6,8 +6,6 @@ mod movers;
 mod play_worth;
 mod rows;
 mod sums;
-#[cfg(test)]
-mod tests;
 mod turns;
 
 pub use column_turns::ColumnTurns;

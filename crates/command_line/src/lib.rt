@@ -5,8 +5,6 @@ mod command;
 mod commands;
 mod laws;
 mod stop;
-#[cfg(test)]
-mod tests;
 mod text;
 mod values;
 mod words;

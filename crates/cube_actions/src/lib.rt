@@ -14,8 +14,6 @@ mod score_order;
 mod side;
 mod stakes;
 mod starts;
-#[cfg(test)]
-mod tests;
 
 pub use kind::{Double, Kind, Taken};
 pub use laws::{bound_examples, cubeless_example, score_examples};

@@ -18,6 +18,3 @@ pub use opening::open_paged;
 pub use paged::{PagedBase, PagedReader};
 pub use stop::LoadStop;
 pub use write::{LONGEST_PAGE, write_base};
-
-#[cfg(test)]
-mod tests;

@@ -5,8 +5,6 @@ mod bounds;
 mod decimal;
 mod fixed;
 mod quotient;
-#[cfg(test)]
-mod tests;
 mod word;
 
 pub use bounds::{End, Pair};

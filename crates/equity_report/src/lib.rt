@@ -11,8 +11,6 @@ mod refusal;
 mod reply;
 mod report;
 mod scan;
-#[cfg(test)]
-mod tests;
 mod text;
 mod verify;
 

@@ -4,3 +4,4 @@ pub mod Censuses
 pub mod RaceCounts
 pub mod Stops
 pub mod Tasks
+pub mod Saved

@@ -1,14 +1,20 @@
 -- What is to be counted, as the words ask for it.
-use Rattle.std.specs.Prelude.{◌≡◌, ◌≤◌, ℕ, List}
+use Rattle.std.specs.Prelude.{◌≡◌, ◌≤◌, ◌+◌, ℕ, List, Option, Some, None}
 use Rattle.std.specs.Str.Parse.{IsNumeral, digits_value, without_leading_plus}
 use Rattle.game_census.specs.declared.task.Part.{Part}
 use Rattle.game_census.specs.declared.task.Task.{Task}
-use Rattle.game_census.specs.declared.task.Task.TheVariants.{Cube, Races}
+use Rattle.game_census.specs.declared.task.Task.TheVariants.{Cube, Races, Widths}
 
--- how many words ask for it: its name, and a file with a part or the checkers
+-- one word for a file, where one is named
+abbrev pub one_for : {A : Type 0} → Option A → ℕ
+one_for None = 0
+one_for (Some file) = 1
+
+-- how many words ask for it: its name, and a file with a part, the checkers, or a game with its rounds and perhaps a file
 abbrev pub word_count : Task → ℕ
 word_count (Cube task) = 4
 word_count (Races task) = 2
+word_count (Widths task) = 4 + one_for task.file
 
 -- the number that a word says by its digits; a plus may stand before them
 abbrev pub number_of : List ℕ → ℕ
@@ -35,8 +41,16 @@ pub record IsPartOf (number many : List ℕ) (part : Part) : Type 0 where
 abbrev pub AsksCalls : List ℕ → List ℕ → List ℕ → Task → Type 0
 AsksCalls file number many (Cube task) = (task.file.now ≡ file) × IsPartOf number many task.part
 AsksCalls file number many (Races task) = ⊥
+AsksCalls file number many (Widths task) = ⊥
 
 -- the task asks for the races of as many checkers as the word says
 abbrev pub AsksRaces : List ℕ → Task → Type 0
 AsksRaces word (Cube task) = ⊥
 AsksRaces word (Races task) = SaysUpto 3 word × (task.checkers ≡ number_of word)
+AsksRaces word (Widths task) = ⊥
+
+-- the task asks for the widths of as many checkers after as many rounds as the words say
+abbrev pub AsksWidths : List ℕ → List ℕ → Task → Type 0
+AsksWidths checkers rounds (Cube task) = ⊥
+AsksWidths checkers rounds (Races task) = ⊥
+AsksWidths checkers rounds (Widths task) = (task.checkers ≡ number_of checkers) × (task.rounds ≡ number_of rounds)

@@ -1,5 +1,5 @@
-//! Counts what no command of the program tells: what is advised on the cube over a file of bounds, with the nearest calls, and the races
-//! by the turns that they may still take.
+//! Counts and tells what no command of the program does: what is advised on the cube over a file of bounds, with the nearest calls, the races
+//! by the turns that they may still take, and how tight a game is after some of its rounds.
 #![tactic(auto)]
 
 mod call;
@@ -8,16 +8,20 @@ mod gap;
 mod kind_census;
 mod races;
 mod report;
+mod saving;
 mod stop;
 mod tally;
 mod task;
+mod widths;
 mod words;
 
 use crate::cube::count_calls;
 use crate::races::count_races;
 use crate::stop::Stop;
 use crate::task::Task;
+use crate::widths::tell_widths;
 use crate::words::read_task;
+use hyper_outside::RealFiles;
 use std::alloc::Global;
 use std::io::Print;
 use std::process::ExitCode;
@@ -44,6 +48,7 @@ fn run<R: Threads + Sync + Env + Print + Files + AllocGlobal>(
         None => Err(Stop::BadWords),
         Some(Task::Cube(task)) => count_calls(rt, alloc, &task),
         Some(Task::Races(task)) => count_races(rt, alloc, &task),
+        Some(Task::Widths(task)) => tell_widths(rt, alloc, &task, &mut RealFiles::new(rt)),
     }
 }
 

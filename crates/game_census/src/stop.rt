@@ -1,9 +1,9 @@
 ghost use Rattle.std.specs.Prelude.{◌≡◌, ◌<◌, ◌↔◌, IsOk, IsOkUnless, length};
-ghost use Rattle.game_census.specs.declared.stop.Stop.TheVariants.{Memory, Unprinted};
+ghost use Rattle.game_census.specs.declared.stop.Stop.TheVariants.{Memory, Unprinted, Unsaved};
 ghost use Rattle.game_census.specs.Stops.{told_of};
 
 use database_file::LoadStop;
-use hyper_outside::NoMemory;
+use hyper_outside::{Failed, NoMemory};
 use std::alloc::AllocError;
 use std::io;
 
@@ -22,6 +22,8 @@ pub(crate) enum Stop {
     Memory,
     /// A line couldn't be printed.
     Unprinted,
+    /// The file couldn't be written.
+    Unsaved,
 }
 
 impl Stop {
@@ -30,12 +32,15 @@ impl Stop {
         ensures { 0 < length result.now }
     {
         match self {
-            Stop::BadWords => "the words are cube FILE PART PARTS, or races CHECKERS",
+            Stop::BadWords => {
+                "the words are cube FILE PART PARTS, races CHECKERS, or widths CHECKERS STAKES ROUNDS [FILE]"
+            }
             Stop::NoFile => "there is no file of this name",
             Stop::NoBounds => "the file isn't one of bounds",
             Stop::Unread => "the file can't be read",
             Stop::Memory => "there isn't memory enough",
             Stop::Unprinted => "a line couldn't be printed",
+            Stop::Unsaved => "the file couldn't be written",
         }
     }
 }
@@ -77,5 +82,13 @@ impl From<AllocError> for Stop {
 
     fn from(_no_memory: AllocError) -> Self {
         Stop::Memory
+    }
+}
+
+impl From<Failed> for Stop {
+    ghost from_gives = { λ _ given. given ≡ Unsaved };
+
+    fn from(_failed: Failed) -> Self {
+        Stop::Unsaved
     }
 }

@@ -1,4 +1,7 @@
-ghost use Rattle.std.specs.Prelude.{◌≤◌};
+ghost use Rattle.std.specs.Prelude.{◌≡◌, ◌≤◌, false};
+ghost use Rattle.base_head.specs.Heads.{is_match};
+
+use cube_actions::StakesName;
 
 /// A part of a file's live positions, from 1, where so many equal parts share them.
 #[derive(Clone, Copy)]
@@ -24,9 +27,24 @@ pub(crate) struct RaceTask {
     ghost high: { checkers ≤ 3 },
 }
 
-/// What is to be counted.
+/// A game is to be solved by so many rounds, its widths are to be told meanwhile, and its words kept in the file, if any.
+#[derive(Clone, Copy)]
+pub(crate) struct WidthsTask<'a> {
+    pub(crate) checkers: u8,
+    pub(crate) stakes: StakesName,
+    pub(crate) rounds: u32,
+    pub(crate) file: Option<&'a str>,
+    ghost low: { 1 ≤ checkers },
+    ghost high: { checkers ≤ 3 },
+    ghost no_match: { is_match stakes ≡ false },
+    ghost some: { 1 ≤ rounds },
+    ghost most: { rounds ≤ 4096 },
+}
+
+/// What is to be counted or told.
 #[derive(Clone, Copy)]
 pub(crate) enum Task<'a> {
     Cube(CubeTask<'a>),
     Races(RaceTask),
+    Widths(WidthsTask<'a>),
 }

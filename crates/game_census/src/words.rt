@@ -1,7 +1,9 @@
-ghost use Rattle.std.specs.Prelude.{◌≡◌, IfSome, MatchOption, SomeIff, length};
-ghost use Rattle.game_census.specs.Tasks.{AsksCalls, AsksRaces, IsPartOf, SayPart, SaysUpto, number_of, word_count};
+ghost use Rattle.std.specs.Prelude.{◌≡◌, ◌+◌, IfSome, MatchOption, SomeIff, false, length};
+ghost use Rattle.base_head.specs.Heads.{is_match};
+ghost use Rattle.game_census.specs.Tasks.{AsksCalls, AsksRaces, AsksWidths, IsPartOf, SayPart, SaysUpto, number_of, one_for, word_count};
 
-use crate::task::{CubeTask, Part, RaceTask, Task};
+use crate::task::{CubeTask, Part, RaceTask, Task, WidthsTask};
+use cube_actions::StakesName;
 
 /// A number from 1 to the greatest that is taken.
 fn number_upto(word: &str, greatest: u32) -> Option<u32>
@@ -42,15 +44,70 @@ fn race_task(checkers: &str) -> Option<Task<'static>>
     Some(Task::Races(RaceTask { checkers }))
 }
 
+/// The stakes of a name. They aren't those of a match.
+fn stakes_named(name: &str) -> Option<StakesName>
+    ensures { IfSome result (λ stakes. is_match stakes ≡ false) }
+{
+    match name {
+        "cubeless" => Some(StakesName::Cubeless),
+        "money" => Some(StakesName::Money),
+        "jacoby" => Some(StakesName::Jacoby),
+        "money-beavers" => Some(StakesName::MoneyBeavers),
+        "jacoby-beavers" => Some(StakesName::JacobyBeavers),
+        _ => None,
+    }
+}
+
+/// What `widths` asks for with these words after it.
+fn widths_task<'a>(
+    checkers: &str,
+    stakes: &str,
+    rounds: &str,
+    file: Option<&'a str>,
+) -> Option<Task<'a>>
+    ensures asked { IfSome result (AsksWidths checkers.now rounds.now) }
+    ensures words { IfSome result (λ task. word_count task ≡ 4 + one_for file.entry) }
+{
+    let checkers = number_upto(checkers, 3)? as u8;
+    let stakes = stakes_named(stakes)?;
+    let rounds = number_upto(rounds, 4_096)?;
+    Some(Task::Widths(WidthsTask {
+        checkers,
+        stakes,
+        rounds,
+        file,
+    }))
+}
+
+/// What a command with three words after it asks for.
+fn task_of_three<'a>(command: &str, first: &'a str, second: &str, third: &str) -> Option<Task<'a>>
+    ensures { IfSome result (λ task. word_count task ≡ 4) }
+{
+    match command {
+        "cube" => cube_task(first, second, third),
+        "widths" => widths_task(first, second, third, None),
+        _ => None,
+    }
+}
+
 /// What the words ask for.
 pub(crate) fn read_task(words: &[String]) -> Option<Task<'_>>
     ensures { IfSome result (λ task. length words.now ≡ word_count task) }
 {
     match words {
-        [command, file, number, of] if command.as_str() == "cube" => {
-            cube_task(file.as_str(), number.as_str(), of.as_str())
-        }
         [command, checkers] if command.as_str() == "races" => race_task(checkers.as_str()),
+        [command, first, second, third] => task_of_three(
+            command.as_str(),
+            first.as_str(),
+            second.as_str(),
+            third.as_str(),
+        ),
+        [command, checkers, stakes, rounds, file] if command.as_str() == "widths" => widths_task(
+            checkers.as_str(),
+            stakes.as_str(),
+            rounds.as_str(),
+            Some(file.as_str()),
+        ),
         _ => None,
     }
 }

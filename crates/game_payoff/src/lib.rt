@@ -3,8 +3,6 @@
 
 mod laws;
 mod payoff;
-#[cfg(test)]
-mod tests;
 
 pub use laws::worked_examples;
 pub use payoff::{Won, points};

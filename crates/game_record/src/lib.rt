@@ -21,8 +21,6 @@ mod replay_laws;
 mod replaying;
 mod stage;
 mod standing;
-#[cfg(test)]
-mod tests;
 mod words;
 
 pub use cube::Cube;

@@ -19,6 +19,3 @@ pub use outside::{BadWords, Failed, Files, LookStop, NoMemory, PageFault, Sink, 
 pub use reading::{WholeStop, fill, read_whole};
 pub use real_files::RealFiles;
 pub use sinks::{HonestSink, MemSink, RealSink};
-
-#[cfg(test)]
-mod tests;

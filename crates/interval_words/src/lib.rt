@@ -6,8 +6,6 @@ mod laws;
 mod live_index;
 mod number;
 mod rule;
-#[cfg(test)]
-mod tests;
 mod view;
 mod words;
 

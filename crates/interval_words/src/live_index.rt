@@ -152,6 +152,3 @@ impl LiveIndex {
         Position::square_unrank(self.checkers, self.square(rank))
     }
 }
-
-#[cfg(test)]
-mod tests;

@@ -4,8 +4,6 @@
 mod millionths;
 mod plan;
 mod points;
-#[cfg(test)]
-mod tests;
 mod values;
 
 pub use millionths::Millionths;

@@ -8,8 +8,6 @@ mod ladder_laws;
 mod openings;
 mod score_laws;
 mod start_laws;
-#[cfg(test)]
-mod tests;
 
 pub use examples::{exact_start_examples, exact_win_examples, start_examples};
 pub use keep::Keep;

@@ -9,8 +9,6 @@ mod matched;
 mod moves;
 mod notation;
 mod play;
-#[cfg(test)]
-mod tests;
 mod written;
 
 pub use applied::{BadPlay, apply};

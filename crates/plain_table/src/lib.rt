@@ -6,8 +6,6 @@ mod plain_reader;
 mod plain_table;
 mod sweep;
 mod table;
-#[cfg(test)]
-mod tests;
 
 pub use laws::table_examples;
 pub use plain_reader::PlainReader;

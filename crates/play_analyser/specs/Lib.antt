@@ -5,4 +5,3 @@ pub mod Sought
 pub mod Advice
 pub mod Rankings
 pub mod Advised
-pub mod TestPairs

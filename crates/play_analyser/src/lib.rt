@@ -10,8 +10,6 @@ mod look_laws;
 mod losses;
 mod play_pairs;
 mod ranking;
-#[cfg(test)]
-mod tests;
 
 pub use advice::{CubeAction, CubeAdvice, cube_advice, cube_advice_of};
 pub use examples::{advice_examples, loss_examples};

@@ -7,8 +7,6 @@ mod place;
 mod points;
 mod position;
 mod rank;
-#[cfg(test)]
-mod tests;
 mod text;
 
 pub use layout::{BadLayout, Layout};

@@ -169,6 +169,3 @@ fn push_place(text: &mut ArrayString<32>, place: u8, times: u8)
         push_word(text, place_name(place).as_str());
     }
 }
-
-#[cfg(test)]
-mod tests;

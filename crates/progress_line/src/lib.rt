@@ -3,7 +3,5 @@
 
 mod gate;
 mod line;
-#[cfg(test)]
-mod tests;
 
 pub use gate::ProgressGate;

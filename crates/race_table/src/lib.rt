@@ -8,8 +8,6 @@ mod laws;
 mod order;
 mod race;
 mod race_table;
-#[cfg(test)]
-mod tests;
 
 pub use laws::{
     each_roll_moves_in_a_race, highest_places_tell_races, pairs_of_races_are_true,

@@ -4,8 +4,6 @@
 mod analysis;
 mod judging;
 mod laws;
-#[cfg(test)]
-mod tests;
 mod total;
 
 pub use analysis::{Analysis, Judged};

@@ -10,8 +10,6 @@ mod maker;
 mod making;
 mod size;
 mod state;
-#[cfg(test)]
-mod tests;
 
 pub use draw::make_record;
 pub use laws::{made_records_break_no_rule, numbers_tell_records};

@@ -4,8 +4,6 @@
 mod match_study;
 mod record_keep;
 mod studying;
-#[cfg(test)]
-mod tests;
 
 pub use match_study::study_match;
 pub use record_keep::RecordKeep;

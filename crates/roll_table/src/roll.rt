@@ -143,6 +143,3 @@ pub fn openings() -> [Roll; 15]
         Roll { high: 6, low: 5 },
     ]
 }
-
-#[cfg(test)]
-mod tests;

@@ -12,7 +12,6 @@ pub mod Plays
 pub mod RollSums
 pub mod Values
 pub mod Sure
-pub mod TestLemmas
 pub mod Scaled
 pub mod Fractions
 pub mod Enclosing

@@ -10,4 +10,3 @@ pub mod Exact
 pub mod Truth
 pub mod Following
 pub mod Examples
-pub mod TestPairs

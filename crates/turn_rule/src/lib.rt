@@ -13,8 +13,6 @@ mod look_laws;
 mod pairs;
 mod play_end;
 mod sum;
-#[cfg(test)]
-mod tests;
 mod value;
 mod worth;
 

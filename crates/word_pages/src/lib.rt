@@ -20,6 +20,3 @@ pub use load::{PageStop, load_page};
 pub use page::read_page;
 pub use version::Version;
 pub use words::{put_words, read_words};
-
-#[cfg(test)]
-mod tests;

@@ -6,8 +6,6 @@ mod columns;
 mod rounds;
 mod seat_pairs;
 mod sweep;
-#[cfg(test)]
-mod tests;
 mod worker;
 
 pub use blocks::blocks_of;

@@ -1,0 +1,80 @@
+"""Files of bounds as docs/FORMATS.md tells them, read and changed with no help of the program."""
+
+import hashlib
+import itertools
+import struct
+
+HEAD = 64
+DIGEST = 32
+POSITIONS = {1: 601, 2: 106552, 3: 7953353}
+A_PAGE = 1024
+WORD = 5
+PAIR = 2 * WORD
+# The places of the cube for money.
+KINDS = ("centred", "mine", "theirs")
+
+
+def digest(text):
+    return hashlib.sha256(text).digest()
+
+
+def page_length(kinds):
+    return A_PAGE * kinds * PAIR + DIGEST
+
+
+def file_length(checkers, kinds):
+    """The length of a file of version 2 without starts."""
+    positions = POSITIONS[checkers]
+    return HEAD + DIGEST + positions * kinds * PAIR + (positions + A_PAGE - 1) // A_PAGE * DIGEST
+
+
+def pages(text, kinds):
+    """The pages of a file without starts, each with its digest."""
+    for place in range(HEAD + DIGEST, len(text), page_length(kinds)):
+        yield text[place : place + page_length(kinds)]
+
+
+def is_sealed(text, kinds):
+    """Whether the digests of the head and of all pages are right."""
+    parts = [text[: HEAD + DIGEST], *pages(text, kinds)]
+    return all(digest(part[:-DIGEST]) == part[-DIGEST:] for part in parts)
+
+
+def as_version_one(text, kinds):
+    """A file of version 2 in version 1, whose words take eight bytes each."""
+    head = text[:8] + struct.pack(">I", 1) + text[12:HEAD]
+    parts = [head] + [longer_words(page[:-DIGEST]) for page in pages(text, kinds)]
+    return b"".join(part + digest(part) for part in parts)
+
+
+def longer_words(pairs):
+    return b"".join(bytes(3) + pairs[place : place + WORD] for place in range(0, len(pairs), WORD))
+
+
+def layouts(checkers):
+    """The places of a side's checkers in rising order, by rising rank."""
+    return sorted(itertools.combinations_with_replacement(range(26), checkers), key=lambda it: it[::-1])
+
+
+def is_live(mover, other):
+    return any(mover) and any(other) and not any(1 <= point <= 24 and 25 - point in other for point in mover)
+
+
+def live_rank(mover, other):
+    """How many live positions come before this one."""
+    squares = itertools.product(layouts(len(mover)), repeat=2)
+    before = itertools.takewhile(lambda it: it != (mover, other), squares)
+    return sum(is_live(*it) for it in before)
+
+
+def with_tighter_bound(text, position, kind):
+    """A file for money in which the lower bound of a position and kind is one unit tighter, with its page sealed anew."""
+    rank, length = live_rank(*position), page_length(len(KINDS))
+    page = HEAD + DIGEST + rank // A_PAGE * length
+    end = min(page + length, len(text)) - DIGEST
+    place = page + (rank % A_PAGE * len(KINDS) + KINDS.index(kind)) * PAIR
+    tighter = int.from_bytes(text[place : place + WORD], "big") + 1
+    changed = bytearray(text)
+    changed[place : place + WORD] = tighter.to_bytes(WORD, "big")
+    changed[end : end + DIGEST] = digest(changed[page:end])
+    return bytes(changed)

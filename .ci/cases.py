@@ -1,0 +1,255 @@
+"""Runs that only a real system can show: of words that are no text, on a terminal, and of files that are large."""
+
+import csv
+import filecmp
+import os
+import pty
+import re
+import subprocess
+from typing import NamedTuple
+
+import base_file
+from documents import large_files
+from tally import SCRIPT, SECONDS, TOP, run
+
+# A file of one checker by the Jacoby rule, which stands in results/files.tsv with its SHA-256.
+SMALL = "1-jacoby.base"
+KINDS = len(base_file.KINDS)
+# Where the digest of its one page stands.
+PAGE_DIGEST = base_file.file_length(1, KINDS) - base_file.DIGEST
+
+BOUND = b"""\
+position 24 / 24
+rounds 1
+alone -2.833334 3.000000 -12169074006 12884901888
+"""
+
+OF_FEWER = b"refused 10 base wanted checkers 2 found checkers 1 stakes jacoby\n"
+
+
+class Case(NamedTuple):
+    name: str
+    words: tuple
+    status: int
+    output: bytes
+
+
+# What docs/FORMATS.md says of these words. `damaged.base` differs from `1-jacoby.base` in a byte of its one page.
+CASES = (
+    Case("a right run", (b"bound", b"1", b"1", b"24 / 24"), 0, BOUND),
+    Case("a word that isn't text", (b"bound", b"1", b"1", b"6 / \xff"), 1, b"refused 1 words word 0\n"),
+    Case("a first word that isn't text", (b"\xff",), 1, b"refused 1 words word 0\n"),
+    Case("an argument too few", (b"bound", b"1", b"1"), 1, b"refused 1 words form 0\n"),
+    Case("a point that both sides hold", (b"bound", b"1", b"1", b"6 / 19"), 2, b"refused 2 position 4\n"),
+    Case("a roll with the lower die first", (b"advise", SMALL, b"24 / 24", b"--roll", b"12"), 2, b"refused 2 roll 2\n"),
+    Case("no such file", (b"show", b"none.base", b"24 / 24"), 3, b"refused 3 missing none.base\n"),
+    Case("a damaged page", (b"show", b"damaged.base", b"24 / 24"), 4, b"refused 4 file page-digest %d\n" % PAGE_DIGEST),
+    Case("a file that is no record", (b"study", SMALL), 5, b"refused 5 record 1 shape\n"),
+    Case("a file of fewer checkers", (b"show", SMALL, b"24 23 / 24 23"), 10, OF_FEWER),
+    Case("a condition that ends too early", (b"scan", SMALL, b"pips=1 |"), 11, b"refused 11 condition 2\n"),
+    Case("a race with contact", (b"race", b"1", b"13 / 13"), 12, b"refused 12 contact\n"),
+)
+
+# With one checker either order of 3 and 1 ends on the same point, so the play loses nothing.
+RECORD = b"""\
+hypergammon record 1
+checkers 1
+stakes jacoby
+game 1
+A 31 24/21 21/20
+stop
+close
+"""
+
+
+STUDIED = b"""\
+1 5 A play 0.000000 0.000000
+A decisions 1 loss 0.000000 0.000000
+B decisions 0 loss 0.000000 0.000000
+"""
+
+SOLVED = b"""\
+solved checkers 1 stakes jacoby rounds 64 workers 1
+positions 601 kinds 3 widest %s
+file 1-jacoby.base bytes %s
+"""
+
+VERIFIED = b"consistent checkers 1 stakes jacoby rounds 64 positions 601\n"
+
+SOLVED_THREE = rb"""solved checkers 3 stakes jacoby rounds 1 workers 4
+positions 7953353 kinds 3 widest [1-6]\.\d{6}
+file three.base bytes %d
+"""
+
+VERIFIED_THREE = b"consistent checkers 3 stakes jacoby rounds 1 positions 7953353\n"
+
+# Whose last checker goes off at once wins a point, whatever is done with the cube.
+WON = b"""\
+position 1 off off / 1 off off
+checkers 3 stakes jacoby rounds 1
+centred 1.000000 1.000000 4294967296 4294967296
+mine 1.000000 1.000000 4294967296 4294967296
+theirs 1.000000 1.000000 4294967296 4294967296
+"""
+
+
+class Shown(NamedTuple):
+    """A run on a terminal over a file that stands there."""
+
+    words: tuple
+    rounds: int
+    report: bytes
+    file: str
+    # What the file holds before the run, and the SHA-256 of what it has to hold behind it.
+    before: bytes
+    after: str
+
+
+def shown_cases(folder):
+    """The runs on a terminal."""
+    row = large_files()[SMALL]
+    small = (folder / SMALL).read_bytes()
+    solved = SOLVED % (row["widest"].encode(), row["bytes"].encode())
+    solve = ("solve", SMALL, "--checkers", "1")
+    yield Shown(solve, 64, solved, SMALL, b"what stood here before\n" * 5000, row["sha256"])
+    yield Shown(("verify", SMALL), 1, VERIFIED, SMALL, small, row["sha256"])
+    yield Shown(("study", "game.rec"), 64, STUDIED, "game.rec", RECORD, base_file.digest(RECORD).hex())
+
+
+def ask(words, folder):
+    """Runs the program, and answers its status and its output."""
+    ran = run([SCRIPT, *words], folder)
+    return ran.status, ran.output
+
+
+def on_terminal(words, folder):
+    """Runs the program with standard error on a terminal: its status, its output, and what the terminal got."""
+    terminal, end = pty.openpty()
+    ran = subprocess.Popen([SCRIPT, *words], cwd=folder, stdin=subprocess.DEVNULL, stdout=subprocess.PIPE, stderr=end)
+    os.close(end)
+    got = b"".join(iter(lambda: read_terminal(terminal), b""))
+    os.close(terminal)
+    output, _ = ran.communicate(timeout=SECONDS)
+    return ran.returncode, output, got
+
+
+def read_terminal(terminal):
+    """Some bytes, or none where nobody holds the terminal's other end any more."""
+    try:
+        return os.read(terminal, 4096)
+    except OSError:
+        return b""
+
+
+def differences(what, found, due):
+    return [] if found == due else [f"{what} {found}, due is {due}"]
+
+
+def try_words(tally, folder):
+    damaged = bytearray((folder / SMALL).read_bytes())
+    damaged[PAGE_DIGEST // 2] ^= 1
+    (folder / "damaged.base").write_bytes(damaged)
+    for case in CASES:
+        status, output = ask(case.words, folder)
+        tally.note(case.name, differences("status", status, case.status) + differences("output", output, case.output))
+
+
+def try_terminal(tally, folder):
+    for shown in shown_cases(folder):
+        (folder / shown.file).write_bytes(shown.before)
+        status, output, got = on_terminal(shown.words, folder)
+        line = rb"\rround \d+ of %d, \d+ %%, \d+ s gone, \d+ s left  " % shown.rounds
+        faults = differences("status", status, 0) + differences("output", output, shown.report)
+        if not re.fullmatch(rb"(%s)+\r\n" % line, got):
+            faults.append(f"the terminal got {got}, due are lines of progress")
+        digest = base_file.digest((folder / shown.file).read_bytes()).hex()
+        faults += differences("the file's SHA-256 is", digest, shown.after)
+        tally.note(f"on a terminal: {' '.join(shown.words)}", faults)
+
+
+def try_refusal_on_terminal(tally, folder):
+    """A refusal of words is explained by the first line of the command's page."""
+    usage = (TOP / "docs/help/show.txt").read_text().splitlines()[0]
+    status, output, got = on_terminal(("show",), folder)
+    due = f"expected: {usage}; more: hypergammon help show\r\n".encode()
+    faults = differences("status", status, 1) + differences("output", output, b"refused 1 words form 0\n")
+    tally.note("on a terminal: wrong words", faults + differences("the terminal got", got, due))
+
+
+def same_bytes(name, other, folder):
+    return [] if filecmp.cmp(folder / name, folder / other, shallow=False) else [f"{name} and {other} differ"]
+
+
+def try_migrate(tally, folder, name):
+    """A file of version 2 that is written anew has the same bytes."""
+    status, _ = ask(("migrate", name, "new.base"), folder)
+    tally.note(f"migrate {name}", differences("status", status, 0) or same_bytes(name, "new.base", folder))
+
+
+def try_version_one(tally, folder):
+    """A file of version 1 is written as that of version 2 from which it was made."""
+    (folder / "old.base").write_bytes(base_file.as_version_one((folder / SMALL).read_bytes(), KINDS))
+    status, _ = ask(("migrate", "old.base", "new.base"), folder)
+    tally.note("migrate a file of version 1", differences("status", status, 0) or same_bytes(SMALL, "new.base", folder))
+
+
+def starts_of_three():
+    """What the start of three checkers is worth by the Jacoby rule, by the places of the cube."""
+    with open(TOP / "results/starts.tsv", newline="") as file:
+        rows = list(csv.DictReader(file, delimiter="\t"))
+    rows = [row for row in rows if (row["checkers"], row["stakes"]) == ("3", "jacoby")]
+    return {row["kind"]: (float(row["lower"]), float(row["upper"])) for row in rows}
+
+
+def faults_of_start(output):
+    """The lines of the places of the cube have to enclose what the start is worth."""
+    position, game, *lines = output.decode().splitlines()
+    yield from differences("line", position, "position 24 23 22 / 24 23 22")
+    yield from differences("line", game, "checkers 3 stakes jacoby rounds 1")
+    pairs = {kind: (float(lower), float(upper)) for kind, lower, upper, *_ in map(str.split, lines)}
+    starts = starts_of_three()
+    yield from differences("places of the cube", list(pairs), list(base_file.KINDS))
+    for kind in starts.keys() & pairs.keys():
+        if not (-3 <= pairs[kind][0] <= starts[kind][0] and starts[kind][1] <= pairs[kind][1] <= 3):
+            yield f"{kind} {pairs[kind]}, which doesn't enclose {starts[kind]}"
+
+
+def try_three_checkers(tally, folder):
+    """The real game, solved by one round, whose file is far larger than what is read or written at once."""
+    length = base_file.file_length(3, KINDS)
+    status, output = ask(("solve", "three.base", "--rounds", "1", "--workers", "4"), folder)
+    faults = differences("status", status, 0)
+    if not re.fullmatch(SOLVED_THREE % length, output):
+        faults.append(f"output {output}")
+    tally.note("three checkers: solve", faults)
+    if status == 0:
+        try_file_of_three(tally, folder, "three.base", length)
+
+
+def try_file_of_three(tally, folder, name, length):
+    tally.note("three checkers: the file's length", differences("length", (folder / name).stat().st_size, length))
+    is_sealed = base_file.is_sealed(memoryview((folder / name).read_bytes()), KINDS)
+    tally.note("three checkers: the file's digests", [] if is_sealed else ["a digest is wrong"])
+    status, output = ask(("show", name, "24 23 22 / 24 23 22"), folder)
+    tally.note("three checkers: show", differences("status", status, 0) or list(faults_of_start(output)))
+    status, output = ask(("show", name, "1 off off / 1 off off"), folder)
+    faults = differences("status", status, 0) + differences("output", output, WON)
+    tally.note("three checkers: show a win", faults)
+    status, output = ask(("verify", name, "--workers", "4"), folder)
+    faults = differences("status", status, 0) + differences("output", output, VERIFIED_THREE)
+    tally.note("three checkers: verify", faults)
+    try_migrate(tally, folder, name)
+
+
+def try_migrations(tally, folder):
+    try_version_one(tally, folder)
+    try_migrate(tally, folder, "two.base")
+
+
+def try_cases(tally, folder, solved):
+    folder.mkdir()
+    solved.solve(["solve", SMALL, "--checkers", "1"], folder)
+    solved.solve(["solve", "two.base", "--checkers", "2"], folder)
+    for part in (try_words, try_terminal, try_refusal_on_terminal, try_migrations, try_three_checkers):
+        with tally.going_on(part.__name__):
+            part(tally, folder)

@@ -1,5 +1,0 @@
-use Rattle.worker_sweep.specs.Workers.{WorksAt}
-use Rattle.bench_widths.proofs.sweep_all.Given as goal
-
-abbrev pub invariant-loop-block : goal.invariant-loop-block
-invariant-loop-block l = WorksAt l.board l.worker

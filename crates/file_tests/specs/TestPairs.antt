@@ -1,0 +1,13 @@
+-- Words for tests, of games of one checker a side.
+use Rattle.std.specs.Prelude.{pos, true, false, None}
+use Rattle.cube_actions.specs.Stakes.{point_units}
+use Rattle.turn_rule.specs.Turn.{Words}
+use Rattle.turn_rule.specs.Looks.{Source}
+
+-- each word is 0
+abbrev pub zeros : Words
+zeros end p k = pos 0
+
+-- words that aren't told, with the cube centred or on either side
+abbrev pub untold_cube : Source
+untold_cube = record { checkers = 1; kinds = 3; bound = point_units 3; sure = true; tells = false; floor = zeros; damage = λ p k. None }

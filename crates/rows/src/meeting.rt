@@ -1,0 +1,100 @@
+ghost use Rattle.std.specs.Prelude.{◌≡◌, IfOk, length};
+
+use hyper_outside::Gate;
+use std::alloc::{AllocError, Global};
+use std::sync::atomic::{AtomicU64, Ordering};
+use std::thread;
+
+/// How often a held worker looks whether it may go on, before it gives up.
+const TURNS: u32 = 50_000_000;
+
+/// How many blocks there are of one checker a side.
+pub(crate) const BLOCKS: usize = 26;
+
+/// Numbers from 0 on that many threads count up.
+fn counters(alloc: Global, many: usize) -> Result<Vec<AtomicU64>, AllocError>
+    ensures { IfOk result (λ counters. length counters.items ≡ many) }
+{
+    let mut counters = Vec::new(alloc);
+    for _ in 0..many {
+        counters.push(AtomicU64::new(0))?;
+    }
+    Ok(counters)
+}
+
+/// Holds each of some workers at its first block until all have come to their first, and whoever comes to block 1 there
+/// until all blocks have been come to. Where one has given up, none is held any more.
+#[derive(Drop)]
+pub(crate) struct Meeting {
+    workers: usize,
+    /// How many blocks each worker has come to.
+    pub(crate) came: Vec<AtomicU64>,
+    /// How often each block was come to.
+    pub(crate) passes: Vec<AtomicU64>,
+    /// How many blocks all workers have come to.
+    pub(crate) all: AtomicU64,
+    /// Who came to block 1.
+    pub(crate) last: AtomicU64,
+    /// How often a worker gave up, or came that isn't one of them, or to a block that there is none of.
+    pub(crate) gave_up: AtomicU64,
+    ghost crew: { length came.items ≡ workers },
+    ghost blocks: { length passes.items ≡ 26 },
+}
+
+impl Meeting {
+    /// No worker has come to a block.
+    pub(crate) fn new(alloc: Global, workers: usize) -> Result<Meeting, AllocError>
+        ensures crew { IfOk result (λ meeting. length meeting.came.items ≡ workers) }
+        ensures blocks { IfOk result (λ meeting. length meeting.passes.items ≡ 26) }
+    {
+        Ok(Meeting {
+            workers,
+            came: counters(alloc, workers)?,
+            passes: counters(alloc, BLOCKS)?,
+            all: AtomicU64::new(0),
+            last: AtomicU64::new(0),
+            gave_up: AtomicU64::new(0),
+        })
+    }
+
+    /// Counts that something was not as it should be.
+    fn give_up(&self) {
+        self.gave_up.fetch_add(1, Ordering::SeqCst);
+    }
+
+    /// Waits until so many blocks were come to.
+    fn hold(&self, came: &AtomicU64, many: u64) {
+        for _turn in 0..TURNS {
+            if came.load(Ordering::SeqCst) >= many || self.gave_up.load(Ordering::SeqCst) > 0 {
+                return;
+            }
+            thread::yield_now();
+        }
+        self.give_up();
+    }
+
+    /// Waits until each worker has come to a block.
+    fn hold_for_all(&self) {
+        for other in 0..self.workers {
+            self.hold(&self.came[other], 1);
+        }
+    }
+}
+
+impl Gate for Meeting {
+    fn pass(&self, worker: u32, block: u64) {
+        if worker as usize >= self.workers || block >= BLOCKS as u64 {
+            self.give_up();
+            return;
+        }
+        self.passes[block as usize].fetch_add(1, Ordering::SeqCst);
+        self.all.fetch_add(1, Ordering::SeqCst);
+        if self.came[worker as usize].fetch_add(1, Ordering::SeqCst) == 0 {
+            self.hold_for_all();
+        }
+        if block == 1 {
+            self.last.store(u64::from(worker), Ordering::SeqCst);
+            self.hold(&self.all, BLOCKS as u64);
+        }
+    }
+}

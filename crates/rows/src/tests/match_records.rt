@@ -1,0 +1,106 @@
+use super::bench::{run, run_each};
+use super::steps::Change::Bit;
+use super::steps::Content::{CopyOf, Text};
+use super::steps::Step;
+use super::steps::Step::{Ask, Change, Make, Put, Room, Row};
+use super::steps::Told::EachLine;
+use std::test::Fail;
+
+// A game of a match of two points in which the first double is passed.
+const ONE_GAME: &str = "hypergammon record 1\ncheckers 1\nstakes match 2\ngame 1 away 2 2\n\
+A 21 24/22 22/21\nB double\nA pass\nend B 1\nclose\n";
+
+// The same with the first play of the Crawford game behind it.
+const TWO_GAMES: &str = "hypergammon record 1\ncheckers 1\nstakes match 2\ngame 1 away 2 2\n\
+A 21 24/22 22/21\nB double\nA pass\nend B 1\ngame 2 away 2 1\nB 21 24/22 22/21\nstop\nclose\n";
+
+// How each line begins and ends: a play that is the only one loses nothing.
+const LINES: [(&str, &str); 5] = [
+    ("1 5 A play", " 0.000000 0.000000"),
+    ("1 6 B offer ", ""),
+    ("1 7 A answer ", ""),
+    ("A decisions 2 loss ", ""),
+    ("B decisions 1 loss ", ""),
+];
+
+static STUDIED: [Step; 3] = [
+    Make("r", Text(ONE_GAME)),
+    Ask("study, r, --rounds, 4", 0),
+    Put(EachLine(&LINES)),
+];
+
+#[test]
+fn a_recorded_match_is_studied(rt: HostRuntime) -> Result<(), Fail> {
+    run(&rt, &[&STUDIED])
+}
+
+// The files of a solved match to two points, and the records of one and of two games.
+static FILES: [Step; 4] = [
+    Room(3, 61_000),
+    Ask(
+        "ladder, M, --checkers, 1, --length, 2, --rounds, 4, --workers, 2",
+        0,
+    ),
+    Make("r", Text(ONE_GAME)),
+    Make("s", Text(TWO_GAMES)),
+];
+
+static ANALYSED: [Step; 4] = [
+    Ask("analyse, M, r", 0),
+    Put(EachLine(&LINES)),
+    Ask("analyse, M, s", 0),
+    Put(EachLine(&[
+        ("1 5 A play", " 0.000000 0.000000"),
+        ("1 6 B offer ", ""),
+        ("1 7 A answer ", ""),
+        ("2 10 B play", " 0.000000 0.000000"),
+        ("A decisions 2 loss ", ""),
+        ("B decisions 2 loss ", ""),
+    ])),
+];
+
+#[test]
+fn a_recorded_match_is_analysed(rt: HostRuntime) -> Result<(), Fail> {
+    run(&rt, &[&FILES, &ANALYSED])
+}
+
+// Some files of the match stand under the names of another, also under those of other scores. The digest of the one page of the last score ends its
+// file of 36,208 bytes.
+static CASES: [&[Step]; 6] = [
+    &[
+        Make("L.1.1.p", CopyOf("M.1.1.p")),
+        Make("L.1.2.c", CopyOf("M.1.2.c")),
+        Row("analyse, L, r", 3, "refused 3 missing L.2.2.n\n"),
+    ],
+    // Files of the first games come first.
+    &[Row("analyse, L, s", 3, "refused 3 missing L.2.2.n\n")],
+    // What stands before pages comes before them, in all files.
+    &[
+        Make("L.2.2.n", CopyOf("M.2.2.n")),
+        Change("L.2.2.n", Bit(20_000)),
+        Row("analyse, L, s", 3, "refused 3 missing L.1.2.c\n"),
+    ],
+    &[
+        Make("L.2.2.n", CopyOf("M.2.2.n")),
+        Change("L.2.2.n", Bit(20_000)),
+        Row("analyse, L, r", 4, "refused 4 file page-digest 36176\n"),
+    ],
+    // The file of another score is none of this one.
+    &[
+        Make("L.2.2.n", CopyOf("M.1.2.c")),
+        Row(
+            "analyse, L, r",
+            10,
+            "refused 10 base wanted checkers 1 stakes match 2 2.2.n found checkers 1 stakes match 2 1.2.c\n",
+        ),
+    ],
+    &[
+        Make("L.2.2.n", CopyOf("r")),
+        Row("analyse, L, r", 4, "refused 4 file magic 0\n"),
+    ],
+];
+
+#[test]
+fn matches_are_refused_in_order(rt: HostRuntime) -> Result<(), Fail> {
+    run_each(&rt, &FILES, &CASES)
+}

@@ -1,0 +1,93 @@
+use super::bench::{run, run_each};
+use super::steps::Change::{Bit, Ends};
+use super::steps::Content::Cubeless;
+use super::steps::Held::Length;
+use super::steps::Step;
+use super::steps::Step::{Ask, Change, FailCall, File, Make, Room, Row, ShortReads};
+use std::test::Fail;
+
+// Words that solve a game, each within a second. Of the file of two checkers a bit of the last page is turned.
+static SOLVES: [Step; 6] = [
+    Room(3, 3_300_000),
+    Ask("solve, g1, --checkers=1, --stakes=cubeless, --rounds=1", 0),
+    Ask("solve, j1, --checkers=1, --rounds=2", 0),
+    Ask("solve, j2, --checkers=2, --rounds=1, --workers=4", 0),
+    File("j2", Length(3_200_016)),
+    Change("j2", Bit(3_199_983)),
+];
+
+// The pair of `12 / 9` was tightened in the same round as those that it rests on.
+static SHOWS: [Step; 7] = [
+    Row(
+        "show, g1, 12 / 9",
+        0,
+        "position 12 / 9\ncheckers 1 stakes cubeless rounds 1\nalone -0.631180 0.978356 -2710895827 4202003325\n",
+    ),
+    Row(
+        "show, j1, 1 / 1",
+        0,
+        "position 1 / 1\ncheckers 1 stakes jacoby rounds 2\ncentred 1.000000 1.000000 4294967296 4294967296\nmine 2.000000 2.000000 8589934592 8589934592\ntheirs 2.000000 2.000000 8589934592 8589934592\n",
+    ),
+    Row("show, g1, 1 / 24", 2, "refused 2 position 4\n"),
+    Row("show, g2, 1 / 1", 3, "refused 3 missing g2\n"),
+    Row(
+        "show, g1, 6 off / 1 off",
+        10,
+        "refused 10 base wanted checkers 2 found checkers 1 stakes cubeless\n",
+    ),
+    Row(
+        "show, j2, bar bar / bar bar",
+        4,
+        "refused 4 file page-digest 3199984\n",
+    ),
+    Ask("show, j2, 6 off / 1 off", 0),
+];
+
+#[test]
+fn solved_games_are_shown(rt: HostRuntime) -> Result<(), Fail> {
+    run(&rt, &[&SOLVES, &SHOWS])
+}
+
+const SHOW: &str = "show, c1, 6 / 1";
+
+const SHOWN: &str =
+    "position 6 / 1\ncheckers 1 stakes cubeless rounds 8\nalone -1.000000 1.000000 -4294967296 4294967296\n";
+
+static SLOW: [Step; 2] = [Make("c1", Cubeless(2)), ShortReads];
+
+// How many bytes of the file are kept, what stands behind them, and what is put.
+static LENGTHS: [&[Step]; 4] = [
+    &[
+        Change("c1", Ends(6137, b"")),
+        Row(SHOW, 4, "refused 4 file short 6137\n"),
+    ],
+    &[
+        Change("c1", Ends(6138, b"\0")),
+        Row(SHOW, 4, "refused 4 file long 6138\n"),
+    ],
+    &[
+        Change("c1", Ends(6137, b"\0")),
+        Row(SHOW, 4, "refused 4 file page-digest 6106\n"),
+    ],
+    &[Change("c1", Ends(6138, b"")), Row(SHOW, 0, SHOWN)],
+];
+
+#[test]
+fn a_damaged_file_is_not_shown(rt: HostRuntime) -> Result<(), Fail> {
+    run_each(&rt, &SLOW, &LENGTHS)
+}
+
+static WHOLE: [Step; 1] = [Make("c1", Cubeless(2))];
+
+// The size, the front and the page are read: each call fails in turn, and then none.
+static FAULTS: [&[Step]; 4] = [
+    &[FailCall(1, 0), Row(SHOW, 6, "refused 6 read\n")],
+    &[FailCall(2, 0), Row(SHOW, 6, "refused 6 read\n")],
+    &[FailCall(3, 0), Row(SHOW, 6, "refused 6 read\n")],
+    &[FailCall(4, 0), Row(SHOW, 0, SHOWN)],
+];
+
+#[test]
+fn a_failing_read_is_told(rt: HostRuntime) -> Result<(), Fail> {
+    run_each(&rt, &WHOLE, &FAULTS)
+}

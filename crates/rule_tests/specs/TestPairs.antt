@@ -1,0 +1,21 @@
+-- Words for tests, of games for at most three points.
+use Rattle.std.specs.Prelude.{ℕ, Bool, false, pos, None}
+use Rattle.cube_actions.specs.Stakes.{point_units}
+use Rattle.turn_rule.specs.Turn.{Words}
+use Rattle.turn_rule.specs.Looks.{Source}
+
+-- each word is 0
+abbrev pub zeros : Words
+zeros end p k = pos 0
+
+-- words that aren't told, of so many checkers and kinds, which can all be had where the source is sure
+abbrev pub untold : ℕ → ℕ → Bool → Source
+untold checkers kinds sure = record {
+  checkers = checkers;
+  kinds = kinds;
+  bound = point_units 3;
+  sure = sure;
+  tells = false;
+  floor = zeros;
+  damage = λ p k. None;
+}
