@@ -48,8 +48,8 @@ impl Calls {
         let made = self.made;
         self.failing
             .iter()
-            .find(|failing| failing.0 == made)
-            .map(|failing| failing.1)
+            .find(|&&(call, _)| call == made)
+            .map(|&(_, prefix)| prefix)
     }
 }
 
