@@ -2,7 +2,6 @@
 
 import collections
 import contextlib
-import os
 import pathlib
 import resource
 import signal
@@ -85,9 +84,9 @@ def processor_seconds():
 
 
 def need_program():
-    """Ends the script where the program isn't built, since building it takes an hour."""
-    if not os.access(PROGRAM, os.X_OK):
-        sys.exit(f"the program isn't built: there is no {PROGRAM.relative_to(TOP)}, which rt ci leaves")
+    """Builds the program where it isn't built of these sources, and ends the script where that fails."""
+    if subprocess.run([TOP / "scripts/build"], check=False).returncode:
+        sys.exit("the program isn't built of these sources")
 
 
 @contextlib.contextmanager

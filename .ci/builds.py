@@ -1,0 +1,118 @@
+"""How the script `hypergammon` builds the program, in a small checkout where a stand-in for `rt` proves nothing."""
+
+import os
+import pathlib
+import shutil
+import signal
+import subprocess
+import sys
+import time
+
+from tally import TOP
+
+# Says of each crate that it is proved, and leaves a program that tells how often one was built.
+STAND_IN = """#!/bin/sh
+[ "$1" = ci ] || exec echo "a stand-in"
+echo build >>"{top}/builds"
+for name in $(cut -d: -f1 crates.txt); do echo "rt: $name proved"; sleep 0.5; [ ! -e "{top}/waits" ] || sleep 5; done
+printf '#!/bin/sh\\nexec wc -l <"{top}/builds"\\n' >hyper_app
+mkdir -p crates/hyper_app/out && chmod +x hyper_app && mv hyper_app crates/hyper_app/out
+[ ! -e "{top}/fails" ]
+"""
+CRATES = "low:\nhyper_app: low\nbeside: low\n"
+
+
+class Checkout:
+    """A checkout of three crates, one of which the program doesn't stand on."""
+
+    def __init__(self, top):
+        self.top = top
+        for name in ("low", "hyper_app", "beside"):
+            for part in ("src", "specs", "proofs"):
+                (top / "crates" / name / part).mkdir(parents=True)
+            self.source(name).write_text(f"// {name}\n", encoding="utf-8")
+        (top / "crates.txt").write_text(CRATES, encoding="utf-8")
+        (top / "HANDLES").write_text("Handles allowed: none.\n", encoding="utf-8")
+        (top / "scripts").mkdir()
+        for name in ("hypergammon", "scripts/build"):
+            shutil.copy(TOP / name, top / name)
+        (top / "bin").mkdir()
+        (top / "bin/rt").write_text(STAND_IN.format(top=top), encoding="utf-8")
+        (top / "bin/rt").chmod(0o755)
+
+    def source(self, crate):
+        return self.top / "crates" / crate / "src/main.rt"
+
+    def begin(self, has_rt=True):
+        here = str(pathlib.Path(sys.executable).parent)
+        path = os.pathsep.join(([str(self.top / "bin")] if has_rt else []) + [here, "/usr/bin", "/bin"])
+        words = {"cwd": "/", "env": {"PATH": path}, "stdin": subprocess.DEVNULL, "text": True}
+        return subprocess.Popen([self.top / "hypergammon", "show"], stdout=subprocess.PIPE, stderr=subprocess.PIPE, **words)
+
+    def call(self, has_rt=True):
+        """The status of a call, how many builds its program tells of, and what standard error got."""
+        called = self.begin(has_rt)
+        output, told = called.communicate(timeout=60)
+        return called.returncode, output.strip(), told
+
+    def left(self):
+        """What a build left beside the program that it shouldn't."""
+        return sorted(it.name for it in (self.top / "crates/hyper_app/out").glob("build-*"))
+
+
+def first_calls(checkout):
+    """Two first calls at the same time build once; a later one builds nothing and says nothing."""
+    both = [checkout.begin() for _ in range(2)]
+    ends = [(it.communicate(timeout=60)[0].strip(), it.returncode) for it in both]
+    yield ends == [("1", 0)] * 2 and checkout.call() == (0, "1", "") and not checkout.left()
+
+
+def touched(checkout):
+    """A source that was only touched, or that the program isn't made of, builds nothing."""
+    os.utime(checkout.source("low"))
+    checkout.source("beside").write_text("// another text\n", encoding="utf-8")
+    yield checkout.call() == (0, "1", "")
+
+
+def changed(checkout):
+    """A changed source builds, with the same time and length too; without rt the old program runs, and that is said."""
+    was = checkout.source("low").stat()
+    checkout.source("low").write_text("// mow\n", encoding="utf-8")
+    os.utime(checkout.source("low"), ns=(was.st_atime_ns, was.st_mtime_ns + 1))
+    for _ in range(2):
+        status, output, told = checkout.call(has_rt=False)
+        yield (status, output) == (0, "1") and "of other sources" in told
+    yield checkout.call()[:2] == (0, "2")
+
+
+def failing(checkout):
+    """Of a build that fails the status is 70, and what rt said last is told."""
+    checkout.source("low").write_text("// a third text\n", encoding="utf-8")
+    (checkout.top / "fails").touch()
+    status, output, told = checkout.call()
+    yield (status, output) == (70, "") and "the build failed" in told
+    (checkout.top / "fails").unlink()
+
+
+def stopped(checkout):
+    """A call that is stopped while it builds leaves nothing running and no folder, and the next one builds."""
+    (checkout.top / "waits").touch()
+    log = checkout.top / "crates/hyper_app/out/build.log"
+    log.unlink()
+    called = checkout.begin()
+    while not log.exists() or "rt: " not in log.read_text(encoding="utf-8"):
+        time.sleep(0.1)
+    called.send_signal(signal.SIGTERM)
+    called.communicate(timeout=60)
+    yield called.returncode == -signal.SIGTERM and not checkout.left()
+    (checkout.top / "waits").unlink()
+    yield checkout.call()[:2] == (0, "5")
+
+
+def try_builds(tally, folder):
+    folder.mkdir()
+    checkout = Checkout(folder)
+    for part in (first_calls, touched, changed, failing, stopped):
+        with tally.going_on(part.__name__):
+            wrong = [number for number, holds in enumerate(part(checkout), 1) if not holds]
+            tally.note(f"builds: {part.__name__}", [f"{part.__doc__} Not so: {wrong}"] if wrong else [])
