@@ -1,8 +1,9 @@
-"""Files of bounds as docs/FORMATS.md tells them, read and changed with no help of the program."""
+"""Files of bounds as docs/FORMATS.md tells them, checked and changed with no help of the program; import/base.py reads them."""
 
 import hashlib
-import itertools
 import struct
+
+from base import live_rank
 
 HEAD = 64
 DIGEST = 32
@@ -49,22 +50,6 @@ def as_version_one(text, kinds):
 
 def longer_words(pairs):
     return b"".join(bytes(3) + pairs[place : place + WORD] for place in range(0, len(pairs), WORD))
-
-
-def layouts(checkers):
-    """The places of a side's checkers in rising order, by rising rank."""
-    return sorted(itertools.combinations_with_replacement(range(26), checkers), key=lambda it: it[::-1])
-
-
-def is_live(mover, other):
-    return any(mover) and any(other) and not any(1 <= point <= 24 and 25 - point in other for point in mover)
-
-
-def live_rank(mover, other):
-    """How many live positions come before this one."""
-    squares = itertools.product(layouts(len(mover)), repeat=2)
-    before = itertools.takewhile(lambda it: it != (mover, other), squares)
-    return sum(is_live(*it) for it in before)
 
 
 def with_tighter_bound(text, position, kind):
