@@ -1,4 +1,4 @@
-"""Runs that only a real system can show: of words that are no text, on a terminal, and of files that are large."""
+"""Runs that only a real system can show: of words that are no text, on a terminal, of large files; boards; a reader of files."""
 
 import csv
 import filecmp
@@ -7,11 +7,16 @@ import pty
 import re
 import subprocess
 from typing import NamedTuple
+from xml.etree import ElementTree
 
 import base_file
+from base import Base, lines, live_rank, read_places
 from documents import large_files
-from tally import SCRIPT, SECONDS, TOP, run
+from imports import try_imports
+from tally import PROGRAM, SCRIPT, SECONDS, TOP, run
 
+# What the script `hypergammon` asks for, where the program itself is run, many times.
+LARGE_PAGES = {**os.environ, "GLIBC_TUNABLES": "glibc.malloc.hugetlb=1"}
 # A file of one checker by the Jacoby rule, which stands in results/files.tsv with its SHA-256.
 SMALL = "1-jacoby.base"
 KINDS = len(base_file.KINDS)
@@ -91,6 +96,27 @@ centred 1.000000 1.000000 4294967296 4294967296
 mine 1.000000 1.000000 4294967296 4294967296
 theirs 1.000000 1.000000 4294967296 4294967296
 """
+
+
+class Board(NamedTuple):
+    """A position, and at which numbers of the drawn board the checkers of both sides stand."""
+
+    position: str
+    mine: tuple
+    theirs: tuple
+
+
+# Worked out by hand: the other side's point p is the mover's point 25 - p.
+BOARDS = (
+    Board("24 19 19 / 24 18 16", ("19", "19", "24"), ("1", "7", "9")),
+    Board("bar 6 off / 2 2 off", ("6", "bar", "off"), ("23", "23", "off")),
+)
+
+# The numbers of a board from the left, each above and below: the mover's home is at the lower right.
+COLUMNS = "13 12,14 11,15 10,16 9,17 8,18 7,bar,19 6,20 5,21 4,22 3,23 2,24 1,off".split(",")
+
+DRAW = TOP / "results/draw"
+SHARED = b"draw: both sides hold the mover's point 19, which is the other side's point 6\n"
 
 
 class Shown(NamedTuple):
@@ -176,6 +202,44 @@ def try_refusal_on_terminal(tally, folder):
     tally.note("on a terminal: wrong words", faults + differences("the terminal got", got, due))
 
 
+def numbers_of(picture):
+    """The numbers around a board with their places, from the left and from above."""
+    found = picture.iterfind("{*}g[@class='numbers']/{*}text")
+    return sorted((int(it.get("x")), int(it.get("y")), it.text) for it in found)
+
+
+def read_off(picture, side):
+    """The numbers at which a side's checkers stand: of those in the same column the nearest."""
+    numbers = numbers_of(picture)
+    circles = picture.iterfind(f"{{*}}g[@class='{side}']/{{*}}circle")
+    centres = {(int(it.get("cx")), int(it.get("cy"))) for it in circles}
+    nearest = (min((abs(y - row), text) for column, row, text in numbers if column == x) for x, y in centres)
+    return tuple(sorted(text for _, text in nearest))
+
+
+def faults_of_board(board, svg):
+    picture = ElementTree.fromstring(svg)
+    numbers = numbers_of(picture)
+    columns = sorted({column for column, _, _ in numbers})
+    read = [" ".join(text for column, _, text in numbers if column == it) for it in columns]
+    yield from differences("the numbers are", read, COLUMNS)
+    yield from differences("the mover's checkers are at", read_off(picture, "mine"), board.mine)
+    yield from differences("the other side's checkers are at", read_off(picture, "theirs"), board.theirs)
+
+
+def try_boards(tally, folder):
+    """Boards as whoever looks at them reads them."""
+    ran = run([DRAW, "24 19 19 / 24 18 6"], folder)
+    faults = differences("status", ran.status, 1) + differences("it tells", (ran.output, ran.told), (b"", SHARED))
+    tally.note("a board of a point that both sides hold", faults)
+    for board in BOARDS:
+        ran = run([DRAW, board.position], folder)
+        faults = differences("status", ran.status, 0) or list(faults_of_board(board, ran.output))
+        tally.note(f"the board of {board.position}", faults)
+    ran = run([DRAW, "--compare"], folder)
+    tally.note("the boards of the pages", differences("they are other ones", (ran.status, ran.output), (0, b"")))
+
+
 def same_bytes(name, other, folder):
     return [] if filecmp.cmp(folder / name, folder / other, shallow=False) else [f"{name} and {other} differ"]
 
@@ -246,10 +310,37 @@ def try_migrations(tally, folder):
     try_migrate(tally, folder, "two.base")
 
 
+def spread_positions(checkers):
+    """The rows of results/positions.tsv, which are every n-th live position, and all of one checker."""
+    with open(TOP / "results/positions.tsv", newline="") as file:
+        return [row for row in csv.DictReader(file, delimiter="\t") if row["checkers"] == str(checkers)]
+
+
+def faults_of_reader(name, rows, folder):
+    """What import/base.py has of positions has to be what `show` prints."""
+    base = Base(folder / name)
+    for row in rows:
+        position, rank = row["position"], live_rank(*map(read_places, row["position"].split("/")))
+        yield from differences(f"live rank of {position}", str(rank), row["rank"])
+        printed = run([PROGRAM, "show", name, position], folder, environment=LARGE_PAGES).output.decode().splitlines()
+        yield from differences(f"pairs of {position}", list(lines(base, position)), printed[2:])
+
+
+def try_reader(tally, folder):
+    """The reader on every kind of file: of each number of checkers, of version 1, and of each score of a match."""
+    for name, checkers in ((SMALL, 1), ("two.base", 2), ("three.base", 3)):
+        tally.note(f"import/base.py {name}", list(faults_of_reader(name, spread_positions(checkers), folder))[:5])
+    for name in ("old.base", *sorted(it.name for it in folder.glob("match.*"))):
+        tally.note(f"import/base.py {name}", list(faults_of_reader(name, spread_positions(1)[::20], folder))[:5])
+
+
 def try_cases(tally, folder, solved):
     folder.mkdir()
     solved.solve(["solve", SMALL, "--checkers", "1"], folder)
     solved.solve(["solve", "two.base", "--checkers", "2"], folder)
-    for part in (try_words, try_terminal, try_refusal_on_terminal, try_migrations, try_three_checkers):
+    solved.solve(["ladder", "match", "--checkers", "1", "--length", "5"], folder)
+    solved.solve(["ladder", "m", "--checkers", "2", "--workers", "4"], folder)
+    parts = (try_words, try_terminal, try_refusal_on_terminal, try_boards, try_migrations, try_three_checkers, try_reader, try_imports)
+    for part in parts:
         with tally.going_on(part.__name__):
             part(tally, folder)

@@ -11,7 +11,7 @@ import base_file
 from tally import SCRIPT, TOP, Ran, run
 
 PAGES_OF_HELP = sorted(f"docs/help/{it.name}" for it in (TOP / "docs/help").glob("*.txt"))
-DOCUMENTS = ("README.md", "docs/USING.md", "docs/HYPERGAMMON.md", *PAGES_OF_HELP)
+DOCUMENTS = ("README.md", "docs/USING.md", "docs/HYPERGAMMON.md", "docs/OTHER_PROGRAMS.md", *PAGES_OF_HELP)
 
 # What an example may do with a file, or with what the program prints, besides running the program.
 SHOWING = ("cat", "head", "tail")
@@ -54,6 +54,10 @@ def flawed(folder):
     return base_file.with_tighter_bound((folder / "two.base").read_bytes(), ((2, 4), (4, 14)), "mine")
 
 
+def imported(folder):
+    return run([TOP / "import/mat", TOP / "import/matches/match.mat"], folder).output
+
+
 def old(folder):
     return base_file.as_version_one((folder / "two.base").read_bytes(), len(base_file.KINDS))
 
@@ -66,6 +70,7 @@ MADE_FIRST = {
     "game.rec": GAME,
     "match.rec": MATCH,
     "flawed.base": flawed,
+    "imported.rec": imported,
     "old.base": old,
 }
 
