@@ -240,6 +240,12 @@ def try_boards(tally, folder):
     tally.note("the boards of the pages", differences("they are other ones", (ran.status, ran.output), (0, b"")))
 
 
+def try_help(tally, folder):
+    """The pages of help and the completions are those of the grammar."""
+    ran = run([TOP / "bench/help_matches"], folder)
+    tally.note("help and completions", differences("what differs is", (ran.status, ran.output + ran.told), (0, b"")))
+
+
 def same_bytes(name, other, folder):
     return [] if filecmp.cmp(folder / name, folder / other, shallow=False) else [f"{name} and {other} differ"]
 
@@ -340,7 +346,8 @@ def try_cases(tally, folder, solved):
     solved.solve(["solve", "two.base", "--checkers", "2"], folder)
     solved.solve(["ladder", "match", "--checkers", "1", "--length", "5"], folder)
     solved.solve(["ladder", "m", "--checkers", "2", "--workers", "4"], folder)
-    parts = (try_words, try_terminal, try_refusal_on_terminal, try_boards, try_migrations, try_three_checkers, try_reader, try_imports)
+    parts = (try_words, try_terminal, try_refusal_on_terminal, try_help, try_boards, try_migrations, try_three_checkers)
+    parts += (try_reader, try_imports)
     for part in parts:
         with tally.going_on(part.__name__):
             part(tally, folder)

@@ -1,4 +1,4 @@
-"""The examples of the documents: those of blocks with `$ ./hypergammon`, and of pages of help under `Examples:`."""
+"""The examples of the documents: those of blocks with `$ ./hypergammon`, and of pages of help under `Examples:`, with a record that they show."""
 
 import csv
 import pathlib
@@ -94,7 +94,9 @@ def examples_of(document):
 
 
 def examples_of_help(document, text):
-    """The lines of a page of help under `Example:` or `Examples:`, up to an empty one."""
+    """The lines of a page of help under `Example:` or `Examples:`, up to an empty one; before them a record of the page, as its file."""
+    for name, record in re.findall(r"(\S+\.rec):\n\n(hypergammon record 1\n(?:.+\n)*close\n)", text):
+        yield Example(document, text[: text.index(record)].count("\n") + 1, f"cat {name}", record)
     is_under = False
     for number, line in enumerate(text.splitlines(), 1):
         is_under = line in ("Example:", "Examples:") or is_under and line != ""

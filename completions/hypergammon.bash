@@ -1,129 +1,90 @@
-# Completion for bash: commands, options, stakes and names of files. Source this file, as in: . completions/hypergammon.bash
+# Completion for bash. Source this file, as in: . completions/hypergammon.bash
+# completions/make writes it.
 
 _hypergammon() {
-    local word=${COMP_WORDS[COMP_CWORD]} before=${COMP_WORDS[COMP_CWORD-1]} command=${COMP_WORDS[1]}
-    local commands='bound race solve show migrate advise verify ladder analyse study make plan scan reply help'
-    local stakes='cubeless money jacoby money-beavers jacoby-beavers'
+    local commands='bound race solve show advise migrate verify scan reply ladder plan analyse study make'
+    local subjects='position record match files'
+    local -A arguments=(
+        [bound]='other other other'
+        [race]='other other'
+        [solve]='file'
+        [show]='file other'
+        [advise]='file other'
+        [migrate]='file file'
+        [verify]='file'
+        [scan]='file other'
+        [reply]='file other'
+        [ladder]='file'
+        [plan]='file'
+        [analyse]='file file'
+        [study]='file'
+        [make]='other other file'
+    )
+    local -A options=(
+        [solve]='--checkers --stakes --rounds --workers'
+        [advise]='--kind --roll'
+        [verify]='--workers'
+        [scan]='--workers'
+        [reply]='--kind --rounds'
+        [ladder]='--checkers --length --rounds --workers'
+        [plan]='--length'
+        [study]='--rounds --workers'
+    )
+    local -A values=(
+        [--checkers]='1 2 3'
+        [--length]='1 2 3 4 5'
+        [--stakes]='cubeless money jacoby money-beavers jacoby-beavers'
+        [--kind]='alone centred mine theirs near:1:centred far:1:centred near:2:near far:2:near near:2:far far:2:far near:4:near far:4:near near:4:far far:4:far near:8:near far:8:near near:8:far far:8:far'
+    )
+    local words=() word last='' command option='' value place=0 choices='' i
+    # Bash cuts words at `=` and `:`; here they are whole again.
+    for word in "${COMP_WORDS[@]:0:COMP_CWORD+1}"; do
+        if [[ ${#words[@]} -gt 1 && ($word == [=:] || $last == [=:]) ]]; then
+            words[-1]+=$word
+        else
+            words+=("$word")
+        fi
+        last=$word
+    done
+    [[ $last != [=:] ]] || last=
+    word=${words[-1]} command=${words[1]-}
     COMPREPLY=()
-    if [ "$COMP_CWORD" -eq 1 ]; then
-        mapfile -t COMPREPLY < <(compgen -W "$commands --version" -- "$word")
-        return
+
+    # How many arguments stand before the last word, and the option whose value it is.
+    for ((i = 2; i < ${#words[@]} - 1; i++)); do
+        if [ "$option" ]; then
+            option=
+        elif [[ ${words[i]} == --* ]]; then
+            [[ ${words[i]} == *=* ]] || option=${words[i]}
+        else
+            ((place += 1))
+        fi
+    done
+    value=$word
+    [[ $option || $word != --*=* ]] || option=${word%%=*} value=${word#*=}
+
+    if [ "${#words[@]}" -eq 2 ]; then
+        choices="$commands help --help --version"
+    elif [ "$command" = help ]; then
+        [ "${#words[@]}" -gt 3 ] || choices="$commands $subjects"
+    elif [ "$option" ]; then
+        [[ " ${options[$command]-} " != *" $option "* ]] || choices=${values[$option]-}
+    elif [[ $word == -* ]]; then
+        choices=${options[$command]-}
+        [[ ${#words[@]} -ne 3 || ! ${arguments[$command]-} ]] || choices+=' --help'
+    else
+        read -ra words <<<"${arguments[$command]-}"
+        case ${words[place]-none} in
+            file)
+                compopt -o filenames 2>/dev/null
+                mapfile -t COMPREPLY < <(compgen -f -- "$value")
+                ;;
+            none) choices=${options[$command]-} ;;
+        esac
     fi
-    # Bash cuts a word at `=`, which then is a word of its own.
-    if [ "$word" = = ]; then
-        word=
-    elif [ "$before" = = ]; then
-        before=${COMP_WORDS[COMP_CWORD-2]}
-    fi
-    case $command in
-        help) [ "$COMP_CWORD" -eq 2 ] && mapfile -t COMPREPLY < <(compgen -W "${commands% help}" -- "$word") ;;
-        solve)
-            case $before in
-                --stakes) mapfile -t COMPREPLY < <(compgen -W "$stakes" -- "$word") ;;
-                --checkers) mapfile -t COMPREPLY < <(compgen -W '1 2 3' -- "$word") ;;
-                --rounds | --workers) ;;
-                *)
-                    if [[ $word == -* ]]; then
-                        mapfile -t COMPREPLY < <(compgen -W '--checkers --stakes --rounds --workers' -- "$word")
-                    else
-                        mapfile -t COMPREPLY < <(compgen -f -- "$word")
-                    fi
-                    ;;
-            esac
-            ;;
-        advise)
-            case $before in
-                --kind) mapfile -t COMPREPLY < <(compgen -W 'alone centred mine theirs' -- "$word") ;;
-                --roll) ;;
-                *)
-                    if [[ $word == -* ]]; then
-                        mapfile -t COMPREPLY < <(compgen -W '--kind --roll' -- "$word")
-                    else
-                        mapfile -t COMPREPLY < <(compgen -f -- "$word")
-                    fi
-                    ;;
-            esac
-            ;;
-        ladder)
-            case $before in
-                --checkers) mapfile -t COMPREPLY < <(compgen -W '1 2 3' -- "$word") ;;
-                --length) mapfile -t COMPREPLY < <(compgen -W '1 2 3 4 5' -- "$word") ;;
-                --rounds | --workers) ;;
-                *)
-                    if [[ $word == -* ]]; then
-                        mapfile -t COMPREPLY < <(compgen -W '--checkers --length --rounds --workers' -- "$word")
-                    else
-                        mapfile -t COMPREPLY < <(compgen -f -- "$word")
-                    fi
-                    ;;
-            esac
-            ;;
-        plan)
-            case $before in
-                --length) mapfile -t COMPREPLY < <(compgen -W '1 2 3 4 5' -- "$word") ;;
-                *)
-                    if [[ $word == -* ]]; then
-                        mapfile -t COMPREPLY < <(compgen -W '--length' -- "$word")
-                    else
-                        mapfile -t COMPREPLY < <(compgen -f -- "$word")
-                    fi
-                    ;;
-            esac
-            ;;
-        analyse) [ "$COMP_CWORD" -le 3 ] && mapfile -t COMPREPLY < <(compgen -f -- "$word") ;;
-        study)
-            case $before in
-                --rounds | --workers) ;;
-                *)
-                    if [[ $word == -* ]]; then
-                        mapfile -t COMPREPLY < <(compgen -W '--rounds --workers' -- "$word")
-                    else
-                        mapfile -t COMPREPLY < <(compgen -f -- "$word")
-                    fi
-                    ;;
-            esac
-            ;;
-        make) [ "$COMP_CWORD" -eq 4 ] && mapfile -t COMPREPLY < <(compgen -f -- "$word") ;;
-        show) [ "$COMP_CWORD" -eq 2 ] && mapfile -t COMPREPLY < <(compgen -f -- "$word") ;;
-        migrate) [ "$COMP_CWORD" -le 3 ] && mapfile -t COMPREPLY < <(compgen -f -- "$word") ;;
-        scan)
-            case $before in
-                --workers) ;;
-                *)
-                    if [[ $word == -* ]]; then
-                        mapfile -t COMPREPLY < <(compgen -W '--workers' -- "$word")
-                    elif [ "$COMP_CWORD" -eq 2 ]; then
-                        mapfile -t COMPREPLY < <(compgen -f -- "$word")
-                    fi
-                    ;;
-            esac
-            ;;
-        reply)
-            case $before in
-                --kind) mapfile -t COMPREPLY < <(compgen -W 'alone centred mine theirs' -- "$word") ;;
-                --rounds) ;;
-                *)
-                    if [[ $word == -* ]]; then
-                        mapfile -t COMPREPLY < <(compgen -W '--kind --rounds' -- "$word")
-                    elif [ "$COMP_CWORD" -eq 2 ]; then
-                        mapfile -t COMPREPLY < <(compgen -f -- "$word")
-                    fi
-                    ;;
-            esac
-            ;;
-        verify)
-            case $before in
-                --workers) ;;
-                *)
-                    if [[ $word == -* ]]; then
-                        mapfile -t COMPREPLY < <(compgen -W '--workers' -- "$word")
-                    else
-                        mapfile -t COMPREPLY < <(compgen -f -- "$word")
-                    fi
-                    ;;
-            esac
-            ;;
-    esac
+    [ ! "$choices" ] || mapfile -t COMPREPLY < <(compgen -P "${word%"$value"}" -W "$choices" -- "$value")
+    # Of a word that bash has cut only the last part is replaced.
+    COMPREPLY=("${COMPREPLY[@]#"${word%"$last"}"}")
 }
 
-complete -o filenames -F _hypergammon hypergammon ./hypergammon
+complete -F _hypergammon hypergammon ./hypergammon
