@@ -1,4 +1,4 @@
-"""How the script `hypergammon` builds the program, in a small checkout where a stand-in for `rt` proves nothing."""
+"""How the script `hypergammon` builds and packs the program, in a small checkout where a stand-in for `rt` proves nothing."""
 
 import os
 import pathlib
@@ -6,9 +6,10 @@ import shutil
 import signal
 import subprocess
 import sys
+import tarfile
 import time
 
-from tally import TOP
+from tally import TOP, run
 
 # Says of each crate that it is proved, and leaves a program that tells how often one was built.
 STAND_IN = """#!/bin/sh
@@ -20,6 +21,11 @@ mkdir -p crates/hyper_app/out && chmod +x hyper_app && mv hyper_app crates/hyper
 [ ! -e "{top}/fails" ]
 """
 CRATES = "low:\nhyper_app: low\nbeside: low\n"
+# Who commits, and when.
+NOON = 946728000
+NAMED = {"NAME": "Nobody", "EMAIL": "nobody@localhost", "DATE": f"{NOON} +0000"}
+# What belongs into a package beside the program.
+PACKED = ("hypergammon", "docs/help.txt", "docs/help/show.txt", "completions/hypergammon.bash", "README.md", "LICENSE-MIT", "LICENSE-APACHE")
 
 
 class Checkout:
@@ -43,10 +49,12 @@ class Checkout:
     def source(self, crate):
         return self.top / "crates" / crate / "src/main.rt"
 
-    def begin(self, has_rt=True):
+    def surroundings(self, has_rt=True):
         here = str(pathlib.Path(sys.executable).parent)
-        path = os.pathsep.join(([str(self.top / "bin")] if has_rt else []) + [here, "/usr/bin", "/bin"])
-        words = {"cwd": "/", "env": {"PATH": path}, "stdin": subprocess.DEVNULL, "text": True}
+        return {"PATH": os.pathsep.join(([str(self.top / "bin")] if has_rt else []) + [here, "/usr/bin", "/bin"])}
+
+    def begin(self, has_rt=True):
+        words = {"cwd": "/", "env": self.surroundings(has_rt), "stdin": subprocess.DEVNULL, "text": True}
         return subprocess.Popen([self.top / "hypergammon", "show"], stdout=subprocess.PIPE, stderr=subprocess.PIPE, **words)
 
     def call(self, has_rt=True):
@@ -109,10 +117,46 @@ def stopped(checkout):
     yield checkout.call()[:2] == (0, "5")
 
 
+def commit(checkout, changes):
+    """Commits all of the checkout with this text of its changes."""
+    for name in (*PACKED, ".gitignore", "scripts/package"):
+        (checkout.top / name).parent.mkdir(parents=True, exist_ok=True)
+        shutil.copy(TOP / name, checkout.top / name)
+    (checkout.top / "CHANGELOG.md").write_text(changes, encoding="utf-8")
+    who = {f"GIT_{it}_{key}": value for it in ("AUTHOR", "COMMITTER") for key, value in NAMED.items()}
+    for words in (["init", "-q"], ["add", "-A"], ["commit", "-qm", "All"]):
+        subprocess.run(["git", *words], cwd=checkout.top, env={**checkout.surroundings(), **who}, check=True)
+
+
+def packed(checkout):
+    """The same commit makes the same package in any folder, whose script runs the program; in it, and of changes, none is made."""
+    commit(checkout, "# Changes\n\n## Not released\n\n## 1.0.0\n")
+    made, name = [], "hypergammon-1.0.0"
+    for folder in (checkout.top / "made", checkout.top / "made/anew"):
+        folder.mkdir()
+        ran = run([checkout.top / "hypergammon", "package"], folder, environment=checkout.surroundings())
+        archives = [it.name for it in folder.iterdir() if it.is_file()]
+        yield ran.status == 0 and archives == [f"{name}-x86_64-linux.tar.gz"] and archives[0].encode() in ran.output
+        made.append((folder / archives[0]).read_bytes())
+    yield made[0] == made[1]
+    with tarfile.open(folder / archives[0]) as archive:
+        held = {it.name.partition("/")[2] for it in archive if it.isfile()}
+        marks = {(it.mtime, it.uid, it.uname) for it in archive}
+        archive.extractall(folder)
+    yield held == {*PACKED, "CHANGELOG.md", "hyper_app", "hyper_app.of"} and marks == {(NOON, 0, "")}
+    script, bare = folder / name / "hypergammon", {"PATH": "/usr/bin:/bin"}
+    yield run([script, "show"], "/", environment=bare) == (0, f"{checkout.call()[1]}\n".encode(), b"")
+    yield run([script, "--version"], "/", environment=bare).output.startswith(b"hypergammon 1.0.0\ncommit ")
+    yield run([script, "package"], folder, environment=bare).status == 70
+    (checkout.top / "README.md").write_text("Another text\n", encoding="utf-8")
+    ran = run([checkout.top / "hypergammon", "package"], folder, environment=checkout.surroundings())
+    yield ran.status == 70 and b"README.md" in ran.told and (folder / archives[0]).read_bytes() == made[0]
+
+
 def try_builds(tally, folder):
     folder.mkdir()
     checkout = Checkout(folder)
-    for part in (first_calls, touched, changed, failing, stopped):
+    for part in (first_calls, touched, changed, failing, stopped, packed):
         with tally.going_on(part.__name__):
             wrong = [number for number, holds in enumerate(part(checkout), 1) if not holds]
             tally.note(f"builds: {part.__name__}", [f"{part.__doc__} Not so: {wrong}"] if wrong else [])
