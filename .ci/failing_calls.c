@@ -1,12 +1,13 @@
 // Preloaded into a program by .ci/faults: tells the calls of the C library by which the program reaches the files of its
-// folder and its standard output, and has one of them fail. The environment says which:
+// folder and its standard output, but those that remove a file, and has one of them fail. The environment says which:
 //   FAILING_LOG   a file elsewhere, to which each call adds the name of its kind, with ` fails` behind it where it fails
 //   FAILING_KIND  the kind of the call that fails, by its name below; with another word none does
 //   FAILING_CALL  which call of that kind fails, counted from 1
 //   FAILING_HOW   the number that errno gets, with `..` behind it where all later calls of the kind fail too;
 //                 `short` where at most one byte is moved; `nothing` where a read finds no bytes; or `killed` where the
 //                 program ends then and there
-// The folder is the one that the program runs in, and its files are those that are opened by a path without a slash.
+// The folder is the one that the program runs in, and its files are those that are reached by a path without a slash. To
+// look is to ask for what stands under such a path, `stat` is to ask the same of a descriptor.
 // Nothing is included, so that a compiler with no headers of the C library is enough.
 
 typedef unsigned long size_t;
@@ -28,12 +29,12 @@ enum { STANDARD_OUTPUT = 1, DESCRIPTORS = 1024, KILL = 9 };
 #define REAL(result, name, ...) ((result(*)(__VA_ARGS__))dlsym((void *)-1L, #name))
 
 enum kind {
-    STAT, OPEN_TO_READ, SEEK, READ, CLOSE_READ, OPEN_TO_WRITE, WRITE, CLOSE_WRITTEN, SYNC, RENAME, OUTPUT, KINDS
+    STAT, OPEN_TO_READ, SEEK, READ, CLOSE_READ, LOOK, OPEN_TO_WRITE, WRITE, SYNC, RENAME, CLOSE_WRITTEN, OUTPUT, KINDS
 };
 
 static const char *const names[KINDS] = {
-    "stat",  "open-to-read",  "seek", "read",   "close-read", "open-to-write",
-    "write", "close-written", "sync", "rename", "output"
+    "stat",          "open-to-read", "seek", "read",   "close-read",    "look",
+    "open-to-write", "write",        "sync", "rename", "close-written", "output"
 };
 
 // What each descriptor was opened for.
@@ -112,7 +113,8 @@ long lseek(int fd, long offset, int whence) {
 }
 
 int statx(int folder, const char *path, int flags, unsigned mask, void *data) {
-    if ((is_of_folder(path) || use_of(folder)) && fails(STAT)) return failed();
+    int is_by_path = is_of_folder(path);
+    if ((is_by_path || use_of(folder)) && fails(is_by_path ? LOOK : STAT)) return failed();
     return REAL(int, statx, int, const char *, int, unsigned, void *)(folder, path, flags, mask, data);
 }
 

@@ -71,3 +71,8 @@ whole before held front pages (Err e) (more, rest, is, there) = inr (front ++ mo
 -- where a front of the front alone was added, a front of the whole text stands there
 pub stopped_front : (front pages : List ℕ) (held : Option (List ℕ)) → HoldsFront [] front held → HoldsFront [] (front ++ pages) held
 stopped_front front pages held (more, rest, is, there) = (more, rest ++ pages, ap (λ (bytes : List ℕ). bytes ++ pages) is ∙ append_assoc more rest pages, there)
+
+-- where all of the text stands there and stays, it was written, even if its end is told to have failed
+pub ended : {T E : Type 0} (before held after : Option (List ℕ)) (text : List ℕ) (result : Result T E) → held ≡ Some text → after ≡ held → Writes before text after result
+ended before held after text (Ok x) there same = same ∙ there
+ended before held after text (Err e) there same = inr (text, [], sym (append-nil text), same ∙ there)

@@ -131,7 +131,7 @@ pub(crate) fn append_pages<F: Files>(
 }
 
 /// Writes a file of bounds: `start`, then the head with its digest in one `append`, then of each page the words and their digest in one
-/// each. After `Failed`, which comes only where the files' count of writes rose, the file holds what it held where `start` failed, else a
+/// each, and `finish`. After `Failed`, which comes only where the files' count of writes rose, the file holds what it held where `start` failed, else a
 /// front of its text. No other file changes.
 pub fn write_base<F: Files>(
     files: &mut F,
@@ -156,5 +156,6 @@ pub fn write_base<F: Files>(
     files.start(name)?;
     append_front(files, name, head, version)?;
     let size = 2 * head.kinds() * PAGE_POSITIONS;
-    append_pages(files, name, version, size, words.list())
+    append_pages(files, name, version, size, words.list())?;
+    files.finish(name)
 }

@@ -10,4 +10,12 @@ zeros end p k = pos 0
 
 -- words that aren't told, with the cube centred or on either side
 abbrev pub untold_cube : Source
-untold_cube = record { checkers = 1; kinds = 3; bound = point_units 3; sure = true; tells = false; floor = zeros; damage = λ p k. None }
+untold_cube = record {
+  checkers = 1;
+  kinds = 3;
+  bound = point_units 3;
+  sure = true;
+  tells = false;
+  floor = zeros;
+  damage = λ p k. None;
+}

@@ -37,7 +37,8 @@ one_more count = min (count + 1) (2 ^ 64 - 1)
 
 -- the counts of all calls, by their numbers, after one call more
 abbrev pub counted : List ℕ → Call → List ℕ
-counted counts call = slice_set counts (call_number call) (one_more (slice_index counts (call_number call)))
+counted counts call =
+    slice_set counts (call_number call) (one_more (slice_index counts (call_number call)))
 
 -- what is told of an offer
 abbrev pub offer_text : Offer → List ℕ

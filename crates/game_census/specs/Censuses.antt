@@ -56,7 +56,8 @@ pub record AddsState (words : WordList) (k rank : ℕ) (before after : KindCensu
 abbrev pub IsCensus : WordList → ℕ → ℕ → ℕ → KindCensus → Type 0
 IsCensus words k from zero census = census ≡ no_census
 IsCensus words k from (suc many) census =
-    (before : KindCensus) × IsCensus words k from many before × AddsState words k (from + many) before census
+    (before : KindCensus) × IsCensus words k from many before
+    × AddsState words k (from + many) before census
 
 -- whether the mover may double in states of this kind
 abbrev pub may_double : Terms → ℕ → Bool
@@ -73,12 +74,14 @@ census_at censuses i = slice_index_or censuses i no_census
 -- the states of a live rank in these kinds were added, each to the census with its kind's number among them
 abbrev pub AddsPosition : WordList → List ℕ → ℕ → List KindCensus → List KindCensus → Type 0
 AddsPosition words kinds rank before after =
-    (i : ℕ) → i < length kinds → AddsState words (slice_index kinds i) rank (census_at before i) (census_at after i)
+    (i : ℕ) → i < length kinds
+    → AddsState words (slice_index kinds i) rank (census_at before i) (census_at after i)
 
 -- for each of these kinds, so many states from a live rank on were added one after another
 abbrev pub AreCensuses : WordList → List ℕ → ℕ → ℕ → List KindCensus → Type 0
 AreCensuses words kinds from many censuses =
-    (i : ℕ) → i < length kinds → IsCensus words (slice_index kinds i) from many (census_at censuses i)
+    (i : ℕ) → i < length kinds
+    → IsCensus words (slice_index kinds i) from many (census_at censuses i)
 
 -- how many of so many live positions stand in the first ones of some equal parts
 abbrev pub share : ℕ → ℕ → ℕ → ℕ

@@ -7,12 +7,14 @@ use Rattle.interval_words.specs.Numbers.{value_in, word_of}
 use Rattle.interval_words.specs.Seats.{WasHeld}
 use Rattle.interval_words.specs.WordLists.{AreRight, list_of, states_of}
 use Rattle.word_pages.specs.declared.version.Version.TheVariants.{Two}
-use Rattle.base_head.specs.Heads.{FileHead}
+use Rattle.base_head.specs.Heads.{FileHead, no_starts}
 use Rattle.database_file.specs.Texts.{file_text, game_in}
+use Rattle.game_census.specs.declared.task.WidthsTask.{WidthsTask}
 
 -- this word of a state stood on a board of the game, at a moment at which some view stood
 abbrev pub WasRead : Game → List ℕ → End → ℕ → Type 0
-WasRead game list end state = (view : View) × WasHeld game view (word_of end state) (value_in list end state)
+WasRead game list end state =
+    (view : View) × WasHeld game view (word_of end state) (value_in list end state)
 
 -- the list has both words of each of the first so many states, and each stood on a board of the game
 pub record WereRead (game : Game) (many : ℕ) (list : List ℕ) : Type 0 where
@@ -25,3 +27,12 @@ pub record IsSaved (head : FileHead) (held : Option (List ℕ)) : Type 0 where
   pub read : WereRead (game_in head) (states_of (game_in head)) list
   pub right : AreRight (list_of (game_in head) head.rounds list)
   pub text : held ≡ Some (file_text Two head list)
+
+-- the head of the file that a task asks for
+abbrev pub head_asked : WidthsTask → FileHead
+head_asked task = record {
+  checkers = task.checkers;
+  name = task.stakes;
+  rounds = task.rounds;
+  starts = no_starts;
+}

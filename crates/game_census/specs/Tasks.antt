@@ -53,4 +53,5 @@ AsksRaces word (Widths task) = ⊥
 abbrev pub AsksWidths : List ℕ → List ℕ → Task → Type 0
 AsksWidths checkers rounds (Cube task) = ⊥
 AsksWidths checkers rounds (Races task) = ⊥
-AsksWidths checkers rounds (Widths task) = (task.checkers ≡ number_of checkers) × (task.rounds ≡ number_of rounds)
+AsksWidths checkers rounds (Widths task) =
+    (task.checkers ≡ number_of checkers) × (task.rounds ≡ number_of rounds)

@@ -171,7 +171,7 @@ pub(crate) fn count_calls<R: Threads + Sync + Print + Files>(
 ) -> Result<(), Stop>
     ensures { IfErr result (λ stop. stop ≢ BadWords) }
 {
-    let mut files = RealFiles::new(rt);
+    let mut files = RealFiles::new(rt, alloc);
     let base = load_base(rt, alloc, &mut files, task.file, 1)?;
     let words = base.words();
     PartCensus::of(words, &task.part).print(rt, words.stakes())

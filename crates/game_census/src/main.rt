@@ -48,7 +48,7 @@ fn run<R: Threads + Sync + Env + Print + Files + AllocGlobal>(
         None => Err(Stop::BadWords),
         Some(Task::Cube(task)) => count_calls(rt, alloc, &task),
         Some(Task::Races(task)) => count_races(rt, alloc, &task),
-        Some(Task::Widths(task)) => tell_widths(rt, alloc, &task, &mut RealFiles::new(rt)),
+        Some(Task::Widths(task)) => tell_widths(rt, alloc, &task, &mut RealFiles::new(rt, alloc)),
     }
 }
 

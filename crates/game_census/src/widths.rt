@@ -1,11 +1,12 @@
 //! Solves a game by rounds of one worker and tells how tight its words are meanwhile: the width of the widest pair, and the start's pair in
 //! its first kind; then writes the words as a file of bounds, where one is named.
 
-ghost use Rattle.std.specs.Prelude.{◌≡◌, ◌<◌, ◌^◌, IfOk};
+ghost use Rattle.std.specs.Prelude.{◌≡◌, ◌<◌, ◌^◌, IsTrue, IsOk, IfOk, IfSome};
 ghost use Rattle.interval_words.specs.Seats.{IsNumber, SitsAt};
 ghost use Rattle.interval_words.specs.WordLists.{states_of};
 ghost use Rattle.worker_sweep.specs.Workers.{WorksAt};
 ghost use Rattle.database_file.specs.Texts.{game_in};
+ghost use Rattle.game_census.specs.Saved.{IsSaved, head_asked};
 
 use crate::saving::save;
 use crate::stop::Stop;
@@ -138,7 +139,10 @@ pub(crate) fn tell_widths<R: Print, F: Files>(
     alloc: Global,
     task: &WidthsTask,
     files: &mut F,
-) -> Result<(), Stop> {
+) -> Result<(), Stop>
+    ensures { IsTrue (F.tells files.old) → IsOk result → IfSome task.now.file
+        (λ name. IsSaved (head_asked task.now) (F.held files.new name.now)) }
+{
     let head = Head::of_stakes(task.checkers, task.stakes, task.rounds);
     let (board, mut seat) = solve(rt, alloc, &head)?;
     match task.file {

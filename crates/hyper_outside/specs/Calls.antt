@@ -22,7 +22,8 @@ called calls = record calls { made = counted calls.made }
 
 -- what the call just made still adds, if it is to fail
 abbrev pub listed : CallList → Option ℕ
-listed calls = option_map (λ (f : ℕ × ℕ). f.1) (find (λ (f : ℕ × ℕ). f.0 == calls.made) calls.failing)
+listed calls =
+    option_map (λ (f : ℕ × ℕ). f.1) (find (λ (f : ℕ × ℕ). f.0 == calls.made) calls.failing)
 
 -- all of the bytes, or the front that a failing call still adds
 abbrev pub front_of : Option ℕ → List ℕ → List ℕ

@@ -45,4 +45,5 @@ Adds old new name bytes = new name ≡ Some (unwrap_or (old name) [] ++ bytes)
 abbrev pub Appends : {T E : Type 0} → Contents → Contents → List ℕ → List ℕ → Result T E → Type 0
 Appends old new name bytes (Ok x) = Adds old new name bytes
 Appends old new name bytes (Err e) =
-    (new name ≡ old name) ⊎ ((front : List ℕ) × (rest : List ℕ) × (bytes ≡ front ++ rest) × Adds old new name front)
+    (new name ≡ old name)
+    ⊎ ((front : List ℕ) × (rest : List ℕ) × (bytes ≡ front ++ rest) × Adds old new name front)

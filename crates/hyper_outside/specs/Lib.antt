@@ -8,3 +8,4 @@ pub mod Places
 pub mod MemFiles
 pub mod HonestFiles
 pub mod Reading
+pub mod Opened

@@ -13,7 +13,13 @@ pub record DemandingFiles : Type 0 where
 
 -- no files, no room, no limit, no call
 abbrev pub no_files : DemandingFiles
-no_files = record { stock = no_stock; most = None; calls = no_calls; read_faults = 0; write_faults = 0 }
+no_files = record {
+  stock = no_stock;
+  most = None;
+  calls = no_calls;
+  read_faults = 0;
+  write_faults = 0;
+}
 
 -- the same calls and faults over another stock
 abbrev pub restocked : DemandingFiles → Stock → DemandingFiles
@@ -49,7 +55,18 @@ after_start files name = record files {
 abbrev pub after_append : DemandingFiles → List ℕ → List ℕ → DemandingFiles
 after_append files name bytes = record files {
   stock = if takes files.stock name (length bytes)
-      then stocked files.stock name (bytes_of files.stock name ++ front_of (listed (called files.calls)) bytes) else files.stock;
+      then stocked files.stock name
+      (bytes_of files.stock name ++ front_of (listed (called files.calls)) bytes)
+      else files.stock;
   calls = called files.calls;
-  write_faults = if append_fails files name bytes then counted files.write_faults else files.write_faults;
+  write_faults = if append_fails files name bytes
+      then counted files.write_faults
+      else files.write_faults;
+}
+
+-- after a call of finish, which fails only where it is listed
+abbrev pub after_finish : DemandingFiles → DemandingFiles
+after_finish files = record files {
+  calls = called files.calls;
+  write_faults = if is_listed files then counted files.write_faults else files.write_faults;
 }

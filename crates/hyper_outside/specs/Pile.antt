@@ -32,7 +32,8 @@ honest_output sink = record { told = Some sink.pile.bytes; faults = sink.faults 
 -- after a put of these bytes: where they don't fit nothing is added
 abbrev pub after_honest : Honest → List ℕ → Honest
 after_honest sink added =
-    if nat_le (length added) sink.pile.room then record { pile = more sink.pile added; faults = sink.faults }
+    if nat_le (length added) sink.pile.room
+    then record { pile = more sink.pile added; faults = sink.faults }
     else record { pile = sink.pile; faults = counted sink.faults }
 
 -- a sink that fails on demand too
@@ -57,7 +58,9 @@ abbrev pub after_put : Demanding → List ℕ → Demanding
 after_put sink bytes =
     let calls = called sink.calls in
     record {
-      pile = if nat_le (length bytes) sink.pile.room then more sink.pile (front_of (listed calls) bytes) else sink.pile;
+      pile = if nat_le (length bytes) sink.pile.room
+          then more sink.pile (front_of (listed calls) bytes)
+          else sink.pile;
       calls = calls;
       faults = if put_fails sink bytes then counted sink.faults else sink.faults;
     }

@@ -29,7 +29,8 @@ pub record IsGrown (old new : Place) : Type 0 where
 
 -- no call but those that take room needs memory
 pub record HasRoom (store : Inside) : Type 0 where
-  pub total : sum_by (λ (file : File). length file.bytes) (files_of store.files.items) + store.room ≡ store.total
+  pub total : sum_by (λ (file : File). length file.bytes) (files_of store.files.items) + store.room
+      ≡ store.total
   pub files : All (HasMemory store.total) store.files.items
   pub spare : All (IsSpare store.total) store.spare.items
   pub places : vec_len store.files + vec_len store.spare ≤ vec_capacity store.files

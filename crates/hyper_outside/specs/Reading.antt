@@ -15,9 +15,11 @@ pub record AddsRead (there : List ℕ) (done : ℕ) (old new : List ℕ) (count 
   pub rest : drop (done + count) new ≡ drop (done + count) old
 
 -- a reader went to a place of its bytes, and had these from there on, as far as it tells its place and its bytes
-abbrev pub ReadFrom : {R : Type 0} → (R → Option ℕ) → (R → Option (List ℕ)) → (R → Option (List ℕ)) → ℕ → R → R → List ℕ → Type 0
+abbrev pub ReadFrom : {R : Type 0} → (R → Option ℕ) → (R → Option (List ℕ)) → (R → Option (List ℕ))
+    → ℕ → R → R → List ℕ → Type 0
 ReadFrom {R} place_of bytes_of remaining at old new had =
-    (there : R) × IfSome (place_of old) (λ _. place_of there ≡ Some at) × Keeps (bytes_of old) (bytes_of there) × Consumes (remaining there) (remaining new) had
+    (there : R) × IfSome (place_of old) (λ _. place_of there ≡ Some at)
+    × Keeps (bytes_of old) (bytes_of there) × Consumes (remaining there) (remaining new) had
 
 -- what reading a whole file of at most so many bytes answers: all of its bytes, or why not
 abbrev pub IsWhole : Option (List ℕ) → ℕ → Result (Vec ℕ Global) WholeStop → Type 0

@@ -20,11 +20,13 @@ Gains (Some old) new bytes (Err e) =
     (front : List ℕ) × (rest : List ℕ) × (bytes ≡ front ++ rest) × (new ≡ Some (old ++ front))
 
 -- a put of these bytes: they were added, or, after a failure, a front of them; and it fails only where the count of faults rose
-pub record Puts {T E : Type 0} (old new : Output) (bytes : List ℕ) (result : Result T E) : Type 0 where
+pub record Puts {T E : Type 0} (old new : Output) (bytes : List ℕ)
+    (result : Result T E) : Type 0 where
   pub gains : Gains old.told new.told bytes result
   pub cause : HasCause old.faults new.faults result
 
 -- where a writer's bytes are known: it has taken all of these, or, after a failure, a front of them
 abbrev pub Takes : {T E : Type 0} → Option (List ℕ) → Option (List ℕ) → List ℕ → Result T E → Type 0
 Takes old new bytes (Ok x) = Appends old new bytes
-Takes old new bytes (Err e) = (front : List ℕ) × (rest : List ℕ) × (bytes ≡ front ++ rest) × Appends old new front
+Takes old new bytes (Err e) =
+    (front : List ℕ) × (rest : List ℕ) × (bytes ≡ front ++ rest) × Appends old new front

@@ -13,7 +13,9 @@ pub record File : Type 0 where
 -- the bytes under a name
 abbrev pub held_bytes : List File → List ℕ → Option (List ℕ)
 held_bytes [] name = None
-held_bytes (file ∷ files) name = if bytes_eq file.name name then Some file.bytes else held_bytes files name
+held_bytes (file ∷ files) name = if bytes_eq file.name name
+    then Some file.bytes
+    else held_bytes files name
 
 -- the files once these bytes stand under this name
 abbrev pub with_bytes : List File → List ℕ → List ℕ → List File
@@ -25,7 +27,9 @@ with_bytes (file ∷ files) name bytes =
 -- where the name stands in the list
 abbrev pub place_of : List File → List ℕ → Option ℕ
 place_of [] name = None
-place_of (file ∷ files) name = if bytes_eq file.name name then Some zero else option_map suc (place_of files name)
+place_of (file ∷ files) name = if bytes_eq file.name name
+    then Some zero
+    else option_map suc (place_of files name)
 
 -- the files, how many new names there is a place for, and for how many more bytes there is room
 pub record Stock : Type 0 where
@@ -47,7 +51,8 @@ bytes_of stock name = unwrap_or (held_bytes stock.files name) []
 
 -- the name is there, or there is a place for it
 abbrev pub takes_name : Stock → List ℕ → Bool
-takes_name stock name = is_some (held_bytes stock.files name) || nat_lt 0 stock.places && nat_le (length name) 255
+takes_name stock name =
+    is_some (held_bytes stock.files name) || nat_lt 0 stock.places && nat_le (length name) 255
 
 -- and there is room for the bytes
 abbrev pub takes : Stock → List ℕ → ℕ → Bool
@@ -69,7 +74,9 @@ started stock name = if takes_name stock name then stocked stock name [] else st
 -- for the name or no room for all of them
 abbrev pub appended : Stock → List ℕ → List ℕ → Option ℕ → Stock
 appended stock name bytes failing =
-    if takes stock name (length bytes) then stocked stock name (bytes_of stock name ++ front_of failing bytes) else stock
+    if takes stock name (length bytes)
+    then stocked stock name (bytes_of stock name ++ front_of failing bytes)
+    else stock
 
 -- with a file of a new name, which takes a place and its room
 abbrev pub filed : Stock → List ℕ → List ℕ → Stock
@@ -81,7 +88,10 @@ filed stock name bytes = record {
 
 -- with places for more names and room for more bytes
 abbrev pub roomier : Stock → ℕ → ℕ → Stock
-roomier stock names bytes = record stock { places = stock.places + names; room = stock.room + bytes }
+roomier stock names bytes = record stock {
+  places = stock.places + names;
+  room = stock.room + bytes;
+}
 
 -- with a file more, and the room of it
 abbrev pub with_file : Stock → List ℕ → List ℕ → Stock

@@ -4,7 +4,7 @@ ghost use Rattle.hyper_outside.specs.Causes.{HasCause};
 ghost use Rattle.hyper_outside.specs.Files.{SameFiles, KeepsOthers, Reads, StartsEmpty, Appends, bytes_from};
 ghost use Rattle.hyper_outside.specs.Calls.{with_failing};
 ghost use Rattle.hyper_outside.specs.Store.{at_most, held_bytes, length_from, with_file, with_places, roomier, takes, takes_name};
-ghost use Rattle.hyper_outside.specs.MemFiles.{no_files, restocked, is_listed, start_fails, append_fails, after_read, after_start, after_append};
+ghost use Rattle.hyper_outside.specs.MemFiles.{no_files, restocked, is_listed, start_fails, append_fails, after_read, after_start, after_append, after_finish};
 ghost use Rattle.hyper_outside.specs.HonestFiles.{files_with, after_honest_start, after_honest_append};
 
 use crate::calls::Calls;
@@ -178,6 +178,19 @@ impl Files for MemFiles {
         let answer = self.store.append(name, bytes, failing);
         counted(answer, &mut self.write_faults)
     }
+
+    /// `Failed` exactly where the call is listed.
+    fn finish(&mut self, _name: &str) -> Result<(), Failed>
+        ensures cause { HasCause self.old.write_faults self.new.write_faults result }
+        ensures answer { is_ok result ≡ not (is_listed self.old) }
+        ensures after { self.new ≡ after_finish self.old }
+    {
+        if self.calls.count().is_some() {
+            self.write_faults = self.write_faults.saturating_add(1);
+            return Err(Failed);
+        }
+        Ok(())
+    }
 }
 
 /// Files in memory that is taken at their start. They fail only where a new name finds no place or is longer than 255 bytes, or where
@@ -268,5 +281,13 @@ impl Files for HonestFiles {
         ensures after { self.new ≡ after_honest_append self.old name.now bytes.now }
     {
         counted(self.store.append(name, bytes, None), &mut self.faults)
+    }
+
+    /// Never fails.
+    fn finish(&mut self, _name: &str) -> Result<(), Failed>
+        ensures answer { is_ok result ≡ true }
+        ensures after { self.new ≡ self.old }
+    {
+        Ok(())
     }
 }

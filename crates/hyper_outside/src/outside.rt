@@ -86,7 +86,7 @@ pub trait Files {
     /// How often a call of `size` or `read_at` has failed.
     ghost read_faults: { Self → ℕ };
 
-    /// How often a call of `start` or `append` has failed.
+    /// How often a call of `start`, `append` or `finish` has failed.
     ghost write_faults: { Self → ℕ };
 
     /// Whether it tells its contents.
@@ -132,6 +132,14 @@ pub trait Files {
             → Appends (held self.old) (held self.new) name.now bytes.now result }
         ensures others { IsTrue (tells self.old)
             → KeepsOthers name.now (held self.old) (held self.new) }
+        ensures tells { tells self.new ≡ tells self.old }
+        ensures cause { HasCause (write_faults self.old) (write_faults self.new) result }
+        ensures read_faults { read_faults self.new ≡ read_faults self.old };
+
+    /// Ends what `start` and `append` have written under the name: it is kept for good from now on. Files of a system stand aside until
+    /// then, and after `Failed` they are gone.
+    fn finish(&mut self, name: &str) -> Result<(), Failed>
+        ensures same { IsTrue (tells self.old) → SameFiles (held self.old) (held self.new) }
         ensures tells { tells self.new ≡ tells self.old }
         ensures cause { HasCause (write_faults self.old) (write_faults self.new) result }
         ensures read_faults { read_faults self.new ≡ read_faults self.old };

@@ -61,7 +61,8 @@ fn write_text<F: Files>(files: &mut F, name: &str, text: &[u8]) -> Result<(), Fa
     ensures cause { HasCause (F.write_faults files.old) (F.write_faults files.new) result }
 {
     files.start(name)?;
-    files.append(name, text)
+    files.append(name, text)?;
+    files.finish(name)
 }
 
 /// How many lines a text has.

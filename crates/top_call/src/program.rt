@@ -136,7 +136,7 @@ pub fn start<R: Threads + Sync + Env + Print + Eprint + Clock + System + AllocGl
     match words_of(rt) {
         Ok(words) => {
             let words = words.as_slice();
-            let mut files = RealFiles::new(rt);
+            let mut files = RealFiles::new(rt, alloc);
             let gate = gate_of(rt, alloc, words, &mut files, shows);
             let status = run(rt, alloc, words, &mut files, &mut out, &gate);
             gate.end();

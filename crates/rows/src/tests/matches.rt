@@ -61,9 +61,10 @@ fn files_of_a_match_are_asked(rt: HostRuntime) -> Result<(), Fail> {
     run(&rt, &[&ROOM, &ANSWERS])
 }
 
-// Each file is begun, and then front, page and digest are appended: so the first append of the second file is the sixth call.
+// Each file is begun, front, page and digest are appended, and it is finished: so the first append of the second file is the seventh
+// call.
 static CUT: [Step; 8] = [
-    FailCall(6, 7),
+    FailCall(7, 7),
     Ask(TO_TWO, 7),
     FIRST,
     File("L.1.2.c", Held::Text("HYPGAMM")),

@@ -53,9 +53,9 @@ fn a_damaged_file_is_refused(rt: HostRuntime) -> Result<(), Fail> {
 
 static ROOM: [Step; 2] = [Make("old", Cubeless(1)), Room(1, 10_000)];
 
-// The call that fails, the status, and how many bytes the new file then has. Size, front and page are read; then the file is begun, and
-// front, page and digest are appended.
-static FAULTS: [&[Step]; 8] = [
+// The call that fails, the status, and how many bytes the new file then has. Size, front and page are read; then the file is begun,
+// front, page and digest are appended, and it is finished.
+static FAULTS: [&[Step]; 9] = [
     &[FailCall(1, 7), Ask(MIGRATE, 6), File("new", Nothing)],
     &[FailCall(2, 7), Ask(MIGRATE, 6), File("new", Nothing)],
     &[FailCall(3, 7), Ask(MIGRATE, 6), File("new", Nothing)],
@@ -63,7 +63,8 @@ static FAULTS: [&[Step]; 8] = [
     &[FailCall(5, 7), Ask(MIGRATE, 7), File("new", Length(7))],
     &[FailCall(6, 7), Ask(MIGRATE, 7), File("new", Length(103))],
     &[FailCall(7, 7), Ask(MIGRATE, 7), File("new", Length(6113))],
-    &[FailCall(8, 7), Ask(MIGRATE, 0), File("new", Length(6138))],
+    &[FailCall(8, 7), Ask(MIGRATE, 7), File("new", Length(6138))],
+    &[FailCall(9, 7), Ask(MIGRATE, 0), File("new", Length(6138))],
 ];
 
 #[test]

@@ -71,11 +71,11 @@ fn a_file_of_another_game_is_refused(rt: HostRuntime) -> Result<(), Fail> {
 
 const PLAN: &str = "plan, L, --length=2";
 
-// Each of three files was begun and appended to three times. A whole file is asked for its size, and then read.
+// Each of three files was begun, appended to three times and finished. A whole file is asked for its size, and then read.
 static FAULTS: [&[Step]; 3] = [
-    &[FailCall(13, 0), Row(PLAN, 6, "refused 6 read\n")],
-    &[FailCall(14, 0), Row(PLAN, 6, "refused 6 read\n")],
-    &[FailCall(15, 0), Row(PLAN, 6, "refused 6 read\n")],
+    &[FailCall(16, 0), Row(PLAN, 6, "refused 6 read\n")],
+    &[FailCall(17, 0), Row(PLAN, 6, "refused 6 read\n")],
+    &[FailCall(18, 0), Row(PLAN, 6, "refused 6 read\n")],
 ];
 
 #[test]

@@ -39,8 +39,9 @@ fn a_game_is_solved(rt: HostRuntime) -> Result<(), Fail> {
 
 static OLD: [Step; 2] = [Make("c1", Text("old")), Room(0, 10_000)];
 
-// The files' call that fails, how many bytes it still adds, and how many the file then has. With the first the file is as it was.
-static STOPS: [&[Step]; 4] = [
+// The files' call that fails, how many bytes it still adds, and how many the file then has. With the first the file is as it was, and the last
+// ends the whole file.
+static STOPS: [&[Step]; 5] = [
     &[
         FailCall(1, 0),
         Row(SOLVE, 7, "refused 7 write\n"),
@@ -60,6 +61,11 @@ static STOPS: [&[Step]; 4] = [
         FailCall(4, 7),
         Row(SOLVE, 7, "refused 7 write\n"),
         File("c1", Length(6113)),
+    ],
+    &[
+        FailCall(5, 0),
+        Row(SOLVE, 7, "refused 7 write\n"),
+        File("c1", Length(6138)),
     ],
 ];
 

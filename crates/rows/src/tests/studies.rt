@@ -154,8 +154,9 @@ const MAKE: &str = "make, 7, 1, r";
 
 static OLD: [Step; 2] = [Make("r", Text("old")), Room(0, 20_000)];
 
-// The files' call that fails, how many bytes it still adds, and how many the file then has. With the first the file is as it was.
-static CUTS: [&[Step]; 2] = [
+// The files' call that fails, how many bytes it still adds, and how many the file then has. With the first the file is as it was, and the last
+// ends the whole file.
+static CUTS: [&[Step]; 3] = [
     &[
         FailCall(1, 0),
         Row(MAKE, 7, "refused 7 write\n"),
@@ -165,6 +166,11 @@ static CUTS: [&[Step]; 2] = [
         FailCall(2, 10),
         Row(MAKE, 7, "refused 7 write\n"),
         File("r", Length(10)),
+    ],
+    &[
+        FailCall(3, 0),
+        Row(MAKE, 7, "refused 7 write\n"),
+        File("r", Something),
     ],
 ];
 

@@ -151,14 +151,8 @@ fn solved_games_pass(rt: HostRuntime) -> Result<(), Fail> {
     run_each(&rt, &ROOM, &STAKES)
 }
 
-// The file was begun and appended to three times. Its size, its front and its page are read: each call fails in turn, and then none.
+// The file was begun, appended to three times and finished. Its size, its front and its page are read: each call fails in turn, and then none.
 static FAULTS: [&[Step]; 4] = [
-    &[
-        Make("copy", CopyOf("c1")),
-        FailCall(5, 0),
-        Row(VERIFY, 6, "refused 6 read\n"),
-        File("c1", Like("copy")),
-    ],
     &[
         Make("copy", CopyOf("c1")),
         FailCall(6, 0),
@@ -174,6 +168,12 @@ static FAULTS: [&[Step]; 4] = [
     &[
         Make("copy", CopyOf("c1")),
         FailCall(8, 0),
+        Row(VERIFY, 6, "refused 6 read\n"),
+        File("c1", Like("copy")),
+    ],
+    &[
+        Make("copy", CopyOf("c1")),
+        FailCall(9, 0),
         Row(VERIFY, 0, YES),
         File("c1", Like("copy")),
     ],

@@ -6,8 +6,8 @@ use Rattle.turn_rule.specs.declared.game.Game.{Game}
 use Rattle.word_pages.specs.Words.{Fits}
 use Rattle.word_pages.specs.Pages.{pages_text}
 use Rattle.base_head.specs.Fronts.{front_text}
-use Rattle.database_file.specs.Texts.{words_a_page}
-use Rattle.database_file.proofs.Writing.{grows, whole, stopped_front}
+use Rattle.database_file.specs.Texts.{file_text, words_a_page}
+use Rattle.database_file.proofs.Writing.{ended, grows, whole, stopped_front}
 use Rattle.database_file.proofs.Words.{right-fit}
 use Rattle.database_file.proofs.write.write_base.Goals as goal
 
@@ -31,6 +31,19 @@ returns-in_err-append_front-clause-writes g c told =
     (grows {T = Unit {0}} {E = Failed} (g.F.Files.held c.start.new.self) (g.F.Files.held c.append_front.new.files) c.args.name.now [] front (Err c.in_err-append_front.field-0.0)
     (c.in_ok-start.ensures.starts told) (c.in_err-append_front.ensures.appends started))))
 
+pub returns-in_err-append_pages-clause-writes : goal.returns-in_err-append_pages-clause-writes
+returns-in_err-append_pages-clause-writes g c told =
+    let p = err_from_is_err_and c.from_residual-in_err-append_pages.result c.from_residual-in_err-append_pages.ensures.1 in
+    let front : List ℕ = front_text c.args.version c.args.head.now in
+    let started : IsTrue (g.F.Files.tells c.start.new.self) = subst IsTrue (sym c.start.ensures.tells) told in
+    let behind : IsTrue (g.F.Files.tells c.append_front.new.files) = subst IsTrue (sym c.append_front.ensures.tells) started in
+    let there : g.F.Files.held c.append_front.new.files c.args.name.now ≡ Some front =
+    grows {T = Unit {0}} {E = Failed} (g.F.Files.held c.start.new.self) (g.F.Files.held c.append_front.new.files) c.args.name.now [] front (Ok c.in_ok-append_front.field-0) (c.in_ok-start.ensures.starts told) (c.in_ok-append_front.ensures.appends started) in
+    let pages = rw (c.kinds.ensures.kinds, c.list.ensures) at c.in_err-append_pages.ensures.grows behind front there in
+    rw p.1
+    (whole {T = Unit {0}} {E = Failed} (g.F.Files.held c.args.files.now c.args.name.now) (g.F.Files.held c.append_pages.new.files c.args.name.now) front
+    (pages_text c.args.version (words_a_page (length (names_of c.args.head.now.name))) c.args.words.now.list) (Err c.in_err-append_pages.field-0.0) pages)
+
 pub returns-clause-writes : goal.returns-clause-writes
 returns-clause-writes g c told =
     let front : List ℕ = front_text c.args.version c.args.head.now in
@@ -38,6 +51,7 @@ returns-clause-writes g c told =
     let behind : IsTrue (g.F.Files.tells c.append_front.new.files) = subst IsTrue (sym c.append_front.ensures.tells) started in
     let there : g.F.Files.held c.append_front.new.files c.args.name.now ≡ Some front =
     grows {T = Unit {0}} {E = Failed} (g.F.Files.held c.start.new.self) (g.F.Files.held c.append_front.new.files) c.args.name.now [] front (Ok c.in_ok-append_front.field-0) (c.in_ok-start.ensures.starts told) (c.in_ok-append_front.ensures.appends started) in
-    let pages = rw (c.kinds.ensures.kinds, c.list.ensures) at c.append_pages.ensures.grows behind front there in
-    whole (g.F.Files.held c.args.files.now c.args.name.now) (g.F.Files.held c.append_pages.new.files c.args.name.now) front
-    (pages_text c.args.version (words_a_page (length (names_of c.args.head.now.name))) c.args.words.now.list) c.append_pages.result pages
+    let pages = rw (c.kinds.ensures.kinds, c.list.ensures) at c.in_ok-append_pages.ensures.grows behind front there in
+    let after : IsTrue (g.F.Files.tells c.append_pages.new.files) = subst IsTrue (sym c.append_pages.ensures.tells) behind in
+    ended (g.F.Files.held c.args.files.now c.args.name.now) (g.F.Files.held c.append_pages.new.files c.args.name.now) (g.F.Files.held c.finish.new.self c.args.name.now)
+    (file_text c.args.version c.args.head.now c.args.words.now.list) c.finish.result pages (c.finish.ensures.same after c.args.name.now)

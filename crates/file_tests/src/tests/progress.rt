@@ -1,0 +1,79 @@
+//! The line that tells how far a solve has come.
+use crate::tests::asserts::same;
+use hyper_outside::Gate;
+use progress_line::ProgressGate;
+use std::alloc::Global;
+use std::cell::Cell;
+use std::fmt::Display;
+use std::io;
+use std::rt::Clock;
+use std::time::Duration;
+
+/// A clock that is set by hand, and a terminal that shows what was written last.
+#[derive(Drop)]
+struct Stage {
+    alloc: Global,
+    seconds: Cell<u64>,
+    shown: Cell<String>,
+}
+
+impl Clock for Stage {
+    fn monotonic(&self) -> io::Result<Duration> {
+        Ok(Duration::from_secs(self.seconds.get()))
+    }
+
+    fn since_1970(&self) -> io::Result<Duration> {
+        self.monotonic()
+    }
+}
+
+impl Eprint for Stage {
+    fn eprint<D: Display + Drop>(&self, value: D) -> io::Result<()> {
+        let _before = self.shown.replace(value.to_string(self.alloc)?);
+        Ok(())
+    }
+
+    fn eprintln<D: Display + Drop>(&self, value: D) -> io::Result<()> {
+        self.eprint(value)
+    }
+}
+
+/// Rounds, blocks of a round, blocks passed, seconds gone, and the line.
+const LINES: [(u32, u32, u64, u64, &str); 5] = [
+    (64, 3276, 0, 0, "\rround 1 of 64, 0 %, 0 s gone, 0 s left  "),
+    (
+        64,
+        3276,
+        104832,
+        120,
+        "\rround 33 of 64, 50 %, 120 s gone, 120 s left  ",
+    ),
+    (
+        64,
+        3276,
+        209664,
+        240,
+        "\rround 64 of 64, 100 %, 240 s gone, 0 s left  ",
+    ),
+    (1, 26, 13, 7, "\rround 1 of 1, 50 %, 7 s gone, 7 s left  "),
+    (2, 26, 60, 9, "\rround 2 of 2, 100 %, 9 s gone, 0 s left  "),
+];
+
+#[test]
+fn lines_tell_rounds_shares_and_seconds(rt: HostRuntime) {
+    for (rounds, blocks, passed, seconds, line) in LINES.iter() {
+        let stage = Stage {
+            alloc: rt.alloc(),
+            seconds: Cell::new(0),
+            shown: Cell::new(String::new(rt.alloc())),
+        };
+        let gate = ProgressGate::new(&stage, *rounds, *blocks);
+        for block in 0..*passed {
+            gate.pass(0, block);
+        }
+        stage.seconds.set(*seconds);
+        gate.pass(0, *passed);
+        let shown = stage.shown.replace(String::new(rt.alloc()));
+        same(&rt, &shown.as_str(), line, passed);
+    }
+}

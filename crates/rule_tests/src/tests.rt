@@ -1,0 +1,16 @@
+mod analyses;
+mod checks;
+mod columns;
+mod given_pairs;
+mod kinds;
+mod match_starts;
+mod moves;
+mod numbers;
+mod outside;
+mod plans;
+mod positions;
+mod races;
+mod rolls;
+mod states;
+mod tables;
+mod turns;
