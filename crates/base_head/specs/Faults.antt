@@ -15,7 +15,9 @@ check fault at wrong = record { fault = fault; at = at; wrong = wrong }
 -- the first of these that is wrong
 abbrev pub first_wrong : List Check → Option BadFile
 first_wrong [] = None
-first_wrong (one ∷ others) = if one.wrong then Some (record { fault = one.fault; at = one.at }) else first_wrong others
+first_wrong (one ∷ others) = if one.wrong
+    then Some (record { fault = one.fault; at = one.at })
+    else first_wrong others
 
 -- the value where nothing is wrong, else what is wrong first
 abbrev pub checked : {A : Type 0} → Option BadFile → A → Result A BadFile

@@ -10,7 +10,8 @@ use Rattle.base_head.specs.declared.fault.BadFile.{BadFile}
 
 -- what is wrong first before the pages of a file of this size, which begins with these bytes: with the header, else with what follows it
 abbrev pub front_fault : ℕ → List ℕ → Option BadFile
-front_fault size bytes = option_or (header_fault size bytes) (starts_fault (header_in (fields_of bytes)) bytes)
+front_fault size bytes =
+    option_or (header_fault size bytes) (starts_fault (header_in (fields_of bytes)) bytes)
 
 -- bytes begin with the front of a version and a head
 pub record IsFront (version : Version) (head : FileHead) (bytes : List ℕ) : Type 0 where

@@ -34,13 +34,15 @@ words_of_pairs pairs = flat_map words_of_pair pairs
 
 -- the header, the pairs of the starts in the order of the ladder, and the digest of both
 abbrev pub front_text : Version → FileHead → List ℕ
-front_text version head = sealed (header_text version head ++ words_text version (words_of_pairs head.starts.pairs))
+front_text version head =
+    sealed (header_text version head ++ words_text version (words_of_pairs head.starts.pairs))
 
 -- the pairs that words stand for
 abbrev pub pairs_of_words : List ℕ → List Bounds
 pairs_of_words [] = []
 pairs_of_words (word ∷ []) = []
-pairs_of_words (lower ∷ upper ∷ words) = record { lower = value_of lower; upper = value_of upper } ∷ pairs_of_words words
+pairs_of_words (lower ∷ upper ∷ words) =
+    record { lower = value_of lower; upper = value_of upper } ∷ pairs_of_words words
 
 -- the words of the starts, which follow the header
 abbrev pub start_words : Header → List ℕ → List ℕ
@@ -57,7 +59,10 @@ head_in header bytes = record {
   checkers = header.checkers;
   name = header.name;
   rounds = header.rounds;
-  starts = record { match_length = starts_length header.name header.match_length; pairs = pairs_of_words (start_words header bytes) };
+  starts = record {
+    match_length = starts_length header.name header.match_length;
+    pairs = pairs_of_words (start_words header bytes);
+  };
 }
 
 -- what is wrong with words is wrong with their file

@@ -50,7 +50,11 @@ abbrev pub phase_numbered : ℕ → Phase
 phase_numbered number = if number == 0 then Normal else if number == 1 then Crawford else Post
 
 abbrev pub score_in : Fields → MatchScore
-score_in fields = record { near = fields.near; far = fields.far; phase = phase_numbered fields.phase }
+score_in fields = record {
+  near = fields.near;
+  far = fields.far;
+  phase = phase_numbered fields.phase;
+}
 
 -- the stakes that a number stands for, where it is at most 5
 abbrev pub name_numbered : ℕ → MatchScore → StakesName
@@ -94,11 +98,13 @@ is_phase_at near far Post = near == 1
 
 -- the number of the phase stands for one, which is one of the score's
 abbrev pub is_phase_in : Fields → Bool
-is_phase_in fields = nat_le fields.phase 2 && is_phase_at fields.near fields.far (phase_numbered fields.phase)
+is_phase_in fields =
+    nat_le fields.phase 2 && is_phase_at fields.near fields.far (phase_numbered fields.phase)
 
 -- a match of one to five points, in which the score can come
 abbrev pub is_length_of : ℕ → MatchScore → Bool
-is_length_of match_length score = is_from_to 1 5 match_length && nat_lt (ladder_place match_length score) (length (ladder match_length))
+is_length_of match_length score = is_from_to 1 5 match_length
+    && nat_lt (ladder_place match_length score) (length (ladder match_length))
 
 -- what can be wrong with the score and length of a match
 abbrev pub match_checks : Fields → List Check
@@ -129,7 +135,8 @@ abbrev pub count_checks : Fields → List Check
 count_checks fields =
     check faults.Head 36 (not (fields.kinds == length (names_of (name_in fields))))
     ∷ check faults.Head 40 (not (is_from_to 1 4096 fields.rounds))
-    ∷ check faults.Head 44 (not (fields.starts == starts_before fields.match_length (name_in fields)))
+    ∷ check faults.Head 44
+    (not (fields.starts == starts_before fields.match_length (name_in fields)))
     ∷ check faults.Head 48 (not (fields.positions == live_positions fields.checkers))
     ∷ check faults.Head 56 (not (fields.rest == 0))
     ∷ []
@@ -156,13 +163,15 @@ opening_checks size bytes =
 
 -- a file is as long as its header says
 abbrev pub length_checks : ℕ → ℕ → List Check
-length_checks size whole = check faults.Short size (nat_lt size whole) ∷ check faults.Long whole (nat_lt whole size) ∷ []
+length_checks size whole =
+    check faults.Short size (nat_lt size whole) ∷ check faults.Long whole (nat_lt whole size) ∷ []
 
 -- what is wrong first with a file of this size up to its starts, of which these are the first bytes
 abbrev pub header_checks : ℕ → List ℕ → List Check
 header_checks size bytes =
     opening_checks size bytes
-    ++ (field_checks (fields_of bytes) ++ length_checks size (file_length (header_in (fields_of bytes))))
+    ++ (field_checks (fields_of bytes)
+    ++ length_checks size (file_length (header_in (fields_of bytes))))
 
 abbrev pub header_fault : ℕ → List ℕ → Option BadFile
 header_fault size bytes = first_wrong (header_checks size bytes)

@@ -139,7 +139,8 @@ front_length header = digest_place header + 32
 -- how many bytes the whole file has: a page has 1,024 positions and the last one what is left, and a digest of 32 bytes follows the starts
 -- and each page
 abbrev pub file_length : Header → ℕ
-file_length header = front_length header + pair_size header.version * header.kinds * header.positions + 32 * pages_in 1024 header.positions
+file_length header = front_length header + pair_size header.version * header.kinds
+    * header.positions + 32 * pages_in 1024 header.positions
 
 abbrev pub text_length : Version → FileHead → ℕ
 text_length version head = file_length (header_of version head)

@@ -51,7 +51,8 @@ pub record IsNumberText (word : List ℕ) (number : ℤ) : Type 0 where
 pub record IsTestText (word : List ℕ) (test : Test) : Type 0 where
   pub number : List ℕ
   pub value : IsNumberText number test.number
-  pub text : word ≡ not_text test.negated ++ (field_text test.field ++ (comparison_text test.comparison ++ number))
+  pub text : word ≡ not_text test.negated
+      ++ (field_text test.field ++ (comparison_text test.comparison ++ number))
 
 -- a word of a condition is the bar between two groups, or that of a test
 abbrev pub IsWordOf : Part → List ℕ → Type 0
@@ -74,7 +75,8 @@ pub record AreWordsOf (groups : List (List Test)) (all : List (List ℕ)) : Type
 
 -- some condition's words begin with these
 abbrev pub CanGoOn : List (List ℕ) → Type 0
-CanGoOn front = (groups : List (List Test)) × (more : List (List ℕ)) × AreWordsOf groups (front ++ more)
+CanGoOn front =
+    (groups : List (List Test)) × (more : List (List ℕ)) × AreWordsOf groups (front ++ more)
 
 -- The first word with which no condition's words can go on: some condition's words begin with those before it, and none with these and the
 -- word itself. The end counts as a word.

@@ -28,5 +28,6 @@ pub record IsCutAt (whole name : List ℕ) (comparison : Comparison) (number : L
 pub record AreParts (whole name : List ℕ) (comparison : Comparison) (number : List ℕ) : Type 0 where
   pub text : whole ≡ name ++ (comparison_text comparison ++ number)
   pub only :
-      (other_name : List ℕ) (other : Comparison) (other_number : List ℕ) → IsCutAt whole other_name other other_number
+      (other_name : List ℕ) (other : Comparison) (other_number : List ℕ)
+      → IsCutAt whole other_name other other_number
       → (name ≡ other_name) × (comparison ≡ other) × (number ≡ other_number)

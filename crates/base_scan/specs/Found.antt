@@ -37,14 +37,16 @@ abbrev pub states_of_row : Game → ℕ → List State
 states_of_row game row = states_from game (row * layouts game.checkers) (layouts game.checkers)
 
 abbrev pub states_of_rows : Game → ℕ → ℕ → List State
-states_of_rows game row many = states_from game (row * layouts game.checkers) (many * layouts game.checkers)
+states_of_rows game row many =
+    states_from game (row * layouts game.checkers) (many * layouts game.checkers)
 
 -- all states of a game: by rising square of the position, which is to say by rising live rank, and then by kind
 abbrev pub all_states : Game → List State
 all_states game = states_from game 0 (squares game)
 
 abbrev pub meeting_among : WordList → List (List Test) → List State → List State
-meeting_among words groups states = filter (λ state. meets words groups state.position state.kind) states
+meeting_among words groups states =
+    filter (λ state. meets words groups state.position state.kind) states
 
 -- the states that meet a condition
 abbrev pub meeting : WordList → List (List Test) → List State
@@ -59,20 +61,25 @@ abbrev pub first_row : Game → ℕ → ℕ → ℕ
 first_row game parts number = layouts game.checkers * number / parts
 
 -- a part's states that meet the condition, in their order
-pub record IsScanned (words : WordList) (groups : List (List Test)) (parts number : ℕ) (states : List State) : Type 0 where
+pub record IsScanned (words : WordList) (groups : List (List Test)) (parts number : ℕ)
+    (states : List State) : Type 0 where
   pub found :
       let from = first_row words.game parts number in
-      states ≡ meeting_among words groups (states_of_rows words.game from (first_row words.game parts (number + 1) - from))
+      states ≡ meeting_among words groups (states_of_rows words.game from
+      (first_row words.game parts (number + 1) - from))
   pub right : All (IsStateIn words.game) states
 
 -- each of so many parts has its states, unless memory ran out
-pub record AreScanned (words : WordList) (groups : List (List Test)) (parts : ℕ) (scanned : List (Result (Vec State Global) NoMemory)) : Type 0 where
+pub record AreScanned (words : WordList) (groups : List (List Test)) (parts : ℕ)
+    (scanned : List (Result (Vec State Global) NoMemory)) : Type 0 where
   pub many : length scanned ≡ parts
   pub each :
       (number : ℕ) (d : Result (Vec State Global) NoMemory) → number < parts
-      → IfOk (slice_index_or scanned number d) (λ states. IsScanned words groups parts number states.items)
+      → IfOk (slice_index_or scanned number d)
+      (λ states. IsScanned words groups parts number states.items)
 
 -- the states that meet a condition were found, each of which is one of the game's
-pub record AreFound (words : WordList) (groups : List (List Test)) (states : List State) : Type 0 where
+pub record AreFound (words : WordList) (groups : List (List Test))
+    (states : List State) : Type 0 where
   pub all : states ≡ meeting words groups
   pub right : All (IsStateIn words.game) states

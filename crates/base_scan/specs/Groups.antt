@@ -38,4 +38,5 @@ joint_of false = And
 -- behind the others.
 abbrev pub TakesIn : Part → List Joined → Bool → List Joined → Bool → Type 0
 TakesIn Bar old wanted new wants = (new ≡ old) × (wants ≡ true)
-TakesIn (Asks test) old wanted new wants = (new ≡ old ++ record { joint = joint_of wanted; test = test } ∷ []) × (wants ≡ false)
+TakesIn (Asks test) old wanted new wants =
+    (new ≡ old ++ record { joint = joint_of wanted; test = test } ∷ []) × (wants ≡ false)

@@ -42,7 +42,9 @@ rolling words p k = roll_pair words.game.stakes (words_in_list words) p k 1
 
 -- what the answers that play on give
 abbrev pub taken : WordList → Placement → DoubleOf → List Bounds
-taken words p double = map (λ (answer : Taken). taken_pair words.game.stakes (words_in_list words) p answer) double.answers.items
+taken words p double = map
+    (λ (answer : Taken). taken_pair words.game.stakes (words_in_list words) p answer)
+    double.answers.items
 
 -- to double where that is sure to give more than rolling is
 abbrev pub best_offer : Bounds → Bounds → Offer
@@ -100,9 +102,11 @@ number_of words p k OnBar = pos (slice_index p.mover 25)
 number_of words p k OtherOnBar = pos (slice_index p.other 25)
 number_of words p k Offered =
     of_double (kind_at words.game.stakes k).double
-    (λ double. offer_number (best_offer (rolling words p k) (least_pair double.pass (taken words p double))))
+    (λ double. offer_number
+    (best_offer (rolling words p k) (least_pair double.pass (taken words p double))))
 number_of words p k Answered =
-    of_double (kind_at words.game.stakes k).double (λ double. answer_number (best_answer double.pass (taken words p double)))
+    of_double (kind_at words.game.stakes k).double
+    (λ double. answer_number (best_answer double.pass (taken words p double)))
 
 abbrev pub compares : Comparison → ℤ → ℤ → Bool
 compares Below a b = int_lt a b
@@ -112,7 +116,8 @@ compares Above a b = int_lt b a
 -- what a test says of a number
 abbrev pub says : Test → ℤ → Bool
 says test number =
-    if test.negated then not (compares test.comparison number test.number) else compares test.comparison number test.number
+    if test.negated then not (compares test.comparison number
+    test.number) else compares test.comparison number test.number
 
 abbrev pub says_of : WordList → Placement → ℕ → Test → Bool
 says_of words p k test = says test (number_of words p k test.field)
@@ -157,4 +162,5 @@ says_by depth words p k test = if asks_more depth test.field then true else says
 
 -- all tests of some group say yes by a look that goes so far
 abbrev pub meets_by : Depth → WordList → List (List Test) → Placement → ℕ → Bool
-meets_by depth words groups p k = list_any (λ group. list_all (says_by depth words p k) group) groups
+meets_by depth words groups p k =
+    list_any (λ group. list_all (says_by depth words p k) group) groups

@@ -28,8 +28,10 @@ pub record IsListed (checkers : ℕ) (one : Listed) : Type 0 where
 -- all layouts of so many checkers, by rising rank
 pub record AreListed (checkers : ℕ) (all : List Listed) : Type 0 where
   pub many : length all ≡ layouts checkers
-  pub each : (rank : ℕ) (none : Listed) → rank < length all → IsListed checkers (slice_index_or all rank none)
-  pub ranked : (rank : ℕ) (none : Listed) → rank < length all → rank_of (slice_index_or all rank none).layout ≡ rank
+  pub each : (rank : ℕ) (none : Listed) → rank < length all
+      → IsListed checkers (slice_index_or all rank none)
+  pub ranked : (rank : ℕ) (none : Listed) → rank < length all
+      → rank_of (slice_index_or all rank none).layout ≡ rank
 
 -- the position of a layout of the mover and one of the other side
 abbrev pub position_of : Listed → Listed → Placement

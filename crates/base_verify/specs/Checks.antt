@@ -47,9 +47,11 @@ pub record AreParts (words : WordList) (parts : ℕ) (told : List (Option Findin
   pub many : length told ≡ parts
   pub each :
       (number : ℕ) → number < parts
-      → TellsBetween words (place_at words (start_of words parts number)) (place_at words (start_of words parts (number + 1)))
+      → TellsBetween words (place_at words (start_of words parts number))
+      (place_at words (start_of words parts (number + 1)))
       (slice_index_or told number None)
 
 -- nothing, where all words hold, else the first finding
 abbrev pub TellsAll : WordList → Option Finding → Type 0
-TellsAll words = TellsBetween words (place_at words 0) (place_at words (live_positions words.game.checkers))
+TellsAll words =
+    TellsBetween words (place_at words 0) (place_at words (live_positions words.game.checkers))

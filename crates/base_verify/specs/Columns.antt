@@ -37,7 +37,8 @@ pair_in column i k = slice_index_or column.pairs (place_in column.kinds i k) not
 -- a column's position is a state in each kind, and its pairs are the turns over the words
 pub record IsTurned (words : WordList) (column : ColumnPairs) (i : ℕ) : Type 0 where
   pub states : (k : ℕ) → k < kinds_of words.game → IsState words.game (position_in column i) k
-  pub turns : (k : ℕ) → k < kinds_of words.game → pair_in column i k ≡ pair_of (turn_over words) (position_in column i) k
+  pub turns : (k : ℕ) → k < kinds_of words.game
+      → pair_in column i k ≡ pair_of (turn_over words) (position_in column i) k
 
 -- both words of a position hold in each kind
 abbrev pub PositionHolds : WordList → Placement → Type 0

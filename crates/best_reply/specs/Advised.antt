@@ -27,7 +27,8 @@ comes_before [] others = false
 comes_before (move ∷ moves) [] = false
 comes_before (move ∷ moves) (other ∷ others) =
     nat_lt other.die move.die
-    || (move.die == other.die && (nat_lt other.from move.from || (move.from == other.from && comes_before moves others)))
+    || (move.die == other.die
+    && (nat_lt other.from move.from || (move.from == other.from && comes_before moves others)))
 
 -- it leaves more, or neither leaves more and it comes before
 abbrev pub is_ahead : (Placement → Bounds) → Line → Line → Bool
@@ -39,7 +40,8 @@ is_ahead left one another =
 -- the best of a sequence and some others
 abbrev pub best_line : (Placement → Bounds) → Line → List Line → Line
 best_line left best [] = best
-best_line left best (line ∷ lines) = best_line left (if is_ahead left line best then line else best) lines
+best_line left best (line ∷ lines) =
+    best_line left (if is_ahead left line best then line else best) lines
 
 -- what the best of some sequences leaves
 abbrev pub best_end : (Placement → Bounds) → Placement → List Line → Placement
@@ -51,13 +53,16 @@ unfoldable pub advised : Terms → Words → Policy
 advised stakes u p k roll = best_end (play_pair (kind_at stakes k) u) p (legal_lines p roll)
 
 -- An end that the advised play leaves: a legal sequence leads to it, no legal play leaves more, and no sequence that leaves as much comes before.
-pub record IsAdvised (stakes : Terms) (u : Words) (p : Placement) (k : ℕ) (roll : Dice) (end : Placement) : Type 0 where
+pub record IsAdvised (stakes : Terms) (u : Words) (p : Placement) (k : ℕ) (roll : Dice)
+    (end : Placement) : Type 0 where
   pub moves : List Move
   pub legal : IsLegal p roll moves end
-  pub best : (q : Placement) → IsLegalEnd p roll q → IsBetter (play_pair (kind_at stakes k) u q) (play_pair (kind_at stakes k) u end) → ⊥
+  pub best : (q : Placement) → IsLegalEnd p roll q
+      → IsBetter (play_pair (kind_at stakes k) u q) (play_pair (kind_at stakes k) u end) → ⊥
   pub first :
       (q : Placement) (others : List Move) → IsLegal p roll others q
-      → play_pair (kind_at stakes k) u q ≡ play_pair (kind_at stakes k) u end → PlayComesBefore others moves → ⊥
+      → play_pair (kind_at stakes k) u q ≡ play_pair (kind_at stakes k) u end
+      → PlayComesBefore others moves → ⊥
 
 -- the first of these rows is of a play that leaves this
 abbrev pub BeginsWith : List PlayRow → Placement → Type 0

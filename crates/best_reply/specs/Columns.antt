@@ -40,7 +40,8 @@ abbrev pub pair_in : ColumnPairs → ℕ → ℕ → Bounds
 pair_in column i k = slice_index_or column.pairs (place_in column.kinds i k) nothing
 
 -- there is a pair for each state, and those of the positions whose other side's layout has a lower rank than this are these words
-pub record AreColumnsFilled (game : Game) (target : Words) (other : ℕ) (bank : StatePairs) : Type 0 where
+pub record AreColumnsFilled (game : Game) (target : Words) (other : ℕ)
+    (bank : StatePairs) : Type 0 where
   pub full : IsBankOf game bank
   pub so_far :
       (p : Placement) (k : ℕ) → IsState game p k → rank_of p.other < other

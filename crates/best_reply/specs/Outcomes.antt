@@ -43,7 +43,8 @@ AreAdvised words outcomes =
     (p : Placement) (k i : ℕ) (roll : Dice × ℕ) (none : Outcome)
     → IsState words.game p k → i < length all_rolls → roll ≡ slice_index_or all_rolls i roll
     → outcome_place (kinds_of words.game) p k i < length outcomes
-    → IsOutcomeOf (policy_of words p k roll.0) (slice_index_or outcomes (outcome_place (kinds_of words.game) p k i) none)
+    → IsOutcomeOf (policy_of words p k roll.0)
+    (slice_index_or outcomes (outcome_place (kinds_of words.game) p k i) none)
 
 -- those of all states of the positions with a lower live rank than this one, and of each roll
 pub record IsAdvisedTo (words : WordList) (rank : ℕ) (outcomes : List Outcome) : Type 0 where

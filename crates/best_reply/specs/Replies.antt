@@ -27,11 +27,13 @@ rolled_by policy stakes scoring turns later p k =
 abbrev pub after_double_by : Policy → Terms → Scoring → ℕ → Values → Placement → ℕ → Double → ℤ
 after_double_by policy stakes scoring turns later p k double =
     least (pos (36 ^ suc turns) *ℤ scoring.pass k)
-    (map (λ (taken : Taken). pos taken.factor *ℤ rolled_by policy stakes scoring turns later p taken.kind)
+    (map (λ (taken : Taken). pos taken.factor *ℤ rolled_by policy stakes scoring turns later p
+    taken.kind)
     double.answers.items)
 
 -- with a right to double the follower has the better of rolling at once and of doubling
-abbrev pub better_of_by : Policy → Terms → Scoring → ℕ → Values → Placement → ℕ → ℤ → Option Double → ℤ
+abbrev pub better_of_by : Policy → Terms → Scoring → ℕ → Values → Placement → ℕ → ℤ → Option Double
+    → ℤ
 better_of_by policy stakes scoring turns later p k plain None = plain
 better_of_by policy stakes scoring turns later p k plain (Some double) =
     int_max plain (after_double_by policy stakes scoring turns later p k double)
@@ -55,7 +57,8 @@ same_worths values = record { follow = values; reply = values }
 unfoldable pub worths : Policy → Terms → Scoring → Worths → ℕ → Worths
 worths policy stakes scoring ends zero = ends
 worths policy stakes scoring ends (suc turns) = record {
-  follow = before_turn_by policy stakes scoring turns (worths policy stakes scoring ends turns).reply;
+  follow =
+      before_turn_by policy stakes scoring turns (worths policy stakes scoring ends turns).reply;
   reply = before_turn stakes scoring turns (worths policy stakes scoring ends turns).follow;
 }
 

@@ -26,17 +26,20 @@ roll_value_by policy end stakes u p k factor =
 abbrev pub doubled_by : Policy → End → Terms → Words → Placement → Double → ℤ
 doubled_by policy end stakes u p double =
     least (at end double.pass)
-    (map (λ (taken : Taken). roll_value_by policy end stakes u p taken.kind taken.factor) double.answers.items)
+    (map (λ (taken : Taken). roll_value_by policy end stakes u p taken.kind taken.factor)
+    double.answers.items)
 
 -- with a right to double the follower has the better of rolling at once and of doubling
 abbrev pub or_double_by : Policy → End → Terms → Words → Placement → ℤ → Option Double → ℤ
 or_double_by policy end stakes u p plain None = plain
-or_double_by policy end stakes u p plain (Some double) = int_max plain (doubled_by policy end stakes u p double)
+or_double_by policy end stakes u p plain (Some double) =
+    int_max plain (doubled_by policy end stakes u p double)
 
 -- one turn of the follower: the words before it from the words after it
 unfoldable pub turn_by : Policy → Terms → Words → Words
 turn_by policy stakes u end p k =
-    or_double_by policy end stakes u p (roll_value_by policy end stakes u p k 1) (kind_at stakes k).double
+    or_double_by policy end stakes u p (roll_value_by policy end stakes u p k 1)
+    (kind_at stakes k).double
 
 -- the words of each state where the follower is to move, and where the replier is
 pub record ReplyWords : Type 0 where
@@ -68,6 +71,7 @@ pub record AgreeReplies (game : Game) (u v : ReplyWords) : Type 0 where
   pub reply : Agree game u.reply v.reply
 
 -- in the game of so many turns, the words of a state enclose what it is worth exactly, for either side to move
-pub record EncloseWorths (game : Game) (scoring : Scoring) (turns : ℕ) (u : ReplyWords) (worths : Worths) (p : Placement) (k : ℕ) : Type 0 where
+pub record EncloseWorths (game : Game) (scoring : Scoring) (turns : ℕ) (u : ReplyWords)
+    (worths : Worths) (p : Placement) (k : ℕ) : Type 0 where
   pub follow : Encloses (pair_of u.follow p k) (worths.follow p k) (scoring.scale * 36 ^ turns)
   pub reply : Encloses (pair_of u.reply p k) (worths.reply p k) (scoring.scale * 36 ^ turns)

@@ -35,8 +35,10 @@ pub record AreRightBanks (game : Game) (both : Banks) : Type 0 where
 
 -- every state has taken its turn, for either side to move
 pub record AreSwept (words : WordList) (old new : Banks) : Type 0 where
-  pub follow : IsFilledTo words.game (turned_words words (both_words old)).follow (live_positions words.game.checkers) new.follow
-  pub reply : IsFilledTo words.game (turned_words words (both_words old)).reply (live_positions words.game.checkers) new.reply
+  pub follow : IsFilledTo words.game (turned_words words (both_words old)).follow
+      (live_positions words.game.checkers) new.follow
+  pub reply : IsFilledTo words.game (turned_words words (both_words old)).reply
+      (live_positions words.game.checkers) new.reply
 
 -- the words that advise, and both sides' pairs
 pub record ReplyState : Type 0 where
@@ -46,14 +48,17 @@ pub record ReplyState : Type 0 where
 -- both sides' words are those after so many rounds
 abbrev pub HasRounds : ReplyState → ℕ → Type 0
 HasRounds state r =
-    AgreeReplies state.words.game (both_words state.both) (reply_rounds (policy_of state.words) state.words.game.stakes r)
+    AgreeReplies state.words.game (both_words state.both)
+    (reply_rounds (policy_of state.words) state.words.game.stakes r)
 
 -- each state has taken its turn over the other side's words
 abbrev pub IsTurned : ReplyState → ReplyState → Type 0
-IsTurned old new = AgreeReplies old.words.game (both_words new.both) (turned_words old.words (both_words old.both))
+IsTurned old new =
+    AgreeReplies old.words.game (both_words new.both) (turned_words old.words (both_words old.both))
 
 -- a table whose next round may be made: the advised plays, right pairs, and room for a column and for the next pairs
-pub record IsReady (words : WordList) (advice : List Outcome) (column : ColumnPairs) (now next : Banks) : Type 0 where
+pub record IsReady (words : WordList) (advice : List Outcome) (column : ColumnPairs)
+    (now next : Banks) : Type 0 where
   pub game : IsGame words.game
   pub advised : IsAdvisedTo words (live_positions words.game.checkers) advice
   pub columns : HasRoomFor words.game column

@@ -83,17 +83,20 @@ LeavesState game next end = points end ≡ None → IsState game (swap end) next
 
 -- and these pairs have one for that
 abbrev pub LeavesPair : StatePairs → ℕ → Placement → Type 0
-LeavesPair bank next end = points end ≡ None → live_rank_of (swap end) * bank.kinds + next < length bank.pairs
+LeavesPair bank next end =
+    points end ≡ None → live_rank_of (swap end) * bank.kinds + next < length bank.pairs
 
 -- the play at this place leaves more than each before it, and no other leaves more than it
 pub record IsFirstBest (pair : Placement → Bounds) (lefts : List Left) (place : ℕ) : Type 0 where
   pub inside : place < length lefts
   pub before :
       (i : ℕ) (none : Left) → i < place
-      → IsBetter (pair (slice_index_or lefts place none).end) (pair (slice_index_or lefts i none).end)
+      → IsBetter (pair (slice_index_or lefts place none).end)
+      (pair (slice_index_or lefts i none).end)
   pub none :
       (i : ℕ) (none : Left) → i < length lefts
-      → IsBetter (pair (slice_index_or lefts i none).end) (pair (slice_index_or lefts place none).end) → ⊥
+      → IsBetter (pair (slice_index_or lefts i none).end)
+      (pair (slice_index_or lefts place none).end) → ⊥
 
 -- there is a pair for each state of the game
 pub record IsBankOf (game : Game) (bank : StatePairs) : Type 0 where
@@ -134,7 +137,8 @@ mean_pair factor sum = record {
 abbrev pub doubled_from : End → (ℕ → Bounds) → Double → ℤ
 doubled_from end sums double =
     least (at end double.pass)
-    (map (λ (taken : Taken). at end (mean_pair taken.factor (sums taken.kind))) double.answers.items)
+    (map (λ (taken : Taken). at end (mean_pair taken.factor (sums taken.kind)))
+    double.answers.items)
 
 -- the better of rolling at once and of doubling
 abbrev pub or_double_from : End → (ℕ → Bounds) → ℤ → Option Double → ℤ
@@ -161,10 +165,12 @@ sums_in sums k = slice_index_or sums k nothing
 pub record IsPut (rank : ℕ) (pair : ℕ → Bounds) (old new : StatePairs) : Type 0 where
   pub kinds : new.kinds ≡ old.kinds
   pub many : length new.pairs ≡ length old.pairs
-  pub put : (k : ℕ) → k < old.kinds → slice_index_or new.pairs (rank * old.kinds + k) nothing ≡ pair k
+  pub put : (k : ℕ) → k < old.kinds
+      → slice_index_or new.pairs (rank * old.kinds + k) nothing ≡ pair k
   pub rest :
       (other k : ℕ) → other ≢ rank → k < old.kinds
-      → slice_index_or new.pairs (other * old.kinds + k) nothing ≡ slice_index_or old.pairs (other * old.kinds + k) nothing
+      → slice_index_or new.pairs (other * old.kinds + k) nothing
+      ≡ slice_index_or old.pairs (other * old.kinds + k) nothing
 
 -- there is a pair for each state, and those of the positions with a lower live rank than this one are these words
 pub record IsFilledTo (game : Game) (target : Words) (rank : ℕ) (bank : StatePairs) : Type 0 where

@@ -13,7 +13,8 @@ fresh = record { claims = []; notes = [] }
 
 -- how often a block's claim for a round stands in a view
 abbrev pub often : ℕ → ℕ → ClaimView → ℕ
-often block round view = count_by (λ (claim : Claim). claim.block == block && claim.round == round) view.claims
+often block round view =
+    count_by (λ (claim : Claim). claim.block == block && claim.round == round) view.claims
 
 -- how often it stands in all views together
 abbrev pub times : ℕ → ℕ → List ClaimView → ℕ
@@ -34,11 +35,14 @@ pub record AreKept (blocks : ℕ) (s : ClaimCore) : Type 0 where
   -- each claim stands in at most one view, and there once
   pub once : (block round : ℕ) → times block round s.views ≤ 1
   -- where a claim stands, its round is at least 1, and the block's word is at least the round
-  pub marked : (block round : ℕ) → 0 < times block round s.views → (1 ≤ round) × (round ≤ slice_index s.words block)
+  pub marked : (block round : ℕ) → 0 < times block round s.views → (1 ≤ round)
+      × (round ≤ slice_index s.words block)
   -- the round of each block's word is claimed
-  pub claimed : (block : ℕ) → 1 ≤ slice_index s.words block → 0 < times block (slice_index s.words block) s.views
+  pub claimed : (block : ℕ) → 1 ≤ slice_index s.words block
+      → 0 < times block (slice_index s.words block) s.views
   -- each noted word is at most the block's word
-  pub noted : (seat : ℕ) (view : ClaimView) → get_elem? s.views seat ≡ some view → All (λ (note : ClaimNote). note.word ≤ slice_index s.words note.block) view.notes
+  pub noted : (seat : ℕ) (view : ClaimView) → get_elem? s.views seat ≡ some view
+      → All (λ (note : ClaimNote). note.word ≤ slice_index s.words note.block) view.notes
 
 -- At some moment all of this held, this view was a seat's, and the block had this word.
 pub record WasFound (view : ClaimView) (block word : ℕ) : Type 0 where

@@ -7,7 +7,8 @@ use Rattle.column_sums.specs.Leaps.{layout_at, AreNext}
 
 -- for each of these layers, what a checker that comes to a point leaves
 abbrev pub AreLayers : List (List ℕ) → List (List ℕ) → Type 0
-AreLayers others next = (layer : ℕ) → layer < length others → AreNext others layer (slice_index_or next layer [])
+AreLayers others next =
+    (layer : ℕ) → layer < length others → AreNext others layer (slice_index_or next layer [])
 
 -- no two of them are the same
 abbrev pub AreDistinct : List (List ℕ) → Type 0
@@ -26,17 +27,20 @@ IsLayer others other = (layer : ℕ) × (layer < length others) × (layout_at ot
 
 -- a legal play leaves the other side with one of the layers
 abbrev pub AreClosed : List (List ℕ) → Type 0
-AreClosed others = (p : Placement) (roll : Dice) (q : Placement) → IsRoll roll → IsLayer others p.other → IsLegalEnd p roll q → IsLayer others q.other
+AreClosed others = (p : Placement) (roll : Dice) (q : Placement) → IsRoll roll
+    → IsLayer others p.other → IsLegalEnd p roll q → IsLayer others q.other
 
 -- among these layers, a single checker on one of the points below this one may be on the bar as well
 abbrev pub AreHitBelow : List (List ℕ) → ℕ → Type 0
 AreHitBelow others points = (layer point : ℕ) → layer < length others → 1 ≤ point → point < points
-    → slice_index (layout_at others layer) point ≡ 1 → IsLayer others (moved (layout_at others layer) point 25)
+    → slice_index (layout_at others layer) point ≡ 1
+    → IsLayer others (moved (layout_at others layer) point 25)
 
 -- each layout has its places, and from this point on as many checkers on each point as the first one
 pub record AreAlikeFrom (other : List ℕ) (others : List (List ℕ)) (points : ℕ) : Type 0 where
   pub places : (layer : ℕ) → layer < length others → length (layout_at others layer) ≡ 26
-  pub same : (layer point : ℕ) → layer < length others → points ≤ point → point ≤ 24 → slice_index (layout_at others layer) point ≡ slice_index other point
+  pub same : (layer point : ℕ) → layer < length others → points ≤ point → point ≤ 24
+      → slice_index (layout_at others layer) point ≡ slice_index other point
 
 -- the layers after hits on the points below this one: as many at most as there are sets of the checkers there
 pub record AreHits (other : List ℕ) (others : List (List ℕ)) (points : ℕ) : Type 0 where
@@ -59,4 +63,5 @@ pub record AreHitOn (point count : ℕ) (old new : List (List ℕ)) : Type 0 whe
   pub distinct : AreDistinct new
   pub there : (layer : ℕ) → layer < count → IsLayer new (moved (layout_at old layer) point 25)
   pub only : (layer : ℕ) → length old ≤ layer → layer < length new
-      → (before : ℕ) × (before < length old) × (layout_at new layer ≡ moved (layout_at old before) point 25)
+      → (before : ℕ) × (before < length old)
+      × (layout_at new layer ≡ moved (layout_at old before) point 25)

@@ -24,7 +24,8 @@ then_value later (Some q) = later q
 -- the greatest value of what moves by this die from these places leave
 abbrev pub over_places : (Placement → Option ℤ) → Placement → ℕ → List ℕ → Option ℤ
 over_places later p die [] = None
-over_places later p die (from ∷ rest) = or_max (then_value later (after_move p die from)) (over_places later p die rest)
+over_places later p die (from ∷ rest) =
+    or_max (then_value later (after_move p die from)) (over_places later p die rest)
 
 -- the greatest value that is reached by moves that use all of these dice, in this order
 unfoldable pub best_over : (Placement → ℤ) → List ℕ → Placement → Option ℤ
@@ -36,7 +37,8 @@ unfoldable pub best_double : (Placement → ℤ) → ℕ → Placement → ℤ
 best_double value die p =
     or_value (best_over value (die ∷ die ∷ die ∷ die ∷ []) p)
     (or_value (best_over value (die ∷ die ∷ die ∷ []) p)
-    (or_value (best_over value (die ∷ die ∷ []) p) (or_value (best_over value (die ∷ []) p) (value p))))
+    (or_value (best_over value (die ∷ die ∷ []) p)
+    (or_value (best_over value (die ∷ []) p) (value p))))
 
 -- both dice in either order, else the higher, else the lower, else none
 unfoldable pub best_pair : (Placement → ℤ) → ℕ → ℕ → Placement → ℤ
@@ -46,7 +48,9 @@ best_pair value high low p =
 
 -- the value of the best play of a roll
 unfoldable pub best_of_roll : (Placement → ℤ) → Placement → Dice → ℤ
-best_of_roll value p roll = if roll.high == roll.low then best_double value roll.high p else best_pair value roll.high roll.low p
+best_of_roll value p roll = if roll.high == roll.low
+    then best_double value roll.high p
+    else best_pair value roll.high roll.low p
 
 -- the greatest value of some boards
 abbrev pub most : (Placement → ℤ) → List Placement → Option ℤ
@@ -56,7 +60,8 @@ most value (q ∷ rest) = or_max (Some (value q)) (most value rest)
 -- over some rolls, the sum of the best play's value, each roll as often as it comes
 abbrev pub best_sum : List (Dice × ℕ) → (Placement → ℤ) → Placement → ℤ
 best_sum [] value p = pos 0
-best_sum (roll ∷ rolls) value p = pos roll.1 *ℤ best_of_roll value p roll.0 +ℤ best_sum rolls value p
+best_sum (roll ∷ rolls) value p =
+    pos roll.1 *ℤ best_of_roll value p roll.0 +ℤ best_sum rolls value p
 
 -- the ends of some lines
 abbrev pub ends_of : List Line → List Placement

@@ -25,18 +25,24 @@ IsCellOrNone many layers cell = (cell ≡ no_cell) ⊎ IsCell many layers cell
 
 -- where the checkers stand in a cell
 abbrev pub cell_placement : List (List ℕ) → List (List ℕ) → ℕ → Placement
-cell_placement layouts others cell = record { mover = layout_at layouts (cell % 4096); other = layout_at others (cell / 4096) }
+cell_placement layouts others cell = record {
+  mover = layout_at layouts (cell % 4096);
+  other = layout_at others (cell / 4096);
+}
 
 -- the greatest value that these dice lead to from a cell
 unfoldable pub best_from : (Placement → ℤ) → List ℕ → List (List ℕ) → List (List ℕ) → ℕ → Option ℤ
 best_from value dice layouts others cell =
-    if nat_lt (cell % 4096) (length layouts) && nat_lt (cell / 4096) (length others) then best_over value dice (cell_placement layouts others cell)
+    if nat_lt (cell % 4096) (length layouts) && nat_lt (cell / 4096) (length others)
+    then best_over value dice (cell_placement layouts others cell)
     else None
 
 -- the cell after a leap from a layer, whose points lead to these layers
 abbrev pub leap_cell : ℕ → List ℕ → Leap → ℕ
 leap_cell layers next leap =
-    if nat_lt (slice_index next leap.lands) layers then cell_of (slice_index next leap.lands) leap.to else no_cell
+    if nat_lt (slice_index next leap.lands) layers
+    then cell_of (slice_index next leap.lands) leap.to
+    else no_cell
 
 -- the same after the leap with this number, if there is one
 abbrev pub nth_cell : ℕ → List ℕ → List Leap → ℕ → ℕ
@@ -57,5 +63,6 @@ pub record IsReach (layouts others : List (List ℕ)) (die : ℕ) (reach : Reach
   pub third : IsCellOrNone (length layouts) (length others) reach.third
   pub best : (value : Placement → ℤ) (dice : List ℕ)
       → best_over value (die ∷ dice) (cell_placement layouts others reach.cell)
-      ≡ or_max (or_max (best_from value dice layouts others reach.first) (best_from value dice layouts others reach.second))
+      ≡ or_max (or_max (best_from value dice layouts others reach.first)
+      (best_from value dice layouts others reach.second))
       (best_from value dice layouts others reach.third)

@@ -15,8 +15,12 @@ pub record ColumnOf : Type 0 where
 
 -- the position with which a turn of one of the movers begins
 abbrev pub begun_at : ColumnOf → ℕ → Placement
-begun_at column i = record { mover = layout_at column.layouts (slice_index column.movers i); other = layout_at column.others 0 }
+begun_at column i = record {
+  mover = layout_at column.layouts (slice_index column.movers i);
+  other = layout_at column.others 0;
+}
 
 -- for each mover, over some rolls, the sum of what the best play is worth
 abbrev pub AreColumnSums : (Placement → ℤ) → ColumnOf → List (Dice × ℕ) → List ℤ → Type 0
-AreColumnSums value column rolls sums = (i : ℕ) → i < length column.movers → sum_at sums i ≡ best_sum rolls value (begun_at column i)
+AreColumnSums value column rolls sums =
+    (i : ℕ) → i < length column.movers → sum_at sums i ≡ best_sum rolls value (begun_at column i)

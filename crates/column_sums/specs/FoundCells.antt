@@ -11,10 +11,14 @@ use Rattle.column_sums.specs.Cells.{cell_of}
 
 -- where the checkers stand in the cell of a layer and a rank
 abbrev pub placement_of : List (List ℕ) → List (List ℕ) → ℕ → ℕ → Placement
-placement_of layouts others layer rank = record { mover = layout_at layouts rank; other = layout_at others layer }
+placement_of layouts others layer rank = record {
+  mover = layout_at layouts rank;
+  other = layout_at others layer;
+}
 
 -- where a play may leave the position of a cell, its value is what was found of it, at one end in a kind
-abbrev pub AreFoundCells : End → Source → Words → Kind → List (List ℕ) → List (List ℕ) → List (Option ℤ) → Type 0
+abbrev pub AreFoundCells : End → Source → Words → Kind → List (List ℕ) → List (List ℕ)
+    → List (Option ℤ) → Type 0
 AreFoundCells end source noted kind layouts others row =
     (layer rank : ℕ) → layer < length others → rank < length layouts
     → IsPosition (placement_of layouts others layer rank)

@@ -10,10 +10,13 @@ pub record AreFans (layouts : List (List ℕ)) (fans : List Fan) : Type 0 where
   pub few : length layouts ≤ 3276
   pub many : length fans ≡ length layouts * 6
   pub each : (rank die : ℕ) (none : Fan) → rank < length layouts → 1 ≤ die → die ≤ 6
-      → AreLeaps layouts (slice_index_or fans (rank * 6 + (die - 1)) none).leaps.items (steps_from (layout_at layouts rank) die places)
+      → AreLeaps layouts (slice_index_or fans (rank * 6 + (die - 1)) none).leaps.items
+      (steps_from (layout_at layouts rank) die places)
 
 -- the same of the first few
 pub record AreFansTo (layouts : List (List ℕ)) (fans : List Fan) (count : ℕ) : Type 0 where
   pub many : length fans ≡ count
-  pub each : (rank die : ℕ) (none : Fan) → rank < length layouts → 1 ≤ die → die ≤ 6 → rank * 6 + (die - 1) < count
-      → AreLeaps layouts (slice_index_or fans (rank * 6 + (die - 1)) none).leaps.items (steps_from (layout_at layouts rank) die places)
+  pub each : (rank die : ℕ) (none : Fan) → rank < length layouts → 1 ≤ die → die ≤ 6
+      → rank * 6 + (die - 1) < count
+      → AreLeaps layouts (slice_index_or fans (rank * 6 + (die - 1)) none).leaps.items
+      (steps_from (layout_at layouts rank) die places)

@@ -30,24 +30,29 @@ abbrev pub IsStepIf : Option (ℕ × List ℕ) → Option Step → Type 0
 IsStepIf None None = Unit {0}
 IsStepIf None (Some step) = ⊥
 IsStepIf (Some left) None = ⊥
-IsStepIf (Some left) (Some step) = (left.0 ≤ 24) × (lands_of left.0 ≡ step.lands) × (left.1 ≡ step.mover)
+IsStepIf (Some left) (Some step) =
+    (left.0 ≤ 24) × (lands_of left.0 ≡ step.lands) × (left.1 ≡ step.mover)
 
 -- these leaps are these steps
 abbrev pub AreLeaps : List (List ℕ) → List Leap → List Step → Type 0
 AreLeaps layouts [] [] = Unit {0}
 AreLeaps layouts [] (step ∷ steps) = ⊥
 AreLeaps layouts (leap ∷ leaps) [] = ⊥
-AreLeaps layouts (leap ∷ leaps) (step ∷ steps) = IsLeap layouts leap step × AreLeaps layouts leaps steps
+AreLeaps layouts (leap ∷ leaps) (step ∷ steps) =
+    IsLeap layouts leap step × AreLeaps layouts leaps steps
 
 -- Which of the other side's layouts is left where a checker of the mover comes to a point: the number of a layout of the list, or a
 -- greater number where the point is closed.
 pub record IsNext (others : List (List ℕ)) (layer point next : ℕ) : Type 0 where
   pub is_open : is_open (layout_at others layer) (lands_of point) ≡ nat_lt next (length others)
-  pub struck : next < length others → layout_at others next ≡ struck (layout_at others layer) (lands_of point)
+  pub struck : next < length others
+      → layout_at others next ≡ struck (layout_at others layer) (lands_of point)
 
 abbrev pub AreNext : List (List ℕ) → ℕ → List ℕ → Type 0
-AreNext others layer next = (point : ℕ) → point ≤ 24 → IsNext others layer point (slice_index next point)
+AreNext others layer next =
+    (point : ℕ) → point ≤ 24 → IsNext others layer point (slice_index next point)
 
 -- the same of the points before this one
 abbrev pub AreNextTo : List (List ℕ) → ℕ → List ℕ → ℕ → Type 0
-AreNextTo others layer next points = (point : ℕ) → point < points → IsNext others layer point (slice_index next point)
+AreNextTo others layer next points =
+    (point : ℕ) → point < points → IsNext others layer point (slice_index next point)

@@ -13,7 +13,8 @@ pub record IsListing (cells : List ℕ) (places : ℕ) (marks : List Bool) : Typ
   pub many : length marks ≡ 32768
   pub within : (i : ℕ) → i < length cells → slice_index cells i < 32768
   pub marked : (i : ℕ) → i < length cells → slice_index_or marks (slice_index cells i) false ≡ true
-  pub listed : (cell : ℕ) → cell < 32768 → slice_index_or marks cell false ≡ true → IsListed cells cell
+  pub listed : (cell : ℕ) → cell < 32768 → slice_index_or marks cell false ≡ true
+      → IsListed cells cell
   pub apart : (i j : ℕ) → i < j → j < length cells → slice_index cells i ≢ slice_index cells j
 
 -- the same cells at the same places, and more
@@ -44,5 +45,7 @@ pub record LeadsToCells (many layers : ℕ) (reach : Reach) : Type 0 where
 pub record AreUnmarked (cells : List ℕ) (from to : ℕ) (old new : List Bool) : Type 0 where
   pub many : length new ≡ length old
   pub gone : (i : ℕ) → from ≤ i → i < to → slice_index_or new (slice_index cells i) false ≡ false
-  pub kept : (cell : ℕ) → ((i : ℕ) → from ≤ i → i < to → slice_index cells i ≢ cell) → slice_index_or new cell false ≡ slice_index_or old cell false
-  pub only : (cell : ℕ) → slice_index_or new cell false ≡ true → slice_index_or old cell false ≡ true
+  pub kept : (cell : ℕ) → ((i : ℕ) → from ≤ i → i < to → slice_index cells i ≢ cell)
+      → slice_index_or new cell false ≡ slice_index_or old cell false
+  pub only : (cell : ℕ) → slice_index_or new cell false ≡ true
+      → slice_index_or old cell false ≡ true

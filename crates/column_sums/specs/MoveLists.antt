@@ -6,14 +6,18 @@ use Rattle.column_sums.specs.declared.moves.DieList.{DieList}
 use Rattle.column_sums.specs.declared.moves.Moves.{Moves}
 
 -- for the first few of these cells, what a die leads to
-pub record AreReaches (layouts others : List (List ℕ)) (die : ℕ) (cells : List ℕ) (reaches : List Reach) : Type 0 where
+pub record AreReaches (layouts others : List (List ℕ)) (die : ℕ) (cells : List ℕ)
+    (reaches : List Reach) : Type 0 where
   pub few : length reaches ≤ length cells
-  pub each : (i : ℕ) (none : Reach) → i < length reaches → IsReach layouts others die (slice_index_or reaches i none)
-  pub at : (i : ℕ) (none : Reach) → i < length reaches → (slice_index_or reaches i none).cell ≡ slice_index cells i
+  pub each : (i : ℕ) (none : Reach) → i < length reaches
+      → IsReach layouts others die (slice_index_or reaches i none)
+  pub at : (i : ℕ) (none : Reach) → i < length reaches
+      → (slice_index_or reaches i none).cell ≡ slice_index cells i
 
 -- the cells of the first few
 abbrev pub IsAmong : List Reach → ℕ → ℕ → Type 0
-IsAmong reaches end cell = (i : ℕ) × (i < end) × ((none : Reach) → (slice_index_or reaches i none).cell ≡ cell)
+IsAmong reaches end cell =
+    (i : ℕ) × (i < end) × ((none : Reach) → (slice_index_or reaches i none).cell ≡ cell)
 
 abbrev pub IsAmongOrNone : List Reach → ℕ → ℕ → Type 0
 IsAmongOrNone reaches end cell = (cell ≡ no_cell) ⊎ IsAmong reaches end cell
@@ -26,16 +30,23 @@ pub record LeadsAmong (reaches : List Reach) (end : ℕ) (reach : Reach) : Type 
 
 -- What a die leads to: first from the cells where the mover's turn begins, then from these cells, which any one die may lead to from
 -- there, and then from those that one die more and two dice more of this number may lead to.
-pub record IsDieList (layouts others : List (List ℕ)) (near : List ℕ) (begun die : ℕ) (list : DieList) : Type 0 where
+pub record IsDieList (layouts others : List (List ℕ)) (near : List ℕ) (begun die : ℕ)
+    (list : DieList) : Type 0 where
   pub first : begun ≤ length near
   pub longer : length near ≤ list.second
   pub second : list.second ≤ length list.reaches.items
   pub few : length list.reaches.items ≤ 32768
-  pub each : (i : ℕ) (none : Reach) → i < length list.reaches.items → IsReach layouts others die (slice_index_or list.reaches.items i none)
-  pub at : (i : ℕ) (none : Reach) → i < length near → (slice_index_or list.reaches.items i none).cell ≡ slice_index near i
-  pub one_die : (i : ℕ) (none : Reach) → i < begun → LeadsAmong list.reaches.items (length near) (slice_index_or list.reaches.items i none)
-  pub two_dice : (i : ℕ) (none : Reach) → i < length near → LeadsAmong list.reaches.items list.second (slice_index_or list.reaches.items i none)
-  pub three_dice : (i : ℕ) (none : Reach) → i < list.second → LeadsAmong list.reaches.items (length list.reaches.items) (slice_index_or list.reaches.items i none)
+  pub each : (i : ℕ) (none : Reach) → i < length list.reaches.items
+      → IsReach layouts others die (slice_index_or list.reaches.items i none)
+  pub at : (i : ℕ) (none : Reach) → i < length near
+      → (slice_index_or list.reaches.items i none).cell ≡ slice_index near i
+  pub one_die : (i : ℕ) (none : Reach) → i < begun
+      → LeadsAmong list.reaches.items (length near) (slice_index_or list.reaches.items i none)
+  pub two_dice : (i : ℕ) (none : Reach) → i < length near
+      → LeadsAmong list.reaches.items list.second (slice_index_or list.reaches.items i none)
+  pub three_dice : (i : ℕ) (none : Reach) → i < list.second
+      → LeadsAmong list.reaches.items (length list.reaches.items)
+      (slice_index_or list.reaches.items i none)
 
 -- room for what a die leads to from all cells
 abbrev pub HasRoom : DieList → Type 0
@@ -55,10 +66,12 @@ abbrev pub IsMover : List ℕ → ℕ → ℕ → Type 0
 IsMover cells movers rank = (i : ℕ) × (i < movers) × (slice_index cells i ≡ rank)
 
 -- for each die, what it leads to from the first few of these cells, and from no others
-pub record AreBegun (layouts others : List (List ℕ)) (cells : List ℕ) (movers : ℕ) (lists : List DieList) : Type 0 where
+pub record AreBegun (layouts others : List (List ℕ)) (cells : List ℕ) (movers : ℕ)
+    (lists : List DieList) : Type 0 where
   pub reaches : (die : ℕ) (none : DieList) → 1 ≤ die → die ≤ 6
       → AreReaches layouts others die cells (slice_index_or lists (die - 1) none).reaches.items
-  pub many : (die : ℕ) (none : DieList) → 1 ≤ die → die ≤ 6 → length (slice_index_or lists (die - 1) none).reaches.items ≡ movers
+  pub many : (die : ℕ) (none : DieList) → 1 ≤ die → die ≤ 6
+      → length (slice_index_or lists (die - 1) none).reaches.items ≡ movers
 
 -- nothing is in this list
 pub record IsEmpty (list : DieList) : Type 0 where
@@ -68,7 +81,8 @@ pub record IsEmpty (list : DieList) : Type 0 where
 -- for each die, its list
 abbrev pub AreDieLists : List (List ℕ) → List (List ℕ) → List ℕ → ℕ → List DieList → Type 0
 AreDieLists layouts others near movers lists =
-    (die : ℕ) (none : DieList) → 1 ≤ die → die ≤ 6 → IsDieList layouts others near movers die (slice_index_or lists (die - 1) none)
+    (die : ℕ) (none : DieList) → 1 ≤ die → die ≤ 6
+    → IsDieList layouts others near movers die (slice_index_or lists (die - 1) none)
 
 -- all is listed, and each layer has room for all layouts
 pub record AreReady (moves : Moves) : Type 0 where

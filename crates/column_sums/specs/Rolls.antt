@@ -9,16 +9,20 @@ use Rattle.column_sums.specs.declared.cells.Reach.{Reach}
 -- the higher die, else the lower one, else none
 abbrev pub fewer_of_pair : ℕ → List (Option ℤ) → List (Option ℤ) → List (Option ℤ) → ℤ
 fewer_of_pair cell row after_high after_low =
-    or_value (slice_index_or after_high cell None) (or_value (slice_index_or after_low cell None) (or_value (slice_index_or row cell None) (pos 0)))
+    or_value (slice_index_or after_high cell None)
+    (or_value (slice_index_or after_low cell None)
+    (or_value (slice_index_or row cell None) (pos 0)))
 
 -- three dice, else two, else one, else none
-abbrev pub fewer_of_double : ℕ → List (Option ℤ) → List (Option ℤ) → List (Option ℤ) → List (Option ℤ) → ℤ
+abbrev pub fewer_of_double : ℕ → List (Option ℤ) → List (Option ℤ) → List (Option ℤ)
+    → List (Option ℤ) → ℤ
 fewer_of_double cell row one two three =
     or_value (slice_index_or three cell None) (or_value (slice_index_or two cell None)
     (or_value (slice_index_or one cell None) (or_value (slice_index_or row cell None) (pos 0))))
 
 -- the tables are right where the two dice lead from a cell, in either order
-pub record IsPairReady (value : Placement → ℤ) (layouts others : List (List ℕ)) (a b : ℕ) (high low : Reach) (row after_high after_low : List (Option ℤ)) : Type 0 where
+pub record IsPairReady (value : Placement → ℤ) (layouts others : List (List ℕ)) (a b : ℕ)
+    (high low : Reach) (row after_high after_low : List (Option ℤ)) : Type 0 where
   pub few : length layouts ≤ 3276
   pub by_high : IsReach layouts others a high
   pub by_low : IsReach layouts others b low
@@ -30,7 +34,8 @@ pub record IsPairReady (value : Placement → ℤ) (layouts others : List (List 
   pub low_first : IsRightAfter value (a ∷ []) layouts others after_high low
 
 -- the tables are right where up to four dice of a number lead from a cell
-pub record IsDoubleReady (value : Placement → ℤ) (layouts others : List (List ℕ)) (die : ℕ) (reach : Reach) (row one two three : List (Option ℤ)) : Type 0 where
+pub record IsDoubleReady (value : Placement → ℤ) (layouts others : List (List ℕ)) (die : ℕ)
+    (reach : Reach) (row one two three : List (Option ℤ)) : Type 0 where
   pub few : length layouts ≤ 3276
   pub reaches : IsReach layouts others die reach
   pub none : IsRightAt value [] layouts others row reach.cell

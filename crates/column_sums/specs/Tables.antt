@@ -15,27 +15,36 @@ pub record IsTableOfCells (cells : List (Option ℤ)) : Type 0 where
 pub record IsRow (cells : List (Option ℤ)) : Type 0 where
   pub many : length cells ≡ 32768
   pub missing : slice_index_or cells no_cell None ≡ None
-  pub filled : (cell : ℕ) → cell < 32768 → cell ≢ no_cell → (x : ℤ) × (slice_index_or cells cell None ≡ Some x)
+  pub filled : (cell : ℕ) → cell < 32768 → cell ≢ no_cell → (x : ℤ)
+      × (slice_index_or cells cell None ≡ Some x)
 
 -- in each cell of each layer, the greatest value that these dice lead to
-abbrev pub IsTable : (Placement → ℤ) → List ℕ → List (List ℕ) → List (List ℕ) → List (Option ℤ) → Type 0
+abbrev pub IsTable : (Placement → ℤ) → List ℕ → List (List ℕ) → List (List ℕ) → List (Option ℤ)
+    → Type 0
 IsTable value dice layouts others table =
     (layer rank : ℕ) → layer < length others → rank < length layouts
-    → slice_index_or table (cell_of layer rank) None ≡ best_over value dice (record { mover = layout_at layouts rank; other = layout_at others layer })
+    → slice_index_or table (cell_of layer rank) None
+    ≡ best_over value dice
+    (record { mover = layout_at layouts rank; other = layout_at others layer })
 
 -- in this cell, the greatest value that these dice lead to
-abbrev pub IsRightAt : (Placement → ℤ) → List ℕ → List (List ℕ) → List (List ℕ) → List (Option ℤ) → ℕ → Type 0
-IsRightAt value dice layouts others table cell = slice_index_or table cell None ≡ best_from value dice layouts others cell
+abbrev pub IsRightAt : (Placement → ℤ) → List ℕ → List (List ℕ) → List (List ℕ) → List (Option ℤ)
+    → ℕ → Type 0
+IsRightAt value dice layouts others table cell =
+    slice_index_or table cell None ≡ best_from value dice layouts others cell
 
 -- the same in all cells that this leads to
-pub record IsRightAfter (value : Placement → ℤ) (dice : List ℕ) (layouts others : List (List ℕ)) (table : List (Option ℤ)) (reach : Reach) : Type 0 where
+pub record IsRightAfter (value : Placement → ℤ) (dice : List ℕ) (layouts others : List (List ℕ))
+    (table : List (Option ℤ)) (reach : Reach) : Type 0 where
   pub first : IsRightAt value dice layouts others table reach.first
   pub second : IsRightAt value dice layouts others table reach.second
   pub third : IsRightAt value dice layouts others table reach.third
 
 -- the same in the cells of these
-abbrev pub AreRight : (Placement → ℤ) → List ℕ → List (List ℕ) → List (List ℕ) → List (Option ℤ) → List Reach → Type 0
-AreRight value dice layouts others table reaches = All (λ reach. IsRightAt value dice layouts others table reach.cell) reaches
+abbrev pub AreRight : (Placement → ℤ) → List ℕ → List (List ℕ) → List (List ℕ) → List (Option ℤ)
+    → List Reach → Type 0
+AreRight value dice layouts others table reaches =
+    All (λ reach. IsRightAt value dice layouts others table reach.cell) reaches
 
 -- these are within a table, and none of them is the missing cell
 pub record IsWithin (reach : Reach) : Type 0 where
@@ -48,4 +57,5 @@ pub record IsWithin (reach : Reach) : Type 0 where
 -- the greatest value of the cells that this leads to
 abbrev pub best_after : List (Option ℤ) → Reach → Option ℤ
 best_after table reach =
-    or_max (or_max (slice_index_or table reach.first None) (slice_index_or table reach.second None)) (slice_index_or table reach.third None)
+    or_max (or_max (slice_index_or table reach.first None) (slice_index_or table reach.second None))
+    (slice_index_or table reach.third None)

@@ -13,4 +13,5 @@ index_in (other ∷ others) wanted = if bytes_eq other wanted then 0 else suc (i
 
 -- what the row of a column has for a placement, where the other side's checkers are one of these layers
 abbrev pub value_of : List (List ℕ) → List (Option ℤ) → Placement → ℤ
-value_of others row q = or_value (slice_index_or row (cell_of (index_in others q.other) (rank_of q.mover)) None) (pos 0)
+value_of others row q =
+    or_value (slice_index_or row (cell_of (index_in others q.other) (rank_of q.mover)) None) (pos 0)

@@ -20,7 +20,8 @@ pub record HasRoom (layouts : List (List ℕ)) (kinds : ℕ) (sums : List ℤ) :
   pub small : All (IsWithinUnits (pos (2 ^ 42))) sums
 
 -- a column of a game of so many checkers, with room for its movers, its sums and its pairs
-pub record IsColumn (checkers capacity : ℕ) (column : ColumnPairs) (cells : List (Option ℤ)) (one lower upper : List ℤ) : Type 0 where
+pub record IsColumn (checkers capacity : ℕ) (column : ColumnPairs) (cells : List (Option ℤ))
+    (one lower upper : List ℤ) : Type 0 where
   pub low : 1 ≤ checkers
   pub high : checkers ≤ 3
   pub kinds : column.kinds ≤ 14

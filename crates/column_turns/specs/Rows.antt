@@ -20,17 +20,21 @@ IsFoundEnd end source noted kind left worth =
     → (x : ℤ) × (worth ≡ Some x) × IsFoundOf end (of_play kind left) source noted x
 
 -- so it is of the first few cells of a layer
-abbrev pub AreFoundTo : End → Source → Words → Kind → List (List ℕ) → List ℕ → List (Option ℤ) → ℕ → ℕ → Type 0
+abbrev pub AreFoundTo : End → Source → Words → Kind → List (List ℕ) → List ℕ → List (Option ℤ) → ℕ
+    → ℕ → Type 0
 AreFoundTo end source noted kind layouts other row layer count =
     (rank : ℕ) → rank < count
-    → IsFoundEnd end source noted kind (record { mover = layout_at layouts rank; other = other }) (at_cell row layer rank)
+    → IsFoundEnd end source noted kind (record { mover = layout_at layouts rank; other = other })
+    (at_cell row layer rank)
 
 -- so it is of all cells of the first few layers
-abbrev pub AreFoundLayers : End → Source → Words → Kind → List (List ℕ) → List (List ℕ) → List (Option ℤ) → ℕ → Type 0
+abbrev pub AreFoundLayers : End → Source → Words → Kind → List (List ℕ) → List (List ℕ)
+    → List (Option ℤ) → ℕ → Type 0
 AreFoundLayers end source noted kind layouts others row count =
     (layer : ℕ) → layer < count
     → AreFoundTo end source noted kind layouts (layout_at others layer) row layer (length layouts)
 
 -- the layers before this one have the same values
 abbrev pub IsSameBefore : ℕ → List (Option ℤ) → List (Option ℤ) → Type 0
-IsSameBefore layer old new = (cell : ℕ) → cell < layer * 4096 → slice_index_or new cell None ≡ slice_index_or old cell None
+IsSameBefore layer old new =
+    (cell : ℕ) → cell < layer * 4096 → slice_index_or new cell None ≡ slice_index_or old cell None

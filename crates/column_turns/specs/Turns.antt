@@ -34,33 +34,39 @@ place_in kinds i k = i * kinds + k
 abbrev pub AreSumsOfKind : End → Source → Words → Terms → (ℕ → Placement) → ℕ → ℕ → List ℤ → Type 0
 AreSumsOfKind end source noted stakes place many k sums =
     (i : ℕ) → i < many
-    → IsFoundOf end (of_sum stakes (place i) k) source noted (slice_index_or sums (place_in (length stakes.kinds) i k) (pos 0))
+    → IsFoundOf end (of_sum stakes (place i) k) source noted
+    (slice_index_or sums (place_in (length stakes.kinds) i k) (pos 0))
 
 -- for so many positions, what was found of the sums of the first few kinds
 abbrev pub AreSumsOf : End → Source → Words → Terms → (ℕ → Placement) → ℕ → ℕ → List ℤ → Type 0
 AreSumsOf end source noted stakes place many count sums =
     (i k : ℕ) → i < many → k < count
-    → IsFoundOf end (of_sum stakes (place i) k) source noted (slice_index_or sums (place_in (length stakes.kinds) i k) (pos 0))
+    → IsFoundOf end (of_sum stakes (place i) k) source noted
+    (slice_index_or sums (place_in (length stakes.kinds) i k) (pos 0))
 
 -- for so many positions, the pair of the turn in each kind
 abbrev pub AreTurnsOf : Source → Words → Terms → (ℕ → Placement) → ℕ → List Bounds → Type 0
 AreTurnsOf source noted stakes place many pairs =
     (i k : ℕ) → i < many → k < length stakes.kinds
-    → IsTurnPair stakes (place i) k source noted (slice_index_or pairs (place_in (length stakes.kinds) i k) nothing)
+    → IsTurnPair stakes (place i) k source noted
+    (slice_index_or pairs (place_in (length stakes.kinds) i k) nothing)
 
 -- The other side may be left with these layouts, from the first one on, and each of these movers' positions in the column of the first one is
 -- a state of the source in each kind.
-pub record IsColumnOf (source : Source) (layouts others : List (List ℕ)) (movers : List ℕ) : Type 0 where
+pub record IsColumnOf (source : Source) (layouts others : List (List ℕ))
+    (movers : List ℕ) : Type 0 where
   pub all : AreLayouts source.checkers layouts
   pub few : length layouts ≤ 3276
   pub some : 0 < length others
   pub many : sum (layout_at others 0) ≡ source.checkers
   pub few_movers : length movers ≤ length layouts
   pub within : All (λ rank. rank < length layouts) movers
-  pub states : (i k : ℕ) → i < length movers → k < source.kinds → IsSourceState source (mover_at layouts (layout_at others 0) movers i) k
+  pub states : (i k : ℕ) → i < length movers → k < source.kinds
+      → IsSourceState source (mover_at layouts (layout_at others 0) movers i) k
 
 -- For so many positions, each a state of the source in each kind, both ends of the sums of all kinds were found.
-pub record AreSummed (source : Source) (noted : Words) (stakes : Terms) (place : ℕ → Placement) (many : ℕ) (lower upper : List ℤ) : Type 0 where
+pub record AreSummed (source : Source) (noted : Words) (stakes : Terms) (place : ℕ → Placement)
+    (many : ℕ) (lower upper : List ℤ) : Type 0 where
   pub fits : AreStakesOf source stakes
   pub within : IsTrue source.tells → AreSourceWords source noted
   pub states : (i k : ℕ) → i < many → k < length stakes.kinds → IsSourceState source (place i) k

@@ -22,13 +22,17 @@ abbrev pub refused : WordsKind → ℕ → Result Asked BadWords
 refused kind place = Err (record { kind = kind; place = place })
 
 -- with the value of this number, which is refused where it is out of its form
-abbrev pub checked : {X : Type 0} → ℕ → Option X → (X → Result Asked BadWords) → Result Asked BadWords
+abbrev pub checked : {X : Type 0} → ℕ → Option X → (X → Result Asked BadWords)
+    → Result Asked BadWords
 checked number value next = option_map_or next value (refused Value number)
 
 -- ---- each command: its form, and its values in the order of their numbers
 
 abbrev pub bound_form : Form
-bound_form = record { arguments = codes "CHECKERS" ∷ codes "ROUNDS" ∷ codes "POSITION" ∷ []; options = [] }
+bound_form = record {
+  arguments = codes "CHECKERS" ∷ codes "ROUNDS" ∷ codes "POSITION" ∷ [];
+  options = [];
+}
 
 -- a position has no form here
 abbrev pub bound_values : Values → Result Asked BadWords
@@ -48,16 +52,26 @@ race_values given =
     Ok (Race (record { checkers = checkers; position = position }))))
 
 abbrev pub solve_form : Form
-solve_form = record { arguments = codes "FILE" ∷ []; options = codes "checkers" ∷ codes "stakes" ∷ codes "rounds" ∷ codes "workers" ∷ [] }
+solve_form = record {
+  arguments = codes "FILE" ∷ [];
+  options = codes "checkers" ∷ codes "stakes" ∷ codes "rounds" ∷ codes "workers" ∷ [];
+}
 
 abbrev pub solve_values : Values → Result Asked BadWords
 solve_values given =
     checked 1 (file_name (value_of (codes "FILE") given)) (λ file.
-    checked 2 (number_or MOST_CHECKERS MOST_CHECKERS (value_of (codes "checkers") given)) (λ checkers.
+    checked 2 (number_or MOST_CHECKERS MOST_CHECKERS (value_of (codes "checkers") given))
+    (λ checkers.
     checked 3 (stakes_or Jacoby (value_of (codes "stakes") given)) (λ stakes.
     checked 4 (number_or MOST_ROUNDS USUAL_ROUNDS (value_of (codes "rounds") given)) (λ rounds.
     checked 5 (number_or MOST_WORKERS 1 (value_of (codes "workers") given)) (λ workers.
-    Ok (Solve (record { file = file; checkers = checkers; stakes = stakes; rounds = rounds; workers = workers })))))))
+    Ok (Solve (record {
+      file = file;
+      checkers = checkers;
+      stakes = stakes;
+      rounds = rounds;
+      workers = workers;
+    })))))))
 
 abbrev pub show_form : Form
 show_form = record { arguments = codes "FILE" ∷ codes "POSITION" ∷ []; options = [] }
@@ -79,7 +93,10 @@ migrate_values given =
     Ok (Migrate (record { old = old; new = new }))))
 
 abbrev pub advise_form : Form
-advise_form = record { arguments = codes "FILE" ∷ codes "POSITION" ∷ []; options = codes "kind" ∷ codes "roll" ∷ [] }
+advise_form = record {
+  arguments = codes "FILE" ∷ codes "POSITION" ∷ [];
+  options = codes "kind" ∷ codes "roll" ∷ [];
+}
 
 -- neither a position nor a roll has a form here
 abbrev pub advise_values : Values → Result Asked BadWords
@@ -87,7 +104,8 @@ advise_values given =
     checked 1 (file_name (value_of (codes "FILE") given)) (λ file.
     checked 2 (value_of (codes "POSITION") given) (λ position.
     checked 3 (kind_given (value_of (codes "kind") given)) (λ kind.
-    Ok (Advise (record { file = file; position = position; kind = kind; roll = value_of (codes "roll") given })))))
+    Ok (Advise (record
+    { file = file; position = position; kind = kind; roll = value_of (codes "roll") given })))))
 
 abbrev pub verify_form : Form
 verify_form = record { arguments = codes "FILE" ∷ []; options = codes "workers" ∷ [] }
@@ -99,16 +117,26 @@ verify_values given =
     Ok (Verify (record { file = file; workers = workers }))))
 
 abbrev pub ladder_form : Form
-ladder_form = record { arguments = codes "PREFIX" ∷ []; options = codes "checkers" ∷ codes "length" ∷ codes "rounds" ∷ codes "workers" ∷ [] }
+ladder_form = record {
+  arguments = codes "PREFIX" ∷ [];
+  options = codes "checkers" ∷ codes "length" ∷ codes "rounds" ∷ codes "workers" ∷ [];
+}
 
 abbrev pub ladder_values : Values → Result Asked BadWords
 ladder_values given =
     checked 1 (prefix (value_of (codes "PREFIX") given)) (λ prefix.
-    checked 2 (number_or MOST_CHECKERS MOST_CHECKERS (value_of (codes "checkers") given)) (λ checkers.
+    checked 2 (number_or MOST_CHECKERS MOST_CHECKERS (value_of (codes "checkers") given))
+    (λ checkers.
     checked 3 (number_or MOST_POINTS USUAL_POINTS (value_of (codes "length") given)) (λ points.
     checked 4 (number_or MOST_ROUNDS USUAL_ROUNDS (value_of (codes "rounds") given)) (λ rounds.
     checked 5 (number_or MOST_WORKERS 1 (value_of (codes "workers") given)) (λ workers.
-    Ok (Ladder (record { prefix = prefix; checkers = checkers; match_length = points; rounds = rounds; workers = workers })))))))
+    Ok (Ladder (record {
+      prefix = prefix;
+      checkers = checkers;
+      match_length = points;
+      rounds = rounds;
+      workers = workers;
+    })))))))
 
 abbrev pub analyse_form : Form
 analyse_form = record { arguments = codes "BASE" ∷ codes "RECORD" ∷ []; options = [] }
@@ -120,7 +148,10 @@ analyse_values given =
     Ok (Analyse (record { base = base; rec = rec }))))
 
 abbrev pub study_form : Form
-study_form = record { arguments = codes "RECORD" ∷ []; options = codes "rounds" ∷ codes "workers" ∷ [] }
+study_form = record {
+  arguments = codes "RECORD" ∷ [];
+  options = codes "rounds" ∷ codes "workers" ∷ [];
+}
 
 abbrev pub study_values : Values → Result Asked BadWords
 study_values given =
@@ -150,7 +181,10 @@ plan_values given =
     Ok (Plan (record { prefix = prefix; match_length = points }))))
 
 abbrev pub scan_form : Form
-scan_form = record { arguments = codes "FILE" ∷ codes "CONDITION" ∷ []; options = codes "workers" ∷ [] }
+scan_form = record {
+  arguments = codes "FILE" ∷ codes "CONDITION" ∷ [];
+  options = codes "workers" ∷ [];
+}
 
 -- a condition has no form here
 abbrev pub scan_values : Values → Result Asked BadWords
@@ -161,7 +195,10 @@ scan_values given =
     Ok (Scan (record { file = file; condition = condition; workers = workers })))))
 
 abbrev pub reply_form : Form
-reply_form = record { arguments = codes "FILE" ∷ codes "POSITION" ∷ []; options = codes "kind" ∷ codes "rounds" ∷ [] }
+reply_form = record {
+  arguments = codes "FILE" ∷ codes "POSITION" ∷ [];
+  options = codes "kind" ∷ codes "rounds" ∷ [];
+}
 
 -- a position has no form here
 abbrev pub reply_values : Values → Result Asked BadWords
@@ -169,7 +206,8 @@ reply_values given =
     checked 1 (file_name (value_of (codes "FILE") given)) (λ file.
     checked 2 (value_of (codes "POSITION") given) (λ position.
     checked 3 (kind_given (value_of (codes "kind") given)) (λ kind.
-    checked 4 (number_or MOST_ROUNDS USUAL_REPLY_ROUNDS (value_of (codes "rounds") given)) (λ rounds.
+    checked 4 (number_or MOST_ROUNDS USUAL_REPLY_ROUNDS (value_of (codes "rounds") given))
+    (λ rounds.
     Ok (Reply (record { file = file; position = position; kind = kind; rounds = rounds }))))))
 
 -- ---- all of them

@@ -11,7 +11,8 @@ use Rattle.cube_actions.specs.Names.{read_name}
 
 -- decimal digits without a leading zero
 abbrev pub is_number : Bytes → Bool
-is_number digits = nat_lt 0 (length digits) && all_ascii_digits digits && (not (slice_index digits 0 == 48) || length digits == 1)
+is_number digits = nat_lt 0 (length digits) && all_ascii_digits digits
+    && (not (slice_index digits 0 == 48) || length digits == 1)
 
 -- the number that a word writes
 abbrev pub number_of : Bytes → Option ℕ
@@ -19,11 +20,13 @@ number_of word = if is_number word then Some (digits_value 10 word) else None
 
 -- a number from 1 to this limit
 abbrev pub number_within : ℕ → Bytes → Option ℕ
-number_within most word = option_and_then (λ n. if nat_le 1 n && nat_le n most then Some n else None) (number_of word)
+number_within most word =
+    option_and_then (λ n. if nat_le 1 n && nat_le n most then Some n else None) (number_of word)
 
 -- a number of at most 64 bits
 abbrev pub long_number : Bytes → Option ℕ
-long_number word = option_and_then (λ n. if nat_lt n (2 ^ 64) then Some n else None) (number_of word)
+long_number word =
+    option_and_then (λ n. if nat_lt n (2 ^ 64) then Some n else None) (number_of word)
 
 abbrev pub long_number_given : Option Bytes → Option ℕ
 long_number_given given = option_and_then long_number given
@@ -57,11 +60,13 @@ kind_given (Some word) = option_map (λ kind. Some kind) (read_name word)
 
 -- 1 to so many bytes, none of them 0
 abbrev pub is_name_within : ℕ → Bytes → Bool
-is_name_within most word = nat_le 1 (length word) && nat_le (length word) most && not (list_any (λ byte. byte == 0) word)
+is_name_within most word =
+    nat_le 1 (length word) && nat_le (length word) most && not (list_any (λ byte. byte == 0) word)
 
 -- the name that is given, if it has at most so many bytes
 abbrev pub name_within : ℕ → Option Bytes → Option Bytes
-name_within most given = option_and_then (λ word. if is_name_within most word then Some word else None) given
+name_within most given =
+    option_and_then (λ word. if is_name_within most word then Some word else None) given
 
 abbrev pub file_name : Option Bytes → Option Bytes
 file_name = name_within 255
@@ -72,4 +77,5 @@ prefix = name_within 240
 
 -- a file's name that isn't this one
 abbrev pub other_name : Bytes → Option Bytes → Option Bytes
-other_name name given = option_and_then (λ word. if bytes_eq word name then None else Some word) (file_name given)
+other_name name given =
+    option_and_then (λ word. if bytes_eq word name then None else Some word) (file_name given)

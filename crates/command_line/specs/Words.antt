@@ -26,13 +26,16 @@ place_at i = min (i + 1) (2 ^ 32 - 1)
 
 -- the command's form, then its values
 abbrev pub form_reading : CommandName → List Bytes → Result Asked BadWords
-form_reading name words = option_map_or (command_values name) (values_of (command_form name) words) (refused Form 0)
+form_reading name words =
+    option_map_or (command_values name) (values_of (command_form name) words) (refused Form 0)
 
 -- no faulty word, then the rest
 abbrev pub words_reading : CommandName → List Bytes → Result Asked BadWords
-words_reading name words = option_map_or (λ i. refused Word (place_at i)) (position is_faulty words) (form_reading name words)
+words_reading name words = option_map_or (λ i. refused Word (place_at i)) (position is_faulty words)
+    (form_reading name words)
 
 -- a command, no faulty word, its form, its values: the first of these that fails is refused
 abbrev pub reading : List Bytes → Result Asked BadWords
 reading [] = refused Command 0
-reading (name ∷ words) = option_map_or (λ command. words_reading command words) (command_named name) (refused Command 0)
+reading (name ∷ words) =
+    option_map_or (λ command. words_reading command words) (command_named name) (refused Command 0)

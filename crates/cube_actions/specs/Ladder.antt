@@ -14,12 +14,15 @@ can_be length near far Post = near == 1 && nat_le far (max 1 (length - 1))
 
 -- the score can come in a match of this length
 abbrev pub is_of_match : ℕ → MatchScore → Bool
-is_of_match length score = nat_le score.near score.far && nat_le score.far length && can_be length score.near score.far score.phase
+is_of_match length score = nat_le score.near score.far && nat_le score.far length
+    && can_be length score.near score.far score.phase
 
 -- both sides' needs by rising sum and then by rising need of the near side, with each phase, Post before Crawford
 unfoldable pub in_order : List MatchScore
 in_order =
-    flat_map (λ both. flat_map (λ near. map (λ phase. record { near = near; far = both - near; phase = phase }) (Post ∷ Crawford ∷ Normal ∷ [])) (range_with_len 1 5)) (range_with_len 2 9)
+    flat_map (λ both. flat_map
+    (λ near. map (λ phase. record { near = near; far = both - near; phase = phase })
+    (Post ∷ Crawford ∷ Normal ∷ [])) (range_with_len 1 5)) (range_with_len 2 9)
 
 -- the scores of a match of this length, 1 to 5, in this order
 unfoldable pub ladder : ℕ → List MatchScore

@@ -17,11 +17,16 @@ won = exactly 1
 
 -- the next kind, what a single game, a gammon and a backgammon win, and the right to double
 abbrev pub kind : ℕ → Bounds → Bounds → Bounds → Option Double → Kind
-kind next single gammon backgammon double = record { next = next; win = single ∷ gammon ∷ backgammon ∷ []; double = double }
+kind next single gammon backgammon double = record {
+  next = next;
+  win = single ∷ gammon ∷ backgammon ∷ [];
+  double = double;
+}
 
 -- a double with this pass, and this kind after a take
 abbrev pub double : Bounds → ℕ → Option Double
-double pass take = Some (record { pass = pass; answers = record { items = record { kind = take; factor = 1 } ∷ [] } })
+double pass take = Some
+    (record { pass = pass; answers = record { items = record { kind = take; factor = 1 } ∷ [] } })
 
 -- near needs one point and far two, after the Crawford game
 abbrev pub one_and_two : MatchScore

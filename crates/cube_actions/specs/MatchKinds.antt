@@ -12,13 +12,17 @@ abbrev pub can_own_2 : MatchScore → Side → Bool
 can_own_2 score owner = nat_lt 1 (needs score (other_side owner))
 
 abbrev pub can_own_4 : MatchScore → Side → Bool
-can_own_4 score owner = nat_lt 2 (needs score (other_side owner)) && can_own_2 score (other_side owner)
+can_own_4 score owner =
+    nat_lt 2 (needs score (other_side owner)) && can_own_2 score (other_side owner)
 
 abbrev pub can_own_8 : MatchScore → Side → Bool
-can_own_8 score owner = nat_lt 4 (needs score (other_side owner)) && can_own_4 score (other_side owner)
+can_own_8 score owner =
+    nat_lt 4 (needs score (other_side owner)) && can_own_4 score (other_side owner)
 
 abbrev pub can_own : MatchScore → ℕ → Side → Bool
-can_own score cube owner = if cube == 2 then can_own_2 score owner else if cube == 4 then can_own_4 score owner else can_own_8 score owner
+can_own score cube owner = if cube == 2
+    then can_own_2 score owner
+    else if cube == 4 then can_own_4 score owner else can_own_8 score owner
 
 -- the cube can always be centred, and can be owned in all games but the Crawford game
 abbrev pub can_stand : MatchScore → ℕ → Option Side → Bool
@@ -31,11 +35,13 @@ can_come score kind = can_stand score kind.cube kind.owner
 -- the near side to move, and then the far side
 abbrev pub both_to_move : ℕ × Option Side → List MatchKind
 both_to_move place =
-    record { mover = Near; cube = place.0; owner = place.1 } ∷ record { mover = Far; cube = place.0; owner = place.1 } ∷ []
+    record { mover = Near; cube = place.0; owner = place.1 }
+    ∷ record { mover = Far; cube = place.0; owner = place.1 } ∷ []
 
 -- the places of the cube, by its rising value, and owned by the near side before the far side
 abbrev pub cube_places : List (ℕ × Option Side)
-cube_places = (1, None) ∷ (2, Some Near) ∷ (2, Some Far) ∷ (4, Some Near) ∷ (4, Some Far) ∷ (8, Some Near) ∷ (8, Some Far) ∷ []
+cube_places = (1, None) ∷ (2, Some Near) ∷ (2, Some Far) ∷ (4, Some Near) ∷ (4, Some Far)
+    ∷ (8, Some Near) ∷ (8, Some Far) ∷ []
 
 abbrev pub every_kind : List MatchKind
 every_kind = flat_map both_to_move cube_places
@@ -67,7 +73,11 @@ after_play kind = record kind { mover = other_side kind.mover }
 
 -- the kind after the mover has doubled and the other side has taken: the cube is the other side's, and the mover still has to move
 abbrev pub after_take : MatchKind → MatchKind
-after_take kind = record { mover = kind.mover; cube = 2 * kind.cube; owner = Some (other_side kind.mover) }
+after_take kind = record {
+  mover = kind.mover;
+  cube = 2 * kind.cube;
+  owner = Some (other_side kind.mover);
+}
 
 -- the cube is centred or this side's
 abbrev pub may_turn : Side → Option Side → Bool
@@ -76,4 +86,5 @@ may_turn side (Some owner) = same_side side owner
 
 -- The mover may double in all games but the Crawford game, where he may turn the cube and needs more points than it shows.
 abbrev pub may_double : MatchScore → MatchKind → Bool
-may_double score kind = not (is_crawford score.phase) && may_turn kind.mover kind.owner && nat_lt kind.cube (needs score kind.mover)
+may_double score kind = not (is_crawford score.phase) && may_turn kind.mover kind.owner
+    && nat_lt kind.cube (needs score kind.mover)

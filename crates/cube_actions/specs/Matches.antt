@@ -28,7 +28,8 @@ next_score phase a b = record { near = min a b; far = max a b; phase = next_phas
 
 -- the score of the next game, when a side has won so many points and needs more
 abbrev pub after_win : MatchScore → Side → ℕ → MatchScore
-after_win score winner won = next_score score.phase (needs score winner - won) (needs score (other_side winner))
+after_win score winner won =
+    next_score score.phase (needs score winner - won) (needs score (other_side winner))
 
 -- Whether a side that won is near in the next game. Where both need the same, the side that was near stays it.
 abbrev pub stays_near : Side → ℕ → ℕ → Bool
@@ -45,7 +46,8 @@ next_value starts phase winner own others =
 abbrev pub value_of_win : StartPairs → MatchScore → Side → ℕ → Bounds
 value_of_win starts score winner won =
     if nat_le (needs score winner) won then exactly 1
-    else next_value starts score.phase winner (needs score winner - won) (needs score (other_side winner))
+    else next_value starts score.phase winner (needs score winner - won)
+    (needs score (other_side winner))
 
 -- A pass wins the cube's value before the double. After a take the cube shows twice as much, in which wins are counted already.
 abbrev pub right_to_double : StartPairs → MatchScore → MatchKind → Option Double
@@ -53,7 +55,8 @@ right_to_double starts score kind =
     if may_double score kind
     then Some (record {
       pass = value_of_win starts score kind.mover kind.cube;
-      answers = record { items = record { kind = number_in score (after_take kind); factor = 1 } ∷ [] };
+      answers =
+          record { items = record { kind = number_in score (after_take kind); factor = 1 } ∷ [] };
     })
     else None
 
@@ -67,7 +70,11 @@ match_kind starts score kind = record {
 
 -- the stakes of a game at a score, given what the scores after it are worth
 abbrev pub terms_of : MatchScore → StartPairs → Terms
-terms_of score starts = record { kinds = map (match_kind starts score) (match_kinds score); bound = point_units 1; name = Match score }
+terms_of score starts = record {
+  kinds = map (match_kind starts score) (match_kinds score);
+  bound = point_units 1;
+  name = Match score;
+}
 
 -- the answers to a kind's double, if it has one
 abbrev pub answers_in : Kind → Option (List Taken)

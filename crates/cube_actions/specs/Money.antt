@@ -45,7 +45,15 @@ jacoby = record { kinds = cube_kinds all_single (take ∷ []); bound = point_uni
 
 -- the same with beavers: a double is passed, taken or beavered
 abbrev pub money_beavers : Terms
-money_beavers = record { kinds = cube_kinds all_count (take ∷ beaver ∷ []); bound = point_units 3; name = MoneyBeavers }
+money_beavers = record {
+  kinds = cube_kinds all_count (take ∷ beaver ∷ []);
+  bound = point_units 3;
+  name = MoneyBeavers;
+}
 
 abbrev pub jacoby_beavers : Terms
-jacoby_beavers = record { kinds = cube_kinds all_single (take ∷ beaver ∷ []); bound = point_units 3; name = JacobyBeavers }
+jacoby_beavers = record {
+  kinds = cube_kinds all_single (take ∷ beaver ∷ []);
+  bound = point_units 3;
+  name = JacobyBeavers;
+}

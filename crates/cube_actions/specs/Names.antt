@@ -51,7 +51,8 @@ kind_text Alone = codes "alone"
 kind_text Centred = codes "centred"
 kind_text Mine = codes "mine"
 kind_text Theirs = codes "theirs"
-kind_text (InMatch mover cube owner) = side_text mover ++ codes ":" ++ decimal cube ++ codes ":" ++ owner_text owner
+kind_text (InMatch mover cube owner) =
+    side_text mover ++ codes ":" ++ decimal cube ++ codes ":" ++ owner_text owner
 
 -- the names of all kinds: the centred cube shows 1, and an owned one 2, 4 or 8
 unfoldable pub every_name : List KindName
@@ -68,7 +69,8 @@ letter Post = codes "p"
 
 -- the points that the sides need, and a letter for the phase
 abbrev pub score_text : MatchScore → List ℕ
-score_text score = decimal score.near ++ codes "." ++ decimal score.far ++ codes "." ++ letter score.phase
+score_text score =
+    decimal score.near ++ codes "." ++ decimal score.far ++ codes "." ++ letter score.phase
 
 -- valid stakes, with a name for each kind
 pub record AreStakes (stakes : Terms) : Type 0 where

@@ -29,4 +29,5 @@ pub record Covers (starts : StartPairs) (score : MatchScore) : Type 0 where
 
 -- what the near side of a score has
 abbrev pub start_pair : StartPairs → MatchScore → Bounds
-start_pair starts score = slice_index_or starts.pairs (ladder_place starts.match_length score) nothing
+start_pair starts score =
+    slice_index_or starts.pairs (ladder_place starts.match_length score) nothing

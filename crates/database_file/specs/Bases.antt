@@ -17,12 +17,14 @@ base_with head list = record { head = head; words = list_of (game_in head) head.
 
 -- the words behind the starts
 abbrev pub words_of_file : List ℕ → List ℕ
-words_of_file bytes = words_in (pages_behind (header_of_file bytes)) (drop (front_length (header_of_file bytes)) bytes)
+words_of_file bytes = words_in (pages_behind (header_of_file bytes))
+    (drop (front_length (header_of_file bytes)) bytes)
 
 -- nothing is wrong, and this is what the file holds
 pub record IsBaseOf (file : Read) (base : FileBase) : Type 0 where
   pub right : file_fault file ≡ None
-  pub holds : base ≡ base_with (head_in (header_of_file file.bytes) file.bytes) (words_of_file file.bytes)
+  pub holds : base ≡ base_with (head_in (header_of_file file.bytes) file.bytes) (words_of_file
+      file.bytes)
 
 -- what may be answered of a file, or where there is none; a fault of the files or of memory says nothing of it
 abbrev pub AnswersBase : Option Read → Result FileBase LoadStop → Type 0

@@ -14,31 +14,38 @@ size_on pages page = page_size pages.version (words_on pages page)
 
 -- how many bytes a batch has: all its pages are whole ones but perhaps the last
 abbrev pub batch_size : Pages → Batch → ℕ
-batch_size pages batch = (batch.past - 1 - batch.first) * whole_page pages + size_on pages (batch.past - 1)
+batch_size pages batch =
+    (batch.past - 1 - batch.first) * whole_page pages + size_on pages (batch.past - 1)
 
 -- these begin with what there is of a page, where `all` are the bytes of all pages
 abbrev pub AreOnPage : Pages → ℕ → List ℕ → List ℕ → Type 0
-AreOnPage pages page bytes all = take (size_on pages page) bytes ≡ take (size_on pages page) (drop (page * whole_page pages) all)
+AreOnPage pages page bytes all =
+    take (size_on pages page) bytes ≡ take (size_on pages page) (drop (page * whole_page pages) all)
 
 -- these are what there is of a batch
 abbrev pub IsBatch : Pages → Batch → List ℕ → List ℕ → Type 0
-IsBatch pages batch bytes all = bytes ≡ take (batch_size pages batch) (drop (batch.first * whole_page pages) all)
+IsBatch pages batch bytes all =
+    bytes ≡ take (batch_size pages batch) (drop (batch.first * whole_page pages) all)
 
 -- a page has no flaw and these are its words, or this is its first flaw; memory may be refused
 abbrev pub AnswersOn : Pages → ℕ → List ℕ → Result (Vec ℕ Global) PagesStop → Type 0
-AnswersOn pages page all (Ok words) = (flaw_on pages all page ≡ None) × (words.items ≡ page_words pages all page)
+AnswersOn pages page all (Ok words) =
+    (flaw_on pages all page ≡ None) × (words.items ≡ page_words pages all page)
 AnswersOn pages page all (Err (BadPage flaw)) = flaw_on pages all page ≡ Some flaw
 AnswersOn pages page all (Err _) = ⊤
 
 -- so it is for each page of a batch, and none is a fault of the files
-pub record AnswersEach (pages : Pages) (batch : Batch) (bytes : List ℕ) (read : List (Result (Vec ℕ Global) PagesStop)) : Type 0 where
+pub record AnswersEach (pages : Pages) (batch : Batch) (bytes : List ℕ)
+    (read : List (Result (Vec ℕ Global) PagesStop)) : Type 0 where
   pub some : batch.first < batch.past
   pub there : batch.past ≤ page_count pages
   pub many : length read ≡ batch.past - batch.first
   pub each :
-      (number : ℕ) → number < batch.past - batch.first → (all : List ℕ) → IsBatch pages batch bytes all
+      (number : ℕ) → number < batch.past - batch.first → (all : List ℕ)
+      → IsBatch pages batch bytes all
       → AnswersOn pages (batch.first + number) all (slice_index_or read number (Err NoMemory))
-  pub faultless : (number : ℕ) → number < batch.past - batch.first → slice_index_or read number (Err NoMemory) ≡ Err ReadFault → ⊥
+  pub faultless : (number : ℕ) → number < batch.past - batch.first
+      → slice_index_or read number (Err NoMemory) ≡ Err ReadFault → ⊥
 
 -- the first n pages have no flaw, and these are their words
 pub record AreRead (pages : Pages) (bytes : List ℕ) (n : ℕ) (list : List ℕ) : Type 0 where
@@ -46,7 +53,10 @@ pub record AreRead (pages : Pages) (bytes : List ℕ) (n : ℕ) (list : List ℕ
   pub words : list ≡ first_words pages bytes n
 
 -- where those before it are read, the words of a batch were added, or this is the first flaw of all pages
-abbrev pub AddsBatch : {T : Type 0} → Pages → Batch → List ℕ → List ℕ → List ℕ → Result T PagesStop → Type 0
-AddsBatch pages batch all old new (Ok x) = AreRead pages all batch.first old → AreRead pages all batch.past new
-AddsBatch pages batch all old new (Err (BadPage flaw)) = AreRead pages all batch.first old → flaw_in pages all ≡ Some flaw
+abbrev pub AddsBatch : {T : Type 0} → Pages → Batch → List ℕ → List ℕ → List ℕ → Result T PagesStop
+    → Type 0
+AddsBatch pages batch all old new (Ok x) =
+    AreRead pages all batch.first old → AreRead pages all batch.past new
+AddsBatch pages batch all old new (Err (BadPage flaw)) =
+    AreRead pages all batch.first old → flaw_in pages all ≡ Some flaw
 AddsBatch pages batch all old new (Err _) = ⊤

@@ -41,24 +41,31 @@ pages_behind header = record {
 
 -- the bytes end before this place
 abbrev pub ends_before : ℕ → List ℕ → Option BadFile
-ends_before place bytes = first_wrong (check faults.Short (length bytes) (nat_lt (length bytes) place) ∷ [])
+ends_before place bytes =
+    first_wrong (check faults.Short (length bytes) (nat_lt (length bytes) place) ∷ [])
 
 -- it is too short for a header, or fewer bytes of it were there
 abbrev pub short_fault : Read → Option BadFile
-short_fault file = option_or (first_wrong (check faults.Short file.size (nat_lt file.size 64) ∷ [])) (ends_before 64 file.bytes)
+short_fault file = option_or (first_wrong (check faults.Short file.size (nat_lt file.size 64) ∷ []))
+    (ends_before 64 file.bytes)
 
 -- the bytes end before the pages, or what stands behind the header is wrong
 abbrev pub starts_wrong : Header → List ℕ → Option BadFile
-starts_wrong header bytes = option_or (ends_before (front_length header) bytes) (starts_fault header bytes)
+starts_wrong header bytes =
+    option_or (ends_before (front_length header) bytes) (starts_fault header bytes)
 
 -- what is wrong first up to the pages
 abbrev pub fault_before_pages : Read → Option BadFile
 fault_before_pages file =
-    option_or (short_fault file) (option_or (header_fault file.size file.bytes) (starts_wrong (header_of_file file.bytes) file.bytes))
+    option_or (short_fault file)
+    (option_or (header_fault file.size file.bytes)
+    (starts_wrong (header_of_file file.bytes) file.bytes))
 
 -- what is wrong first with the pages
 abbrev pub pages_fault : Read → Option BadFile
-pages_fault file = option_map bad_of (flaw_in (pages_behind (header_of_file file.bytes)) (drop (front_length (header_of_file file.bytes)) file.bytes))
+pages_fault file = option_map bad_of
+    (flaw_in (pages_behind (header_of_file file.bytes))
+    (drop (front_length (header_of_file file.bytes)) file.bytes))
 
 -- what is wrong first
 abbrev pub file_fault : Read → Option BadFile

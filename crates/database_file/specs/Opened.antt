@@ -11,7 +11,8 @@ abbrev pub AnswersPaged : Option Read → Result PagedFile LoadStop → Type 0
 AnswersPaged None (Err Missing) = ⊤
 AnswersPaged None (Err ReadFault) = ⊤
 AnswersPaged None _ = ⊥
-AnswersPaged (Some file) (Ok base) = IsFrontOf file (record { header = base.header; head = base.head })
+AnswersPaged (Some file) (Ok base) =
+    IsFrontOf file (record { header = base.header; head = base.head })
 AnswersPaged (Some file) (Err (Bad bad)) = fault_before_pages file ≡ Some bad
 AnswersPaged (Some file) (Err Missing) = ⊥
 AnswersPaged (Some file) (Err _) = ⊤

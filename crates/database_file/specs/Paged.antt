@@ -46,7 +46,8 @@ flaw_at header file p = flaw_on (pages_behind header) (page_bytes header file) (
 -- the word of a state that its page has
 abbrev pub word_at : Header → Option (List ℕ) → Words
 word_at header file end p k =
-    value_of (slice_index (page_words (pages_behind header) (page_bytes header file) (page_of p)) (word_of end (state_on_page header.kinds p k)))
+    value_of (slice_index (page_words (pages_behind header) (page_bytes header file) (page_of p))
+    (word_of end (state_on_page header.kinds p k)))
 
 -- what the bound alone tells
 abbrev pub bound_end : ℤ → End → ℤ
@@ -61,7 +62,8 @@ told_unless (Some flaw) word opening = opening
 -- the words of the file on every page that is right, and the opening pair on the others
 abbrev pub told_words : Header → Option (List ℕ) → Words
 told_words header file end p k =
-    told_unless (flaw_at header file p) (word_at header file end p k) (bound_end (bound_of header.name) end)
+    told_unless (flaw_at header file p) (word_at header file end p k)
+    (bound_end (bound_of header.name) end)
 
 abbrev pub damage_of : Flaw → Damage
 damage_of flaw = record { fault = flaw.fault; at = flaw.at }
@@ -98,7 +100,8 @@ abbrev pub Kept : Type 0
 Kept = List (ℕ × Vec ℕ Global)
 
 abbrev pub ArePagesKept : Pages → Kept → Type 0
-ArePagesKept pages kept = (page : ℕ × Vec ℕ Global) → Contains kept page → IsPage pages page.0 page.1.items
+ArePagesKept pages kept =
+    (page : ℕ × Vec ℕ Global) → Contains kept page → IsPage pages page.0 page.1.items
 
 -- a header and the head that it begins, an index of the positions of so many checkers, and kept pages
 pub record IsPagedFile (header : Header) (head : FileHead) (index : ℕ) (kept : Kept) : Type 0 where
@@ -112,7 +115,8 @@ pub record IsPagedFile (header : Header) (head : FileHead) (index : ℕ) (kept :
 -- where the file is told, each page that is kept is one of its right pages
 abbrev pub AreOfFile : Pages → Bool → Option (List ℕ) → Kept → Type 0
 AreOfFile pages tells file kept =
-    IsTrue tells → (page : ℕ × Vec ℕ Global) → Contains kept page → IsPageOf pages (bytes_from pages.at file) page.0 page.1.items
+    IsTrue tells → (page : ℕ × Vec ℕ Global) → Contains kept page
+    → IsPageOf pages (bytes_from pages.at file) page.0 page.1.items
 
 -- the file of this name is one whose right pages are kept, where the files tell it
 abbrev pub KeepsPagesOf : PagedFile → Bool → Contents → Type 0
@@ -142,7 +146,9 @@ AnswersOnePage pages bytes page (Err _) = ⊤
 -- the files or of memory says nothing
 abbrev pub AnswersWord : Pages → List ℕ → Spot → Result ℤ PagesStop → Type 0
 AnswersWord pages bytes spot (Ok word) =
-    (flaw_on pages bytes spot.page ≡ None) × (word ≡ value_of (slice_index (page_words pages bytes spot.page) (word_of spot.end spot.state)))
+    (flaw_on pages bytes spot.page ≡ None)
+    × (word ≡ value_of (slice_index (page_words pages bytes spot.page)
+    (word_of spot.end spot.state)))
 AnswersWord pages bytes spot (Err (BadPage flaw)) = flaw_on pages bytes spot.page ≡ Some flaw
 AnswersWord pages bytes spot (Err _) = ⊤
 
@@ -153,8 +159,10 @@ spot_of kinds p k end = record { page = page_of p; state = state_on_page kinds p
 -- this is the file's word of a state on a page without a flaw, or this is the page's first flaw; a fault of the files or of memory says
 -- nothing
 abbrev pub AnswersLook : Header → Option (List ℕ) → End → Placement → ℕ → Result ℤ LookStop → Type 0
-AnswersLook header file end p k (Ok word) = (flaw_at header file p ≡ None) × (word ≡ word_at header file end p k)
-AnswersLook header file end p k (Err (looks.BadPage fault at)) = flaw_at header file p ≡ Some (record { fault = fault; at = at })
+AnswersLook header file end p k (Ok word) =
+    (flaw_at header file p ≡ None) × (word ≡ word_at header file end p k)
+AnswersLook header file end p k (Err (looks.BadPage fault at)) =
+    flaw_at header file p ≡ Some (record { fault = fault; at = at })
 AnswersLook header file end p k (Err _) = ⊤
 
 -- What no look-up changes: the head, the file's name, how many pages are kept at most, what the files tell, how often a call that writes has

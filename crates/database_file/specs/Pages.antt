@@ -35,11 +35,13 @@ place_of pages page = pages.at + page * whole_page pages
 
 -- its words, where these are the bytes of the pages
 abbrev pub page_words : Pages → List ℕ → ℕ → List ℕ
-page_words pages bytes page = words_of pages.version (words_on pages page) (drop (page * whole_page pages) bytes)
+page_words pages bytes page =
+    words_of pages.version (words_on pages page) (drop (page * whole_page pages) bytes)
 
 -- its first flaw
 abbrev pub flaw_on : Pages → List ℕ → ℕ → Option Flaw
-flaw_on pages bytes page = page_flaw pages.version pages.bound (words_on pages page) (place_of pages page) (drop (page * whole_page pages) bytes)
+flaw_on pages bytes page = page_flaw pages.version pages.bound (words_on pages page)
+    (place_of pages page) (drop (page * whole_page pages) bytes)
 
 -- the words of the first n pages
 abbrev pub first_words : Pages → List ℕ → ℕ → List ℕ
@@ -69,13 +71,16 @@ pub record ArePages (pages : Pages) : Type 0 where
 
 -- where these are the bytes of the pages, the words of one of them were added and it has no flaw, or this is its first flaw; a fault of the
 -- files or of memory says nothing
-abbrev pub AddsPage : {T : Type 0} → Pages → ℕ → List ℕ → List ℕ → List ℕ → Result T PagesStop → Type 0
-AddsPage pages page bytes old new (Ok x) = (flaw_on pages bytes page ≡ None) × (new ≡ old ++ page_words pages bytes page)
+abbrev pub AddsPage : {T : Type 0} → Pages → ℕ → List ℕ → List ℕ → List ℕ → Result T PagesStop
+    → Type 0
+AddsPage pages page bytes old new (Ok x) =
+    (flaw_on pages bytes page ≡ None) × (new ≡ old ++ page_words pages bytes page)
 AddsPage pages page bytes old new (Err (BadPage flaw)) = flaw_on pages bytes page ≡ Some flaw
 AddsPage pages page bytes old new (Err _) = ⊤
 
 -- where these are the bytes of the pages, these are their words and they have no flaw, or this is their first flaw
 abbrev pub AnswersPages : Pages → List ℕ → Result (Vec ℕ Global) PagesStop → Type 0
-AnswersPages pages bytes (Ok words) = (flaw_in pages bytes ≡ None) × (words.items ≡ words_in pages bytes)
+AnswersPages pages bytes (Ok words) =
+    (flaw_in pages bytes ≡ None) × (words.items ≡ words_in pages bytes)
 AnswersPages pages bytes (Err (BadPage flaw)) = flaw_in pages bytes ≡ Some flaw
 AnswersPages pages bytes (Err _) = ⊤

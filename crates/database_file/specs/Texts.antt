@@ -19,7 +19,8 @@ words_a_page kinds = 2 * kinds * 1024
 
 -- the head, and then the words in pages
 abbrev pub file_text : Version → FileHead → List ℕ → List ℕ
-file_text version head words = front_text version head ++ pages_text version (words_a_page (header_of version head).kinds) words
+file_text version head words = front_text version head
+    ++ pages_text version (words_a_page (header_of version head).kinds) words
 
 -- the words are those of the head's game after its rounds
 pub record AreWordsOf (head : FileHead) (words : WordList) : Type 0 where
@@ -27,7 +28,8 @@ pub record AreWordsOf (head : FileHead) (words : WordList) : Type 0 where
   pub rounds : words.rounds ≡ head.rounds
 
 -- bytes are the text of a version, a head and words
-pub record IsText (version : Version) (head : FileHead) (words : WordList) (bytes : List ℕ) : Type 0 where
+pub record IsText (version : Version) (head : FileHead) (words : WordList)
+    (bytes : List ℕ) : Type 0 where
   pub valid : IsHead head
   pub takes : HasText version head
   pub fitting : AreWordsOf head words

@@ -15,7 +15,8 @@ decimal_digit n = 48 + n
 
 -- the six digits of a number below a million
 abbrev pub six_digits : ℕ → List ℕ
-six_digits n = map (λ (power : ℕ). decimal_digit (n / power % 10)) (100000 ∷ 10000 ∷ 1000 ∷ 100 ∷ 10 ∷ 1 ∷ [])
+six_digits n =
+    map (λ (power : ℕ). decimal_digit (n / power % 10)) (100000 ∷ 10000 ∷ 1000 ∷ 100 ∷ 10 ∷ 1 ∷ [])
 
 -- the whole part, a point and six digits
 abbrev pub size_text : ℕ → List ℕ

@@ -21,13 +21,15 @@ use Rattle.equity_report.specs.Reports.{line, points_text}
 
 -- what is advised, and what it loses at most in points, rounded up
 abbrev pub advised_text : List ℕ → List ℕ → ℤ → List ℕ
-advised_text word choice bound = line word (choice ++ codes " loss " ++ millionths_text (millionths_up bound))
+advised_text word choice bound =
+    line word (choice ++ codes " loss " ++ millionths_text (millionths_up bound))
 
 -- ---- plays
 
 -- a play with its number and its pair
 abbrev pub ranked_text : Placement → ℕ → PlayRow → List ℕ
-ranked_text p number row = line (decimal number) (points_text row.pair ++ codes " " ++ play_text p row.entry.play.items)
+ranked_text p number row =
+    line (decimal number) (points_text row.pair ++ codes " " ++ play_text p row.entry.play.items)
 
 -- plays with their numbers, from this one on
 abbrev pub ranked_texts : Placement → ℕ → List PlayRow → List ℕ
@@ -37,8 +39,10 @@ ranked_texts p number (row ∷ rows) = ranked_text p number row ++ ranked_texts 
 -- the plays of a roll from the best to the worst, and what the best loses at most
 abbrev pub ranking_text : Placement → Dice → KindName → Ranking → List ℕ
 ranking_text p roll kind ranking =
-    line (codes "position") (position_text p) ++ line (codes "roll") (roll_text roll ++ codes " kind " ++ kind_text kind)
-    ++ ranked_texts p 1 ranking.rows.items ++ advised_text (codes "best") (codes "1") ranking.loss_bound
+    line (codes "position") (position_text p)
+    ++ line (codes "roll") (roll_text roll ++ codes " kind " ++ kind_text kind)
+    ++ ranked_texts p 1 ranking.rows.items
+    ++ advised_text (codes "best") (codes "1") ranking.loss_bound
 
 -- ---- the cube
 
@@ -60,7 +64,8 @@ beaver_text (Some pair) = line (codes "double-beaver") (points_text pair)
 abbrev pub action_text : Option CubeAction → List ℕ
 action_text None = codes "no cube action\n"
 action_text (Some action) =
-    line (codes "double-take") (points_text action.take) ++ beaver_text action.beaver ++ line (codes "double-pass") (points_text action.pass)
+    line (codes "double-take") (points_text action.take) ++ beaver_text action.beaver
+    ++ line (codes "double-pass") (points_text action.pass)
     ++ advised_text (codes "offer") (offer_text action.offer) action.offer_bound
     ++ advised_text (codes "answer") (answer_text action.answer) action.answer_bound
 

@@ -25,7 +25,8 @@ choice_text (Answered answer) = codes "answer"
 -- the numbers of a decision's game and of its line, whose it was, and what was decided
 abbrev pub decision_text : Decision → List ℕ
 decision_text decision =
-    decimal decision.game ++ codes " " ++ decimal decision.line ++ codes " " ++ player_text decision.player ++ codes " " ++ choice_text decision.choice
+    decimal decision.game ++ codes " " ++ decimal decision.line ++ codes " "
+    ++ player_text decision.player ++ codes " " ++ choice_text decision.choice
 
 -- a decision and what it loses
 abbrev pub lost_text : Decision → Bounds → List ℕ
@@ -41,11 +42,13 @@ judged_text judged = option_map_or (lost_text judged.decision) judged.loss []
 abbrev pub total_text : Player → Total → List ℕ
 total_text player total =
     line (player_text player)
-    (counted_text (codes "decisions") total.decisions ++ codes " loss " ++ points_text (record { lower = total.lower; upper = total.upper }))
+    (counted_text (codes "decisions") total.decisions ++ codes " loss "
+    ++ points_text (record { lower = total.lower; upper = total.upper }))
 
 -- both players' totals
 abbrev pub totals_text : List Judged → List ℕ
-totals_text list = total_text A (total_of (losses_by A list)) ++ total_text B (total_of (losses_by B list))
+totals_text list =
+    total_text A (total_of (losses_by A list)) ++ total_text B (total_of (losses_by B list))
 
 -- ---- the reports
 
@@ -56,4 +59,5 @@ analysis_text list = flat_map judged_text list ++ totals_text list
 -- a record that was made: how many lines and bytes it has, and both totals
 abbrev pub made_text : ℕ → ℕ → List Judged → List ℕ
 made_text lines bytes list =
-    line (codes "made") (counted_text (codes "lines") lines ++ codes " " ++ counted_text (codes "bytes") bytes) ++ totals_text list
+    line (codes "made") (counted_text (codes "lines") lines ++ codes " "
+    ++ counted_text (codes "bytes") bytes) ++ totals_text list

@@ -13,8 +13,10 @@ stakes_text match_length Money = codes "money"
 stakes_text match_length Jacoby = codes "jacoby"
 stakes_text match_length MoneyBeavers = codes "money-beavers"
 stakes_text match_length JacobyBeavers = codes "jacoby-beavers"
-stakes_text match_length (Match score) = counted_text (codes "match") match_length ++ codes " " ++ score_text score
+stakes_text match_length (Match score) =
+    counted_text (codes "match") match_length ++ codes " " ++ score_text score
 
 -- how many checkers a side has, and what is played for
 abbrev pub game_text : GameName → List ℕ
-game_text game = counted_text (codes "checkers") game.checkers ++ codes " stakes " ++ stakes_text game.match_length game.stakes
+game_text game = counted_text (codes "checkers") game.checkers ++ codes " stakes "
+    ++ stakes_text game.match_length game.stakes

@@ -8,4 +8,5 @@ use Rattle.equity_report.specs.Reports.{line, pair_text}
 -- a race, how many turns it may still take, and its pair in a game without a cube
 abbrev pub race_text : Placement → ℕ → Bounds → List ℕ
 race_text p turns pair =
-    line (codes "position") (position_text p) ++ line (codes "turns") (decimal turns) ++ line (codes "alone") (pair_text pair)
+    line (codes "position") (position_text p) ++ line (codes "turns") (decimal turns)
+    ++ line (codes "alone") (pair_text pair)

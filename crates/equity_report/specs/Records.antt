@@ -33,4 +33,5 @@ record_fault_text ScoreWrong = codes "score-wrong"
 
 -- the number of the first wrong line, and what is wrong with it
 abbrev pub bad_record_text : BadRecord → List ℕ
-bad_record_text bad = counted_text (codes "record") bad.line ++ codes " " ++ record_fault_text bad.fault
+bad_record_text bad =
+    counted_text (codes "record") bad.line ++ codes " " ++ record_fault_text bad.fault

@@ -84,7 +84,8 @@ wanted_text (Fits game) = game_text game
 wanted_text (Scored score match_length) = codes "stakes " ++ stakes_text match_length (Match score)
 
 abbrev pub base_text : Wanted → GameName → List ℕ
-base_text wanted found = codes "base wanted " ++ wanted_text wanted ++ codes " found " ++ game_text found
+base_text wanted found =
+    codes "base wanted " ++ wanted_text wanted ++ codes " found " ++ game_text found
 
 abbrev pub reason_text : Refusal → List ℕ
 reason_text (Words bad) = bad_words_text bad
@@ -102,4 +103,5 @@ reason_text Contact = codes "contact"
 reason_text (Condition word) = counted_text (codes "condition") word
 
 abbrev pub refusal_text : Refusal → List ℕ
-refusal_text refusal = line (codes "refused") (decimal (status_of refusal) ++ codes " " ++ reason_text refusal)
+refusal_text refusal =
+    line (codes "refused") (decimal (status_of refusal) ++ codes " " ++ reason_text refusal)

@@ -17,7 +17,8 @@ counted_text thing number = thing ++ codes " " ++ decimal number
 
 -- the lower end in points, rounded down, and the upper end, rounded up
 abbrev pub points_text : Bounds → List ℕ
-points_text pair = millionths_text (millionths_down pair.lower) ++ codes " " ++ millionths_text (millionths_up pair.upper)
+points_text pair = millionths_text (millionths_down pair.lower) ++ codes " "
+    ++ millionths_text (millionths_up pair.upper)
 
 -- both ends in units
 abbrev pub units_text : Bounds → List ℕ
@@ -30,4 +31,5 @@ pair_text pair = points_text pair ++ codes " " ++ units_text pair
 -- a position's pair after so many rounds of a game without a cube
 abbrev pub bound_text : Placement → ℕ → Bounds → List ℕ
 bound_text p rounds pair =
-    line (codes "position") (position_text p) ++ line (codes "rounds") (decimal rounds) ++ line (codes "alone") (pair_text pair)
+    line (codes "position") (position_text p) ++ line (codes "rounds") (decimal rounds)
+    ++ line (codes "alone") (pair_text pair)

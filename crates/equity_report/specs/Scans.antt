@@ -18,12 +18,15 @@ kind_told stakes kind = option_map_or kind_text (slice_get (names_of stakes) kin
 abbrev pub found_text : WordList → State → List ℕ
 found_text words state =
     line (kind_told words.game.stakes.name state.kind)
-    (position_text state.position ++ codes " " ++ points_text (pair_of (words_in_list words) state.position state.kind))
+    (position_text state.position ++ codes " "
+    ++ points_text (pair_of (words_in_list words) state.position state.kind))
 
 -- how many states were found, and how many there are
 abbrev pub found_end_text : ℕ → ℕ → List ℕ
-found_end_text found all = line (codes "found") (decimal found ++ codes " " ++ counted_text (codes "of") all)
+found_end_text found all =
+    line (codes "found") (decimal found ++ codes " " ++ counted_text (codes "of") all)
 
 -- a line for each state that was found, in their order, and how many of all states these are
 abbrev pub scan_text : WordList → List State → List ℕ
-scan_text words states = flat_map (found_text words) states ++ found_end_text (length states) (states_of words.game)
+scan_text words states =
+    flat_map (found_text words) states ++ found_end_text (length states) (states_of words.game)

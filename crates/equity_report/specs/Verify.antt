@@ -12,7 +12,8 @@ use Rattle.equity_report.specs.Files.{rounds_text}
 
 -- a file whose words are consistent, and how many positions its game has
 abbrev pub verified_text : GameName → ℕ → ℕ → List ℕ
-verified_text game rounds positions = line (codes "consistent") (rounds_text game rounds ++ codes " " ++ counted_text (codes "positions") positions)
+verified_text game rounds positions = line (codes "consistent")
+    (rounds_text game rounds ++ codes " " ++ counted_text (codes "positions") positions)
 
 -- which end of a pair
 abbrev pub end_text : End → List ℕ
@@ -22,5 +23,7 @@ end_text Upper = codes "upper"
 -- a word that is too tight: which one of which kind, the word and the end of the turn in units, and its position
 abbrev pub unheld_text : Unheld → List ℕ
 unheld_text unheld =
-    codes "inconsistent " ++ (end_text unheld.side ++ codes " " ++ kind_text unheld.kind) ++ codes " "
-    ++ (signed_decimal unheld.stored ++ codes " " ++ signed_decimal unheld.computed) ++ codes " " ++ position_text unheld.position
+    codes "inconsistent " ++ (end_text unheld.side ++ codes " " ++ kind_text unheld.kind)
+    ++ codes " "
+    ++ (signed_decimal unheld.stored ++ codes " " ++ signed_decimal unheld.computed) ++ codes " "
+    ++ position_text unheld.position

@@ -27,17 +27,25 @@ added draft (CheckersLine checkers) = record draft { checkers = checkers }
 added draft (StakesLine stakes) = record draft { stakes = stakes }
 added draft (GameLine number away) = record draft { away = away }
 added draft (Acted action) = record draft { actions = draft.actions ++ action ∷ [] }
-added draft (Ended winner points) = record draft { games = draft.games ++ ended_game draft (WasEnded winner points) ∷ []; actions = [] }
-added draft Stopped = record draft { games = draft.games ++ ended_game draft WasStopped ∷ []; actions = [] }
+added draft (Ended winner points) = record draft {
+  games = draft.games ++ ended_game draft (WasEnded winner points) ∷ [];
+  actions = [];
+}
+added draft Stopped = record draft {
+  games = draft.games ++ ended_game draft WasStopped ∷ [];
+  actions = [];
+}
 added draft Closed = draft
 
 -- the lines of all games that are over, and those before
 abbrev pub lines_between : Draft → List Line
-lines_between draft = TitleLine ∷ CheckersLine draft.checkers ∷ StakesLine draft.stakes ∷ games_lines 1 draft.games
+lines_between draft =
+    TitleLine ∷ CheckersLine draft.checkers ∷ StakesLine draft.stakes ∷ games_lines 1 draft.games
 
 -- and those of the game of this number, which isn't
 abbrev pub lines_within : ℕ → Draft → List Line
-lines_within number draft = lines_between draft ++ GameLine number draft.away ∷ map Acted draft.actions
+lines_within number draft =
+    lines_between draft ++ GameLine number draft.away ∷ map Acted draft.actions
 
 -- the lines that were read where this may come next, and so many games have begun
 abbrev pub lines_read : Next → ℕ → Draft → List Line
@@ -62,7 +70,8 @@ Counts Nothing games draft = Unit {0}
 Counts _ games draft = games ≡ length draft.games + 1
 
 -- a line was read and added
-pub record Takes (stage : Stage) (draft : Draft) (text : List ℕ) (new_stage : Stage) (new_draft : Draft) : Type 0 where
+pub record Takes (stage : Stage) (draft : Draft) (text : List ℕ) (new_stage : Stage)
+    (new_draft : Draft) : Type 0 where
   pub line : Line
   pub next : Next
   pub comes : after stage.in_match stage.next (kind_of line) ≡ Some next
@@ -80,7 +89,8 @@ abbrev pub record_of : Draft → Record
 record_of draft = record { checkers = draft.checkers; stakes = draft.stakes; games = draft.games }
 
 -- what has been read of a text, up to this line number and what is left
-pub record Reading (text : List ℕ) (stage : Stage) (draft : Draft) (number : ℕ) (rest : List ℕ) : Type 0 where
+pub record Reading (text : List ℕ) (stage : Stage) (draft : Draft) (number : ℕ)
+    (rest : List ℕ) : Type 0 where
   pub follow : Follow first_stage (lines_read stage.next stage.games draft) stage
   pub counts : Counts stage.next stage.games draft
   pub parts : text ≡ lines_text (lines_read stage.next stage.games draft) ++ rest

@@ -36,7 +36,8 @@ IsNoPlay text = (steps : List Step) → IsPlayText text steps → ⊥
 
 -- a line that is read from its form
 abbrev pub Says : Stage → Form → Line → Type 0
-Says stage form line = (form_text form ≡ line_text line) × (kind_of line ≡ kind_of_form form) × Fits stage line
+Says stage form line =
+    (form_text form ≡ line_text line) × (kind_of line ≡ kind_of_form form) × Fits stage line
 
 -- a line of this form may come here, and its words are wrong
 abbrev pub IsWrong : Stage → Form → RecordFault → Type 0
@@ -45,7 +46,8 @@ IsWrong stage (CheckersForm checkers) fault = (fault ≡ Rules) × IsNoNumber 3 
 IsWrong stage (StakesForm stakes) fault = (fault ≡ Rules) × IsNoStakes stakes
 IsWrong stage (MatchForm length) fault = (fault ≡ Rules) × IsNoNumber 5 length
 IsWrong stage (GameForm number) fault = (fault ≡ Number) × (number ≢ decimal (stage.games + 1))
-IsWrong stage (AwayForm number a b) fault = (fault ≡ Number) × ((number ≢ decimal (stage.games + 1)) ⊎ (IsNoNumber 5 a ⊎ IsNoNumber 5 b))
+IsWrong stage (AwayForm number a b) fault =
+    (fault ≡ Number) × ((number ≢ decimal (stage.games + 1)) ⊎ (IsNoNumber 5 a ⊎ IsNoNumber 5 b))
 IsWrong stage (RollForm player roll play) fault =
     ((fault ≡ Number) × IsNoRoll stage.next roll)
     ⊎ ((fault ≡ Play) × ((dice : Dice) × IsRollText stage.next roll dice) × IsNoPlay play)
@@ -59,16 +61,19 @@ IsWrong stage CloseForm fault = ⊥
 
 -- a line of this form can't come here, or its words are wrong
 abbrev pub IsFormFault : Stage → Form → RecordFault → Type 0
-IsFormFault stage form fault = MatchOption (after stage.in_match stage.next (kind_of_form form)) (fault ≡ Order) (λ next. IsWrong stage form fault)
+IsFormFault stage form fault = MatchOption (after stage.in_match stage.next (kind_of_form form))
+    (fault ≡ Order) (λ next. IsWrong stage form fault)
 
 -- the first thing that is wrong with this line
 abbrev pub IsLineFault : Stage → List ℕ → RecordFault → Type 0
-IsLineFault stage line fault = MatchOption (form_of line) (fault ≡ Shape) (λ form. IsFormFault stage form fault)
+IsLineFault stage line fault =
+    MatchOption (form_of line) (fault ≡ Shape) (λ form. IsFormFault stage form fault)
 
 -- the lines before are right, and this is wrong with what comes behind them: with a line, or with the end where no line ends
 abbrev pub IsWrongRest : Stage → List ℕ → RecordFault → Type 0
 IsWrongRest stage rest fault =
-    ((line : List ℕ) × (more : List ℕ) × (cut_at 10 rest ≡ Some (line, more)) × IsLineFault stage line fault)
+    ((line : List ℕ) × (more : List ℕ) × (cut_at 10 rest ≡ Some (line, more))
+    × IsLineFault stage line fault)
     ⊎ ((fault ≡ Unended) × (cut_at 10 rest ≡ None) × ((rest ≡ []) × (stage.next ≡ Nothing) → ⊥))
 
 -- the first thing that is wrong with a text
@@ -83,4 +88,5 @@ pub record IsFirstWrong (text : List ℕ) (bad : BadRecord) : Type 0 where
 
 -- what is wrong with a text that is no record's
 abbrev pub IsBad : List ℕ → BadRecord → Type 0
-IsBad text bad = ((is_too_long text ≢ false) × (bad ≡ record { line = 0; fault = TooLong })) ⊎ ((is_too_long text ≡ false) × IsFirstWrong text bad)
+IsBad text bad = ((is_too_long text ≢ false) × (bad ≡ record { line = 0; fault = TooLong }))
+    ⊎ ((is_too_long text ≡ false) × IsFirstWrong text bad)

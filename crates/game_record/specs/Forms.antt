@@ -64,7 +64,9 @@ is_word text = nat_lt 0 (length text) && not (list_any (λ byte. byte == 32) tex
 -- words with single spaces: none of them is empty, where the first is so far or isn't
 abbrev pub go_on_as_words : Bool → List ℕ → Bool
 go_on_as_words is_empty [] = not is_empty
-go_on_as_words is_empty (byte ∷ text) = if byte == 32 then not is_empty && go_on_as_words true text else go_on_as_words false text
+go_on_as_words is_empty (byte ∷ text) = if byte == 32
+    then not is_empty && go_on_as_words true text
+    else go_on_as_words false text
 
 abbrev pub are_words : List ℕ → Bool
 are_words text = go_on_as_words true text
@@ -74,19 +76,27 @@ begins_with_digit [] = false
 begins_with_digit (byte ∷ text) = nat_le 48 byte && nat_le byte 57
 
 abbrev pub player_of : List ℕ → Option Player
-player_of word = if same_text word (codes "A") then Some A else if same_text word (codes "B") then Some B else None
+player_of word = if same_text word (codes "A")
+    then Some A
+    else if same_text word (codes "B") then Some B else None
 
 abbrev pub stakes_form : List ℕ → Option (List ℕ × List ℕ) → Option Form
 stakes_form rest None = if is_word rest then Some (StakesForm rest) else None
-stakes_form rest (Some parts) = if same_text parts.0 (codes "match") && is_word parts.1 then Some (MatchForm parts.1) else None
+stakes_form rest (Some parts) = if same_text parts.0 (codes "match") && is_word parts.1
+    then Some (MatchForm parts.1)
+    else None
 
 abbrev pub needs_form : List ℕ → Option (List ℕ × List ℕ) → Option Form
 needs_form number None = None
-needs_form number (Some needs) = if is_word needs.0 && is_word needs.1 then Some (AwayForm number needs.0 needs.1) else None
+needs_form number (Some needs) = if is_word needs.0 && is_word needs.1
+    then Some (AwayForm number needs.0 needs.1)
+    else None
 
 abbrev pub away_form : List ℕ → Option (List ℕ × List ℕ) → Option Form
 away_form number None = None
-away_form number (Some parts) = if same_text parts.0 (codes "away") && is_word number then needs_form number (cut parts.1) else None
+away_form number (Some parts) = if same_text parts.0 (codes "away") && is_word number
+    then needs_form number (cut parts.1)
+    else None
 
 abbrev pub game_form : List ℕ → Option (List ℕ × List ℕ) → Option Form
 game_form rest None = if is_word rest then Some (GameForm rest) else None
@@ -102,7 +112,9 @@ end_form (Some parts) = winner_form parts.1 (player_of parts.0)
 
 abbrev pub roll_form : Player → Option (List ℕ × List ℕ) → Option Form
 roll_form player None = None
-roll_form player (Some parts) = if begins_with_digit parts.0 && are_words parts.1 then Some (RollForm player parts.0 parts.1) else None
+roll_form player (Some parts) = if begins_with_digit parts.0 && are_words parts.1
+    then Some (RollForm player parts.0 parts.1)
+    else None
 
 abbrev pub deed_form : List ℕ → Option Player → Option Form
 deed_form rest None = None
@@ -116,7 +128,8 @@ deed_form rest (Some player) =
 abbrev pub words_form : Option (List ℕ × List ℕ) → Option Form
 words_form None = None
 words_form (Some parts) =
-    if same_text parts.0 (codes "checkers") then (if is_word parts.1 then Some (CheckersForm parts.1) else None)
+    if same_text parts.0 (codes "checkers")
+    then (if is_word parts.1 then Some (CheckersForm parts.1) else None)
     else if same_text parts.0 (codes "stakes") then stakes_form parts.1 (cut parts.1)
     else if same_text parts.0 (codes "game") then game_form parts.1 (cut parts.1)
     else if same_text parts.0 (codes "end") then end_form (cut parts.1)

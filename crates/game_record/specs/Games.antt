@@ -21,7 +21,13 @@ use Rattle.game_record.specs.Turns.{other_player}
 
 -- the board is set up, and the cube is centred
 abbrev pub opening : ℕ → Progress
-opening checkers = record { position = start_placement checkers; cube = centred; opened = false; doubled = false; won = None }
+opening checkers = record {
+  position = start_placement checkers;
+  cube = centred;
+  opened = false;
+  doubled = false;
+  won = None;
+}
 
 -- a play or a pass has ended the game
 abbrev pub is_over : Progress → Bool
@@ -53,7 +59,8 @@ after_play stakes player end game = record {
   cube = game.cube;
   opened = true;
   doubled = false;
-  won = option_map (λ won. record { winner = player; points = counted stakes game.cube won }) (points end);
+  won = option_map (λ won. record { winner = player; points = counted stakes game.cube won })
+      (points end);
 }
 
 abbrev pub after_double : Progress → Progress
@@ -63,15 +70,18 @@ after_double game = record game { doubled = true }
 abbrev pub after_answer : Player → Answer → Progress → Progress
 after_answer player Take game = record game { cube = turned game.cube 1 player }
 after_answer player Beaver game = record game { cube = turned game.cube 2 player }
-after_answer player Pass game = record game { won = Some (record { winner = other_player player; points = 1 }) }
+after_answer player Pass game =
+    record game { won = Some (record { winner = other_player player; points = 1 }) }
 
 -- The right to double: the cube is centred or the player's own. In a match it isn't the Crawford game either, and he needs more points than
 -- the cube shows.
 abbrev pub has_right : RecordStakes → Standing → Player → Cube → Bool
 has_right Cubeless standing player cube = false
-has_right (Match length) standing player cube = not (is_crawford standing.phase) && is_free_to player cube.owner && nat_lt (shows cube) (needs standing player)
+has_right (Match length) standing player cube = not (is_crawford standing.phase)
+    && is_free_to player cube.owner && nat_lt (shows cube) (needs standing player)
 has_right _ standing player cube = is_free_to player cube.owner
 
 -- a player may double after the game's first play, once in a turn, where he has the right
 abbrev pub may_double : RecordStakes → Standing → Player → Progress → Bool
-may_double stakes standing player game = game.opened && not game.doubled && has_right stakes standing player game.cube
+may_double stakes standing player game =
+    game.opened && not game.doubled && has_right stakes standing player game.cube

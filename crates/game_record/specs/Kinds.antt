@@ -47,7 +47,8 @@ money_kind player (Some owner) = if same_player owner player then Mine else Thei
 -- the kind of state where it is this player's turn
 abbrev pub kind_of_turn : RecordStakes → Standing → Player → Cube → KindName
 kind_of_turn Cubeless standing player cube = Alone
-kind_of_turn (Match length) standing player cube = InMatch (side_of standing player) (shows cube) (option_map (side_of standing) cube.owner)
+kind_of_turn (Match length) standing player cube =
+    InMatch (side_of standing player) (shows cube) (option_map (side_of standing) cube.owner)
 kind_of_turn _ standing player cube = money_kind player cube.owner
 
 -- the number of a kind, by its place among those of the stakes

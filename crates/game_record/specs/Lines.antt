@@ -75,7 +75,8 @@ ending_line WasStopped = Stopped
 
 -- a game's lines, where it has this number
 abbrev pub game_lines : ℕ → Game → List Line
-game_lines number game = GameLine number game.away ∷ map Acted game.actions ++ ending_line game.ending ∷ []
+game_lines number game =
+    GameLine number game.away ∷ map Acted game.actions ++ ending_line game.ending ∷ []
 
 -- the lines of games that are counted from this number
 abbrev pub games_lines : ℕ → List Game → List Line
@@ -83,7 +84,8 @@ games_lines number [] = []
 games_lines number (game ∷ games) = game_lines number game ++ games_lines (number + 1) games
 
 abbrev pub record_lines : Record → List Line
-record_lines rec = Title ∷ Checkers rec.checkers ∷ Stakes rec.stakes ∷ games_lines 1 rec.games ++ Closed ∷ []
+record_lines rec =
+    Title ∷ Checkers rec.checkers ∷ Stakes rec.stakes ∷ games_lines 1 rec.games ++ Closed ∷ []
 
 abbrev pub record_text : Record → List ℕ
 record_text rec = lines_text (record_lines rec)
@@ -103,7 +105,8 @@ MayCome next roll = Unit {0}
 
 -- a roll, and at most four steps, of which none hits off the board
 abbrev pub IsWrittenPlay : What → Type 0
-IsWrittenPlay (Rolled roll written) = All HitsPoint written.items × (length written.items ≤ 4) × IsRoll roll
+IsWrittenPlay (Rolled roll written) =
+    All HitsPoint written.items × (length written.items ≤ 4) × IsRoll roll
 IsWrittenPlay _ = Unit {0}
 
 abbrev pub FitsNext : Next → What → Type 0
@@ -114,7 +117,8 @@ FitsNext next _ = Unit {0}
 abbrev pub Fits : Stage → Line → Type 0
 Fits stage (Checkers checkers) = UpTo 3 checkers
 Fits stage (Stakes stakes) = AreStakes stakes
-Fits stage (GameLine number away) = (number ≡ stage.games + 1) × MatchOption away (Unit {0}) (λ needs. UpTo 5 needs.0 × UpTo 5 needs.1)
+Fits stage (GameLine number away) = (number ≡ stage.games + 1)
+    × MatchOption away (Unit {0}) (λ needs. UpTo 5 needs.0 × UpTo 5 needs.1)
 Fits stage (Acted action) = FitsNext stage.next action.what × IsWrittenPlay action.what
 Fits stage (Ended winner points) = UpTo 3 points
 Fits stage _ = Unit {0}
@@ -122,7 +126,9 @@ Fits stage _ = Unit {0}
 -- each of these lines may come where it stands, and they lead from one stage to another
 abbrev pub Follow : Stage → List Line → Stage → Type 0
 Follow stage [] end = end ≡ stage
-Follow stage (line ∷ lines) end = (next : Next) × (after stage.in_match stage.next (kind_of line) ≡ Some next) × Fits stage line × Follow (stage_after stage line next) lines end
+Follow stage (line ∷ lines) end = (next : Next)
+    × (after stage.in_match stage.next (kind_of line) ≡ Some next) × Fits stage line
+    × Follow (stage_after stage line next) lines end
 
 abbrev pub is_line_end : ℕ → Bool
 is_line_end byte = byte == 10

@@ -22,11 +22,13 @@ IfMatch _ fact = Unit {0}
 
 -- in a match, of one to five points, the score is one of it
 abbrev pub HasScore : RecordStakes → Standing → Type 0
-HasScore stakes standing = IfMatch stakes (λ length. (1 ≤ length) × (length ≤ 5) × IsOfMatch length (score_of standing))
+HasScore stakes standing =
+    IfMatch stakes (λ length. (1 ≤ length) × (length ≤ 5) × IsOfMatch length (score_of standing))
 
 -- what some lines say fits where they stand
 abbrev pub FitsMoment : Moment → Line → Type 0
-FitsMoment now (GameLine number away) = (number ≡ now.game + 1) × (away ≡ game_needs now.stakes now.standing → HasScore now.stakes now.standing)
+FitsMoment now (GameLine number away) = (number ≡ now.game + 1)
+    × (away ≡ game_needs now.stakes now.standing → HasScore now.stakes now.standing)
 FitsMoment now (Acted action) = HasScore now.stakes now.standing
 FitsMoment now (Ended winner points) = points ≤ 3
 FitsMoment now _ = Unit {0}
@@ -36,7 +38,9 @@ pub record IsReady (now : Moment) (line : Line) : Type 0 where
   pub checkers_from : 1 ≤ now.checkers
   pub checkers_to : now.checkers ≤ 3
   pub standing : IsInRange now.standing
-  pub kinds : (player : Player) → Contains (names_of (game_stakes now.stakes now.standing)) (kind_of_turn now.stakes now.standing player now.progress.cube)
+  pub kinds : (player : Player)
+      → Contains (names_of (game_stakes now.stakes now.standing))
+      (kind_of_turn now.stakes now.standing player now.progress.cube)
   pub few_turns : IfMatch now.stakes (λ length. now.progress.cube.turns ≤ 3)
   pub turns : now.progress.cube.turns ≤ 2 * now.line
   pub lines : now.line ≤ 65536
@@ -48,9 +52,11 @@ pub record CanTell (now : Moment) (name : StakesName) : Type 0 where
   pub named : name ≡ game_stakes now.stakes now.standing
   pub score : HasScore now.stakes now.standing
   pub few_turns : IfMatch now.stakes (λ length. now.progress.cube.turns ≤ 3)
-  pub kinds : (player : Player) → Contains (names_of name) (kind_of_turn now.stakes now.standing player now.progress.cube)
+  pub kinds : (player : Player)
+      → Contains (names_of name) (kind_of_turn now.stakes now.standing player now.progress.cube)
 
 -- each of these lines is ready where those before it are by the rules
 abbrev pub AreReady : Moment → List Line → Type 0
 AreReady now [] = Unit {0}
-AreReady now (line ∷ lines) = IsReady now line × ((here : List Decision) (next : Moment) → Tells now line here next → AreReady next lines)
+AreReady now (line ∷ lines) = IsReady now line
+    × ((here : List Decision) (next : Moment) → Tells now line here next → AreReady next lines)

@@ -55,7 +55,8 @@ decided now on_turn player choice = record {
   player = player;
   score = game_score now.stakes now.standing;
   position = now.progress.position;
-  kind = kind_number (game_stakes now.stakes now.standing) (kind_of_turn now.stakes now.standing on_turn now.progress.cube);
+  kind = kind_number (game_stakes now.stakes now.standing)
+      (kind_of_turn now.stakes now.standing on_turn now.progress.cube);
   choice = choice;
 }
 
@@ -64,13 +65,16 @@ may_double_now now player = may_double now.stakes now.standing player now.progre
 
 -- who rolls where he might have doubled has chosen not to
 abbrev pub undoubled : Moment → Player → List Decision
-undoubled now player = if may_double_now now player then decided now player player (Offered NoDouble) ∷ [] else []
+undoubled now player = if may_double_now now player
+    then decided now player player (Offered NoDouble) ∷ []
+    else []
 
 -- ---- right lines
 
 -- what a play leaves that is written for the roll and legal, seen by the same player
 abbrev pub Leaves : Placement → Dice → List Step → Placement → Type 0
-Leaves position roll steps end = (moves : List Move) × IsWritten position (dice_of roll) steps moves end × IsLegal position roll moves end
+Leaves position roll steps end = (moves : List Move)
+    × IsWritten position (dice_of roll) steps moves end × IsLegal position roll moves end
 
 -- the game goes on in the next line
 abbrev pub goes_on : Moment → Progress → Moment
@@ -78,7 +82,8 @@ goes_on now progress = record now { line = now.line + 1; progress = progress }
 
 abbrev pub Answers : Moment → Player → Answer → List Decision → Moment → Type 0
 Answers now player answer told next =
-    (told ≡ decided now (other_player player) player (Answered answer) ∷ []) × (next ≡ goes_on now (after_answer player answer now.progress))
+    (told ≡ decided now (other_player player) player (Answered answer) ∷ [])
+    × (next ≡ goes_on now (after_answer player answer now.progress))
 
 -- what a player did is by the rules, tells these decisions and leads to this moment
 abbrev pub Acts : Moment → Player → What → List Decision → Moment → Type 0
@@ -94,11 +99,13 @@ Acts now player Doubled told next =
     × (next ≡ goes_on now (after_double now.progress))
 Acts now player Took told next = Answers now player Take told next
 Acts now player Passed told next = Answers now player Pass told next
-Acts now player Beavered told next = (has_beavers now.stakes ≡ true) × Answers now player Beaver told next
+Acts now player Beavered told next =
+    (has_beavers now.stakes ≡ true) × Answers now player Beaver told next
 
 -- in a match a win counts as often as the cube shows
 abbrev pub standing_after : Moment → Player → ℕ → RecordStakes → Standing
-standing_after now winner points (Match length) = after_win now.standing winner (points * shows now.progress.cube)
+standing_after now winner points (Match length) =
+    after_win now.standing winner (points * shows now.progress.cube)
 standing_after now winner points _ = now.standing
 
 -- the match goes on, and the board is set up again
@@ -112,11 +119,14 @@ after_game now winner points = record now {
 -- A line is by the rules, tells these decisions and leads to this moment. A match that is over has no next game: no line says that a player
 -- needs 0.
 abbrev pub Tells : Moment → Line → List Decision → Moment → Type 0
-Tells now (GameLine number away) told next = (away ≡ game_needs now.stakes now.standing) × (told ≡ []) × (next ≡ record now { game = number; line = now.line + 1 })
+Tells now (GameLine number away) told next = (away ≡ game_needs now.stakes now.standing)
+    × (told ≡ []) × (next ≡ record now { game = number; line = now.line + 1 })
 Tells now (Acted action) told next = Acts now action.player action.what told next
 Tells now (Ended winner points) told next =
-    (now.progress.won ≡ Some (record { winner = winner; points = points })) × (told ≡ []) × (next ≡ after_game now winner points)
-Tells now Stopped told next = (is_over now.progress ≡ false) × (told ≡ []) × (next ≡ goes_on now now.progress)
+    (now.progress.won ≡ Some (record { winner = winner; points = points })) × (told ≡ [])
+    × (next ≡ after_game now winner points)
+Tells now Stopped told next =
+    (is_over now.progress ≡ false) × (told ≡ []) × (next ≡ goes_on now now.progress)
 Tells now _ told next = (told ≡ []) × (next ≡ goes_on now now.progress)
 
 -- lines that are by the rules, one after another
@@ -140,7 +150,8 @@ IsReplay rec told = (end : Moment) × AllTell (first_moment rec) (games_lines 1 
 abbrev pub IsWrongAct : Moment → Player → What → RecordFault → Type 0
 IsWrongAct now player (Rolled roll written) fault =
     ((is_over now.progress ≡ true) × (fault ≡ ScoreWrong))
-    ⊎ ((is_over now.progress ≡ false) × (bad : BadPlay) × IsWrittenFault now.progress.position roll written.items bad × (fault ≡ IllegalPlay bad))
+    ⊎ ((is_over now.progress ≡ false) × (bad : BadPlay)
+    × IsWrittenFault now.progress.position roll written.items bad × (fault ≡ IllegalPlay bad))
 IsWrongAct now player Doubled fault =
     ((is_over now.progress ≡ true) × (fault ≡ ScoreWrong))
     ⊎ ((is_over now.progress ≡ false) × (may_double_now now player ≡ false) × (fault ≡ IllegalCube))
@@ -150,9 +161,11 @@ IsWrongAct now player Beavered fault = (has_beavers now.stakes ≡ false) × (fa
 
 -- the line breaks a rule
 abbrev pub IsWrongLine : Moment → Line → RecordFault → Type 0
-IsWrongLine now (GameLine number away) fault = (away ≢ game_needs now.stakes now.standing) × (fault ≡ ScoreWrong)
+IsWrongLine now (GameLine number away) fault =
+    (away ≢ game_needs now.stakes now.standing) × (fault ≡ ScoreWrong)
 IsWrongLine now (Acted action) fault = IsWrongAct now action.player action.what fault
-IsWrongLine now (Ended winner points) fault = (now.progress.won ≢ Some (record { winner = winner; points = points })) × (fault ≡ ScoreWrong)
+IsWrongLine now (Ended winner points) fault =
+    (now.progress.won ≢ Some (record { winner = winner; points = points })) × (fault ≡ ScoreWrong)
 IsWrongLine now Stopped fault = (is_over now.progress ≡ true) × (fault ≡ ScoreWrong)
 IsWrongLine now _ fault = ⊥
 
@@ -161,7 +174,8 @@ abbrev pub BreaksAt : Moment → List Line → BadRecord → Type 0
 BreaksAt now [] bad = ⊥
 BreaksAt now (line ∷ lines) bad =
     ((bad.line ≡ now.line) × IsWrongLine now line bad.fault)
-    ⊎ ((here : List Decision) × (next : Moment) × Tells now line here next × BreaksAt next lines bad)
+    ⊎ ((here : List Decision) × (next : Moment) × Tells now line here next
+    × BreaksAt next lines bad)
 
 -- the first line of a record that breaks a rule
 abbrev pub IsBroken : Record → BadRecord → Type 0

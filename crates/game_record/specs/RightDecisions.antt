@@ -57,5 +57,9 @@ pub record IsRightDecision (rec : Record) (decision : Decision) : Type 0 where
   pub live : IsLive decision.position
   pub checkers : sum decision.position.mover ≡ rec.checkers
   pub score : IsScoreIn rec.stakes decision.score
-  pub kind : (starts : StartPairs) → decision.kind < length (terms_for (stakes_at rec.stakes decision.score) starts).kinds
-  pub choice : (starts : StartPairs) → IsRightChoice decision.position (kind_at (terms_for (stakes_at rec.stakes decision.score) starts) decision.kind) decision.choice
+  pub kind : (starts : StartPairs)
+      → decision.kind < length (terms_for (stakes_at rec.stakes decision.score) starts).kinds
+  pub choice : (starts : StartPairs)
+      → IsRightChoice decision.position
+      (kind_at (terms_for (stakes_at rec.stakes decision.score) starts) decision.kind)
+      decision.choice

@@ -20,7 +20,11 @@ needing a b phase = record { a = a; b = b; phase = phase }
 -- As the first game begins, both need the length of the match. In a match of one point no game is the Crawford game. For money nothing is
 -- needed.
 abbrev pub first_standing : RecordStakes → Standing
-first_standing (Match points) = record { a = points; b = points; phase = if points == 1 then Post else Normal }
+first_standing (Match points) = record {
+  a = points;
+  b = points;
+  phase = if points == 1 then Post else Normal;
+}
 first_standing _ = record { a = 0; b = 0; phase = Normal }
 
 -- how many points a player still needs
@@ -29,7 +33,11 @@ needs standing A = standing.a
 needs standing B = standing.b
 
 abbrev pub score_of : Standing → MatchScore
-score_of standing = record { near = min standing.a standing.b; far = max standing.a standing.b; phase = standing.phase }
+score_of standing = record {
+  near = min standing.a standing.b;
+  far = max standing.a standing.b;
+  phase = standing.phase;
+}
 
 -- A is near where A needs at most what B needs
 abbrev pub near_player : Standing → Player
@@ -40,8 +48,16 @@ side_of standing player = if same_player player (near_player standing) then Near
 
 -- after a player has won so many points: what he needs falls by them, and the phase follows from what is needed
 abbrev pub after_win : Standing → Player → ℕ → Standing
-after_win standing A won = record { a = standing.a - won; b = standing.b; phase = next_phase standing.phase (standing.a - won) standing.b }
-after_win standing B won = record { a = standing.a; b = standing.b - won; phase = next_phase standing.phase standing.a (standing.b - won) }
+after_win standing A won = record {
+  a = standing.a - won;
+  b = standing.b;
+  phase = next_phase standing.phase (standing.a - won) standing.b;
+}
+after_win standing B won = record {
+  a = standing.a;
+  b = standing.b - won;
+  phase = next_phase standing.phase standing.a (standing.b - won);
+}
 
 -- nobody needs more than five points
 abbrev pub IsInRange : Standing → Type 0

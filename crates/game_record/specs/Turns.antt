@@ -86,8 +86,14 @@ is_match _ = false
 
 -- how far a record has come with a line, after which this may come
 abbrev pub stage_after : Stage → Line → Next → Stage
-stage_after stage (StakesLine stakes) next = record stage { next = next; in_match = is_match stakes }
-stage_after stage (GameLine number away) next = record stage { next = next; games = stage.games + 1 }
+stage_after stage (StakesLine stakes) next = record stage {
+  next = next;
+  in_match = is_match stakes;
+}
+stage_after stage (GameLine number away) next = record stage {
+  next = next;
+  games = stage.games + 1;
+}
 stage_after stage line next = record stage { next = next }
 
 -- before the first line

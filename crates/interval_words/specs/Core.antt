@@ -19,11 +19,14 @@ words_in game = 2 * states_in game.checkers (kinds_of game)
 -- what notes tell of each word: the tightest note of it, or else only the bound
 abbrev pub noted : Game → List Note → Words
 noted game [] end p k = bound_words game.stakes end p k
-noted game (note ∷ notes) end p k = if note.word == word_of end (state_of (kinds_of game) p k) then tightest end note.value (noted game notes end p k) else noted game notes end p k
+noted game (note ∷ notes) end p k = if note.word == word_of end (state_of (kinds_of game) p k)
+    then tightest end note.value (noted game notes end p k)
+    else noted game notes end p k
 
 -- what a view tells of each word: its note, or the word after the rounds of its base where that is tighter
 abbrev pub known : Game → View → Words
-known game view end p k = tightest end (noted game view.notes end p k) (rounds game.stakes view.base end p k)
+known game view end p k =
+    tightest end (noted game view.notes end p k) (rounds game.stakes view.base end p k)
 
 -- words that are no tighter than those after some number of rounds
 abbrev pub AreReached : Game → Words → Type 0
@@ -32,7 +35,8 @@ AreReached game u = (r : ℕ) × AreNoLooser game (rounds game.stakes r) u
 -- each word is within the bound
 abbrev pub AreInBound : Game → Words → Type 0
 AreInBound game u =
-    (end : End) (p : Placement) (k : ℕ) → IsState game p k → IsWithinUnits game.stakes.bound (u end p k)
+    (end : End) (p : Placement) (k : ℕ) → IsState game p k
+    → IsWithinUnits game.stakes.bound (u end p k)
 
 -- a view over words: the game that it names is theirs, no note is tighter than its word, and the words are at least as tight as those after
 -- the rounds of its base
@@ -73,7 +77,8 @@ first_view game = record { game = Some game; base = 0; notes = [] }
 
 -- a view with one note more
 abbrev pub with_note : View → ℕ → ℤ → View
-with_note view word value = record view { notes = record { word = word; value = value } ∷ view.notes }
+with_note view word value =
+    record view { notes = record { word = word; value = value } ∷ view.notes }
 
 -- a view after one round more, whose notes are dropped
 abbrev pub settled : View → View
@@ -81,7 +86,10 @@ settled view = record view { base = view.base + 1; notes = [] }
 
 -- the notes of two views, and the larger base
 abbrev pub joined : View → View → View
-joined view other = record view { base = max view.base other.base; notes = view.notes ++ other.notes }
+joined view other = record view {
+  base = max view.base other.base;
+  notes = view.notes ++ other.notes;
+}
 
 -- what is left of a view that another took in
 abbrev pub spent : View

@@ -31,7 +31,8 @@ abbrev pub IsAlive : Core → ℕ → Type 0
 IsAlive core id = (view_at core id).game ≡ Some core.game
 
 -- a value for this end of a state is within the bound, and no tighter than the turn over what the notes tell
-pub record IsLoose (game : Game) (view : View) (end : End) (p : Placement) (k : ℕ) (value : ℤ) : Type 0 where
+pub record IsLoose (game : Game) (view : View) (end : End) (p : Placement) (k : ℕ)
+    (value : ℤ) : Type 0 where
   pub state : IsState game p k
   pub within : IsWithinUnits game.stakes.bound value
   pub loose : IsNoLooser end (turn game.stakes (noted game view.notes) end p k) value
@@ -72,7 +73,8 @@ abbrev pub after : Core → Event → Core
 after core opens = with_new_view core (first_view core.game)
 after core (reads id end p k) =
     with_view core id
-    (with_note (view_at core id) (word_of end (state_of (kinds_of core.game) p k)) (words_in_core core end p k))
+    (with_note (view_at core id) (word_of end (state_of (kinds_of core.game) p k))
+    (words_in_core core end p k))
 after core (raises id p k word) = tightened core id Lower p k word
 after core (lowers id p k word) = tightened core id Upper p k word
 after core (settles id) = with_view core id (settled (view_at core id))

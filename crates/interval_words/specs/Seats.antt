@@ -55,7 +55,8 @@ pub record KeepsNotes (old new : GameSeat) : Type 0 where
       → AreNoLooser game (noted game new.view.notes) (noted game old.view.notes)
 
 -- a value was brought to a word of a state: the seat keeps its notes, and knows the word to be at least as tight as the value
-pub record Brings (end : End) (game : Game) (state : ℕ) (value : ℤ) (old new : GameSeat) : Type 0 where
+pub record Brings (end : End) (game : Game) (state : ℕ) (value : ℤ)
+    (old new : GameSeat) : Type 0 where
   pub keeps : KeepsNotes old new
   pub told :
       (p : Placement) (k : ℕ) → state ≡ state_of (kinds_of game) p k

@@ -48,7 +48,8 @@ pub record AreRight (words : WordList) : Type 0 where
 -- no state's pair is wider, and some state's is as wide
 pub record IsWidest (words : WordList) (widest : ℤ) : Type 0 where
   pub each : (state : ℕ) → state < states_of words.game → width (pair_at words.list state) ≤ℤ widest
-  pub reached : (state : ℕ) × (state < states_of words.game) × (widest ≡ width (pair_at words.list state))
+  pub reached : (state : ℕ) × (state < states_of words.game)
+      × (widest ≡ width (pair_at words.list state))
 
 -- the words are sound, consistent, and at least as tight as those after so many rounds
 pub record AreClosed (words : WordList) : Type 0 where

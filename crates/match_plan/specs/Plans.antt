@@ -28,17 +28,20 @@ centred Far = 1
 
 -- the other side may turn the centred cube to 2
 abbrev pub can_be_doubled : MatchScore → Side → Bool
-can_be_doubled score side = may_double score (record { mover = other_side side; cube = 1; owner = None })
+can_be_doubled score side =
+    may_double score (record { mover = other_side side; cube = 1; owner = None })
 
 -- the take point of a side that is doubled from 1 to 2: a pass loses one point, and after a take two are lost or won
 abbrev pub take_point_at : StartPairs → MatchScore → Side → Option Millionths
 take_point_at starts score side =
-    take_point (value_of_loss starts score side 2) (value_of_loss starts score side 1) (value_of_win starts score side 2)
+    take_point (value_of_loss starts score side 2) (value_of_loss starts score side 1)
+    (value_of_win starts score side 2)
 
 -- the gammon price of a side with the cube at 1: a gammon wins two points, a single win one, and a loss loses one
 abbrev pub gammon_price_at : StartPairs → MatchScore → Side → Option Millionths
 gammon_price_at starts score side =
-    gammon_price (value_of_loss starts score side 1) (value_of_win starts score side 1) (value_of_win starts score side 2)
+    gammon_price (value_of_loss starts score side 1) (value_of_win starts score side 1)
+    (value_of_win starts score side 2)
 
 -- ---- the text
 
@@ -49,23 +52,28 @@ found_text None = codes "open"
 
 -- a take point, where the side can be doubled
 abbrev pub take_text : StartPairs → MatchScore → Side → List ℕ
-take_text starts score side = if can_be_doubled score side then found_text (take_point_at starts score side) else codes "none"
+take_text starts score side = if can_be_doubled score side
+    then found_text (take_point_at starts score side)
+    else codes "none"
 
 -- what a side has at a score
 abbrev pub side_line : StartPairs → MatchScore → Side → List ℕ
 side_line starts score side =
-    score_text score ++ codes " " ++ side_text side ++ codes " take " ++ take_text starts score side ++ codes " price "
+    score_text score ++ codes " " ++ side_text side ++ codes " take " ++ take_text starts score side
+    ++ codes " price "
     ++ found_text (gammon_price_at starts score side) ++ codes "\n"
 
 -- what the near side has of a game at a score, in matches, the lower end rounded down and the upper end up
 abbrev pub start_line : MatchScore → Bounds → List ℕ
 start_line score start =
-    score_text score ++ codes " start " ++ millionths_text (millionths_down start.lower) ++ codes " " ++ millionths_text (millionths_up start.upper)
+    score_text score ++ codes " start " ++ millionths_text (millionths_down start.lower)
+    ++ codes " " ++ millionths_text (millionths_up start.upper)
     ++ codes "\n"
 
 -- the three lines of a score
 abbrev pub score_lines : StartPairs → MatchScore → List ℕ
-score_lines starts score = start_line score (start_pair starts score) ++ side_line starts score Near ++ side_line starts score Far
+score_lines starts score = start_line score (start_pair starts score) ++ side_line starts score Near
+    ++ side_line starts score Far
 
 -- the plan of a match, score by score in the order of its ladder
 abbrev pub plan_text : StartPairs → List ℕ

@@ -18,7 +18,8 @@ pub record IsTakePointKnown (lose pass win : Bounds) : Type 0 where
   pub apart : lose.upper <ℤ win.lower
 
 abbrev pub is_take_point_known : Bounds → Bounds → Bounds → Bool
-is_take_point_known lose pass win = int_le lose.upper pass.lower && int_le pass.upper win.lower && int_lt lose.upper win.lower
+is_take_point_known lose pass win =
+    int_le lose.upper pass.lower && int_le pass.upper win.lower && int_lt lose.upper win.lower
 
 -- Of (pass - lose) / (win - lose), the least is where the pass is worth least and the others most, the greatest the other way round.
 abbrev pub take_bounds : Bounds → Bounds → Bounds → Millionths
@@ -28,7 +29,9 @@ take_bounds lose pass win = record {
 }
 
 abbrev pub take_point : Bounds → Bounds → Bounds → Option Millionths
-take_point lose pass win = if is_take_point_known lose pass win then Some (take_bounds lose pass win) else None
+take_point lose pass win = if is_take_point_known lose pass win
+    then Some (take_bounds lose pass win)
+    else None
 
 -- ---- gammon prices
 
@@ -49,7 +52,9 @@ price_bounds lose win gammon = record {
 }
 
 abbrev pub gammon_price : Bounds → Bounds → Bounds → Option Millionths
-gammon_price lose win gammon = if is_gammon_price_known lose win gammon then Some (price_bounds lose win gammon) else None
+gammon_price lose win gammon = if is_gammon_price_known lose win gammon
+    then Some (price_bounds lose win gammon)
+    else None
 
 -- ---- what both are of
 
@@ -61,11 +66,13 @@ pub record LiesInside (scale : ℕ) (pair : Bounds) (value : ℤ) : Type 0 where
 -- whichever values inside the bounds they are, these millionths enclose their take point
 abbrev pub EnclosesTakePoints : Bounds → Bounds → Bounds → Millionths → Type 0
 EnclosesTakePoints lose pass win found =
-    (scale : ℕ) (l p w : ℤ) → 0 < scale → LiesInside scale lose l → LiesInside scale pass p → LiesInside scale win w
+    (scale : ℕ) (l p w : ℤ) → 0 < scale → LiesInside scale lose l → LiesInside scale pass p
+    → LiesInside scale win w
     → IsShare found (p -ℤ l) (w -ℤ l)
 
 -- and these their gammon price
 abbrev pub EnclosesGammonPrices : Bounds → Bounds → Bounds → Millionths → Type 0
 EnclosesGammonPrices lose win gammon found =
-    (scale : ℕ) (l w g : ℤ) → 0 < scale → LiesInside scale lose l → LiesInside scale win w → LiesInside scale gammon g
+    (scale : ℕ) (l w g : ℤ) → 0 < scale → LiesInside scale lose l → LiesInside scale win w
+    → LiesInside scale gammon g
     → IsShare found (g -ℤ w) (w -ℤ l)

@@ -37,7 +37,8 @@ EitherRose old new = Rose old.write_faults new.write_faults ⊎ Rose old.put_fau
 
 -- the score is kept too, with the start pair of these words of its game, and the keeper hasn't failed
 pub record KeptOneMore (score : MatchScore) (words : WordList) (old new : Keeper) : Type 0 where
-  pub one_more : new.starts ≡ with_pair old.starts (start_over words.game.checkers (words_in_list words) score)
+  pub one_more : new.starts
+      ≡ with_pair old.starts (start_over words.game.checkers (words_in_list words) score)
   pub goes_on : new.failed ≡ old.failed
 
 -- the score isn't kept, the keeper has failed, and one of the counts rose
@@ -47,7 +48,8 @@ pub record HasFailed (old new : Keeper) : Type 0 where
   pub cause : EitherRose old new
 
 -- a score was handed to a keeper, with words of its game
-pub record Keeps {E : Type 0} (score : MatchScore) (words : WordList) (old new : Keeper) (result : Result Unit E) : Type 0 where
+pub record Keeps {E : Type 0} (score : MatchScore) (words : WordList) (old new : Keeper)
+    (result : Result Unit E) : Type 0 where
   pub same : IsForSame old new
   pub counts : CountsOn old new
   pub ok : OnOk result (KeptOneMore score words old new)
@@ -55,13 +57,15 @@ pub record Keeps {E : Type 0} (score : MatchScore) (words : WordList) (old new :
 
 -- A score may be handed to a keeper that hasn't failed: the next one of its ladder, with the start pairs of all scores before it, and with words of
 -- its game for these, closed after the rounds that the keeper is for. What is told of the ladder is true of the scores before it.
-pub record MayKeep (keeper : Keeper) (score : MatchScore) (starts : StartPairs) (words : WordList) : Type 0 where
+pub record MayKeep (keeper : Keeper) (score : MatchScore) (starts : StartPairs)
+    (words : WordList) : Type 0 where
   pub works : keeper.failed ≡ false
   pub before : starts ≡ keeper.starts
   pub more : length starts.pairs < length (ladder starts.match_length)
   pub is_next : score ≡ score_at starts.match_length (length starts.pairs)
   pub closed : AreWordsOf keeper.checkers keeper.rounds score starts words
-  pub earlier : (words_before : ℕ → WordList) × IsLadder keeper.checkers keeper.rounds starts words_before
+  pub earlier : (words_before : ℕ → WordList)
+      × IsLadder keeper.checkers keeper.rounds starts words_before
 
 -- a keeper for a ladder of so many checkers, points and rounds
 pub record IsKeeperFor (checkers match_length r : ℕ) (keeper : Keeper) : Type 0 where

@@ -44,48 +44,59 @@ game_at checkers score starts = game_of checkers (terms_of score starts)
 -- in each state of each score a game that is cut off is worth at most the match, to either side
 pub record AreEndScores (checkers turns : ℕ) (ends : EndScores) : Type 0 where
   pub within :
-      (score : MatchScore) → IsScore score → (p : Placement) (k : ℕ) → IsStateOf checkers (length (match_kinds score)) p k
+      (score : MatchScore) → IsScore score → (p : Placement) (k : ℕ)
+      → IsStateOf checkers (length (match_kinds score)) p k
       → IsWithinUnits (pos (scale_of turns (points_left score))) (ends score p k)
 
 -- the start pair at a place encloses the start of its score, in the match whose games have so many turns and these end scores
 abbrev pub EnclosesStart : ℕ → ℕ → EndScores → StartPairs → ℕ → Type 0
 EnclosesStart checkers turns ends starts place =
     let score = score_at starts.match_length place in
-    Encloses (pair_at starts place) (match_start checkers turns ends score) (start_scale turns score)
+    Encloses (pair_at starts place) (match_start checkers turns ends score)
+    (start_scale turns score)
 
 -- each start pair that is held encloses the start of its score
 abbrev pub EncloseStarts : ℕ → ℕ → EndScores → StartPairs → Type 0
-EncloseStarts checkers turns ends starts = (place : ℕ) → place < length starts.pairs → EnclosesStart checkers turns ends starts place
+EncloseStarts checkers turns ends starts =
+    (place : ℕ) → place < length starts.pairs → EnclosesStart checkers turns ends starts place
 
 -- the words of the score at a place enclose its game with the exact payoffs of the match
 abbrev pub EnclosesGame : ℕ → ℕ → EndScores → StartPairs → ℕ → WordList → Type 0
 EnclosesGame checkers turns ends starts place words =
-    AreEnclosing words.game (match_scoring checkers turns ends (score_at starts.match_length place)) turns (words_in_list words)
+    AreEnclosing words.game (match_scoring checkers turns ends (score_at starts.match_length place))
+    turns (words_in_list words)
 
 -- ---- how it is solved
 
 -- these are words of the game at a score, closed after so many rounds
-pub record AreWordsOf (checkers r : ℕ) (score : MatchScore) (starts : StartPairs) (words : WordList) : Type 0 where
+pub record AreWordsOf (checkers r : ℕ) (score : MatchScore) (starts : StartPairs)
+    (words : WordList) : Type 0 where
   pub game : words.game ≡ game_at checkers score starts
   pub valid : IsGame words.game
   pub rounds : words.rounds ≡ r
   pub closed : AreClosed words
 
 -- the start pair at a place is that of these words of its score
-pub record IsSolvedAt (checkers r : ℕ) (starts : StartPairs) (place : ℕ) (words : WordList) : Type 0 where
-  pub closed : AreWordsOf checkers r (score_at starts.match_length place) (starts_till starts place) words
-  pub start : pair_at starts place ≡ start_over checkers (words_in_list words) (score_at starts.match_length place)
+pub record IsSolvedAt (checkers r : ℕ) (starts : StartPairs) (place : ℕ)
+    (words : WordList) : Type 0 where
+  pub closed : AreWordsOf checkers r (score_at starts.match_length place) (starts_till starts place)
+      words
+  pub start : pair_at starts place
+      ≡ start_over checkers (words_in_list words) (score_at starts.match_length place)
 
 -- each start pair that is held is that of words of its score
 abbrev pub IsSolved : ℕ → ℕ → StartPairs → (ℕ → WordList) → Type 0
-IsSolved checkers r starts words = (place : ℕ) → place < length starts.pairs → IsSolvedAt checkers r starts place (words place)
+IsSolved checkers r starts words =
+    (place : ℕ) → place < length starts.pairs → IsSolvedAt checkers r starts place (words place)
 
 -- From so many turns on, one number for the whole ladder, and for all end scores, the words of each score enclose its game, and each start
 -- pair encloses the start of its score.
 abbrev pub IsTrueFrom : ℕ → ℕ → StartPairs → (ℕ → WordList) → Type 0
 IsTrueFrom enough checkers starts words =
-    (turns : ℕ) → enough ≤ turns → (ends : EndScores) → AreEndScores checkers turns ends → (place : ℕ) → place < length starts.pairs
-    → EnclosesGame checkers turns ends starts place (words place) × EnclosesStart checkers turns ends starts place
+    (turns : ℕ) → enough ≤ turns → (ends : EndScores) → AreEndScores checkers turns ends
+    → (place : ℕ) → place < length starts.pairs
+    → EnclosesGame checkers turns ends starts place (words place)
+    × EnclosesStart checkers turns ends starts place
 
 -- ---- how tight it is
 
@@ -99,14 +110,18 @@ plain_starts checkers r match_length (suc place) =
     with_pair before (start_over checkers (rounds (terms_of score before) r) score)
 
 -- each start pair is at least as tight as the plain one, and the words of each score as those after the rounds for the stakes of the plain starts
-pub record IsTightAt (checkers r : ℕ) (starts : StartPairs) (place : ℕ) (words : WordList) : Type 0 where
-  pub start : AreNoLooserPairs (pair_at starts place) (pair_at (plain_starts checkers r starts.match_length (suc place)) place)
+pub record IsTightAt (checkers r : ℕ) (starts : StartPairs) (place : ℕ)
+    (words : WordList) : Type 0 where
+  pub start : AreNoLooserPairs (pair_at starts place)
+      (pair_at (plain_starts checkers r starts.match_length (suc place)) place)
   pub states :
       AreNoLooser words.game (words_in_list words)
-      (rounds (terms_of (score_at starts.match_length place) (plain_starts checkers r starts.match_length place)) r)
+      (rounds (terms_of (score_at starts.match_length place)
+      (plain_starts checkers r starts.match_length place)) r)
 
 -- the ladder as far as start pairs are held, with the words of each of its scores
 pub record IsLadder (checkers r : ℕ) (starts : StartPairs) (words : ℕ → WordList) : Type 0 where
   pub solved : IsSolved checkers r starts words
   pub true_from : (enough : ℕ) × IsTrueFrom enough checkers starts words
-  pub tight : (place : ℕ) → place < length starts.pairs → IsTightAt checkers r starts place (words place)
+  pub tight : (place : ℕ) → place < length starts.pairs
+      → IsTightAt checkers r starts place (words place)

@@ -28,15 +28,18 @@ opening_worth values score side end = neg_ℤ (values (swap end) (centred score 
 
 -- over the 15 rolls, the sum of what the best opening plays of a side are worth
 abbrev pub opened_by : Side → ℕ → Values → MatchScore → ℤ
-opened_by side checkers values score = sum_over openings (opening_worth values score side) (start_placement checkers)
+opened_by side checkers values score =
+    sum_over openings (opening_worth values score side) (start_placement checkers)
 
 -- What the near side has of a game, 30 times: what it has where it opens, less what the far side has where that opens.
 abbrev pub thirty_starts : ℕ → Values → MatchScore → ℤ
-thirty_starts checkers values score = opened_by Near checkers values score -ℤ opened_by Far checkers values score
+thirty_starts checkers values score =
+    opened_by Near checkers values score -ℤ opened_by Far checkers values score
 
 -- The same from words, at one end. What the near side has at least is what the far side hasn't at most, and so on.
 abbrev pub directed_thirty : End → ℕ → Words → MatchScore → ℤ
-directed_thirty end checkers u score = opened_by Near checkers (u (other end)) score -ℤ opened_by Far checkers (u end) score
+directed_thirty end checkers u score =
+    opened_by Near checkers (u (other end)) score -ℤ opened_by Far checkers (u end) score
 
 -- the greatest whole number that isn't above a 30th, and the least that isn't below it
 abbrev pub floor_30 : ℤ → ℤ
@@ -57,4 +60,7 @@ start_at end checkers u score = outwards_30 end (directed_thirty end checkers u 
 
 -- both ends
 abbrev pub start_over : ℕ → Words → MatchScore → Bounds
-start_over checkers u score = record { lower = start_at Lower checkers u score; upper = start_at Upper checkers u score }
+start_over checkers u score = record {
+  lower = start_at Lower checkers u score;
+  upper = start_at Upper checkers u score;
+}

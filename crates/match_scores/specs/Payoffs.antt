@@ -30,7 +30,8 @@ exact_next starts phase winner own others =
 abbrev pub exact_win : ℕ → ExactStarts → MatchScore → Side → ℕ → ℤ
 exact_win scale starts score winner won =
     if nat_le (needs score winner) won then pos scale
-    else exact_next starts score.phase winner (needs score winner - won) (needs score (other_side winner))
+    else exact_next starts score.phase winner (needs score winner - won)
+    (needs score (other_side winner))
 
 -- how often a win counts what the cube shows
 abbrev pub times_of : Won → ℕ
@@ -40,10 +41,12 @@ times_of Backgammon = 3
 
 -- who moves in the kind of this number, and what the cube shows
 abbrev pub mover_in : MatchScore → ℕ → Side
-mover_in score k = (slice_index_or (match_kinds score) k (record { mover = Near; cube = 1; owner = None })).mover
+mover_in score k =
+    (slice_index_or (match_kinds score) k (record { mover = Near; cube = 1; owner = None })).mover
 
 abbrev pub cube_in : MatchScore → ℕ → ℕ
-cube_in score k = (slice_index_or (match_kinds score) k (record { mover = Near; cube = 1; owner = None })).cube
+cube_in score k =
+    (slice_index_or (match_kinds score) k (record { mover = Near; cube = 1; owner = None })).cube
 
 -- how the game at a score is scored: a win and a pass as the points that they win, an unfinished end as it is given
 abbrev pub scored_by : ℕ → ExactStarts → MatchScore → Values → Scoring
@@ -84,17 +87,21 @@ starts_before checkers turns ends zero score = pos 0
 starts_before checkers turns ends (suc left) score =
     if points_left score == left then
     thirty_starts checkers
-    (exact (cube_game score) (scored_by (scale_of turns left) (starts_before checkers turns ends left) score (ends score)) turns) score
+    (exact (cube_game score)
+    (scored_by (scale_of turns left) (starts_before checkers turns ends left) score
+    (ends score)) turns) score
     else pos (game_parts turns) *ℤ starts_before checkers turns ends left score
 
 -- how the game at a score is scored, in a match whose games are cut off after so many turns with these end scores
 abbrev pub match_scoring : ℕ → ℕ → EndScores → MatchScore → Scoring
 match_scoring checkers turns ends score =
-    scored_by (scale_of turns (points_left score)) (starts_before checkers turns ends (points_left score)) score (ends score)
+    scored_by (scale_of turns (points_left score))
+    (starts_before checkers turns ends (points_left score)) score (ends score)
 
 -- what the near side has of the game at a score, over the scale of one point more
 abbrev pub match_start : ℕ → ℕ → EndScores → MatchScore → ℤ
-match_start checkers turns ends score = starts_before checkers turns ends (suc (points_left score)) score
+match_start checkers turns ends score =
+    starts_before checkers turns ends (suc (points_left score)) score
 
 abbrev pub start_scale : ℕ → MatchScore → ℕ
 start_scale turns score = scale_of turns (suc (points_left score))

@@ -7,19 +7,25 @@ use Rattle.roll_table.specs.Rolls.{Dice}
 use Rattle.move_rules.specs.declared.play.Move.{Move}
 
 abbrev pub may_leave : Placement → ℕ → Bool
-may_leave p from = nat_lt 0 (slice_index p.mover from) && (from == 25 || slice_index p.mover 25 == 0)
+may_leave p from =
+    nat_lt 0 (slice_index p.mover from) && (from == 25 || slice_index p.mover 25 == 0)
 
 abbrev pub can_run : Placement → ℕ → ℕ → Bool
-can_run p die from = may_leave p from && nat_lt die from && nat_le (slice_index p.other (25 - (from - die))) 1
+can_run p die from =
+    may_leave p from && nat_lt die from && nat_le (slice_index p.other (25 - (from - die))) 1
 
 abbrev pub can_bear_off : Placement → ℕ → ℕ → Bool
-can_bear_off p die from = may_leave p from && nat_le from die && above p.mover 6 == 0 && (from == die || above p.mover from == 0)
+can_bear_off p die from = may_leave p from && nat_le from die && above p.mover 6 == 0
+    && (from == die || above p.mover from == 0)
 
 -- what the move leaves, if it can be made
 unfoldable pub after_move : Placement → ℕ → ℕ → Option Placement
 after_move p die from =
-    if can_run p die from then Some (record { mover = moved p.mover from (from - die); other = hit p.other (25 - (from - die)) })
-    else if can_bear_off p die from then Some (record { mover = moved p.mover from 0; other = p.other })
+    if can_run p die from
+    then Some (record
+    { mover = moved p.mover from (from - die); other = hit p.other (25 - (from - die)) })
+    else if can_bear_off p die from
+    then Some (record { mover = moved p.mover from 0; other = p.other })
     else None
 
 -- from this place down to 1
@@ -41,7 +47,8 @@ before die from line = (record { from = from; die = die } ∷ line.0, line.1)
 
 -- the lines of these dice that begin with a move from this place
 unfoldable pub lines_from : (Placement → List Line) → Placement → ℕ → ℕ → List Line
-lines_from later p die from = map (before die from) (flat_map later (option_to_list (after_move p die from)))
+lines_from later p die from =
+    map (before die from) (flat_map later (option_to_list (after_move p die from)))
 
 -- every sequence that uses the first few of these dice, in this order
 unfoldable pub lines : List ℕ → Placement → List Line
@@ -64,7 +71,8 @@ can_play p die = list_any (λ from. is_some (after_move p die from)) places
 -- of one move, by the higher die if that can be played
 abbrev pub right_die : Placement → Dice → Line → Bool
 right_die p roll line =
-    not (length line.0 == 1) || roll.high == roll.low || not (can_play p roll.high) || list_any (λ (move : Move). move.die == roll.high) line.0
+    not (length line.0 == 1) || roll.high == roll.low || not (can_play p roll.high)
+    || list_any (λ (move : Move). move.die == roll.high) line.0
 
 -- the legal sequences, each with what it leaves
 unfoldable pub legal_lines : Placement → Dice → List Line

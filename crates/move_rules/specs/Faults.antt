@@ -22,18 +22,23 @@ fault_order HigherDie = 8
 -- a move with these dice left has this fault
 abbrev pub HasFault : Placement → List ℕ → Move → BadPlay → Type 0
 HasFault p dice move WrongDice = Contains dice move.die → ⊥
-HasFault p dice move NoChecker = (move.from < 1) ⊎ (25 < move.from) ⊎ (slice_index p.mover move.from ≡ 0)
+HasFault p dice move NoChecker =
+    (move.from < 1) ⊎ (25 < move.from) ⊎ (slice_index p.mover move.from ≡ 0)
 HasFault p dice move BarFirst = (move.from ≢ 25) × (0 < slice_index p.mover 25)
-HasFault p dice move NotHome = (move.from ≤ move.die) × ((0 < above p.mover 6) ⊎ ((move.from ≢ move.die) × (0 < above p.mover move.from)))
-HasFault p dice move Closed = (move.die < move.from) × (1 < slice_index p.other (25 - (move.from - move.die)))
+HasFault p dice move NotHome = (move.from ≤ move.die)
+    × ((0 < above p.mover 6) ⊎ ((move.from ≢ move.die) × (0 < above p.mover move.from)))
+HasFault p dice move Closed =
+    (move.die < move.from) × (1 < slice_index p.other (25 - (move.from - move.die)))
 HasFault p dice move HitMark = ⊥
 HasFault p dice move TooFew = ⊥
 HasFault p dice move HigherDie = ⊥
 
 -- it has this fault, and none that is looked for before
-pub record IsFirstFault (p : Placement) (dice : List ℕ) (move : Move) (fault : BadPlay) : Type 0 where
+pub record IsFirstFault (p : Placement) (dice : List ℕ) (move : Move)
+    (fault : BadPlay) : Type 0 where
   pub fault_is : HasFault p dice move fault
-  pub none_before : (earlier : BadPlay) → fault_order earlier < fault_order fault → HasFault p dice move earlier → ⊥
+  pub none_before : (earlier : BadPlay) → fault_order earlier < fault_order fault
+      → HasFault p dice move earlier → ⊥
 
 -- the first wrong move has this fault
 abbrev pub IsFirstWrong : Placement → List ℕ → List Move → BadPlay → Type 0
@@ -41,7 +46,8 @@ IsFirstWrong p dice [] fault = ⊥
 IsFirstWrong p dice (move ∷ moves) fault =
     IsFirstFault p dice move fault
     ⊎ ((i : ℕ) × (slice_get dice i ≡ Some move.die)
-    × (next : Placement) × IsMove p move.die move.from next × IsFirstWrong next (remove dice i) moves fault)
+    × (next : Placement) × IsMove p move.die move.from next
+    × IsFirstWrong next (remove dice i) moves fault)
 
 -- all moves are right, and more of them can be made
 pub record IsTooFew (p : Placement) (roll : Dice) (moves : List Move) : Type 0 where
@@ -56,7 +62,8 @@ pub record IsTooFew (p : Placement) (roll : Dice) (moves : List Move) : Type 0 w
 pub record IsLowerDie (p : Placement) (roll : Dice) (moves : List Move) : Type 0 where
   pub end : Placement
   pub sequence : IsSequence p (dice_of roll) moves end
-  pub longest : (others : List Move) (others_end : Placement) → IsSequence p (dice_of roll) others others_end → length others ≤ length moves
+  pub longest : (others : List Move) (others_end : Placement)
+      → IsSequence p (dice_of roll) others others_end → length others ≤ length moves
   pub unequal : roll.low < roll.high
   pub lower : map (λ (move : Move). move.die) moves ≡ roll.low ∷ []
   pub can : CanPlay p roll.high
@@ -74,7 +81,8 @@ IsWholeFault p roll moves HitMark = ⊥
 
 -- what is wrong with a play of a roll: its first wrong move has this fault, or all of them together
 abbrev pub IsFault : Placement → Dice → List Move → BadPlay → Type 0
-IsFault p roll moves fault = IsFirstWrong p (dice_of roll) moves fault ⊎ IsWholeFault p roll moves fault
+IsFault p roll moves fault =
+    IsFirstWrong p (dice_of roll) moves fault ⊎ IsWholeFault p roll moves fault
 
 -- the die of the first move, or 0 where there is none
 abbrev pub first_die : List Move → ℕ
@@ -84,7 +92,8 @@ first_die (move ∷ moves) = move.die
 -- what is wrong with a sequence, beside a legal one
 abbrev pub DiffersBy : List Move → List Move → BadPlay → Type 0
 DiffersBy moves legal TooFew = length moves < length legal
-DiffersBy moves legal HigherDie = (length legal ≤ length moves) × (length moves ≡ 1) × (first_die moves < first_die legal)
+DiffersBy moves legal HigherDie =
+    (length legal ≤ length moves) × (length moves ≡ 1) × (first_die moves < first_die legal)
 DiffersBy moves legal WrongDice = ⊥
 DiffersBy moves legal NoChecker = ⊥
 DiffersBy moves legal BarFirst = ⊥

@@ -10,8 +10,11 @@ use Rattle.move_rules.specs.declared.play.Entry.{Entry}
 use Rattle.move_rules.specs.declared.play.Move.{Move}
 
 -- the lines that go on from here with a move from this place
-unfoldable pub full_from : (List Move → Placement → List Line) → List Move → Placement → ℕ → ℕ → List Line
-full_from later moves p die from = flat_map (later (moves ++ record { from = from; die = die } ∷ [])) (option_to_list (after_move p die from))
+unfoldable pub full_from : (List Move → Placement → List Line) → List Move → Placement → ℕ → ℕ
+    → List Line
+full_from later moves p die from = flat_map
+    (later (moves ++ record { from = from; die = die } ∷ []))
+    (option_to_list (after_move p die from))
 
 -- the lines that go on from here, after these moves, and use all of these dice in this order
 unfoldable pub full : List ℕ → List Move → Placement → List Line
@@ -48,7 +51,8 @@ HasEnd lines end = Among end (map (λ (line : Line). line.1) lines)
 -- of these lines, each that leads to a new end was added to those that had been found
 abbrev pub AddsNewEnds : List Line → List Line → List Line → Type 0
 AddsNewEnds found [] after = after ≡ found
-AddsNewEnds found (line ∷ lines) after = (HasEnd found line.1 × AddsNewEnds found lines after) ⊎ ((HasEnd found line.1 → ⊥) × AddsNewEnds (found ++ line ∷ []) lines after)
+AddsNewEnds found (line ∷ lines) after = (HasEnd found line.1 × AddsNewEnds found lines after)
+    ⊎ ((HasEnd found line.1 → ⊥) × AddsNewEnds (found ++ line ∷ []) lines after)
 
 -- entries as lines
 abbrev pub lines_of : List Entry → List Line

@@ -14,7 +14,11 @@ pub record Runs (p : Placement) (die from : ℕ) (q : Placement) : Type 0 where
   pub leaves : MayLeave p from
   pub on_board : die < from
   pub open_point : slice_index p.other (25 - (from - die)) ≤ 1
-  pub after : q ≡ record { mover = moved p.mover from (from - die); other = hit p.other (25 - (from - die)) }
+  pub after : q ≡ record {
+    mover = moved p.mover from (from - die);
+    other = hit p.other
+        (25 - (from - die));
+  }
 
 -- off the board, with every checker at home, by the exact number or from the highest place
 pub record BearsOff (p : Placement) (die from : ℕ) (q : Placement) : Type 0 where

@@ -47,7 +47,8 @@ next_board p move = unwrap_or (after_move p move.die move.from) p
 -- the words of moves that are made from a position in turn
 abbrev pub words_from : Placement → List Move → List (List ℕ)
 words_from p [] = []
-words_from p (move ∷ moves) = step_word move.from (move.from - move.die) (is_hit p move) ∷ words_from (next_board p move) moves
+words_from p (move ∷ moves) = step_word move.from (move.from - move.die) (is_hit p move)
+    ∷ words_from (next_board p move) moves
 
 abbrev pub play_text : Placement → List Move → List ℕ
 play_text p moves = play_of_words (words_from p moves)
@@ -65,4 +66,5 @@ AreStepsOf p [] [] = Unit {0}
 AreStepsOf p [] (step ∷ steps) = ⊥
 AreStepsOf p (move ∷ moves) [] = ⊥
 AreStepsOf p (move ∷ moves) (step ∷ steps) =
-    (step.from ≡ move.from) × (step.to ≡ move.from - move.die) × (IsTrue step.hit ↔ IsHit p move) × AreStepsOf (next_board p move) moves steps
+    (step.from ≡ move.from) × (step.to ≡ move.from - move.die) × (IsTrue step.hit ↔ IsHit p move)
+    × AreStepsOf (next_board p move) moves steps

@@ -12,10 +12,12 @@ abbrev pub PlayComesBefore : List Move → List Move → Type 0
 PlayComesBefore [] others = ⊥
 PlayComesBefore (move ∷ moves) [] = ⊥
 PlayComesBefore (move ∷ moves) (other ∷ others) =
-    (other.die < move.die) ⊎ ((move.die ≡ other.die) × (other.from < move.from)) ⊎ ((move ≡ other) × PlayComesBefore moves others)
+    (other.die < move.die) ⊎ ((move.die ≡ other.die) × (other.from < move.from))
+    ⊎ ((move ≡ other) × PlayComesBefore moves others)
 
 -- a legal sequence that leaves this end, and none that leaves it comes before
-pub record IsFirst (p : Placement) (roll : Dice) (moves : List Move) (end : Placement) : Type 0 where
+pub record IsFirst (p : Placement) (roll : Dice) (moves : List Move)
+    (end : Placement) : Type 0 where
   pub legal : IsLegal p roll moves end
   pub first : (others : List Move) → IsLegal p roll others end → PlayComesBefore others moves → ⊥
 

@@ -30,9 +30,12 @@ IsBestAnswer pass [] answer = ⊥
 IsBestAnswer pass (take ∷ []) Take = take.upper ≤ℤ pass.upper
 IsBestAnswer pass (take ∷ []) Beaver = ⊥
 IsBestAnswer pass (take ∷ []) Pass = pass.upper <ℤ take.upper
-IsBestAnswer pass (take ∷ beaver ∷ more) Take = (take.upper ≤ℤ beaver.upper) × (take.upper ≤ℤ pass.upper)
-IsBestAnswer pass (take ∷ beaver ∷ more) Beaver = (beaver.upper <ℤ take.upper) × (beaver.upper ≤ℤ pass.upper)
-IsBestAnswer pass (take ∷ beaver ∷ more) Pass = (pass.upper <ℤ take.upper) × (pass.upper <ℤ beaver.upper)
+IsBestAnswer pass (take ∷ beaver ∷ more) Take =
+    (take.upper ≤ℤ beaver.upper) × (take.upper ≤ℤ pass.upper)
+IsBestAnswer pass (take ∷ beaver ∷ more) Beaver =
+    (beaver.upper <ℤ take.upper) × (beaver.upper ≤ℤ pass.upper)
+IsBestAnswer pass (take ∷ beaver ∷ more) Pass =
+    (pass.upper <ℤ take.upper) × (pass.upper <ℤ beaver.upper)
 
 -- what the answers that play on give
 abbrev pub taken_of : CubeAction → List Bounds
@@ -47,7 +50,8 @@ abbrev pub advised_offer : Bounds → CubeAction → Options Bounds
 advised_offer rolling action = offer_options rolling (doubling_of action) action.offer
 
 abbrev pub advised_answer : CubeAction → Options Bounds
-advised_answer action = answer_options (negated action.pass) (map negated (taken_of action)) action.answer
+advised_answer action =
+    answer_options (negated action.pass) (map negated (taken_of action)) action.answer
 
 -- the best offer and the best answer are advised, each with the upper end of what it loses
 pub record IsAction (rolling : Bounds) (action : CubeAction) : Type 0 where
@@ -57,20 +61,24 @@ pub record IsAction (rolling : Bounds) (action : CubeAction) : Type 0 where
   pub answer_bound : action.answer_bound ≡ (loss (advised_answer action)).upper
 
 -- advice on this double, by such pairs of the answers that play on
-pub record IsActionBy (taken_are : List Taken → List Bounds → Type 0) (rolling : Bounds) (double : DoubleOf) (action : CubeAction) : Type 0 where
+pub record IsActionBy (taken_are : List Taken → List Bounds → Type 0) (rolling : Bounds)
+    (double : DoubleOf) (action : CubeAction) : Type 0 where
   pub taken : taken_are double.answers.items (taken_of action)
   pub pass : action.pass ≡ double.pass
   pub advised : IsAction rolling action
 
 -- there is advice on a double exactly where there is a double
-abbrev pub IsAdviceOn : Option DoubleOf → Option CubeAction → (DoubleOf → CubeAction → Type 0) → Type 0
+abbrev pub IsAdviceOn : Option DoubleOf → Option CubeAction → (DoubleOf → CubeAction → Type 0)
+    → Type 0
 IsAdviceOn None None advises = ⊤
 IsAdviceOn None (Some action) advises = ⊥
 IsAdviceOn (Some double) None advises = ⊥
 IsAdviceOn (Some double) (Some action) advises = advises double action
 
 -- what is told to a player before he rolls, by such pairs of rolling and of the answers that play on
-pub record IsAdvisedBy (rolling_is : Bounds → Type 0) (taken_are : List Taken → List Bounds → Type 0) (stakes : Terms) (k : ℕ) (advice : CubeAdvice) : Type 0 where
+pub record IsAdvisedBy (rolling_is : Bounds → Type 0)
+    (taken_are : List Taken → List Bounds → Type 0) (stakes : Terms) (k : ℕ)
+    (advice : CubeAdvice) : Type 0 where
   pub no_double : rolling_is advice.no_double
   pub action :
       IsAdviceOn (kind_at stakes k).double advice.action

@@ -23,12 +23,14 @@ pub record AreTrueWords (game : Game) (scoring : Scoring) (turns : ℕ) (u : Wor
 -- a choice loses at most so much, where so many turns follow it
 abbrev pub LosesAtMost : Game → Scoring → ℕ → Placement → ℕ → Choice → ℤ → Type 0
 LosesAtMost game scoring turns p k choice bound =
-    IsBoundOf Upper bound (regret_of game.stakes scoring turns p k choice) (counted_over scoring turns choice)
+    IsBoundOf Upper bound (regret_of game.stakes scoring turns p k choice)
+    (counted_over scoring turns choice)
 
 -- the first play of a ranking loses at most its bound
 abbrev pub FirstLosesAtMost : Game → Scoring → ℕ → Placement → ℕ → Dice → List PlayRow → ℤ → Type 0
 FirstLosesAtMost game scoring turns p k roll [] bound = ⊥
-FirstLosesAtMost game scoring turns p k roll (row ∷ rows) bound = LosesAtMost game scoring turns p k (Played roll row.entry.end) bound
+FirstLosesAtMost game scoring turns p k roll (row ∷ rows) bound =
+    LosesAtMost game scoring turns p k (Played roll row.entry.end) bound
 
 -- the advised offer and the advised answer, where there are any, lose at most their bounds
 abbrev pub ActionLosesAtMost : Game → Scoring → ℕ → Placement → ℕ → Option CubeAction → Type 0

@@ -35,7 +35,10 @@ offer_options rolling doubling Double = record { chosen = doubling; others = rol
 -- to pass, to take, or, where there is a second answer, to beaver, by what each gives the side that was doubled
 abbrev pub answer_options : {X : Type 0} → X → List X → Answer → Options X
 answer_options pass (take ∷ answers) Take = record { chosen = take; others = pass ∷ answers }
-answer_options pass (take ∷ beaver ∷ answers) Beaver = record { chosen = beaver; others = take ∷ pass ∷ [] }
+answer_options pass (take ∷ beaver ∷ answers) Beaver = record {
+  chosen = beaver;
+  others = take ∷ pass ∷ [];
+}
 answer_options pass answers _ = record { chosen = pass; others = answers }
 
 -- a double has this answer
@@ -53,7 +56,8 @@ IfDouble None P = ⊥
 abbrev pub IsChoice : Terms → Placement → ℕ → Choice → Type 0
 IsChoice stakes p k (Played roll end) = IsRoll roll × IsLegalEnd p roll end
 IsChoice stakes p k (Offered offer) = IfDouble (kind_at stakes k).double (λ double. ⊤)
-IsChoice stakes p k (Answered answer) = IfDouble (kind_at stakes k).double (λ double. HasAnswer double answer)
+IsChoice stakes p k (Answered answer) =
+    IfDouble (kind_at stakes k).double (λ double. HasAnswer double answer)
 
 -- with so many answers that play on, there is this answer
 abbrev pub IsAmongAnswers : ℕ → Answer → Type 0

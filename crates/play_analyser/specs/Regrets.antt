@@ -37,7 +37,8 @@ double_pair stakes u p double = record {
 }
 
 abbrev pub offer_pairs : Terms → Words → Placement → ℕ → Double → Offer → Options Bounds
-offer_pairs stakes u p k double offer = offer_options (roll_pair stakes u p k 1) (double_pair stakes u p double) offer
+offer_pairs stakes u p k double offer =
+    offer_options (roll_pair stakes u p k 1) (double_pair stakes u p double) offer
 
 abbrev pub answer_pairs : Terms → Words → Placement → Double → Answer → Options Bounds
 answer_pairs stakes u p double answer =
@@ -51,9 +52,12 @@ cube_loss (Some double) options = loss (options double)
 
 -- what a choice loses at least and at most, over words
 abbrev pub loss_of : Terms → Words → Placement → ℕ → Choice → Bounds
-loss_of stakes u p k (Played roll end) = loss (play_options (play_pair (kind_at stakes k) u) (legal_ends p roll) end)
-loss_of stakes u p k (Offered offer) = cube_loss (kind_at stakes k).double (λ double. offer_pairs stakes u p k double offer)
-loss_of stakes u p k (Answered answer) = cube_loss (kind_at stakes k).double (λ double. answer_pairs stakes u p double answer)
+loss_of stakes u p k (Played roll end) =
+    loss (play_options (play_pair (kind_at stakes k) u) (legal_ends p roll) end)
+loss_of stakes u p k (Offered offer) =
+    cube_loss (kind_at stakes k).double (λ double. offer_pairs stakes u p k double offer)
+loss_of stakes u p k (Answered answer) =
+    cube_loss (kind_at stakes k).double (λ double. answer_pairs stakes u p double answer)
 
 -- ---- exactly, where so many turns follow the choice's own
 
@@ -70,7 +74,8 @@ offer_worths stakes scoring turns p k double offer =
 abbrev pub answer_worths : Terms → Scoring → ℕ → Placement → ℕ → Double → Answer → Options ℤ
 answer_worths stakes scoring turns p k double answer =
     answer_options (neg_ℤ (pos (36 ^ suc turns) *ℤ scoring.pass k))
-    (map (λ (taken : Taken). neg_ℤ (taken_worth stakes scoring turns p taken)) double.answers.items) answer
+    (map (λ (taken : Taken). neg_ℤ (taken_worth stakes scoring turns p taken)) double.answers.items)
+    answer
 
 abbrev pub cube_regret : Option Double → (Double → Options ℤ) → ℤ
 cube_regret None options = pos 0
@@ -79,11 +84,14 @@ cube_regret (Some double) options = regret (options double)
 -- what a choice loses exactly
 abbrev pub regret_of : Terms → Scoring → ℕ → Placement → ℕ → Choice → ℤ
 regret_of stakes scoring turns p k (Played roll end) =
-    regret (play_options (left_with stakes scoring turns (exact stakes scoring turns) k) (legal_ends p roll) end)
+    regret (play_options (left_with stakes scoring turns (exact stakes scoring turns) k)
+    (legal_ends p roll) end)
 regret_of stakes scoring turns p k (Offered offer) =
-    cube_regret (kind_at stakes k).double (λ double. offer_worths stakes scoring turns p k double offer)
+    cube_regret (kind_at stakes k).double
+    (λ double. offer_worths stakes scoring turns p k double offer)
 regret_of stakes scoring turns p k (Answered answer) =
-    cube_regret (kind_at stakes k).double (λ double. answer_worths stakes scoring turns p k double answer)
+    cube_regret (kind_at stakes k).double
+    (λ double. answer_worths stakes scoring turns p k double answer)
 
 -- over what that is counted: a play comes after the roll, an offer and an answer before it
 abbrev pub counted_over : Scoring → ℕ → Choice → ℕ

@@ -14,7 +14,8 @@ use Rattle.game_record.specs.declared.decision.Choice.TheVariants.{Played, Offer
 use Rattle.play_analyser.specs.Regrets.{loss_of}
 
 -- a state that a play of the roll leaves, where there is another play than the chosen one
-pub record MayFollowPlay (stakes : Terms) (p : Placement) (k : ℕ) (roll : Dice) (chosen : Placement) (q : Placement) (j : ℕ) : Type 0 where
+pub record MayFollowPlay (stakes : Terms) (p : Placement) (k : ℕ) (roll : Dice) (chosen : Placement)
+    (q : Placement) (j : ℕ) : Type 0 where
   pub other : Placement
   pub allowed : IsLegalEnd p roll other
   pub differs : other ≢ chosen
@@ -45,7 +46,8 @@ abbrev pub SomeStates : {X : Type 0} → (X → Sought) → List X → States
 SomeStates {X} sought xs q j = (x : X) × Among x xs × (sought x).states q j
 
 -- a pair for each of some, in their order
-abbrev pub ArePairsFor : {X : Type 0} → (X → Sought) → List X → Source → Words → List Bounds → Type 0
+abbrev pub ArePairsFor : {X : Type 0} → (X → Sought) → List X → Source → Words → List Bounds
+    → Type 0
 ArePairsFor sought [] source noted [] = ⊤
 ArePairsFor sought [] source noted (pair ∷ pairs) = ⊥
 ArePairsFor sought (x ∷ xs) source noted [] = ⊥

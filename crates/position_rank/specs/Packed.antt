@@ -35,4 +35,5 @@ packed_counts high middle low checkers = counts_of (take checkers (high ∷ midd
 
 -- the place of the checker with this number from the highest: how many places have so many checkers above them
 unfoldable pub place_from_top : List ℕ → ℕ → ℕ
-place_from_top counts number = count_by (λ place. nat_le number (sum (drop (place + 1) counts))) (range_with_len 0 25)
+place_from_top counts number =
+    count_by (λ place. nat_le number (sum (drop (place + 1) counts))) (range_with_len 0 25)

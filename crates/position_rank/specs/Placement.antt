@@ -33,7 +33,8 @@ IsMet counts place = (1 ≤ place) × (place ≤ 24) × (0 < slice_index counts 
 
 -- no point is held by both sides
 abbrev pub AreApart : Placement → Type 0
-AreApart p = (point : ℕ) → 1 ≤ point → point ≤ 24 → 0 < slice_index p.mover point → slice_index p.other (25 - point) ≡ 0
+AreApart p = (point : ℕ) → 1 ≤ point → point ≤ 24 → 0 < slice_index p.mover point
+    → slice_index p.other (25 - point) ≡ 0
 
 -- no point is held by both sides, and both sides have checkers in play
 pub record IsLive (p : Placement) : Type 0 where

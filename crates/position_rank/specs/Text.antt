@@ -10,7 +10,9 @@ use Rattle.position_rank.specs.Packed.{counts_of}
 
 -- the text of a place: off, a point by its number, or the bar
 abbrev pub place_text : ℕ → List ℕ
-place_text place = if place == 0 then codes "off" else if place == 25 then codes "bar" else decimal place
+place_text place = if place == 0
+    then codes "off"
+    else if place == 25 then codes "bar" else decimal place
 
 -- the place with this text
 abbrev pub place : List ℕ → Option ℕ
@@ -43,11 +45,14 @@ kept_places ws = take KEPT (filter_map place ws)
 
 -- both sides have the same number of places, which is neither 0 nor too large
 abbrev pub numbers_fit : List ℕ → List ℕ → Bool
-numbers_fit mover other = length mover == length other && nat_le 1 (length mover) && nat_le (length mover) MOST_CHECKERS
+numbers_fit mover other =
+    length mover == length other && nat_le 1 (length mover) && nat_le (length mover) MOST_CHECKERS
 
 -- the mover holds a point and the other side its point on the same spot
 unfoldable pub share_point : Placement → Bool
-share_point p = list_any (λ point. nat_lt 0 (slice_index p.mover point) && nat_lt 0 (slice_index p.other (25 - point))) (range_with_len 1 24)
+share_point p = list_any
+    (λ point. nat_lt 0 (slice_index p.mover point) && nat_lt 0 (slice_index p.other (25 - point)))
+    (range_with_len 1 24)
 
 abbrev pub all_off : List ℕ → Bool
 all_off counts = slice_index counts 0 == sum counts
@@ -62,7 +67,8 @@ read_placement p =
 -- a position from the places of both sides
 abbrev pub read_places : List ℕ → List ℕ → Result Placement BadPosition
 read_places mover other =
-    if numbers_fit mover other then read_placement (record { mover = counts_of mover; other = counts_of other })
+    if numbers_fit mover other
+    then read_placement (record { mover = counts_of mover; other = counts_of other })
     else Err Count
 
 -- a position from its words, the mover's before the slash and the other side's after it
@@ -88,7 +94,8 @@ places_of counts = flat_map (λ place. replicate (slice_index counts place) plac
 
 -- the mover's places, a slash and the other side's places
 abbrev pub position_words : Placement → List (List ℕ)
-position_words p = map place_text (places_of p.mover) ++ codes "/" ∷ map place_text (places_of p.other)
+position_words p =
+    map place_text (places_of p.mover) ++ codes "/" ∷ map place_text (places_of p.other)
 
 -- these words with single spaces
 abbrev pub position_text : Placement → List ℕ

@@ -22,7 +22,8 @@ weighted one = (one.roll, one.times)
 abbrev pub AreFreeEnds : List ℕ → Dice → List (List ℕ) → Type 0
 AreFreeEnds mover roll ends =
     (other : List ℕ) → IsRace (against other mover)
-    → (q : Placement) → Contains (map (against other) ends) q ↔ IsLegalEnd (against other mover) roll q
+    → (q : Placement) → Contains (map (against other) ends) q
+    ↔ IsLegalEnd (against other mover) roll q
 
 abbrev pub HasFreeEnds : List ℕ → FreeRoll → Type 0
 HasFreeEnds mover one = AreFreeEnds mover one.roll one.ends.items

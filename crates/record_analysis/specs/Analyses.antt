@@ -18,7 +18,8 @@ lost stakes u decision = loss_of stakes u decision.position decision.kind decisi
 -- The analysis of decisions over words: each with the pair of what it loses.
 abbrev pub analysis_of : Terms → Words → List Decision → List Judged
 analysis_of stakes u decisions =
-    map (λ (decision : Decision). record { decision = decision; loss = Some (lost stakes u decision) }) decisions
+    map (λ (decision : Decision).
+    record { decision = decision; loss = Some (lost stakes u decision) }) decisions
 
 -- both ends lie from 0 to 24 points, which is eight times the most that can be won
 pub record IsSmallLoss (pair : Bounds) : Type 0 where

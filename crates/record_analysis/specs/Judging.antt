@@ -25,31 +25,40 @@ abbrev pub IsAt : Option MatchScore → Judged → Type 0
 IsAt score judged = judged.decision.score ≡ score
 
 -- What judging makes of a decision: one at the score gets the pair of what it loses by some words; another stays as it was.
-pub record Judges (score : Option MatchScore) (stakes : Terms) (source : Source) (noted : Words) (old new : Judged) : Type 0 where
+pub record Judges (score : Option MatchScore) (stakes : Terms) (source : Source) (noted : Words)
+    (old new : Judged) : Type 0 where
   pub decision : new.decision ≡ old.decision
-  pub judged : IsAt score old → IsSomeAnd new.loss (IsPairFor (of_decision stakes old.decision) source noted)
+  pub judged : IsAt score old
+      → IsSomeAnd new.loss (IsPairFor (of_decision stakes old.decision) source noted)
   pub other : (IsAt score old → ⊥) → new.loss ≡ old.loss
 
 -- each of some decisions was judged that is at the score
-abbrev pub JudgesAll : Option MatchScore → Terms → Source → Words → List Judged → List Judged → Type 0
+abbrev pub JudgesAll : Option MatchScore → Terms → Source → Words → List Judged → List Judged
+    → Type 0
 JudgesAll score stakes source noted = AllZip (Judges score stakes source noted)
 
 -- those before some place were judged, and the others are as they were
-pub record JudgesUpTo (place : ℕ) (score : Option MatchScore) (stakes : Terms) (source : Source) (noted : Words) (old new : List Judged) : Type 0 where
+pub record JudgesUpTo (place : ℕ) (score : Option MatchScore) (stakes : Terms) (source : Source)
+    (noted : Words) (old new : List Judged) : Type 0 where
   pub judged : JudgesAll score stakes source noted (take place old) (take place new)
   pub rest : drop place new ≡ drop place old
 
 -- judging stopped at some place
-abbrev pub JudgesSome : Option MatchScore → Terms → Source → Words → List Judged → List Judged → Type 0
-JudgesSome score stakes source noted old new = (place : ℕ) × JudgesUpTo place score stakes source noted old new
+abbrev pub JudgesSome : Option MatchScore → Terms → Source → Words → List Judged → List Judged
+    → Type 0
+JudgesSome score stakes source noted old new =
+    (place : ℕ) × JudgesUpTo place score stakes source noted old new
 
 -- a state on which it rests what a decision at the score loses
-pub record MayFollowOne (score : Option MatchScore) (stakes : Terms) (judged : Judged) (q : Placement) (j : ℕ) : Type 0 where
+pub record MayFollowOne (score : Option MatchScore) (stakes : Terms) (judged : Judged)
+    (q : Placement) (j : ℕ) : Type 0 where
   pub at : IsAt score judged
-  pub follows : MayFollowChoice stakes judged.decision.position judged.decision.kind judged.decision.choice q j
+  pub follows : MayFollowChoice stakes judged.decision.position judged.decision.kind
+      judged.decision.choice q j
 
 -- a state on which it rests what one of the decisions at the score loses
-pub record MayFollowSome (score : Option MatchScore) (stakes : Terms) (list : List Judged) (q : Placement) (j : ℕ) : Type 0 where
+pub record MayFollowSome (score : Option MatchScore) (stakes : Terms) (list : List Judged)
+    (q : Placement) (j : ℕ) : Type 0 where
   pub judged : Judged
   pub among : Contains list judged
   pub one : MayFollowOne score stakes judged q j

@@ -27,7 +27,8 @@ EnclosesLoss stakes scoring turns decision pair =
 abbrev pub EncloseLosses : Game → ℕ → List Judged → Type 0
 EncloseLosses game turns list =
     (scoring : Scoring) → IsScoring game scoring
-    → All (λ judged. IfSome judged.loss (EnclosesLoss game.stakes scoring turns judged.decision)) list
+    → All (λ judged. IfSome judged.loss (EnclosesLoss game.stakes scoring turns judged.decision))
+    list
 
 -- An analysis is true where from some number of turns on, one for all its decisions, each pair encloses what its decision loses exactly.
 abbrev pub IsTrueAnalysis : Game → List Judged → Type 0

@@ -51,7 +51,8 @@ started_by a b after again =
 -- the start of a game where equal dice are drawn at most so many times: behind them A starts with 21
 unfoldable pub start_in : ℕ → Lcg → Start
 start_in zero words = record { player = A; roll = roll_of 2 1; after = words }
-start_in (suc draws) words = started_by (die words) (die (rest words)) (rest (rest words)) (start_in draws)
+start_in (suc draws) words =
+    started_by (die words) (die (rest words)) (rest (rest words)) (start_in draws)
 
 abbrev pub start_of : Lcg → Start
 start_of words = start_in 32 words
@@ -66,4 +67,5 @@ pub record ArePlays (position : Placement) (roll : Dice) (entries : List Entry) 
 -- a word chooses the play whose number, counted from 0, is the word modulo the number of plays
 abbrev pub IsChosen : Placement → Dice → ℕ → Entry → Type 0
 IsChosen position roll chooser entry =
-    (entries : List Entry) × ArePlays position roll entries × (slice_get entries (chooser % length entries) ≡ Some entry)
+    (entries : List Entry) × ArePlays position roll entries
+    × (slice_get entries (chooser % length entries) ≡ Some entry)

@@ -34,7 +34,8 @@ behind Nothing = 2
 
 -- a player has done what was due
 pub record HasDone (old : Maker) (due : Due) (action : Action) (new : Maker) : Type 0 where
-  pub done : IsDone due (at old due) action.player action.what (at new (due_after action.player action.what))
+  pub done : IsDone due (at old due) action.player action.what
+      (at new (due_after action.player action.what))
   pub size : new.size ≡ with_line old.size (action_text action)
   pub short : new.size.bytes ≤ old.size.bytes + 60
 

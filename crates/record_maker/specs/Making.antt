@@ -46,7 +46,8 @@ Plays game player roll words _ next = ⊥
 
 -- he rolls two dice and plays them
 abbrev pub Rolls : Progress → Player → Lcg → What → Moment → Type 0
-Rolls game player words what next = Plays game player (two_dice words).0 (two_dice words).1 what next
+Rolls game player words what next =
+    Plays game player (two_dice words).0 (two_dice words).1 what next
 
 -- he may double: the first play was made, and the cube is centred or his
 abbrev pub has_cube : Progress → Player → Bool
@@ -62,24 +63,30 @@ undoubled_words now player = if has_cube now.game player then rest now.words els
 
 -- a player doubles or rolls
 abbrev pub TakesTurn : Moment → Player → What → Moment → Type 0
-TakesTurn now player Doubled next = Doubles now player × (next.game ≡ after_double now.game) × (next.words ≡ rest now.words)
-TakesTurn now player what next = (Doubles now player → ⊥) × Rolls now.game player (undoubled_words now player) what next
+TakesTurn now player Doubled next =
+    Doubles now player × (next.game ≡ after_double now.game) × (next.words ≡ rest now.words)
+TakesTurn now player what next =
+    (Doubles now player → ⊥) × Rolls now.game player (undoubled_words now player) what next
 
 -- he takes by an even word and passes by an odd one
 abbrev pub IsAnswer : Moment → Player → What → Moment → Type 0
 IsAnswer now player Took next =
-    (word now.words % 2 ≡ 0) × (next.game ≡ after_answer player Take now.game) × (next.words ≡ rest now.words)
+    (word now.words % 2 ≡ 0) × (next.game ≡ after_answer player Take now.game)
+    × (next.words ≡ rest now.words)
 IsAnswer now player Passed next =
-    (word now.words % 2 ≡ 1) × (next.game ≡ after_answer player Pass now.game) × (next.words ≡ rest now.words)
+    (word now.words % 2 ≡ 1) × (next.game ≡ after_answer player Pass now.game)
+    × (next.words ≡ rest now.words)
 IsAnswer now player _ next = ⊥
 
 -- a player does what he is to do
 abbrev pub IsDone : Due → Moment → Player → What → Moment → Type 0
 IsDone Start now player what next =
-    (player ≡ (start_of now.words).player) × Plays now.game player (start_of now.words).roll (start_of now.words).after what next
+    (player ≡ (start_of now.words).player)
+    × Plays now.game player (start_of now.words).roll (start_of now.words).after what next
 IsDone (Turn asked) now player what next = (player ≡ asked) × TakesTurn now player what next
 IsDone (Answer asked) now player what next = (player ≡ asked) × IsAnswer now player what next
-IsDone (Roll asked) now player what next = (player ≡ asked) × Rolls now.game player now.words what next
+IsDone (Roll asked) now player what next =
+    (player ≡ asked) × Rolls now.game player now.words what next
 IsDone _ now player what next = ⊥
 
 -- each turn but a game's first is measured before
@@ -101,7 +108,8 @@ abbrev pub action_text : Action → List ℕ
 action_text action = player_text action.player ++ codes " " ++ deed_text action.what
 
 abbrev pub ending_text : Ending → List ℕ
-ending_text (Ended winner points) = codes "end " ++ player_text winner ++ codes " " ++ decimal points
+ending_text (Ended winner points) =
+    codes "end " ++ player_text winner ++ codes " " ++ decimal points
 ending_text Stopped = codes "stop"
 
 abbrev pub game_text : ℕ → List ℕ
@@ -163,7 +171,8 @@ AllMade sheet (game ∷ games) end = (next : Sheet) × Makes sheet game next × 
 -- behind the lines of the title, of one checker a side and of the Jacoby rule
 abbrev pub first_sheet : ℕ → Sheet
 first_sheet number = record {
-  size = with_line (with_line (with_line no_text (codes "hypergammon record 1")) (codes "checkers 1")) (codes "stakes jacoby");
+  size = with_line (with_line (with_line no_text (codes "hypergammon record 1"))
+      (codes "checkers 1")) (codes "stakes jacoby");
   games = 0;
   words = words_of number;
 }

@@ -17,7 +17,8 @@ pub record IsDecisionInMatch (checkers match_length : ℕ) (decision : Decision)
   pub score : MatchScore
   pub at : decision.score ≡ Some score
   pub of_match : IsOfMatch match_length score
-  pub made : (starts : StartPairs) → IsGame (game_at checkers score starts) → IsDecisionOf (game_at checkers score starts) decision
+  pub made : (starts : StartPairs) → IsGame (game_at checkers score starts)
+      → IsDecisionOf (game_at checkers score starts) decision
 
 -- What contracts see of such a keeper: the checkers and the rounds that it is for, the length of the match with the start pairs of the scores that it
 -- has kept, and the decisions, each with the pair of what it loses, where that was judged.
@@ -36,13 +37,15 @@ pub record IsKeptAt (starts : StartPairs) (decision : Decision) (place : ℕ) : 
 pub record IsJudgedBy (starts : StartPairs) (words : ℕ → WordList) (judged : Judged) : Type 0 where
   pub kept :
       (place : ℕ) → IsKeptAt starts judged.decision place
-      → judged.loss ≡ Some (lost (words place).game.stakes (words_in_list (words place)) judged.decision)
+      → judged.loss ≡ Some (lost (words place).game.stakes (words_in_list (words place))
+      judged.decision)
   pub other : ((place : ℕ) → IsKeptAt starts judged.decision place → ⊥) → judged.loss ≡ None
 
 -- All decisions are of the match. Each start pair that is held is that of words of its score, and by these the decisions at the scores so far were
 -- judged.
 pub record IsJudgedSoFar (judged : JudgedMatch) : Type 0 where
-  pub decisions : All (λ (one : Judged). IsDecisionInMatch judged.checkers judged.starts.match_length one.decision) judged.list
+  pub decisions : All (λ (one : Judged). IsDecisionInMatch judged.checkers
+      judged.starts.match_length one.decision) judged.list
   pub words : ℕ → WordList
   pub solved : IsSolved judged.checkers judged.rounds judged.starts words
   pub losses : All (IsJudgedBy judged.starts words) judged.list

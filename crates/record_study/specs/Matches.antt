@@ -24,7 +24,8 @@ EnclosesLossAt checkers turns ends left decision pair score =
 abbrev pub EncloseMatchLosses : ℕ → ℕ → EndScores → ℕ → List Judged → Type 0
 EncloseMatchLosses checkers turns ends left list =
     All (λ judged. IfSome judged.decision.score (λ score.
-    IfSome judged.loss (λ pair. EnclosesLossAt checkers turns ends left judged.decision pair score))) list
+    IfSome judged.loss (λ pair. EnclosesLossAt checkers turns ends left judged.decision pair
+    score))) list
 
 -- The analysis of a match is true where from some number of turns on, one for all its games and all its decisions, and for all end scores, each pair
 -- encloses what its decision loses exactly with the payoffs of the match.
@@ -43,7 +44,8 @@ AreTrueStarts checkers starts =
 
 -- the stakes of the plain starts at a score
 abbrev pub plain_terms : ℕ → ℕ → ℕ → MatchScore → Terms
-plain_terms checkers r match_length score = terms_of score (plain_starts checkers r match_length (ladder_place match_length score))
+plain_terms checkers r match_length score =
+    terms_of score (plain_starts checkers r match_length (ladder_place match_length score))
 
 -- what a decision loses over so many rounds for the stakes of the plain starts, at the score of its game
 abbrev pub judged_plainly : ℕ → ℕ → ℕ → Decision → Judged
@@ -51,11 +53,13 @@ judged_plainly checkers r match_length decision = record {
   decision = decision;
   loss =
       option_map (λ (score : MatchScore).
-      lost (plain_terms checkers r match_length score) (rounds (plain_terms checkers r match_length score) r) decision) decision.score;
+      lost (plain_terms checkers r match_length score)
+      (rounds (plain_terms checkers r match_length score) r) decision) decision.score;
 }
 
 -- The decisions of a match were studied: from some number of turns on, one for the whole match, each pair encloses what its decision loses exactly
 -- with the payoffs of the match; and each is at least as tight as over so many rounds for the stakes of the plain starts.
-pub record AreStudiedInMatch (checkers match_length r : ℕ) (decisions : List Decision) (list : List Judged) : Type 0 where
+pub record AreStudiedInMatch (checkers match_length r : ℕ) (decisions : List Decision)
+    (list : List Judged) : Type 0 where
   pub true : IsTrueMatch checkers list
   pub tight : IsNoLooserAnalysis list (map (judged_plainly checkers r match_length) decisions)

@@ -28,6 +28,7 @@ game_of_record rec = game_of rec.checkers (stakes_of rec.stakes)
 
 -- The decisions were studied: from some number of turns on, one for all of them, each pair encloses what its decision loses exactly; and each is
 -- at least as tight as over so many rounds in which all states are worked out from the round before.
-pub record AreStudied (game : Game) (most : ℕ) (decisions : List Decision) (list : List Judged) : Type 0 where
+pub record AreStudied (game : Game) (most : ℕ) (decisions : List Decision)
+    (list : List Judged) : Type 0 where
   pub true : IsTrueAnalysis game list
   pub tight : IsNoLooserAnalysis list (analysis_of game.stakes (rounds game.stakes most) decisions)

@@ -15,7 +15,9 @@ pub record IsRoll (roll : Dice) : Type 0 where
 
 -- the dice that may be used: four of a double's number, or the two numbers
 abbrev pub dice_of : Dice → List ℕ
-dice_of roll = if roll.high == roll.low then roll.high ∷ roll.high ∷ roll.high ∷ roll.high ∷ [] else roll.high ∷ roll.low ∷ []
+dice_of roll = if roll.high == roll.low
+    then roll.high ∷ roll.high ∷ roll.high ∷ roll.high ∷ []
+    else roll.high ∷ roll.low ∷ []
 
 -- a double comes in one way, another roll in two
 abbrev pub weighted_roll : ℕ → ℕ → Dice × ℕ
@@ -27,4 +29,5 @@ all_rolls = flat_map (λ high. map (weighted_roll high) (range_with_len 1 high))
 
 -- the rolls of unequal dice, in the same order
 unfoldable pub opening_rolls : List Dice
-opening_rolls = filter (λ (roll : Dice). not (roll.high == roll.low)) (map (λ (weighted : Dice × ℕ). weighted.0) all_rolls)
+opening_rolls = filter (λ (roll : Dice). not (roll.high == roll.low))
+    (map (λ (weighted : Dice × ℕ). weighted.0) all_rolls)

@@ -58,14 +58,16 @@ pub record IsKindAsked (head : FileHead) (asked : Option KindName) (kind : Asked
   pub as_asked : IsAsAsked asked kind
 
 -- A state of a file's game, whose head is right: the position has its checkers, and the kind is the one that is asked for.
-pub record IsAskedOf (task : AdviseTask) (bytes : List ℕ) (head : FileHead) (kind : AskedKind) : Type 0 where
+pub record IsAskedOf (task : AdviseTask) (bytes : List ℕ) (head : FileHead)
+    (kind : AskedKind) : Type 0 where
   pub front : fault_before_pages (whole bytes) ≡ None
   pub head_is : head ≡ head_in (header_of_file bytes) bytes
   pub checkers : head.checkers ≡ sum task.position.mover
   pub kind_is : IsKindAsked head task.kind kind
 
 -- The same, of a header and a head that go together, in a game of theirs.
-pub record IsStateIn (task : AdviseTask) (bytes : List ℕ) (head : FileHead) (kind : AskedKind) : Type 0 where
+pub record IsStateIn (task : AdviseTask) (bytes : List ℕ) (head : FileHead)
+    (kind : AskedKind) : Type 0 where
   pub asked : IsAskedOf task bytes head kind
   pub valid : IsHeader (header_of_file bytes)
   pub game : IsGame (game_in head)
@@ -78,43 +80,52 @@ pub record IsStateIn (task : AdviseTask) (bytes : List ℕ) (head : FileHead) (k
 -- words that have a file's pair of each state whose page is right
 abbrev pub HavePairsOf : List ℕ → Words → Type 0
 HavePairsOf bytes u =
-    (end : End) (p : Placement) (k : ℕ) → IsStateOf (header_of_file bytes).checkers (header_of_file bytes).kinds p k
+    (end : End) (p : Placement) (k : ℕ)
+    → IsStateOf (header_of_file bytes).checkers (header_of_file bytes).kinds p k
     → flaw_at (header_of_file bytes) (Some bytes) p ≡ None → u end p k ≡ words_in_file bytes end p k
 
 -- each of these states stands on a page without a flaw
 abbrev pub AreOnRightPages : List ℕ → States → Type 0
-AreOnRightPages bytes states = (p : Placement) (k : ℕ) → states p k → flaw_at (header_of_file bytes) (Some bytes) p ≡ None
+AreOnRightPages bytes states =
+    (p : Placement) (k : ℕ) → states p k → flaw_at (header_of_file bytes) (Some bytes) p ≡ None
 
 -- this is the first flaw of the page of one of these states
 pub record IsOnBadPage (bytes : List ℕ) (states : States) (refusal : Refusal) : Type 0 where
   pub position : Placement
   pub kind : ℕ
   pub among : states position kind
-  pub page : option_map (λ flaw. File (bad_of flaw)) (flaw_at (header_of_file bytes) (Some bytes) position) ≡ Some refusal
+  pub page : option_map (λ flaw. File (bad_of flaw))
+      (flaw_at (header_of_file bytes) (Some bytes) position) ≡ Some refusal
 
 -- ---- what is advised
 
 -- from some number of turns on, one for all ways in which the game may be scored within its stakes
 abbrev pub InTheEnd : Game → (Scoring → ℕ → Type 0) → Type 0
 InTheEnd game Holds =
-    (enough : ℕ) × ((turns : ℕ) → enough ≤ turns → (scoring : Scoring) → IsScoring game scoring → Holds scoring turns)
+    (enough : ℕ) × ((turns : ℕ) → enough ≤ turns → (scoring : Scoring) → IsScoring game scoring
+    → Holds scoring turns)
 
 -- A file ranks the plays of a roll: the pages on which that rests are right, and this is the ranking over any words that have the pairs of the
 -- file's right pages. Where such words are sound, the first play in the end loses at most its bound.
-pub record Ranks (task : AdviseTask) (roll : Dice) (bytes : List ℕ) (head : FileHead) (kind : AskedKind) (ranking : Ranking) : Type 0 where
+pub record Ranks (task : AdviseTask) (roll : Dice) (bytes : List ℕ) (head : FileHead)
+    (kind : AskedKind) (ranking : Ranking) : Type 0 where
   pub state : IsStateIn task bytes head kind
   pub pages : AreOnRightPages bytes (MayFollowRoll (stakes_of head) task.position kind.number roll)
-  pub over : (u : Words) → HavePairsOf bytes u → IsRankingOver (stakes_of head) u task.position kind.number roll ranking
+  pub over : (u : Words) → HavePairsOf bytes u
+      → IsRankingOver (stakes_of head) u task.position kind.number roll ranking
   pub losses :
       (u : Words) → HavePairsOf bytes u → AreSound (game_in head) u
       → InTheEnd (game_in head) (λ scoring turns.
-      FirstLosesAtMost (game_in head) scoring turns task.position kind.number roll ranking.rows.items ranking.loss_bound)
+      FirstLosesAtMost (game_in head) scoring turns task.position kind.number roll
+      ranking.rows.items ranking.loss_bound)
 
 -- A file advises on the cube: so do the pages, the words and, in the end, the offer and the answer.
-pub record Advises (task : AdviseTask) (bytes : List ℕ) (head : FileHead) (kind : AskedKind) (advice : CubeAdvice) : Type 0 where
+pub record Advises (task : AdviseTask) (bytes : List ℕ) (head : FileHead) (kind : AskedKind)
+    (advice : CubeAdvice) : Type 0 where
   pub state : IsStateIn task bytes head kind
   pub pages : AreOnRightPages bytes (MayFollowTurn (stakes_of head) task.position kind.number)
-  pub over : (u : Words) → HavePairsOf bytes u → IsCubeAdviceOver (stakes_of head) u task.position kind.number advice
+  pub over : (u : Words) → HavePairsOf bytes u
+      → IsCubeAdviceOver (stakes_of head) u task.position kind.number advice
   pub losses :
       (u : Words) → HavePairsOf bytes u → AreSound (game_in head) u
       → InTheEnd (game_in head) (λ scoring turns.
@@ -126,7 +137,8 @@ OfHeld (Some bytes) P = P bytes
 OfHeld None P = ⊥
 
 -- The report of a ranking was put, in this way; where files tell what they hold, the file ranks the plays so.
-pub record HasRanked (task : AdviseTask) (roll : Dice) (told : Bool) (held : Option (List ℕ)) (IsReport : List ℕ → Type 0) : Type 0 where
+pub record HasRanked (task : AdviseTask) (roll : Dice) (told : Bool) (held : Option (List ℕ))
+    (IsReport : List ℕ → Type 0) : Type 0 where
   pub head : FileHead
   pub kind : AskedKind
   pub ranking : Ranking
@@ -134,14 +146,16 @@ pub record HasRanked (task : AdviseTask) (roll : Dice) (told : Bool) (held : Opt
   pub report : IsReport (ranking_text task.position roll kind.name ranking)
 
 -- the same of advice on the cube
-pub record HasAdvisedCube (task : AdviseTask) (told : Bool) (held : Option (List ℕ)) (IsReport : List ℕ → Type 0) : Type 0 where
+pub record HasAdvisedCube (task : AdviseTask) (told : Bool) (held : Option (List ℕ))
+    (IsReport : List ℕ → Type 0) : Type 0 where
   pub head : FileHead
   pub kind : AskedKind
   pub advice : CubeAdvice
   pub file : IsTrue told → OfHeld held (λ bytes. Advises task bytes head kind advice)
   pub report : IsReport (cube_text task.position kind.name advice)
 
-abbrev pub HasAdvisedOn : Option Dice → AdviseTask → Bool → Option (List ℕ) → (List ℕ → Type 0) → Type 0
+abbrev pub HasAdvisedOn : Option Dice → AdviseTask → Bool → Option (List ℕ) → (List ℕ → Type 0)
+    → Type 0
 HasAdvisedOn (Some roll) task told held IsReport = HasRanked task roll told held IsReport
 HasAdvisedOn None task told held IsReport = HasAdvisedCube task told held IsReport
 
@@ -152,13 +166,15 @@ HasAdvised task = HasAdvisedOn task.roll task
 -- ---- why nothing is advised
 
 -- the position has another number of checkers than the head's game
-pub record WantsCheckers (p : Placement) (head : FileHead) (wanted : ℕ) (found : GameName) : Type 0 where
+pub record WantsCheckers (p : Placement) (head : FileHead) (wanted : ℕ)
+    (found : GameName) : Type 0 where
   pub other : head.checkers ≢ sum p.mover
   pub wanted_is : wanted ≡ sum p.mover
   pub found_is : found ≡ game_told head
 
 -- the position has its checkers, and the game has no kind of the name that is asked for
-pub record WantsKind (p : Placement) (asked : Option KindName) (head : FileHead) (wanted : KindName) (found : GameName) : Type 0 where
+pub record WantsKind (p : Placement) (asked : Option KindName) (head : FileHead) (wanted : KindName)
+    (found : GameName) : Type 0 where
   pub checkers : head.checkers ≡ sum p.mover
   pub is_asked : asked ≡ Some wanted
   pub none : Contains (names_of head.name) wanted → ⊥
@@ -185,13 +201,15 @@ pub record IsBadFor (task : AdviseTask) (bytes : List ℕ) (refusal : Refusal) :
   pub head : FileHead
   pub kind : AskedKind
   pub asked : IsAskedOf task bytes head kind
-  pub page : IsOnBadPage bytes (RestsOn task.roll (stakes_of head) task.position kind.number) refusal
+  pub page : IsOnBadPage bytes (RestsOn task.roll (stakes_of head) task.position kind.number)
+      refusal
 
 -- Advice from a file of this name is refused: there is no file, something is wrong with what stands before its pages, it is of another game, or
 -- something is wrong with a page on which the advice rests. A fault of the files or of memory says nothing of it.
 abbrev pub RefusesAdvice : AdviseTask → Refusal → Option (List ℕ) → Type 0
 RefusesAdvice task (Missing missing) held = (missing.bytes ≡ task.file) × (held ≡ None)
-RefusesAdvice task (File bad) (Some bytes) = (fault_before_pages (whole bytes) ≡ Some bad) ⊎ IsBadFor task bytes (File bad)
+RefusesAdvice task (File bad) (Some bytes) =
+    (fault_before_pages (whole bytes) ≡ Some bad) ⊎ IsBadFor task bytes (File bad)
 RefusesAdvice task (Base wanted found) (Some bytes) = IsOfOtherGame task bytes (Base wanted found)
 RefusesAdvice task Read held = ⊤
 RefusesAdvice task Memory held = ⊤
@@ -203,7 +221,8 @@ MayRefuseAdvice task told held refusal = IsTrue told → RefusesAdvice task refu
 
 -- how ranking the plays of a roll ends
 abbrev pub TellsRanking : AdviseTask → Dice → Bool → Option (List ℕ) → Output → Output → ℕ → Type 0
-TellsRanking task roll told held = Tells (HasRanked task roll told held) (MayRefuseAdvice task told held)
+TellsRanking task roll told held =
+    Tells (HasRanked task roll told held) (MayRefuseAdvice task told held)
 
 -- how advising on the cube ends
 abbrev pub TellsCube : AdviseTask → Bool → Option (List ℕ) → Output → Output → ℕ → Type 0
@@ -223,38 +242,47 @@ AnswersAsked p asked head (Err refusal) = WantsOther p asked head refusal
 -- a file was opened for a state of its game, or this refuses that
 abbrev pub AnswersOpened : AdviseTask → Bool → Option (List ℕ) → Result OpenedFile Refusal → Type 0
 AnswersOpened task told held (Ok opened) =
-    IsTrue told → OfHeld held (λ bytes. IsStateIn task bytes opened.base.head opened.kind × (opened.base.header ≡ header_of_file bytes))
+    IsTrue told → OfHeld held (λ bytes. IsStateIn task bytes opened.base.head opened.kind
+    × (opened.base.header ≡ header_of_file bytes))
 AnswersOpened task told held (Err refusal) = IsTrue told → RefusesAdvice task refusal held
 
 -- This is what is sought from the file's words, or one of these states has this damage; a fault of the files or of memory says nothing.
-abbrev pub AnswersSought : {A : Type 0} → Header → Option (List ℕ) → States → (A → Type 0) → Result A LookStop → Type 0
+abbrev pub AnswersSought : {A : Type 0} → Header → Option (List ℕ) → States → (A → Type 0)
+    → Result A LookStop → Type 0
 AnswersSought header file states right (Ok found) = right found
 AnswersSought header file states right (Err (looks.BadPage fault at)) =
     HasDamage (paged_source header true file) states (record { fault = fault; at = at })
 AnswersSought header file states right (Err _) = ⊤
 
 -- the plays of a roll, as they are looked up in a file
-abbrev pub AnswersRanking : Header → Option (List ℕ) → Terms → Placement → ℕ → Dice → Result Ranking LookStop → Type 0
+abbrev pub AnswersRanking : Header → Option (List ℕ) → Terms → Placement → ℕ → Dice
+    → Result Ranking LookStop → Type 0
 AnswersRanking header file stakes p k roll =
-    AnswersSought header file (MayFollowRoll stakes p k roll) (IsRanking stakes p k roll (paged_source header true file) (told_words header file))
+    AnswersSought header file (MayFollowRoll stakes p k roll)
+    (IsRanking stakes p k roll (paged_source header true file) (told_words header file))
 
 -- what to do with the cube, as it is looked up in a file
-abbrev pub AnswersAdvice : Header → Option (List ℕ) → Terms → Placement → ℕ → Result CubeAdvice LookStop → Type 0
+abbrev pub AnswersAdvice : Header → Option (List ℕ) → Terms → Placement → ℕ
+    → Result CubeAdvice LookStop → Type 0
 AnswersAdvice header file stakes p k =
-    AnswersSought header file (MayFollowTurn stakes p k) (IsCubeAdvice stakes p k (paged_source header true file) (told_words header file))
+    AnswersSought header file (MayFollowTurn stakes p k)
+    (IsCubeAdvice stakes p k (paged_source header true file) (told_words header file))
 
 -- each play can be made from the position in turn
 abbrev pub CanBePlayed : Placement → List PlayRow → Type 0
 CanBePlayed p rows = All (λ (row : PlayRow). CanFollow p row.entry.play.items) rows
 
 -- what is found for a task of a roll, where files tell what they hold in the file that is held, or what refuses it
-abbrev pub AnswersRanked : AdviseTask → Dice → Bool → Option (List ℕ) → Result FoundRanking Refusal → Type 0
+abbrev pub AnswersRanked : AdviseTask → Dice → Bool → Option (List ℕ) → Result FoundRanking Refusal
+    → Type 0
 AnswersRanked task roll told held (Ok found) =
-    (head : FileHead) × (IsTrue told → OfHeld held (λ bytes. Ranks task roll bytes head found.kind found.ranking))
+    (head : FileHead) × (IsTrue told
+    → OfHeld held (λ bytes. Ranks task roll bytes head found.kind found.ranking))
 AnswersRanked task roll told held (Err refusal) = IsTrue told → RefusesAdvice task refusal held
 
 -- the same of advice on the cube
 abbrev pub AnswersCube : AdviseTask → Bool → Option (List ℕ) → Result FoundAdvice Refusal → Type 0
 AnswersCube task told held (Ok found) =
-    (head : FileHead) × (IsTrue told → OfHeld held (λ bytes. Advises task bytes head found.kind found.advice))
+    (head : FileHead) × (IsTrue told
+    → OfHeld held (λ bytes. Advises task bytes head found.kind found.advice))
 AnswersCube task told held (Err refusal) = IsTrue told → RefusesAdvice task refusal held

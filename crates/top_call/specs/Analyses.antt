@@ -58,11 +58,14 @@ MayFollowDecisions stakes decisions = MayFollowSome None stakes (map unjudged de
 -- A file judges the decisions of a record: it is of the record's game, the pages on which that rests are right, and this is the analysis over any
 -- words that have the pairs of the file's right pages. Where such words are sound, from some number of turns on, one for all decisions, each pair
 -- encloses what its decision loses exactly.
-pub record JudgesRecord (replayed : Replayed) (bytes : List ℕ) (head : FileHead) (list : List Judged) : Type 0 where
+pub record JudgesRecord (replayed : Replayed) (bytes : List ℕ) (head : FileHead)
+    (list : List Judged) : Type 0 where
   pub file : IsFileOf replayed.rec bytes head
   pub pages : AreOnRightPages bytes (MayFollowDecisions (stakes_of head) replayed.decisions)
-  pub over : (u : Words) → HavePairsOf bytes u → list ≡ analysis_of (stakes_of head) u replayed.decisions
-  pub true : (u : Words) → HavePairsOf bytes u → AreSound (game_in head) u → IsTrueAnalysis (game_in head) list
+  pub over : (u : Words) → HavePairsOf bytes u
+      → list ≡ analysis_of (stakes_of head) u replayed.decisions
+  pub true : (u : Words) → HavePairsOf bytes u → AreSound (game_in head) u
+      → IsTrueAnalysis (game_in head) list
 
 -- A file of the game of a record outside a match judges its decisions.
 pub record JudgesPlain (replayed : Replayed) (bytes : List ℕ) (list : List Judged) : Type 0 where
@@ -70,19 +73,23 @@ pub record JudgesPlain (replayed : Replayed) (bytes : List ℕ) (list : List Jud
   pub judges : JudgesRecord replayed bytes head list
 
 -- The decisions of a record are judged: outside a match by the file of this name, and in a match by the files of its scores, whose names begin so.
-pub record JudgesReplayed (name : List ℕ) (replayed : Replayed) (held : Contents) (list : List Judged) : Type 0 where
-  pub plain : is_match replayed.rec.stakes ≡ false → OfHeld (held name) (λ bytes. JudgesPlain replayed bytes list)
+pub record JudgesReplayed (name : List ℕ) (replayed : Replayed) (held : Contents)
+    (list : List Judged) : Type 0 where
+  pub plain : is_match replayed.rec.stakes ≡ false
+      → OfHeld (held name) (λ bytes. JudgesPlain replayed bytes list)
   pub in_match : is_match replayed.rec.stakes ≡ true → JudgesMatch name replayed held list
 
 -- This is the analysis of a recorded game: where files tell what they hold, one of them holds a record that breaks no rule, and the others judge its
 -- decisions so.
-pub record IsAnalysed (task : Analyse) (told : Bool) (held : Contents) (list : List Judged) : Type 0 where
+pub record IsAnalysed (task : Analyse) (told : Bool) (held : Contents)
+    (list : List Judged) : Type 0 where
   pub replayed : Replayed
   pub record_file : IsTrue told → OfHeld (held task.rec) (λ bytes. HoldsRecord bytes replayed)
   pub base_files : IsTrue told → JudgesReplayed task.base replayed held list
 
 -- The report of an analysis was put, in this way.
-pub record HasAnalysed (task : Analyse) (told : Bool) (held : Contents) (IsReport : List ℕ → Type 0) : Type 0 where
+pub record HasAnalysed (task : Analyse) (told : Bool) (held : Contents)
+    (IsReport : List ℕ → Type 0) : Type 0 where
   pub list : List Judged
   pub analysed : IsAnalysed task told held list
   pub report : IsReport (analysis_text list)
@@ -93,14 +100,16 @@ pub record HasAnalysed (task : Analyse) (told : Bool) (held : Contents) (IsRepor
 pub record IsOfAnotherGame (rec : RecordRead) (bytes : List ℕ) (refusal : Refusal) : Type 0 where
   pub front : fault_before_pages (whole bytes) ≡ None
   pub other : IsGameOf rec (head_in (header_of_file bytes) bytes) → ⊥
-  pub line : refusal ≡ Base (Fits (game_recorded rec)) (game_told (head_in (header_of_file bytes) bytes))
+  pub line : refusal ≡ Base (Fits (game_recorded rec)) (game_told
+      (head_in (header_of_file bytes) bytes))
 
 -- A file of this name is refused for a record outside a match before its pages are looked at: there is none, something is wrong with what stands
 -- there, or it is of another game. A fault of the files or of memory says nothing of it.
 abbrev pub RefusesOpening : List ℕ → RecordRead → Refusal → Option (List ℕ) → Type 0
 RefusesOpening name rec (Missing missing) held = (missing.bytes ≡ name) × (held ≡ None)
 RefusesOpening name rec (File bad) (Some bytes) = fault_before_pages (whole bytes) ≡ Some bad
-RefusesOpening name rec (Base wanted found) (Some bytes) = IsOfAnotherGame rec bytes (Base wanted found)
+RefusesOpening name rec (Base wanted found) (Some bytes) =
+    IsOfAnotherGame rec bytes (Base wanted found)
 RefusesOpening name rec Read held = ⊤
 RefusesOpening name rec Memory held = ⊤
 RefusesOpening name rec _ _ = ⊥
@@ -112,18 +121,22 @@ pub record IsBadForRecord (replayed : Replayed) (bytes : List ℕ) (refusal : Re
   pub page : IsOnBadPage bytes (MayFollowDecisions (stakes_of head) replayed.decisions) refusal
 
 -- a record outside a match can't be judged by a file of this name
-pub record RefusesBase (name : List ℕ) (replayed : Replayed) (refusal : Refusal) (held : Option (List ℕ)) : Type 0 where
+pub record RefusesBase (name : List ℕ) (replayed : Replayed) (refusal : Refusal)
+    (held : Option (List ℕ)) : Type 0 where
   pub plain : is_match replayed.rec.stakes ≡ false
-  pub cause : RefusesOpening name replayed.rec refusal held ⊎ OfHeld held (λ bytes. IsBadForRecord replayed bytes refusal)
+  pub cause : RefusesOpening name replayed.rec refusal held
+      ⊎ OfHeld held (λ bytes. IsBadForRecord replayed bytes refusal)
 
 -- a record of a match can't be judged by the files of its scores
-pub record RefusesScores (prefix : List ℕ) (replayed : Replayed) (refusal : Refusal) (held : Contents) : Type 0 where
+pub record RefusesScores (prefix : List ℕ) (replayed : Replayed) (refusal : Refusal)
+    (held : Contents) : Type 0 where
   pub in_match : is_match replayed.rec.stakes ≡ true
   pub cause : RefusesMatch prefix replayed refusal held
 
 -- a record that breaks no rule can't be judged by the file of this name, or in a match by the files of its scores
 abbrev pub RefusesJudging : List ℕ → Replayed → Refusal → Contents → Type 0
-RefusesJudging name replayed refusal held = RefusesScores name replayed refusal held ⊎ RefusesBase name replayed refusal (held name)
+RefusesJudging name replayed refusal held =
+    RefusesScores name replayed refusal held ⊎ RefusesBase name replayed refusal (held name)
 
 -- the record breaks no rule, and it is refused
 pub record RefusesReplayed (task : Analyse) (refusal : Refusal) (held : Contents) : Type 0 where
@@ -133,7 +146,8 @@ pub record RefusesReplayed (task : Analyse) (refusal : Refusal) (held : Contents
 
 -- An analysis is refused: the record is, or it breaks no rule and can't be judged by the file, or in a match by the files of its scores.
 abbrev pub RefusesAnalysis : Analyse → Refusal → Contents → Type 0
-RefusesAnalysis task refusal held = IsOutside refusal ⊎ RefusesRecord task.rec refusal (held task.rec) ⊎ RefusesReplayed task refusal held
+RefusesAnalysis task refusal held = IsOutside refusal
+    ⊎ RefusesRecord task.rec refusal (held task.rec) ⊎ RefusesReplayed task refusal held
 
 -- this refuses an analysis, of the files that are held where these tell what they hold
 abbrev pub MayRefuseAnalysis : Analyse → Bool → Contents → Refusal → Type 0
@@ -153,26 +167,36 @@ pub record IsOpenedFor (rec : RecordRead) (bytes : List ℕ) (head : FileHead) :
   pub source : IsSourceOfHead (paged_source (header_of_file bytes) true (Some bytes)) head
 
 -- a file of the record's game was opened, or this refuses that
-abbrev pub AnswersOpening : List ℕ → RecordRead → Bool → Option (List ℕ) → Result PagedFile Refusal → Type 0
+abbrev pub AnswersOpening : List ℕ → RecordRead → Bool → Option (List ℕ) → Result PagedFile Refusal
+    → Type 0
 AnswersOpening name rec told held (Ok base) =
-    IsTrue told → OfHeld held (λ bytes. IsOpenedFor rec bytes base.head × (base.header ≡ header_of_file bytes))
+    IsTrue told → OfHeld held (λ bytes. IsOpenedFor rec bytes base.head
+    × (base.header ≡ header_of_file bytes))
 AnswersOpening name rec told held (Err refusal) = IsTrue told → RefusesOpening name rec refusal held
 
 -- the decisions are judged, as they are looked up in a file
-abbrev pub AnswersDecisions : Header → Option (List ℕ) → Terms → List Decision → Result (List Judged) LookStop → Type 0
+abbrev pub AnswersDecisions : Header → Option (List ℕ) → Terms → List Decision
+    → Result (List Judged) LookStop → Type 0
 AnswersDecisions header file stakes decisions =
     AnswersSought header file (MayFollowDecisions stakes decisions)
-    (JudgesAll None stakes (paged_source header true file) (told_words header file) (map unjudged decisions))
+    (JudgesAll None stakes (paged_source header true file) (told_words header file)
+    (map unjudged decisions))
 
 -- the decisions of a record outside a match are judged by a file of this name, or this refuses that
-abbrev pub AnswersPlain : List ℕ → Replayed → Bool → Option (List ℕ) → Result (List Judged) Refusal → Type 0
-AnswersPlain name replayed told held (Ok list) = IsTrue told → OfHeld held (λ bytes. JudgesPlain replayed bytes list)
-AnswersPlain name replayed told held (Err refusal) = IsTrue told → RefusesBase name replayed refusal held
+abbrev pub AnswersPlain : List ℕ → Replayed → Bool → Option (List ℕ) → Result (List Judged) Refusal
+    → Type 0
+AnswersPlain name replayed told held (Ok list) =
+    IsTrue told → OfHeld held (λ bytes. JudgesPlain replayed bytes list)
+AnswersPlain name replayed told held (Err refusal) =
+    IsTrue told → RefusesBase name replayed refusal held
 
 -- the decisions of a record are judged by a file of this name, or in a match by the files of its scores, or this refuses that
-abbrev pub AnswersJudging : List ℕ → Replayed → Bool → Contents → Result (List Judged) Refusal → Type 0
-AnswersJudging name replayed told held (Ok list) = IsTrue told → JudgesReplayed name replayed held list
-AnswersJudging name replayed told held (Err refusal) = IsTrue told → IsOutside refusal ⊎ RefusesJudging name replayed refusal held
+abbrev pub AnswersJudging : List ℕ → Replayed → Bool → Contents → Result (List Judged) Refusal
+    → Type 0
+AnswersJudging name replayed told held (Ok list) =
+    IsTrue told → JudgesReplayed name replayed held list
+AnswersJudging name replayed told held (Err refusal) =
+    IsTrue told → IsOutside refusal ⊎ RefusesJudging name replayed refusal held
 
 -- a recorded game is analysed, or this refuses that
 abbrev pub AnswersAnalysis : Analyse → Bool → Contents → Result (List Judged) Refusal → Type 0

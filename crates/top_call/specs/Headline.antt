@@ -14,25 +14,29 @@ use Rattle.top_call.specs.Solves.{head_of}
 
 -- The plays of a roll were printed from the best to the worst, and in the game that was solved, of enough turns and however its unfinished end is
 -- scored, the first of them loses at most the printed bound.
-pub record PrintsGoodPlay (solve : SolveTask) (advise : AdviseTask) (roll : Dice) (IsPrinted : List ℕ → Type 0) : Type 0 where
+pub record PrintsGoodPlay (solve : SolveTask) (advise : AdviseTask) (roll : Dice)
+    (IsPrinted : List ℕ → Type 0) : Type 0 where
   pub kind : AskedKind
   pub ranking : Ranking
   pub asked : IsKindAsked (head_of solve) advise.kind kind
   pub printed : IsPrinted (ranking_text advise.position roll kind.name ranking)
   pub loses :
       InTheEnd (game_in (head_of solve)) (λ scoring turns.
-      FirstLosesAtMost (game_in (head_of solve)) scoring turns advise.position kind.number roll ranking.rows.items ranking.loss_bound)
+      FirstLosesAtMost (game_in (head_of solve)) scoring turns advise.position kind.number roll
+      ranking.rows.items ranking.loss_bound)
 
 -- An offer and an answer were printed, where there is a double, and in the game that was solved, of enough turns and however its unfinished end is
 -- scored, each loses at most its printed bound.
-pub record PrintsGoodActions (solve : SolveTask) (advise : AdviseTask) (IsPrinted : List ℕ → Type 0) : Type 0 where
+pub record PrintsGoodActions (solve : SolveTask) (advise : AdviseTask)
+    (IsPrinted : List ℕ → Type 0) : Type 0 where
   pub kind : AskedKind
   pub advice : CubeAdvice
   pub asked : IsKindAsked (head_of solve) advise.kind kind
   pub printed : IsPrinted (cube_text advise.position kind.name advice)
   pub loses :
       InTheEnd (game_in (head_of solve)) (λ scoring turns.
-      ActionLosesAtMost (game_in (head_of solve)) scoring turns advise.position kind.number advice.action)
+      ActionLosesAtMost (game_in (head_of solve)) scoring turns advise.position kind.number
+      advice.action)
 
 abbrev pub PrintsGoodFor : Option Dice → SolveTask → AdviseTask → (List ℕ → Type 0) → Type 0
 PrintsGoodFor (Some roll) solve advise IsPrinted = PrintsGoodPlay solve advise roll IsPrinted

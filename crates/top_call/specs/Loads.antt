@@ -11,11 +11,16 @@ use Rattle.equity_report.specs.declared.refusal.Refusal.TheVariants.{Missing, Fi
 
 -- the game of a head, as it is told
 abbrev pub game_told : FileHead → GameName
-game_told head = record { checkers = head.checkers; stakes = head.name; match_length = head.starts.match_length }
+game_told head = record {
+  checkers = head.checkers;
+  stakes = head.name;
+  match_length = head.starts.match_length;
+}
 
 -- Something is so of the file that was read: of the one that is held, where files tell what they hold, and else of some that could be read.
 abbrev pub OfFile : Bool → Option (List ℕ) → (Option FileRead → Type 0) → Type 0
-OfFile told held P = (file : Option FileRead) × (IsTrue told → file ≡ option_map whole held) × P file
+OfFile told held P =
+    (file : Option FileRead) × (IsTrue told → file ≡ option_map whole held) × P file
 
 -- the refusal that tells why a file of this name was not loaded
 abbrev pub TellsStop : List ℕ → LoadStop → Refusal → Type 0

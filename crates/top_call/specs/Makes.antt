@@ -27,10 +27,12 @@ pub record IsMadeFor (task : Make) (made : MadeRecord) : Type 0 where
 
 -- the report on a record that was made: how many lines and bytes its text has, and what each player loses in all
 abbrev pub made_report : MadeRecord → List ℕ
-made_report made = made_text (count_by is_line_end made.text.items) (length made.text.items) made.analysis
+made_report made =
+    made_text (count_by is_line_end made.text.items) (length made.text.items) made.analysis
 
 -- The record was made: the file, where files tell what they hold, has its text, and the report on it was put.
-pub record HasMade (task : Make) (told : Bool) (held : Option (List ℕ)) (old new : Output) : Type 0 where
+pub record HasMade (task : Make) (told : Bool) (held : Option (List ℕ))
+    (old new : Output) : Type 0 where
   pub made : MadeRecord
   pub is_made : IsMadeFor task made
   pub file : IsTrue told → held ≡ Some made.text.items
@@ -38,13 +40,17 @@ pub record HasMade (task : Make) (told : Bool) (held : Option (List ℕ)) (old n
 
 -- Writing failed: where files tell what they hold, the file has what it had or a front of the text of the record that was made, and behind a front
 -- of the report, or of none, the line of the refusal was put.
-pub record HasStoppedMaking (task : Make) (told : Bool) (was held : Option (List ℕ)) (old new : Output) : Type 0 where
+pub record HasStoppedMaking (task : Make) (told : Bool) (was held : Option (List ℕ))
+    (old new : Output) : Type 0 where
   pub made : MadeRecord
   pub is_made : IsMadeFor task made
   pub file : IsTrue told → (held ≡ was) ⊎ HoldsFront [] made.text.items held
-  pub line : WasPut old new (refusal_text Write) ⊎ FailedThenPut old new (made_report made) (refusal_text Write)
+  pub line : WasPut old new (refusal_text Write)
+      ⊎ FailedThenPut old new (made_report made) (refusal_text Write)
 
 -- How making a record ends: it was made, or writing failed, or there was no memory.
-pub record Makes (task : Make) (told : Bool) (before after : Contents) (old new : Output) (status : ℕ) : Type 0 where
+pub record Makes (task : Make) (told : Bool) (before after : Contents) (old new : Output)
+    (status : ℕ) : Type 0 where
   pub done : status ≡ 0 → HasMade task told (after task.file) old new
-  pub stopped : status ≡ status_of Write → HasStoppedMaking task told (before task.file) (after task.file) old new
+  pub stopped : status ≡ status_of Write
+      → HasStoppedMaking task told (before task.file) (after task.file) old new

@@ -28,19 +28,32 @@ use Rattle.top_call.specs.Verifies.{TellsVerified}
 abbrev pub HasRun : Result Task Refusal → Bool → Contents → Contents → Output → Output → ℕ → Type 0
 HasRun (Ok (Bound task)) told before after old new status = TellsBound task old new status
 HasRun (Ok (Race task)) told before after old new status = TellsRace task old new status
-HasRun (Ok (Solve task)) told before after old new status = Solves task told before after old new status
-HasRun (Ok (Show task)) told before after old new status = TellsShown task told (before task.file) old new status
-HasRun (Ok (Migrate task)) told before after old new status = Migrates task told before after old new status
-HasRun (Ok (Advise task)) told before after old new status = TellsAdvice task told (before task.file) old new status
-HasRun (Ok (Verify task)) told before after old new status = TellsVerified task told (before task.file) old new status
-HasRun (Ok (Ladder task)) told before after old new status = SolvesLadder task told before after old new status
-HasRun (Ok (Study task)) told before after old new status = TellsStudy task told (before task.rec) old new status
-HasRun (Ok (Make task)) told before after old new status = Makes task told before after old new status
-HasRun (Ok (Analyse task)) told before after old new status = TellsAnalysis task told before old new status
-HasRun (Ok (Plan task)) told before after old new status = TellsPlan task told (before (first_file task)) old new status
-HasRun (Ok (Scan task)) told before after old new status = TellsScan task told (before task.file) old new status
-HasRun (Ok (Reply task)) told before after old new status = TellsReply task told (before task.file) old new status
-HasRun (Err refusal) told before after old new status = status ≡ status_of refusal → WasPut old new (refusal_text refusal)
+HasRun (Ok (Solve task)) told before after old new status =
+    Solves task told before after old new status
+HasRun (Ok (Show task)) told before after old new status =
+    TellsShown task told (before task.file) old new status
+HasRun (Ok (Migrate task)) told before after old new status =
+    Migrates task told before after old new status
+HasRun (Ok (Advise task)) told before after old new status =
+    TellsAdvice task told (before task.file) old new status
+HasRun (Ok (Verify task)) told before after old new status =
+    TellsVerified task told (before task.file) old new status
+HasRun (Ok (Ladder task)) told before after old new status =
+    SolvesLadder task told before after old new status
+HasRun (Ok (Study task)) told before after old new status =
+    TellsStudy task told (before task.rec) old new status
+HasRun (Ok (Make task)) told before after old new status =
+    Makes task told before after old new status
+HasRun (Ok (Analyse task)) told before after old new status =
+    TellsAnalysis task told before old new status
+HasRun (Ok (Plan task)) told before after old new status =
+    TellsPlan task told (before (first_file task)) old new status
+HasRun (Ok (Scan task)) told before after old new status =
+    TellsScan task told (before task.file) old new status
+HasRun (Ok (Reply task)) told before after old new status =
+    TellsReply task told (before task.file) old new status
+HasRun (Err refusal) told before after old new status =
+    status ≡ status_of refusal → WasPut old new (refusal_text refusal)
 
 -- no file changed but the one that is to be written, or those of the scores of a ladder
 abbrev pub KeepsFiles : Result Task Refusal → Contents → Contents → Type 0

@@ -31,7 +31,11 @@ use Rattle.top_call.specs.Runs.{Tells}
 
 -- the score at which a match begins: both sides need all its points
 abbrev pub first_score : ℕ → MatchScore
-first_score match_length = record { near = match_length; far = match_length; phase = if match_length == 1 then Post else Normal }
+first_score match_length = record {
+  near = match_length;
+  far = match_length;
+  phase = if match_length == 1 then Post else Normal;
+}
 
 -- the name of the file of a match's first game, which is the last that solving the match writes
 abbrev pub first_file : Plan → List ℕ
@@ -45,18 +49,22 @@ pub record IsOfFirstGame (match_length : ℕ) (head : FileHead) : Type 0 where
 -- the start pairs of all scores of a match: those before its first game in the ladder, and what the words of that game say
 abbrev pub planned_starts : FileBase → StartPairs
 planned_starts base =
-    with_pair base.head.starts (start_over base.head.checkers (words_in_list base.words) (first_score base.head.starts.match_length))
+    with_pair base.head.starts
+    (start_over base.head.checkers (words_in_list base.words)
+    (first_score base.head.starts.match_length))
 
 -- ---- what the plan is true of
 
 -- what a side has exactly after it has lost so many points
 abbrev pub exact_loss : ℕ → ExactStarts → MatchScore → Side → ℕ → ℤ
-exact_loss scale starts score side lost = neg_ℤ (exact_win scale starts score (other_side side) lost)
+exact_loss scale starts score side lost =
+    neg_ℤ (exact_win scale starts score (other_side side) lost)
 
 -- What a plan tells of a side at a score holds for exact starts, which are whole numbers over a scale: where its take point is known, that encloses
 -- (pass - lose) / (win - lose), where the cube at 2 and a pass at 1 count; and where its gammon price is known, that encloses
 -- (gammon - win) / (win - lose), where the cube at 1 counts.
-pub record HoldsAt (plan : StartPairs) (score : MatchScore) (side : Side) (scale : ℕ) (starts : ExactStarts) : Type 0 where
+pub record HoldsAt (plan : StartPairs) (score : MatchScore) (side : Side) (scale : ℕ)
+    (starts : ExactStarts) : Type 0 where
   pub take :
       IfSome (take_point_at plan score side) (λ found.
       IsShare found (exact_loss scale starts score side 1 -ℤ exact_loss scale starts score side 2)
@@ -70,12 +78,14 @@ pub record HoldsAt (plan : StartPairs) (score : MatchScore) (side : Side) (scale
 abbrev pub AreInside : StartPairs → MatchScore → ℕ → ExactStarts → Type 0
 AreInside plan score scale starts =
     (winner : Side) (won : ℕ) → 1 ≤ won → won < needs score winner
-    → Encloses (start_pair plan (after_win score winner won)) (starts (after_win score winner won)) scale
+    → Encloses (start_pair plan (after_win score winner won)) (starts (after_win score winner won))
+    scale
 
 -- At each score and for each side a plan holds for all exact starts inside the pairs.
 abbrev pub HoldsInside : StartPairs → Type 0
 HoldsInside plan =
-    (score : MatchScore) (side : Side) (scale : ℕ) (starts : ExactStarts) → 0 < scale → AreInside plan score scale starts
+    (score : MatchScore) (side : Side) (scale : ℕ) (starts : ExactStarts) → 0 < scale
+    → AreInside plan score scale starts
     → HoldsAt plan score side scale starts
 
 -- From some number of turns on, one for the whole match, and however unfinished games are scored, a plan holds at each score of its match and for
@@ -83,9 +93,11 @@ HoldsInside plan =
 abbrev pub HoldsInTheEnd : ℕ → StartPairs → Type 0
 HoldsInTheEnd checkers plan =
     (enough : ℕ)
-    × ((turns : ℕ) → enough ≤ turns → (ends : EndScores) → AreEndScores checkers turns ends → (place : ℕ) → place < length (ladder plan.match_length)
+    × ((turns : ℕ) → enough ≤ turns → (ends : EndScores) → AreEndScores checkers turns ends
+    → (place : ℕ) → place < length (ladder plan.match_length)
     → (side : Side)
-    → HoldsAt plan (score_at plan.match_length place) side (scale_of turns (points_left (score_at plan.match_length place)))
+    → HoldsAt plan (score_at plan.match_length place) side
+    (scale_of turns (points_left (score_at plan.match_length place)))
     (starts_before checkers turns ends (points_left (score_at plan.match_length place))))
 
 -- The file is the last one of a match that was solved: of all scores these are the start pairs and the words, and it has the start pairs of the
@@ -101,17 +113,20 @@ pub record EndsLadder (base : FileBase) (starts : StartPairs) (words : ℕ → W
 -- The plan of a match was put, in this way: a head and words were read from the file of its first game, of the file that is held where files tell
 -- what they hold. It holds for all exact starts inside the start pairs, and in the end for those of the match, where the file is the last one of a
 -- match that was solved.
-pub record HasPlanned (task : Plan) (told : Bool) (held : Option (List ℕ)) (IsReport : List ℕ → Type 0) : Type 0 where
+pub record HasPlanned (task : Plan) (told : Bool) (held : Option (List ℕ))
+    (IsReport : List ℕ → Type 0) : Type 0 where
   pub base : FileBase
   pub read : OfFile told held (λ file. AnswersBase file (Ok base))
   pub first : IsOfFirstGame task.match_length base.head
   pub whole : length (planned_starts base).pairs ≡ length (ladder task.match_length)
   pub inside : HoldsInside (planned_starts base)
-  pub in_the_end : (starts : StartPairs) (words : ℕ → WordList) → EndsLadder base starts words → HoldsInTheEnd base.head.checkers (planned_starts base)
+  pub in_the_end : (starts : StartPairs) (words : ℕ → WordList) → EndsLadder base starts words
+      → HoldsInTheEnd base.head.checkers (planned_starts base)
   pub report : IsReport (plan_text (planned_starts base))
 
 -- a head and words were read from a file, and they are of another game than the first of a match to so many points
-pub record IsOfAnotherGame (match_length : ℕ) (refusal : Refusal) (file : Option FileRead) : Type 0 where
+pub record IsOfAnotherGame (match_length : ℕ) (refusal : Refusal)
+    (file : Option FileRead) : Type 0 where
   pub base : FileBase
   pub read : AnswersBase file (Ok base)
   pub other : IsOfFirstGame match_length base.head → ⊥
@@ -119,7 +134,8 @@ pub record IsOfAnotherGame (match_length : ℕ) (refusal : Refusal) (file : Opti
 
 -- the file of a match's first game is refused: it can't be loaded, or it is of another game
 abbrev pub RefusesPlanning : Plan → Refusal → Option FileRead → Type 0
-RefusesPlanning task (Base wanted found) file = IsOfAnotherGame task.match_length (Base wanted found) file
+RefusesPlanning task (Base wanted found) file =
+    IsOfAnotherGame task.match_length (Base wanted found) file
 RefusesPlanning task refusal file = RefusesLoading (first_file task) refusal file
 
 -- this refuses it, of the file that is held where files tell what they hold
@@ -134,5 +150,6 @@ TellsPlan task told held = Tells (HasPlanned task told held) (MayRefusePlanning 
 
 -- a base of a match's first game was read from its file, or the file is refused
 abbrev pub AnswersFirst : Plan → Bool → Option (List ℕ) → Result FileBase Refusal → Type 0
-AnswersFirst task told held (Ok base) = OfFile told held (λ file. AnswersBase file (Ok base)) × IsOfFirstGame task.match_length base.head
+AnswersFirst task told held (Ok base) = OfFile told held (λ file. AnswersBase file (Ok base))
+    × IsOfFirstGame task.match_length base.head
 AnswersFirst task told held (Err refusal) = OfFile told held (RefusesPlanning task refusal)

@@ -24,5 +24,6 @@ pub record PutsTrueRace (old new : Output) (task : RaceTask) : Type 0 where
 pub record TellsRace (task : RaceTask) (old new : Output) (status : ℕ) : Type 0 where
   pub report : status ≡ 0 → IsPut old new (race_report task)
   pub truth : status ≡ 0 → PutsTrueRace old new task
-  pub write : status ≡ status_of Write → FailedThenPut old new (race_report task) (refusal_text Write)
+  pub write : status ≡ status_of Write
+      → FailedThenPut old new (race_report task) (refusal_text Write)
   pub cause : status ≡ status_of Write → Rose old.faults new.faults

@@ -91,5 +91,6 @@ AnswersText text (Err _) = ⊥
 
 -- what is read of a record in a file of this name, or what refuses it
 abbrev pub AnswersRecord : List ℕ → Bool → Option (List ℕ) → Result Replayed Refusal → Type 0
-AnswersRecord name told held (Ok replayed) = IsTrue told → OfHeld held (λ bytes. HoldsRecord bytes replayed)
+AnswersRecord name told held (Ok replayed) =
+    IsTrue told → OfHeld held (λ bytes. HoldsRecord bytes replayed)
 AnswersRecord name told held (Err refusal) = IsTrue told → RefusesRecord name refusal held

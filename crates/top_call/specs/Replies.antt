@@ -39,16 +39,20 @@ worths_by words = worths (policy_of words) words.game.stakes
 -- the best reply is. Where an unfinished end is worth the same to both, following is worth no more than best play on both sides, and replying no less.
 pub record HoldsReplying (words : WordList) (rounds : ℕ) (p : Placement) (k : ℕ) : Type 0 where
   pub encloses :
-      (scoring : Scoring) (ends : Worths) → AreScored words.game scoring ends → (turns : ℕ) → rounds ≤ turns
-      → EncloseWorths words.game scoring turns (replies_to words rounds) (worths_by words scoring ends turns) p k
+      (scoring : Scoring) (ends : Worths) → AreScored words.game scoring ends → (turns : ℕ)
+      → rounds ≤ turns
+      → EncloseWorths words.game scoring turns (replies_to words rounds)
+      (worths_by words scoring ends turns) p k
   pub between :
       (scoring : Scoring) (turns : ℕ)
-      → IsBetween (worths_by words scoring (same_worths scoring.unfinished) turns) (exact words.game.stakes scoring turns) p k
+      → IsBetween (worths_by words scoring (same_worths scoring.unfinished) turns)
+      (exact words.game.stakes scoring turns) p k
 
 -- ---- what is told
 
 -- both sides' pairs of a state after so many rounds, and that of the words themselves
-pub record AreReplies (words : WordList) (rounds : ℕ) (p : Placement) (k : ℕ) (found : FoundReply) : Type 0 where
+pub record AreReplies (words : WordList) (rounds : ℕ) (p : Placement) (k : ℕ)
+    (found : FoundReply) : Type 0 where
   pub follow : found.follow ≡ pair_of (replies_to words rounds).follow p k
   pub reply : found.reply ≡ pair_of (replies_to words rounds).reply p k
   pub base : found.base ≡ pair_of (words_in_list words) p k
@@ -63,7 +67,8 @@ replied_text p rounds kind words =
 
 -- A reply was told: a head and words were read from the file, of the one that is held where files tell what they hold; the position and the kind that
 -- is asked for are of its game; what is known of a reply holds of the state; and the report was put, in this way, of its pairs after the rounds.
-pub record HasReplied (task : ReplyTask) (told : Bool) (held : Option (List ℕ)) (IsReport : List ℕ → Type 0) : Type 0 where
+pub record HasReplied (task : ReplyTask) (told : Bool) (held : Option (List ℕ))
+    (IsReport : List ℕ → Type 0) : Type 0 where
   pub base : FileBase
   pub read : OfFile told held (λ file. AnswersBase file (Ok base))
   pub kind : AskedKind
@@ -75,7 +80,8 @@ pub record HasReplied (task : ReplyTask) (told : Bool) (held : Option (List ℕ)
 -- ---- why none is told
 
 -- a head and words were read from a file, of another game than the one that is asked for
-pub record IsOfUnfitGame (task : ReplyTask) (refusal : Refusal) (file : Option FileRead) : Type 0 where
+pub record IsOfUnfitGame (task : ReplyTask) (refusal : Refusal)
+    (file : Option FileRead) : Type 0 where
   pub base : FileBase
   pub read : AnswersBase file (Ok base)
   pub wants : WantsOther task.position task.kind base.head refusal
@@ -103,5 +109,6 @@ pub record IsFitting (task : ReplyTask) (head : FileHead) : Type 0 where
 -- a base was read from its file, and this is the kind that is asked for in its game, or the file is refused
 abbrev pub AnswersLoaded : ReplyTask → Bool → Option (List ℕ) → Result LoadedFile Refusal → Type 0
 AnswersLoaded task told held (Ok loaded) =
-    OfFile told held (λ file. AnswersBase file (Ok loaded.base)) × AnswersAsked task.position task.kind loaded.base.head (Ok loaded.kind)
+    OfFile told held (λ file. AnswersBase file (Ok loaded.base))
+    × AnswersAsked task.position task.kind loaded.base.head (Ok loaded.kind)
 AnswersLoaded task told held (Err refusal) = MayRefuseReplying task told held refusal

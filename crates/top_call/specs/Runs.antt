@@ -22,7 +22,8 @@ EndsWriting status = (status ≡ 0) ⊎ (status ≡ status_of Write) ⊎ (status
 
 -- 0 where the report was put, that of a failed write where writing failed, and else that of one of these refusals
 abbrev pub EndsBy : (Refusal → Type 0) → ℕ → Type 0
-EndsBy IsOne status = (status ≡ 0) ⊎ (status ≡ status_of Write) ⊎ ((refusal : Refusal) × IsOne refusal × (status ≡ status_of refusal))
+EndsBy IsOne status = (status ≡ 0) ⊎ (status ≡ status_of Write)
+    ⊎ ((refusal : Refusal) × IsOne refusal × (status ≡ status_of refusal))
 
 -- a refusal of a file that is to be loaded: it isn't there, isn't right, or couldn't be read, or there was no memory for it
 abbrev pub IsOfLoading : Refusal → Type 0
@@ -107,7 +108,8 @@ WasPut old new text = (answer : Result (Unit {0}) Failed) × Puts old new text a
 -- putting the first text failed, and then the second was put, or a front of it where that failed too
 abbrev pub FailedThenPut : Output → Output → List ℕ → List ℕ → Type 0
 FailedThenPut old new first second =
-    (middle : Output) × (answer : Result (Unit {0}) Failed) × IsErr answer × Puts old middle first answer × WasPut middle new second
+    (middle : Output) × (answer : Result (Unit {0}) Failed) × IsErr answer
+    × Puts old middle first answer × WasPut middle new second
 
 -- How a report ends that is put last: at 0 it was put; at 7 putting it failed, where the output's count of faults rose, and then the line of
 -- that refusal was put.
@@ -126,9 +128,11 @@ pub record WasRefused (Refuses : Refusal → Type 0) (old new : Output) (status 
 
 -- How a command ends that only reads, and tells what it finds: at 0 the report of that was put; at 7 putting it failed, and then the line of that
 -- refusal was put; else it was refused.
-pub record Tells (HasFound : (List ℕ → Type 0) → Type 0) (Refuses : Refusal → Type 0) (old new : Output) (status : ℕ) : Type 0 where
+pub record Tells (HasFound : (List ℕ → Type 0) → Type 0) (Refuses : Refusal → Type 0)
+    (old new : Output) (status : ℕ) : Type 0 where
   pub told : status ≡ 0 → HasFound (IsPut old new)
-  pub not_put : status ≡ status_of Write → HasFound (λ text. FailedThenPut old new text (refusal_text Write))
+  pub not_put : status ≡ status_of Write
+      → HasFound (λ text. FailedThenPut old new text (refusal_text Write))
   pub refused : status ≢ 0 → status ≢ status_of Write → WasRefused Refuses old new status
   pub cause : status ≡ status_of Write → Rose old.faults new.faults
 

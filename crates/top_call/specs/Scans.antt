@@ -26,7 +26,8 @@ IsConditionText text = (groups : List (List Test)) × IsTextOf text groups
 
 -- The states of a file were searched: the text is that of a condition; a head and words were read from the file, of the one that is held where files
 -- tell what they hold; and the report was put, in this way, of exactly those states that meet the condition over the words, in their order.
-pub record HasScanned (task : Scan) (told : Bool) (held : Option (List ℕ)) (IsReport : List ℕ → Type 0) : Type 0 where
+pub record HasScanned (task : Scan) (told : Bool) (held : Option (List ℕ))
+    (IsReport : List ℕ → Type 0) : Type 0 where
   pub groups : List (List Test)
   pub condition : IsTextOf task.condition groups
   pub base : FileBase
@@ -40,7 +41,8 @@ pub record HasScanned (task : Scan) (told : Bool) (held : Option (List ℕ)) (Is
 abbrev pub RefusesScanning : Scan → Refusal → Option FileRead → Type 0
 RefusesScanning task (Condition word) file = IsFirstBad (words task.condition) word
 RefusesScanning task Memory file = ⊤
-RefusesScanning task refusal file = IsConditionText task.condition × RefusesLoading task.file refusal file
+RefusesScanning task refusal file =
+    IsConditionText task.condition × RefusesLoading task.file refusal file
 
 -- this refuses it, of the file that is held where files tell what they hold
 abbrev pub MayRefuseScanning : Scan → Bool → Option (List ℕ) → Refusal → Type 0

@@ -21,7 +21,12 @@ use Rattle.top_call.specs.Runs.{IsPut, WasPut, FailedThenPut}
 
 -- the head of the file that is asked for
 abbrev pub head_of : Solve → FileHead
-head_of task = record { checkers = task.checkers; name = task.stakes; rounds = task.rounds; starts = no_starts }
+head_of task = record {
+  checkers = task.checkers;
+  name = task.stakes;
+  rounds = task.rounds;
+  starts = no_starts;
+}
 
 -- Words that solve the game that is asked for: with one number of turns from which on they enclose every state, with no turn over them that is
 -- looser than they are, and at least as tight as so many rounds in which all states are worked out from the round before.
@@ -50,7 +55,8 @@ solved_report task widest =
     }) task.file
 
 -- The game was solved: the file, where files tell what they hold, has words that solve it, and the report on them was put.
-pub record HasSolved (task : Solve) (told : Bool) (held : Option (List ℕ)) (old new : Output) : Type 0 where
+pub record HasSolved (task : Solve) (told : Bool) (held : Option (List ℕ))
+    (old new : Output) : Type 0 where
   pub words : WordList
   pub solved : AreSolved task words
   pub file : IsTrue told → held ≡ Some (solved_file task words)
@@ -60,15 +66,19 @@ pub record HasSolved (task : Solve) (told : Bool) (held : Option (List ℕ)) (ol
 
 -- Writing failed: where files tell what they hold, the file has what it had or a front of the text of words that solve the game, and behind a
 -- front of the report, or of none, the line of the refusal was put.
-pub record HasStopped (task : Solve) (told : Bool) (before held : Option (List ℕ)) (old new : Output) : Type 0 where
+pub record HasStopped (task : Solve) (told : Bool) (before held : Option (List ℕ))
+    (old new : Output) : Type 0 where
   pub words : WordList
   pub solved : AreSolved task words
   pub file : IsTrue told → (held ≡ before) ⊎ HoldsFront [] (solved_file task words) held
   pub line :
       WasPut old new (refusal_text Write)
-      ⊎ ((widest : ℤ) × IsWidest words widest × FailedThenPut old new (solved_report task widest) (refusal_text Write))
+      ⊎ ((widest : ℤ) × IsWidest words widest
+      × FailedThenPut old new (solved_report task widest) (refusal_text Write))
 
 -- How solving a game ends: it was solved, or writing failed, or there was no memory.
-pub record Solves (task : Solve) (told : Bool) (before after : Contents) (old new : Output) (status : ℕ) : Type 0 where
+pub record Solves (task : Solve) (told : Bool) (before after : Contents) (old new : Output)
+    (status : ℕ) : Type 0 where
   pub solved : status ≡ 0 → HasSolved task told (after task.file) old new
-  pub stopped : status ≡ status_of Write → HasStopped task told (before task.file) (after task.file) old new
+  pub stopped : status ≡ status_of Write
+      → HasStopped task told (before task.file) (after task.file) old new

@@ -17,20 +17,24 @@ use Rattle.top_call.specs.declared.record.Replayed.{Replayed}
 -- all its games. So from some number of turns on, one for all of them, each pair encloses what its decision loses exactly, in a match with its exact
 -- payoffs, with no premise on a file; and each is at least as tight as over as many rounds in which all states are worked out from the round before.
 pub record IsStudiedBy (replayed : Replayed) (most : ℕ) (list : List Judged) : Type 0 where
-  pub plain : is_match replayed.rec.stakes ≡ false → AreStudied (game_of_record replayed.rec) most replayed.decisions list
+  pub plain : is_match replayed.rec.stakes ≡ false
+      → AreStudied (game_of_record replayed.rec) most replayed.decisions list
   pub in_match :
       is_match replayed.rec.stakes ≡ true
-      → AreStudiedInMatch replayed.rec.checkers (match_length replayed.rec.stakes) most replayed.decisions list
+      → AreStudiedInMatch replayed.rec.checkers (match_length replayed.rec.stakes) most
+      replayed.decisions list
 
 -- A recorded game was studied: where files tell what they hold, the file holds a record that breaks no rule, and its decisions were studied by the
 -- rounds of the task.
-pub record IsStudied (task : Study) (told : Bool) (held : Option (List ℕ)) (list : List Judged) : Type 0 where
+pub record IsStudied (task : Study) (told : Bool) (held : Option (List ℕ))
+    (list : List Judged) : Type 0 where
   pub replayed : Replayed
   pub record_file : IsTrue told → OfHeld held (λ bytes. HoldsRecord bytes replayed)
   pub studied : IsStudiedBy replayed task.rounds list
 
 -- The report of what was studied was put, in this way.
-pub record HasStudied (task : Study) (told : Bool) (held : Option (List ℕ)) (IsReport : List ℕ → Type 0) : Type 0 where
+pub record HasStudied (task : Study) (told : Bool) (held : Option (List ℕ))
+    (IsReport : List ℕ → Type 0) : Type 0 where
   pub list : List Judged
   pub studied : IsStudied task told held list
   pub report : IsReport (analysis_text list)

@@ -56,7 +56,8 @@ with_position bound (Err bad) = Err (Position bad)
 -- the position has as many checkers a side as the words ask for, and is a race
 abbrev pub racing : ℕ → Placement → Result Task Refusal
 racing checkers p =
-    if sum p.mover == checkers then (if is_race p then Ok (Race (record { position = p })) else Err Contact)
+    if sum p.mover == checkers
+    then (if is_race p then Ok (Race (record { position = p })) else Err Contact)
     else Err (Base (Checkers (sum p.mover)) (cubeless_game checkers))
 
 abbrev pub with_race : RaceWords → Result Placement BadPosition → Result Task Refusal
@@ -79,7 +80,8 @@ roll_given (Some text) = with_text (read_roll text)
 
 -- a state in which advice is sought: the roll is read after the position
 abbrev pub with_roll : AdviseWords → Placement → Result (Option Dice) BadRoll → Result Task Refusal
-with_roll advise p (Ok roll) = Ok (Advise (record { file = advise.file; position = p; kind = advise.kind; roll = roll }))
+with_roll advise p (Ok roll) =
+    Ok (Advise (record { file = advise.file; position = p; kind = advise.kind; roll = roll }))
 with_roll advise p (Err bad) = Err (Roll bad)
 
 abbrev pub with_advised : AdviseWords → Result Placement BadPosition → Result Task Refusal
@@ -88,7 +90,8 @@ with_advised advise (Err bad) = Err (Position bad)
 
 -- a state in which a file's advice is followed
 abbrev pub with_replied : ReplyWords → Result Placement BadPosition → Result Task Refusal
-with_replied reply (Ok p) = Ok (Reply (record { file = reply.file; position = p; kind = reply.kind; rounds = reply.rounds }))
+with_replied reply (Ok p) = Ok
+    (Reply (record { file = reply.file; position = p; kind = reply.kind; rounds = reply.rounds }))
 with_replied reply (Err bad) = Err (Position bad)
 
 abbrev pub with_words : Result Command BadWords → Result Task Refusal
@@ -147,7 +150,8 @@ pub record IsRightReply (task : ReplyTask) : Type 0 where
 
 -- the pair of the position after so many rounds of a game without a cube
 abbrev pub bound_report : BoundTask → List ℕ
-bound_report task = bound_text task.position task.rounds (pair_of (rounds cubeless task.rounds) task.position 0)
+bound_report task =
+    bound_text task.position task.rounds (pair_of (rounds cubeless task.rounds) task.position 0)
 
 -- the race's turns and pair
 abbrev pub race_report : RaceTask → List ℕ

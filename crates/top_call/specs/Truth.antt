@@ -28,5 +28,6 @@ pub record PutsEnclosingPair (old new : Output) (task : BoundTask) : Type 0 wher
 pub record TellsBound (task : BoundTask) (old new : Output) (status : ℕ) : Type 0 where
   pub report : status ≡ 0 → IsPut old new (bound_report task)
   pub truth : status ≡ 0 → PutsEnclosingPair old new task
-  pub write : status ≡ status_of Write → FailedThenPut old new (bound_report task) (refusal_text Write)
+  pub write : status ≡ status_of Write
+      → FailedThenPut old new (bound_report task) (refusal_text Write)
   pub cause : status ≡ status_of Write → Rose old.faults new.faults

@@ -48,7 +48,8 @@ pub record AreVerified (words : WordList) : Type 0 where
 
 -- The words of a file were checked: a head and words were read from it, of the file that is held where files tell what they hold; the words are
 -- consistent; and the report on the head was put, in this way.
-pub record HasVerified (task : Verify) (told : Bool) (held : Option (List ℕ)) (IsReport : List ℕ → Type 0) : Type 0 where
+pub record HasVerified (task : Verify) (told : Bool) (held : Option (List ℕ))
+    (IsReport : List ℕ → Type 0) : Type 0 where
   pub base : FileBase
   pub read : OfFile told held (λ file. AnswersBase file (Ok base))
   pub verified : AreVerified base.words
@@ -87,7 +88,8 @@ MayRefuseVerifying name told held refusal = OfFile told held (RefusesVerifying n
 
 -- how checking a file ends
 abbrev pub TellsVerified : Verify → Bool → Option (List ℕ) → Output → Output → ℕ → Type 0
-TellsVerified task told held = Tells (HasVerified task told held) (MayRefuseVerifying task.file told held)
+TellsVerified task told held =
+    Tells (HasVerified task told held) (MayRefuseVerifying task.file told held)
 
 -- ---- what checking may answer
 
@@ -99,5 +101,6 @@ AnswersCheck base (Err refusal) = refusal ≡ Memory
 
 -- a base whose words are consistent was read from a file of this name, or the file is refused
 abbrev pub AnswersVerify : List ℕ → Bool → Option (List ℕ) → Result FileBase Refusal → Type 0
-AnswersVerify name told held (Ok base) = OfFile told held (λ file. AnswersBase file (Ok base)) × AreVerified base.words
+AnswersVerify name told held (Ok base) =
+    OfFile told held (λ file. AnswersBase file (Ok base)) × AreVerified base.words
 AnswersVerify name told held (Err refusal) = OfFile told held (RefusesVerifying name refusal)

@@ -15,7 +15,8 @@ abbrev pub always_double : Kind
 always_double = record {
   next = 0;
   win = exactly 1 ∷ exactly 1 ∷ exactly 1 ∷ [];
-  double = Some (record { pass = exactly 1; answers = record { items = record { kind = 0; factor = 2 } ∷ [] } });
+  double = Some (record
+      { pass = exactly 1; answers = record { items = record { kind = 0; factor = 2 } ∷ [] } });
 }
 
 abbrev pub doubling_game : Terms
@@ -84,4 +85,5 @@ rolled_first stakes scoring p k = rolled stakes scoring 1 (exact stakes scoring 
 
 -- doubling in a game of two turns, where it is answered as suits the other side
 abbrev pub doubled_first : Terms → Scoring → Placement → ℕ → Double → ℤ
-doubled_first stakes scoring p k double = after_double stakes scoring 1 (exact stakes scoring 1) p k double
+doubled_first stakes scoring p k double =
+    after_double stakes scoring 1 (exact stakes scoring 1) p k double

@@ -18,24 +18,29 @@ use Rattle.turn_rule.specs.Looks.{Source, Seen, States, Sought, LooksUp, HasDama
 
 -- One end of a value within a bound. Where the source tells its words, it is at least as tight as the value over its floor, and no tighter than
 -- the value over any words that are at least as tight as its notes. None of the states is damaged.
-pub record IsFound (end : End) (source : Source) (noted : Words) (states : States) (bound : ℤ) (value : Words → ℤ) (found : ℤ) : Type 0 where
+pub record IsFound (end : End) (source : Source) (noted : Words) (states : States) (bound : ℤ)
+    (value : Words → ℤ) (found : ℤ) : Type 0 where
   pub within : IsWithinUnits bound found
   pub floor : IsTrue source.tells → IsNoLooser end found (value source.floor)
-  pub notes : IsTrue source.tells → (later : Words) → AreNoLooserOf source.checkers source.kinds later noted → IsNoLooser end (value later) found
+  pub notes : IsTrue source.tells → (later : Words)
+      → AreNoLooserOf source.checkers source.kinds later noted → IsNoLooser end (value later) found
   pub right : IsTrue source.tells → (p : Placement) (k : ℕ) → states p k → source.damage p k ≡ None
 
 -- one end of what is sought
 abbrev pub IsFoundOf : End → Sought → Source → Words → ℤ → Type 0
-IsFoundOf end sought source noted = IsFound end source noted sought.states (sought.limit source.bound) (sought.value end)
+IsFoundOf end sought source noted =
+    IsFound end source noted sought.states (sought.limit source.bound) (sought.value end)
 
 -- a look-up of one end of what is sought
 abbrev pub Finds : End → Sought → Seen → Seen → Result ℤ LookStop → Type 0
 Finds end sought old new result =
-    LooksUp old new (HasDamage old.source sought.states) (IsFoundOf end sought old.source new.notes) result
+    LooksUp old new (HasDamage old.source sought.states) (IsFoundOf end sought old.source new.notes)
+    result
 
 -- the other side's state after a play that doesn't end the game is one of the source
 abbrev pub LeavesState : Source → ℕ → Placement → Type 0
-LeavesState source next end = points end ≡ None → IsStateOf source.checkers source.kinds (swap end) next
+LeavesState source next end =
+    points end ≡ None → IsStateOf source.checkers source.kinds (swap end) next
 
 -- this state
 abbrev pub IsSame : Placement → ℕ → States
@@ -47,11 +52,13 @@ MayFollowEnds next ends p k = (end : Placement) × Among end ends × IsLeft next
 
 -- a state that some roll's play may leave, among these rolls
 abbrev pub MayFollowAmong : ℕ → Placement → List (Dice × ℕ) → States
-MayFollowAmong next p rolls q j = (roll : Dice × ℕ) × Among roll rolls × (end : Placement) × Among end (legal_ends p roll.0) × IsLeft next end q j
+MayFollowAmong next p rolls q j = (roll : Dice × ℕ) × Among roll rolls × (end : Placement)
+    × Among end (legal_ends p roll.0) × IsLeft next end q j
 
 -- a state that some roll's play may leave after one of these answers
 abbrev pub MayFollowAnswer : Terms → Placement → List Taken → States
-MayFollowAnswer stakes p answers q j = (taken : Taken) × Among taken answers × MayFollow stakes p taken.kind q j
+MayFollowAnswer stakes p answers q j =
+    (taken : Taken) × Among taken answers × MayFollow stakes p taken.kind q j
 
 -- the word of a state
 abbrev pub of_word : Placement → ℕ → Sought
@@ -92,4 +99,5 @@ of_double stakes p double = record {
 -- for each kind, the sum over the 36 ways of two dice of what the best play is worth
 abbrev pub AreFoundSums : End → Source → Words → Terms → Placement → List ℤ → Type 0
 AreFoundSums end source noted stakes p sums =
-    (k : ℕ) → k < length stakes.kinds → IsFoundOf end (of_sum stakes p k) source noted (slice_index_or sums k (pos 0))
+    (k : ℕ) → k < length stakes.kinds
+    → IsFoundOf end (of_sum stakes p k) source noted (slice_index_or sums k (pos 0))

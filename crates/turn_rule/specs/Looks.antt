@@ -36,7 +36,8 @@ pub record Source : Type 0 where
 
 -- An answer is within the bound. Where the source tells its words, the answer is at least as tight as its floor and no tighter than its
 -- notes, and the state isn't damaged.
-pub record IsAnswer (end : End) (source : Source) (noted : Words) (p : Placement) (k : ℕ) (value : ℤ) : Type 0 where
+pub record IsAnswer (end : End) (source : Source) (noted : Words) (p : Placement) (k : ℕ)
+    (value : ℤ) : Type 0 where
   pub within : IsWithinUnits source.bound value
   pub floor : IsTrue source.tells → IsNoLooser end value (source.floor end p k)
   pub notes : IsTrue source.tells → IsNoLooser end (noted end p k) value
@@ -46,7 +47,8 @@ pub record IsAnswer (end : End) (source : Source) (noted : Words) (p : Placement
 -- states are damaged, only with a damage that is meant.
 abbrev pub MayStop : Source → ℕ → ℕ → (Damage → Type 0) → LookStop → Type 0
 MayStop source before now meant ReadFault = IsFalse source.sure × Rose before now
-MayStop source before now meant (BadPage fault at) = IsFalse source.sure × (IsTrue source.tells → meant (record { fault = fault; at = at }))
+MayStop source before now meant (BadPage fault at) =
+    IsFalse source.sure × (IsTrue source.tells → meant (record { fault = fault; at = at }))
 MayStop source before now meant NoMemory = IsFalse source.sure
 
 -- What contracts see of a place of look-ups at one moment: where it looks, the words that no answer is tighter than, and how often a call
@@ -65,20 +67,24 @@ abbrev pub AreSourceWords : Source → Words → Type 0
 AreSourceWords source u = AreWithinOf source.checkers source.kinds source.bound u
 
 -- an answer or a stop, after which the count of faults hasn't fallen and no note is looser
-pub record Looked {A : Type 0} (source : Source) (old new : Words) (before now : ℕ) (meant : Damage → Type 0) (right : A → Type 0) (result : Result A LookStop) : Type 0 where
+pub record Looked {A : Type 0} (source : Source) (old new : Words) (before now : ℕ)
+    (meant : Damage → Type 0) (right : A → Type 0) (result : Result A LookStop) : Type 0 where
   pub later : before ≤ now
   pub notes : IsTrue source.tells → AreNoLooserOf source.checkers source.kinds new old
   pub answer : IfOk result right
   pub stop : IfErr result (MayStop source before now meant)
 
 -- a look-up between two moments
-abbrev pub LooksUp : {A : Type 0} → Seen → Seen → (Damage → Type 0) → (A → Type 0) → Result A LookStop → Type 0
-LooksUp old new meant right result = Looked old.source old.notes new.notes old.faults new.faults meant right result
+abbrev pub LooksUp : {A : Type 0} → Seen → Seen → (Damage → Type 0) → (A → Type 0)
+    → Result A LookStop → Type 0
+LooksUp old new meant right result =
+    Looked old.source old.notes new.notes old.faults new.faults meant right result
 
 -- a look-up of one word of a state
 abbrev pub FindsWord : End → Placement → ℕ → Seen → Seen → Result ℤ LookStop → Type 0
 FindsWord end p k old new result =
-    LooksUp old new (λ damage. old.source.damage p k ≡ Some damage) (IsAnswer end old.source new.notes p k) result
+    LooksUp old new (λ damage. old.source.damage p k ≡ Some damage)
+    (IsAnswer end old.source new.notes p k) result
 
 -- stakes that a source's words may be asked for: of so many kinds, and with this bound
 pub record AreStakesOf (source : Source) (stakes : Terms) : Type 0 where
@@ -104,7 +110,8 @@ pub record MayFollow (stakes : Terms) (p : Placement) (k : ℕ) (q : Placement) 
   pub left : IsLeft (kind_at stakes k).next end q j
 
 -- a state that some roll's play may leave after a double and an answer to it that plays on
-pub record MayFollowDouble (stakes : Terms) (p : Placement) (k : ℕ) (q : Placement) (j : ℕ) : Type 0 where
+pub record MayFollowDouble (stakes : Terms) (p : Placement) (k : ℕ) (q : Placement)
+    (j : ℕ) : Type 0 where
   pub double : Double
   pub right : (kind_at stakes k).double ≡ Some double
   pub taken : Taken
@@ -124,7 +131,8 @@ pub record HasDamage (source : Source) (states : States) (damage : Damage) : Typ
 
 -- A pair within a bound, its lower end at most its upper. Where the source tells its words, each end is at least as tight as the value over its
 -- floor and no tighter than the value over its notes, and none of the states is damaged.
-pub record IsPairOf (source : Source) (noted : Words) (states : States) (bound : ℤ) (value : End → Words → ℤ) (pair : Bounds) : Type 0 where
+pub record IsPairOf (source : Source) (noted : Words) (states : States) (bound : ℤ)
+    (value : End → Words → ℤ) (pair : Bounds) : Type 0 where
   pub in_order : pair.lower ≤ℤ pair.upper
   pub lower : IsWithinUnits bound pair.lower
   pub upper : IsWithinUnits bound pair.upper
@@ -142,12 +150,14 @@ pub record Sought : Type 1 where
 
 -- a pair of it from a source's words
 abbrev pub IsPairFor : Sought → Source → Words → Bounds → Type 0
-IsPairFor sought source noted = IsPairOf source noted sought.states (sought.limit source.bound) sought.value
+IsPairFor sought source noted =
+    IsPairOf source noted sought.states (sought.limit source.bound) sought.value
 
 -- a look-up of such a pair
 abbrev pub FindsPair : Sought → Seen → Seen → Result Bounds LookStop → Type 0
 FindsPair sought old new result =
-    LooksUp old new (HasDamage old.source sought.states) (IsPairFor sought old.source new.notes) result
+    LooksUp old new (HasDamage old.source sought.states) (IsPairFor sought old.source new.notes)
+    result
 
 -- what rolling in a kind is worth that counts so many times
 abbrev pub of_roll : Terms → Placement → ℕ → ℕ → Sought

@@ -34,7 +34,8 @@ AreWinsWithin game scoring =
 abbrev pub ArePassesWithin : Game → Scoring → Type 0
 ArePassesWithin game scoring =
     (k : ℕ) → k < kinds_of game
-    → IfSome (kind_at game.stakes k).double (λ double. Encloses double.pass (scoring.pass k) scoring.scale)
+    → IfSome (kind_at game.stakes k).double
+    (λ double. Encloses double.pass (scoring.pass k) scoring.scale)
 
 -- an unfinished end lies in the pair of its own state
 abbrev pub AreEndsWithin : Game → Words → Scoring → Type 0
@@ -66,7 +67,8 @@ EnclosesAt stakes scoring turns pair p k =
 -- words enclose every state in the game of so many turns
 abbrev pub AreEnclosing : Game → Scoring → ℕ → Words → Type 0
 AreEnclosing game scoring turns u =
-    (p : Placement) (k : ℕ) → IsState game p k → EnclosesAt game.stakes scoring turns (pair_of u p k) p k
+    (p : Placement) (k : ℕ) → IsState game p k
+    → EnclosesAt game.stakes scoring turns (pair_of u p k) p k
 
 -- A word is sound for its state where from some number of turns on it bounds the exact value, however the game is scored within its stakes.
 abbrev pub IsSound : Game → End → ℤ → Placement → ℕ → Type 0

@@ -46,7 +46,8 @@ greatest value (q ∷ r ∷ rest) = int_max (value q) (greatest value (r ∷ res
 -- over some rolls, the sum of the best play's value, each roll as often as it comes
 abbrev pub sum_over : List (Dice × ℕ) → (Placement → ℤ) → Placement → ℤ
 sum_over [] value p = pos 0
-sum_over (roll ∷ rolls) value p = pos roll.1 *ℤ greatest value (legal_ends p roll.0) +ℤ sum_over rolls value p
+sum_over (roll ∷ rolls) value p =
+    pos roll.1 *ℤ greatest value (legal_ends p roll.0) +ℤ sum_over rolls value p
 
 -- rolling in a kind that counts so many times: the mean over the 36 ways of two dice, rounded outwards
 abbrev pub roll_value : End → Terms → Words → Placement → ℕ → ℕ → ℤ
@@ -62,7 +63,8 @@ least value (v ∷ rest) = least (int_min value v) rest
 abbrev pub doubled : End → Terms → Words → Placement → Double → ℤ
 doubled end stakes u p double =
     least (at end double.pass)
-    (map (λ (taken : Taken). roll_value end stakes u p taken.kind taken.factor) double.answers.items)
+    (map (λ (taken : Taken). roll_value end stakes u p taken.kind taken.factor)
+    double.answers.items)
 
 -- with a right to double the mover has the better of rolling at once and of doubling
 abbrev pub or_double : End → Terms → Words → Placement → ℤ → Option Double → ℤ
@@ -71,7 +73,8 @@ or_double end stakes u p plain (Some double) = int_max plain (doubled end stakes
 
 -- one turn: the words before it from the words after it
 unfoldable pub turn : Terms → Words → Words
-turn stakes u end p k = or_double end stakes u p (roll_value end stakes u p k 1) (kind_at stakes k).double
+turn stakes u end p k =
+    or_double end stakes u p (roll_value end stakes u p k 1) (kind_at stakes k).double
 
 -- what the bound alone tells of a game that may end anyhow
 abbrev pub bound_words : Terms → Words

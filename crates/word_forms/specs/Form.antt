@@ -34,11 +34,18 @@ has_equals text = list_any (λ x. x == 61) text
 
 -- what stands before the first `=`, and what stands after it
 abbrev pub name_and_value : Bytes → Bytes × Option Bytes
-name_and_value text = (before_first (λ x. x == 61) text, if has_equals text then Some (after_first (λ x. x == 61) text) else None)
+name_and_value text = (
+  before_first (λ x. x == 61) text,
+  if has_equals text
+      then Some (after_first (λ x. x == 61) text)
+      else None,
+)
 
 -- `--name` or `--name=value`, as the name and the value
 abbrev pub option_of : Bytes → Option (Bytes × Option Bytes)
-option_of (x ∷ y ∷ z ∷ rest) = if (x == 45) && (y == 45) then Some (name_and_value (z ∷ rest)) else None
+option_of (x ∷ y ∷ z ∷ rest) = if (x == 45) && (y == 45)
+    then Some (name_and_value (z ∷ rest))
+    else None
 option_of _ = None
 
 abbrev pub is_given : Bytes → Values → Bool
@@ -50,7 +57,9 @@ value_of name given = option_map (λ v. v.1) (find (λ v. bytes_eq v.0 name) giv
 
 -- a value for a name that has none yet
 abbrev pub give : Bytes → Bytes → Reading → Option Reading
-give name value r = if is_given name r.given then None else Some (record r { given = r.given ++ (name, value) ∷ []; waiting = None })
+give name value r = if is_given name r.given
+    then None
+    else Some (record r { given = r.given ++ (name, value) ∷ []; waiting = None })
 
 -- the next argument, if there is one
 abbrev pub take_argument : Option Bytes → Bytes → Reading → Option Reading
@@ -93,4 +102,5 @@ nothing_read = record { given = []; count = 0; waiting = None }
 
 -- the values that the words give, if they have the form
 abbrev pub values_of : Form → List Bytes → Option Values
-values_of f words = option_and_then (λ (r : Reading). if is_whole f r then Some r.given else None) (read f words (Some nothing_read))
+values_of f words = option_and_then (λ (r : Reading). if is_whole f r then Some r.given else None)
+    (read f words (Some nothing_read))

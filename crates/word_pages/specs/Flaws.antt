@@ -25,13 +25,16 @@ flaw_unless well fault at = if well then None else Some (record { fault = fault;
 abbrev pub pair_flaw : Version → ℤ → ℕ → ℕ → ℕ → Option Flaw
 pair_flaw version bound at lower upper =
     option_or (flaw_unless (is_in_range bound lower) Word at)
-    (option_or (flaw_unless (is_in_range bound upper) Word (at + word_size version)) (flaw_unless (not (nat_lt upper lower)) Crossed at))
+    (option_or (flaw_unless (is_in_range bound upper) Word (at + word_size version))
+    (flaw_unless (not (nat_lt upper lower)) Crossed at))
 
 -- the first flaw of pairs, the first of which stands at this place
 abbrev pub pairs_flaw : Version → ℤ → ℕ → List ℕ → Option Flaw
 pairs_flaw version bound at [] = None
 pairs_flaw version bound at (word ∷ []) = None
-pairs_flaw version bound at (lower ∷ upper ∷ words) = option_or (pair_flaw version bound at lower upper) (pairs_flaw version bound (at + 2 * word_size version) words)
+pairs_flaw version bound at (lower ∷ upper ∷ words) = option_or
+    (pair_flaw version bound at lower upper)
+    (pairs_flaw version bound (at + 2 * word_size version) words)
 
 -- the pair with this number, counted from 0
 abbrev pub pair_of : List ℕ → ℕ → Bounds

@@ -8,7 +8,10 @@ use Rattle.word_pages.specs.Pages.{page_flaw}
 
 -- Where these are the bytes from the page's place on, these are its words and it has no flaw, or this is its first flaw. After a fault
 -- of the files nothing is said.
-abbrev pub AnswersPage : {T : Type 0} → Version → ℤ → ℕ → ℕ → List ℕ → List ℕ → Result T PageStop → Type 0
-AnswersPage version bound count at bytes words (Ok x) = (page_flaw version bound count at bytes ≡ None) × (words ≡ words_of version count bytes)
-AnswersPage version bound count at bytes words (Err (BadPage flaw)) = page_flaw version bound count at bytes ≡ Some flaw
+abbrev pub AnswersPage : {T : Type 0} → Version → ℤ → ℕ → ℕ → List ℕ → List ℕ → Result T PageStop
+    → Type 0
+AnswersPage version bound count at bytes words (Ok x) =
+    (page_flaw version bound count at bytes ≡ None) × (words ≡ words_of version count bytes)
+AnswersPage version bound count at bytes words (Err (BadPage flaw)) =
+    page_flaw version bound count at bytes ≡ Some flaw
 AnswersPage version bound count at bytes words (Err ReadFault) = ⊤

@@ -24,14 +24,17 @@ page_size version count = word_size version * count + 32
 -- behind the page don't matter.
 abbrev pub page_flaw : Version → ℤ → ℕ → ℕ → List ℕ → Option Flaw
 page_flaw version bound count at bytes =
-    option_or (flaw_unless (nat_le (page_size version count) (length bytes)) Short (at + length bytes))
-    (option_or (flaw_unless (is_sealed (take (page_size version count) bytes)) PageDigest (at + word_size version * count))
+    option_or (flaw_unless (nat_le (page_size version count) (length bytes)) Short
+    (at + length bytes))
+    (option_or (flaw_unless (is_sealed (take (page_size version count) bytes)) PageDigest
+    (at + word_size version * count))
     (pairs_flaw version bound at (words_of version count bytes)))
 
 -- so many pages of `size` words each, one after the other, the last one shorter where the words don't fill it
 abbrev pub first_pages : Version → ℕ → ℕ → List ℕ → List ℕ
 first_pages version size zero words = []
-first_pages version size (suc n) words = page_text version (take size words) ++ first_pages version size n (drop size words)
+first_pages version size (suc n) words =
+    page_text version (take size words) ++ first_pages version size n (drop size words)
 
 -- how many pages so many words take
 abbrev pub pages_in : ℕ → ℕ → ℕ

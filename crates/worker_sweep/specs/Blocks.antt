@@ -22,7 +22,10 @@ IsSwept game view block =
 
 -- A pair that a seat may bring for a state, and that sweeps it: within the bound, no tighter than the turn over the seat's notes, and at least
 -- as tight as the words after one round more than its base.
-pub record MaySweep (game : Game) (view : View) (p : Placement) (k : ℕ) (pair : Bounds) : Type 0 where
+pub record MaySweep (game : Game) (view : View) (p : Placement) (k : ℕ)
+    (pair : Bounds) : Type 0 where
   pub within : (end : End) → IsWithinUnits game.stakes.bound (at end pair)
-  pub loose : (end : End) → IsNoLooser end (turn game.stakes (noted game view.notes) end p k) (at end pair)
-  pub tight : (end : End) → IsNoLooser end (at end pair) (rounds game.stakes (view.base + 1) end p k)
+  pub loose : (end : End)
+      → IsNoLooser end (turn game.stakes (noted game view.notes) end p k) (at end pair)
+  pub tight : (end : End)
+      → IsNoLooser end (at end pair) (rounds game.stakes (view.base + 1) end p k)

@@ -30,9 +30,12 @@ pair_in column i k = slice_index_or column.pairs (place_in column.kinds i k) not
 
 -- each of the column's positions is a state in each kind, and a seat may bring its pair
 pub record MayBringColumn (game : Game) (view : View) (column : ColumnPairs) : Type 0 where
-  pub states : (i k : ℕ) → i < length column.movers → k < kinds_of game → IsState game (position_in column i) k
-  pub pairs : (i k : ℕ) → i < length column.movers → k < kinds_of game → MaySweep game view (position_in column i) k (pair_in column i k)
+  pub states : (i k : ℕ) → i < length column.movers → k < kinds_of game
+      → IsState game (position_in column i) k
+  pub pairs : (i k : ℕ) → i < length column.movers → k < kinds_of game
+      → MaySweep game view (position_in column i) k (pair_in column i k)
 
 -- what a seat notes of a position's first kinds is at least as tight as after one round more than its base
 abbrev pub AreNotedTo : Game → View → Placement → ℕ → Type 0
-AreNotedTo game view p count = (end : End) (k : ℕ) → k < count → IsNoLooser end (noted game view.notes end p k) (rounds game.stakes (view.base + 1) end p k)
+AreNotedTo game view p count = (end : End) (k : ℕ) → k < count
+    → IsNoLooser end (noted game view.notes end p k) (rounds game.stakes (view.base + 1) end p k)
