@@ -24,7 +24,7 @@ def page_length(kinds):
 
 
 def file_length(checkers, kinds):
-    """The length of a file of version 2 without starts."""
+    """The length of a file of version 3 without starts."""
     positions = POSITIONS[checkers]
     return HEAD + DIGEST + positions * kinds * PAIR + (positions + A_PAGE - 1) // A_PAGE * DIGEST
 
@@ -35,31 +35,54 @@ def pages(text, kinds):
         yield text[place : place + page_length(kinds)]
 
 
+def bound_digest(text, number, pairs):
+    """The digest of a page's pairs, bound to the digest of the head of a file without starts and the page's number."""
+    return digest(b"".join((text[HEAD : HEAD + DIGEST], struct.pack(">Q", number), pairs)))
+
+
 def is_sealed(text, kinds):
     """Whether the digests of the head and of all pages are right."""
-    parts = [text[: HEAD + DIGEST], *pages(text, kinds)]
-    return all(digest(part[:-DIGEST]) == part[-DIGEST:] for part in parts)
+    bound = (bound_digest(text, number, it[:-DIGEST]) == it[-DIGEST:] for number, it in enumerate(pages(text, kinds)))
+    return digest(text[:HEAD]) == text[HEAD : HEAD + DIGEST] and all(bound)
+
+
+def in_older_version(text, kinds, version, as_words):
+    """A file of version 3 in an older one, whose pages' digests are of their pairs alone."""
+    head = text[:8] + struct.pack(">I", version) + text[12:HEAD]
+    parts = [head] + [as_words(page[:-DIGEST]) for page in pages(text, kinds)]
+    return b"".join(part + digest(part) for part in parts)
 
 
 def as_version_one(text, kinds):
-    """A file of version 2 in version 1, whose words take eight bytes each."""
-    head = text[:8] + struct.pack(">I", 1) + text[12:HEAD]
-    parts = [head] + [longer_words(page[:-DIGEST]) for page in pages(text, kinds)]
-    return b"".join(part + digest(part) for part in parts)
+    """A file of version 3 in version 1, whose words take eight bytes each."""
+    return in_older_version(text, kinds, 1, longer_words)
+
+
+def as_version_two(text, kinds):
+    """A file of version 3 in version 2."""
+    return in_older_version(text, kinds, 2, bytes)
 
 
 def longer_words(pairs):
     return b"".join(bytes(3) + pairs[place : place + WORD] for place in range(0, len(pairs), WORD))
 
 
+def with_page_of(text, number, other, other_number, kinds):
+    """A file with a page of another one, or of itself, in place of its own with this number."""
+    place = HEAD + DIGEST + number * page_length(kinds)
+    page = list(pages(other, kinds))[other_number]
+    return text[:place] + page + text[place + len(page) :]
+
+
 def with_tighter_bound(text, position, kind):
     """A file for money in which the lower bound of a position and kind is one unit tighter, with its page sealed anew."""
     rank, length = live_rank(*position), page_length(len(KINDS))
-    page = HEAD + DIGEST + rank // A_PAGE * length
+    number = rank // A_PAGE
+    page = HEAD + DIGEST + number * length
     end = min(page + length, len(text)) - DIGEST
     place = page + (rank % A_PAGE * len(KINDS) + KINDS.index(kind)) * PAIR
     tighter = int.from_bytes(text[place : place + WORD], "big") + 1
     changed = bytearray(text)
     changed[place : place + WORD] = tighter.to_bytes(WORD, "big")
-    changed[end : end + DIGEST] = digest(changed[page:end])
+    changed[end : end + DIGEST] = bound_digest(changed, number, changed[page:end])
     return bytes(changed)

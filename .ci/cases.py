@@ -13,7 +13,7 @@ import base_file
 from base import Base, lines, live_rank, read_places
 from documents import large_files
 from imports import try_imports
-from tally import PROGRAM, SCRIPT, SECONDS, TOP, run
+from tally import PROGRAM, SCRIPT, SECONDS, TOP, old_file, run
 
 # What the script `hypergammon` asks for, where the program itself is run, many times.
 LARGE_PAGES = {**os.environ, "GLIBC_TUNABLES": "glibc.malloc.hugetlb=1"}
@@ -28,6 +28,11 @@ position 24 / 24
 rounds 1
 alone -2.833334 3.000000 -12169074006 12884901888
 """
+
+# Files of older versions, which are made of SMALL, and what makes them.
+OLDER_VERSIONS = {"old.base": base_file.as_version_one, "older.base": base_file.as_version_two}
+# What is answered of a file of version 1 or 2, and what the script says then on standard error.
+OLDER = (4, b"refused 4 file version 8\n", b"an older file: migrate OLD NEW\n")
 
 OF_FEWER = b"refused 10 base wanted checkers 2 found checkers 1 stakes jacoby\n"
 
@@ -53,6 +58,7 @@ CASES = (
     Case("a file of fewer checkers", (b"show", SMALL, b"24 23 / 24 23"), 10, OF_FEWER),
     Case("a condition that ends too early", (b"scan", SMALL, b"pips=1 |"), 11, b"refused 11 condition 2\n"),
     Case("a race with contact", (b"race", b"1", b"13 / 13"), 12, b"refused 12 contact\n"),
+    Case("a file of another kind", (b"make", b"1", b"1", SMALL), 13, b"refused 13 other %s\n" % SMALL.encode()),
 )
 
 # With one checker either order of 3 and 1 ends on the same point, so the play loses nothing.
@@ -137,7 +143,7 @@ def shown_cases(folder):
     small = (folder / SMALL).read_bytes()
     solved = SOLVED % (row["widest"].encode(), row["bytes"].encode())
     solve = ("solve", SMALL, "--checkers", "1")
-    yield Shown(solve, 64, solved, SMALL, b"what stood here before\n" * 5000, row["sha256"])
+    yield Shown(solve, 64, solved, SMALL, old_file("solve"), row["sha256"])
     yield Shown(("verify", SMALL), 1, VERIFIED, SMALL, small, row["sha256"])
     yield Shown(("study", "game.rec"), 64, STUDIED, "game.rec", RECORD, base_file.digest(RECORD).hex())
 
@@ -251,16 +257,35 @@ def same_bytes(name, other, folder):
 
 
 def try_migrate(tally, folder, name):
-    """A file of version 2 that is written anew has the same bytes."""
+    """A file of the latest version that is written anew has the same bytes."""
     status, _ = ask(("migrate", name, "new.base"), folder)
     tally.note(f"migrate {name}", differences("status", status, 0) or same_bytes(name, "new.base", folder))
 
 
-def try_version_one(tally, folder):
-    """A file of version 1 is written as that of version 2 from which it was made."""
-    (folder / "old.base").write_bytes(base_file.as_version_one((folder / SMALL).read_bytes(), KINDS))
-    status, _ = ask(("migrate", "old.base", "new.base"), folder)
-    tally.note("migrate a file of version 1", differences("status", status, 0) or same_bytes(SMALL, "new.base", folder))
+def try_older_versions(tally, folder):
+    """A file of an older version is written as that of the latest one from which it was made, and all else refuses it."""
+    text = (folder / SMALL).read_bytes()
+    for name, older in OLDER_VERSIONS.items():
+        (folder / name).write_bytes(older(text, KINDS))
+        status, _ = ask(("migrate", name, "new.base", "--workers", "2"), folder)
+        tally.note(f"migrate {name}", differences("status", status, 0) or same_bytes(SMALL, "new.base", folder))
+        for words in (("show", name, "6 / 1"), ("verify", name), ("scan", name, "pips=1"), ("reply", name, "6 / 1")):
+            ran = run([SCRIPT, *words], folder)
+            tally.note(f"{words[0]} {name}", differences("answer", (ran.status, ran.output, ran.told), OLDER))
+
+
+def try_pages(tally, folder):
+    """A page of another place or of another file is damage, whatever stands in it."""
+    text, length = (folder / "two.base").read_bytes(), base_file.page_length(KINDS)
+    swapped = base_file.with_page_of(text, 0, text, 1, KINDS)
+    (folder / "swapped.base").write_bytes(base_file.with_page_of(swapped, 1, text, 0, KINDS))
+    ask(("solve", "money.base", "--checkers", "2", "--stakes", "money", "--rounds", "4"), folder)
+    other = (folder / "money.base").read_bytes()
+    (folder / "mixed.base").write_bytes(base_file.with_page_of(text, 0, other, 0, KINDS))
+    due = b"refused 4 file page-digest %d\n" % (base_file.HEAD + length)
+    for name in ("swapped.base", "mixed.base"):
+        for words in (("show", name, "1 off / 1 off"), ("verify", name), ("migrate", name, "new.base")):
+            tally.note(f"{words[0]} {name}", differences("answer", ask(words, folder), (4, due)))
 
 
 def starts_of_three():
@@ -312,7 +337,8 @@ def try_file_of_three(tally, folder, name, length):
 
 
 def try_migrations(tally, folder):
-    try_version_one(tally, folder)
+    try_older_versions(tally, folder)
+    try_pages(tally, folder)
     try_migrate(tally, folder, "two.base")
 
 
@@ -323,20 +349,21 @@ def spread_positions(checkers):
 
 
 def faults_of_reader(name, rows, folder):
-    """What import/base.py has of positions has to be what `show` prints."""
+    """What import/base.py has of positions has to be what `show` prints, of an older file what it prints of the one from which that was made."""
+    shown = SMALL if name in OLDER_VERSIONS else name
     base = Base(folder / name)
     for row in rows:
         position, rank = row["position"], live_rank(*map(read_places, row["position"].split("/")))
         yield from differences(f"live rank of {position}", str(rank), row["rank"])
-        printed = run([PROGRAM, "show", name, position], folder, environment=LARGE_PAGES).output.decode().splitlines()
+        printed = run([PROGRAM, "show", shown, position], folder, environment=LARGE_PAGES).output.decode().splitlines()
         yield from differences(f"pairs of {position}", list(lines(base, position)), printed[2:])
 
 
 def try_reader(tally, folder):
-    """The reader on every kind of file: of each number of checkers, of version 1, and of each score of a match."""
+    """The reader on every kind of file: of each number of checkers, of versions 1 and 2, and of each score of a match."""
     for name, checkers in ((SMALL, 1), ("two.base", 2), ("three.base", 3)):
         tally.note(f"import/base.py {name}", list(faults_of_reader(name, spread_positions(checkers), folder))[:5])
-    for name in ("old.base", *sorted(it.name for it in folder.glob("match.*"))):
+    for name in (*OLDER_VERSIONS, *sorted(it.name for it in folder.glob("match.*"))):
         tally.note(f"import/base.py {name}", list(faults_of_reader(name, spread_positions(1)[::20], folder))[:5])
 
 

@@ -17,7 +17,7 @@ import threading
 import time
 
 import base_file
-from tally import PROGRAM, Ran
+from tally import BASE_START, PROGRAM, RECORD_START, Ran, old_file
 
 # After how many seconds a run of these small games counts as one that doesn't end.
 LIMIT = 20
@@ -27,10 +27,12 @@ ROUNDS = {"four.base": 4, "five.base": 5}
 FOUR, FIVE = ROUNDS
 RECORD = "game.rec"
 POSITION = "24 / 24"
-# What stands where a file is to be written. It is longer than any such file.
-OLD = b"what stood here before\n" * 5000
 READ_REFUSED = Ran(6, b"refused 6 read\n", b"")
 WRITE_REFUSED = Ran(7, b"refused 7 write\n", b"")
+OTHER_REFUSED = Ran(13, b"refused 13 other kept\n", b"")
+# What is no file of bounds, and what is no record.
+NO_BASES = (b"\0", b"H", BASE_START[:-1], b"hYPGAMMN" * 3, b" " + BASE_START, RECORD_START, b"a note\n" * 5000)
+NO_RECORDS = (b"\n", b"h", RECORD_START[:-1], b"hypergammon record 2\n", b"\n" + RECORD_START, BASE_START * 10, b"a note\n" * 5000)
 # More than is read of what is no file.
 TOO_MUCH = (4 << 20) + 1
 # The bytes that a file may have where the system lets it have no more. All files that are written here have more.
@@ -194,13 +196,49 @@ def no_files(room):
             yield from differences((*words, "keeps what it is"), is_one((folder / name).lstat().st_mode), True)
 
 
+def other_kinds(room):
+    """What stands where a file of another kind is to be written is refused before any work, and stays. An empty file may be of any kind."""
+    folder = room.new("other_kinds")
+    kept = folder / "kept"
+    # There is no file to be migrated, and no time for this game.
+    early = (("migrate", "none", "kept"), ("solve", "kept", "--rounds", "64"))
+    for words in (*writings("kept"), *early):
+        for text in NO_RECORDS if words[0] == "make" else NO_BASES:
+            kept.write_bytes(text)
+            before = held(folder)
+            yield from differences((*words, f"over {text[:30]}"), ask(words, folder), OTHER_REFUSED)
+            yield from differences((*words, f"over {text[:30]}", "changes nothing"), held(folder) == before, True)
+    for words in writings("kept"):
+        kept.write_bytes(b"")
+        yield from differences((*words, "over an empty file"), ask(words, folder).status, 0)
+        yield from differences((*words, "writes it"), kept.stat().st_size > MOST_BYTES, True)
+        yield from differences((*words, "over its own file"), ask(words, folder).status, 0)
+
+
+def refused_files(room):
+    """Where the file to be migrated is refused, or isn't there, what stands under the new name stays."""
+    folder, old = room.new("refused_files"), old_file("migrate")
+    (folder / "old").write_bytes(old)
+    (folder / "short").write_bytes(room.texts[FOUR][:-1])
+    tighter = base_file.with_tighter_bound(room.texts[FOUR], ((24,), (24,)), "centred")
+    (folder / "tighter").write_bytes(base_file.as_version_two(tighter, KINDS))
+    for name, status in (("none", 3), ("short", 4), (RECORD, 4), ("tighter", 9)):
+        words = ("migrate", name, "old")
+        yield from differences(words, ask(words, folder).status, status)
+        yield from differences((*words, "keeps the file"), (folder / "old").read_bytes() == old, True)
+    yield from differences("left aside", left_aside(folder), [])
+
+
 def one_file(room):
     """`migrate` of a file to another name of it leaves a whole new one."""
     folder, words = room.new("one_file"), ("migrate", FOUR, f"./{FOUR}")
-    (folder / FOUR).write_bytes(base_file.as_version_one(room.texts[FOUR], KINDS))
-    yield from differences(words, ask(words, folder).status, 0)
-    yield from differences("it is whole", (folder / FOUR).read_bytes() == room.texts[FOUR], True)
-    yield from differences("verify", ask(("verify", FOUR), folder).status, 0)
+    for older in (base_file.as_version_one, base_file.as_version_two):
+        (folder / FOUR).write_bytes(older(room.texts[FOUR], KINDS))
+        refused = Ran(4, b"refused 4 file version 8\n", b"")
+        yield from differences(("show", FOUR, older.__name__), ask(("show", FOUR, POSITION), folder), refused)
+        yield from differences((*words, older.__name__), ask(words, folder).status, 0)
+        yield from differences("it is whole", (folder / FOUR).read_bytes() == room.texts[FOUR], True)
+        yield from differences("verify", ask(("verify", FOUR), folder).status, 0)
     yield from differences("left aside", left_aside(folder), [])
 
 
@@ -231,9 +269,9 @@ def write_at_most(size, is_refused):
 def limits(room):
     """Where not all can be written, that is refused, all files are as they were, and nothing is left aside."""
     folder = room.new("limits")
-    (folder / "old").write_bytes(OLD)
-    before = held(folder)
     for words in (*writings("old"), *writings("new"), ("migrate", FOUR, f"./{FOUR}")):
+        (folder / "old").write_bytes(old_file(words[0]))
+        before = held(folder)
         yield from differences(words, ask(words, folder, preexec_fn=lambda: write_at_most(MOST_BYTES, True)), WRITE_REFUSED)
         after = held(folder)
         changed = sorted(it for it in before.keys() | after.keys() if before.get(it) != after.get(it))
@@ -243,12 +281,13 @@ def limits(room):
 def ended_runs(room):
     """Where a run is ended after some bytes, the old file is as it was, and a later run writes it."""
     folder = room.new("ended_runs")
-    (folder / "old").write_bytes(OLD)
     for words in writings("old"):
+        old = old_file(words[0])
+        (folder / "old").write_bytes(old)
         for size in range(0, MOST_BYTES, MOST_BYTES // 4):
             ran = ask(words, folder, preexec_fn=lambda: write_at_most(size, False))
             yield from differences((*words, f"ended after {size} bytes"), ran.status, -signal.SIGXFSZ)
-            yield from differences((*words, "keeps the file"), (folder / "old").read_bytes() == OLD, True)
+            yield from differences((*words, "keeps the file"), (folder / "old").read_bytes() == old, True)
     yield from differences("a later run", ask(solve("old", ROUNDS[FOUR]), folder).status, 0)
     yield from differences("its file is whole", (folder / "old").read_bytes() == room.texts[FOUR], True)
 
@@ -287,15 +326,16 @@ def kills(room, times):
     Counts what the file then was, and how many runs were killed before their end.
     """
     folder, words, counts = room.new("kills"), solve("old", ROUNDS[FOUR]), collections.Counter(killed=0)
+    old = old_file("solve")
     began = time.monotonic()
     ask(words, folder)
     lasts = time.monotonic() - began
     for number in range(times):
-        (folder / "old").write_bytes(OLD)
+        (folder / "old").write_bytes(old)
         running = begin_to_write(words, folder) if number % 2 else begin_and_wait(words, folder, lasts * number / times)
         running.kill()
         counts["killed"] += end(running).status == -signal.SIGKILL
-        counts[name_of((folder / "old").read_bytes(), {"old": OLD, "new": room.texts[FOUR]})] += 1
+        counts[name_of((folder / "old").read_bytes(), {"old": old, "new": room.texts[FOUR]})] += 1
     return counts
 
 
@@ -387,7 +427,8 @@ def changing_files(room):
     yield from differences("it was replaced often enough", counts["changes"] >= 200, True)
 
 
-PARTS = (pipes, small_pieces, no_files, one_file, links, limits, ended_runs, killed_runs, paired_runs, changing_files)
+PARTS = (pipes, small_pieces, no_files, other_kinds, refused_files, one_file, links, limits, ended_runs, killed_runs, paired_runs)
+PARTS += (changing_files,)
 
 
 def try_outside(tally, folder):

@@ -1,4 +1,4 @@
-"""What the scripts of the gate share: where the program stands, runs, a folder that goes away, and a tally."""
+"""What the scripts of the gate share: where the program stands, runs, what it writes over, a folder that goes away, and a tally."""
 
 import collections
 import contextlib
@@ -16,6 +16,14 @@ SCRIPT = TOP / "hypergammon"
 PROGRAM = TOP / "crates/hyper_app/out/hyper_app"
 # After how long a run counts as one that doesn't end.
 SECONDS = 1200
+# With what the two kinds of files begin that the program writes.
+BASE_START, RECORD_START = b"HYPGAMMN", b"hypergammon record 1\n"
+
+
+def old_file(command):
+    """What stands where this command is to write a file: it begins as that kind of file does, and is longer than any that is written here."""
+    start = RECORD_START if command == "make" else BASE_START
+    return start + b"what stood here before\n" * 5000
 
 
 class Ran(NamedTuple):
@@ -84,9 +92,9 @@ def processor_seconds():
 
 
 def need_program():
-    """Builds the program where it isn't built of these sources, and ends the script where that fails."""
-    if subprocess.run([TOP / "scripts/build"], check=False).returncode:
-        sys.exit("the program isn't built of these sources")
+    """Ends the script where the program isn't built of these sources."""
+    if subprocess.run([TOP / "scripts/build", "--stands"], check=False).returncode:
+        sys.exit("the program isn't built of these sources: scripts/build builds it")
 
 
 @contextlib.contextmanager

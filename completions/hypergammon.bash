@@ -23,6 +23,7 @@ _hypergammon() {
     local -A options=(
         [solve]='--checkers --stakes --rounds --workers'
         [advise]='--kind --roll'
+        [migrate]='--workers'
         [verify]='--workers'
         [scan]='--workers'
         [reply]='--kind --rounds'

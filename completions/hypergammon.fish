@@ -32,7 +32,7 @@ complete -c hypergammon -n '__hypergammon_asks .1 help.1' -a race -d 'how long a
 complete -c hypergammon -n '__hypergammon_asks .1 help.1' -a solve -d 'the bounds of all positions, written to FILE'
 complete -c hypergammon -n '__hypergammon_asks .1 help.1' -a show -d 'the bounds of a position from a file'
 complete -c hypergammon -n '__hypergammon_asks .1 help.1' -a advise -d 'the best plays of a roll, or what to do with the cube'
-complete -c hypergammon -n '__hypergammon_asks .1 help.1' -a migrate -d 'a file written anew in the latest version'
+complete -c hypergammon -n '__hypergammon_asks .1 help.1' -a migrate -d 'a file, checked, written anew in the latest version'
 complete -c hypergammon -n '__hypergammon_asks .1 help.1' -a verify -d 'whether a file\'s bounds follow from each other, whoever made it'
 complete -c hypergammon -n '__hypergammon_asks .1 help.1' -a scan -d 'the positions of a file that meet a condition'
 complete -c hypergammon -n '__hypergammon_asks .1 help.1' -a reply -d 'what a file\'s advice is worth against the best reply'
@@ -52,6 +52,7 @@ complete -c hypergammon -n '__hypergammon_is solve' -l rounds -x
 complete -c hypergammon -n '__hypergammon_is solve' -l workers -x
 complete -c hypergammon -n '__hypergammon_is advise' -l kind -x -a 'alone centred mine theirs near:1:centred far:1:centred near:2:near far:2:near near:2:far far:2:far near:4:near far:4:near near:4:far far:4:far near:8:near far:8:near near:8:far far:8:far'
 complete -c hypergammon -n '__hypergammon_is advise' -l roll -x
+complete -c hypergammon -n '__hypergammon_is migrate' -l workers -x
 complete -c hypergammon -n '__hypergammon_is verify' -l workers -x
 complete -c hypergammon -n '__hypergammon_is scan' -l workers -x
 complete -c hypergammon -n '__hypergammon_is reply' -l kind -x -a 'alone centred mine theirs near:1:centred far:1:centred near:2:near far:2:near near:2:far far:2:far near:4:near far:4:near near:4:far far:4:far near:8:near far:8:near near:8:far far:8:far'

@@ -49,13 +49,15 @@ class Base:
     def __init__(self, path):
         self.file = open(path, "rb")
         head = self.file.read(64)
-        if len(head) < 64 or head[:8] != b"HYPGAMMN" or head[8:12] not in (b"\0\0\0\1", b"\0\0\0\2"):
-            raise ValueError(f"{path} is no file of bounds of version 1 or 2")
-        version, self.checkers, self.stakes, *fields, self.positions, _ = struct.unpack(">10I2Q", head[8:])
+        if len(head) < 64 or head[:8] != b"HYPGAMMN" or head[8:12] not in (b"\0\0\0\1", b"\0\0\0\2", b"\0\0\0\3"):
+            raise ValueError(f"{path} is no file of bounds of version 1, 2 or 3")
+        self.version, self.checkers, self.stakes, *fields, self.positions, _ = struct.unpack(">10I2Q", head[8:])
         self.near, self.far, self.phase, _, self.kind_count, _, starts = fields
-        self.word = 8 if version == 1 else 5
+        self.word = 8 if self.version == 1 else 5
         self.row = self.kind_count * 2 * self.word
         self.pages = 64 + starts * 2 * self.word + 32
+        self.file.seek(self.pages - 32)
+        self.digest = self.file.read(32)
         due = self.pages + self.positions * self.row + math.ceil(self.positions / 1024) * 32
         if os.path.getsize(path) != due:
             raise ValueError(f"{path} has {os.path.getsize(path)} bytes, and by its head {due}")
@@ -64,7 +66,9 @@ class Base:
         """The pairs of a page, counted from 0, as bytes."""
         self.file.seek(self.pages + number * (1024 * self.row + 32))
         pairs = self.file.read(min(1024, self.positions - number * 1024) * self.row)
-        if hashlib.sha256(pairs).digest() != self.file.read(32):
+        # In version 3 a page is bound to the digest of the head and to its number.
+        binding = self.digest + number.to_bytes(8, "big") if self.version == 3 else b""
+        if hashlib.sha256(binding + pairs).digest() != self.file.read(32):
             raise ValueError(f"{self.file.name}: the digest of page {number}, counted from 0, differs")
         return pairs
 

@@ -16,7 +16,7 @@ use Rattle.cube_actions.specs.Names.{name_of, names_of}
 use Rattle.cube_actions.specs.Scores.{MatchScore}
 use Rattle.base_head.specs.declared.header.Header.{Header}
 use Rattle.word_pages.specs.declared.version.Version.{Version}
-use Rattle.word_pages.specs.declared.version.Version.TheVariants.{One, Two}
+use Rattle.word_pages.specs.declared.version.Version.TheVariants.{One, Two, Three}
 use Rattle.word_pages.specs.Words.{word_size}
 use Rattle.base_head.specs.Headers.{IsHeader, IsLengthOf, digest_place, pair_size, starts_before}
 
@@ -88,6 +88,7 @@ header-positions-few header is = omega (arith, is.positions, positions-few heade
 word_size-low : (version : Version) → word_size version ≤ 8
 word_size-low One = omega arith
 word_size-low Two = omega arith
+word_size-low Three = omega arith
 
 pub digest_place-low : (header : Header) → IsHeader header → digest_place header ≤ 336
 digest_place-low header is =

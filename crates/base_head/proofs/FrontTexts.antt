@@ -1,9 +1,9 @@
 -- Nothing is wrong with a front exactly where it is that of a version and a head, which then is read.
-use Rattle.std.proofs.Common.{◌≡◌, ◌∙◌, ℕ, ◌-◌, ◌*◌, ◌≤◌, ◌≤ℤ◌, ◌↔◌, All, nat_lt, Bool, true, false, not, if◌then◌else◌, List, [], ◌∷◌, ◌++◌, length, take, drop, None, Some, Option, length-append, length-drop, append_assoc, refl, sym, ap, ap₂, subst, arith}
+use Rattle.std.proofs.Common.{◌≡◌, ◌∙◌, ℕ, ◌+◌, ◌-◌, ◌*◌, ◌≤◌, ◌≤ℤ◌, ◌↔◌, All, nat_lt, Bool, true, false, not, if◌then◌else◌, List, [], ◌∷◌, ◌++◌, length, take, drop, None, Some, Option, length-append, length-drop, append_assoc, refl, sym, ap, ap₂, subst, arith}
 use Rattle.std.proofs.Math.Nat.{mul_assoc, mul_left_comm}
-use Rattle.std.proofs.Math.Seq.{take-add}
+use Rattle.std.proofs.Math.Seq.{take-add, drop-append_seam}
 use Rattle.std.proofs.lemmas.Bool.Decides.{nat_tests}
-use Rattle.std.proofs.lemmas.List.{length-take-le, take-append-drop, take-take}
+use Rattle.std.proofs.lemmas.List.{drop-take, length-take-le, take-append-drop, take-take}
 use Rattle.std.specs.Option.{option_map, option_or}
 use Rattle.std.specs.Str.{bytes_eq}
 use Rattle.sha2.specs.Sha256.{sha256}
@@ -29,14 +29,14 @@ use Rattle.base_head.specs.declared.fault.FileFault.TheVariants as faults
 use Rattle.base_head.specs.declared.fields.Fields.{Fields}
 use Rattle.base_head.specs.declared.header.Header.{Header}
 use Rattle.base_head.specs.Faults.{check, first_wrong}
-use Rattle.base_head.specs.Fronts.{bad_of, front_text, head_in, pairs_of_words, start_words, starts_fault, starts_length, words_of_pairs}
+use Rattle.base_head.specs.Fronts.{bad_of, digest_in, front_text, head_digest, head_in, head_text, pairs_of_words, start_words, starts_fault, starts_length, words_of_pairs}
 use Rattle.base_head.specs.FrontTexts.{IsFront, front_fault}
 use Rattle.base_head.specs.Heads.{AreStartsOf, FileHead, HasText, IsHead, no_starts}
-use Rattle.base_head.specs.Headers.{IsHeader, IsLengthOf, digest_place, file_length, front_length, header_of, length_if_match, magic, pair_size, spelled, starts_before, text_length}
+use Rattle.base_head.specs.Headers.{IsHeader, IsLengthOf, IsSince, digest_place, file_length, front_length, header_of, length_if_match, magic, pair_size, spelled, starts_before, text_length}
 use Rattle.base_head.specs.HeaderFaults.{field_checks, fields_of, header_fault, header_in, length_checks, opening_checks}
 use Rattle.base_head.proofs.Checked.{none_or}
 use Rattle.base_head.proofs.FieldChecks.{after-fields, all-header}
-use Rattle.base_head.proofs.HeaderBytes.{AreBytes-drop, opening-right, spelled-back, wrong-then}
+use Rattle.base_head.proofs.HeaderBytes.{AreBytes-drop, opening-right, spelled-back, version-numbers, version-right, wrong-then}
 use Rattle.base_head.proofs.HeaderRead.{fields-spelled, header-same, numbers-pass, numbers_of}
 use Rattle.base_head.proofs.RightFields.{none-header}
 use Rattle.base_head.proofs.StartsRead.{even-pairs, starts-go}
@@ -102,7 +102,8 @@ starts-are Jacoby match_length pairs is go within = none-are pairs go
 starts-are MoneyBeavers match_length pairs is go within = none-are pairs go
 starts-are JacobyBeavers match_length pairs is go within = none-are pairs go
 
-record RightFront (h : Header) (bytes : List ℕ) : Type 0 where
+record RightFront (oldest : Version) (h : Header) (bytes : List ℕ) : Type 0 where
+  since : IsSince oldest h.version
   valid : IsHeader h
   size : length bytes ≡ file_length h
   spelled_is : spelled h ≡ take 64 bytes
@@ -117,24 +118,25 @@ starts-none h bytes none = by_test (is_sealed (take (front_length h) bytes)) (pa
     by_test true (Some flaw) none = absurd (grind (arith, none))
     by_test false flaw none = absurd (grind (arith, none))
 
-right-front : (bytes : List ℕ) → AreBytes bytes → front_fault (length bytes) bytes ≡ None → RightFront (header_in (fields_of bytes)) bytes
-right-front bytes are none =
+right-front : (oldest : Version) (bytes : List ℕ) → AreBytes bytes → front_fault oldest (length bytes) bytes ≡ None → RightFront oldest (header_in (fields_of bytes)) bytes
+right-front oldest bytes are none =
     let h = header_in (fields_of bytes) in
-    let parts = none_or (header_fault (length bytes) bytes) (starts_fault h bytes) none in
-    let checks = all-header (length bytes) bytes parts.0 in
+    let parts = none_or (header_fault oldest (length bytes) bytes) (starts_fault h bytes) none in
+    let checks = all-header oldest (length bytes) bytes parts.0 in
     let begins = opening-right (length bytes) bytes checks.0 in
     let starts = starts-none h bytes parts.1 in
     record {
-      valid = none-header (fields_of bytes) checks.1;
+      since = omega (arith, version-numbers oldest (fields_of bytes) checks.1, (version-right oldest (fields_of bytes) checks.1).0);
+      valid = none-header oldest (fields_of bytes) checks.1;
       size = length-right (length bytes) (file_length h) checks.2;
-      spelled_is = spelled-back bytes begins.0 are begins.1 checks.1;
+      spelled_is = spelled-back oldest bytes begins.0 are begins.1 checks.1;
       sealed_is = starts.0;
       none = starts.1;
     }
 
 -- the bytes up to the digest are header and starts
-front-bytes : (h : Header) (bytes : List ℕ) → AreBytes bytes → RightFront h bytes → take (digest_place h) bytes ≡ spelled h ++ words_text h.version (words_of_pairs (head_in h bytes).starts.pairs)
-front-bytes h bytes are right =
+front-bytes : (oldest : Version) (h : Header) (bytes : List ℕ) → AreBytes bytes → RightFront oldest h bytes → take (digest_place h) bytes ≡ spelled h ++ words_text h.version (words_of_pairs (head_in h bytes).starts.pairs)
+front-bytes oldest h bytes are right =
     let n = pair_size h.version * h.starts in
     let words : List ℕ = start_words h bytes in
     let room : word_size h.version * (2 * h.starts) ≤ length (drop 64 bytes) = omega (arith, right.size, starts-size h, length-drop 64 bytes) in
@@ -143,18 +145,18 @@ front-bytes h bytes are right =
     take-add 64 n bytes ∙ ap₂ (λ (first : List ℕ) (rest : List ℕ). first ++ rest) (sym right.spelled_is) (sym text ∙ ap (words_text h.version) (sym pairs))
 
 -- the front is that of the head
-front-is : (h : Header) (bytes : List ℕ) → AreBytes bytes → RightFront h bytes → take (front_length h) bytes ≡ sealed (spelled h ++ words_text h.version (words_of_pairs (head_in h bytes).starts.pairs))
-front-is h bytes are right =
+front-is : (oldest : Version) (h : Header) (bytes : List ℕ) → AreBytes bytes → RightFront oldest h bytes → take (front_length h) bytes ≡ sealed (spelled h ++ words_text h.version (words_of_pairs (head_in h bytes).starts.pairs))
+front-is oldest h bytes are right =
     let k = front_length h in
     let d = digest_place h in
     let front : List ℕ = take k bytes in
     let count : length front ≡ k = length-take-le k bytes (omega (arith, right.size)) in
     let before : length front - 32 ≡ d = omega (arith, count) in
     let first : take (length front - 32) front ≡ take d bytes = ap (λ (n : ℕ). take n front) before ∙ take-take d k bytes (omega arith) in
-    (is_sealed-exactly front).0 right.sealed_is ∙ ap sealed (first ∙ front-bytes h bytes are right)
+    (is_sealed-exactly [] front).0 right.sealed_is ∙ ap sealed (first ∙ front-bytes oldest h bytes are right)
 
-head-is : (h : Header) (bytes : List ℕ) → RightFront h bytes → IsHead (head_in h bytes)
-head-is h bytes right =
+head-is : (oldest : Version) (h : Header) (bytes : List ℕ) → RightFront oldest h bytes → IsHead (head_in h bytes)
+head-is oldest h bytes right =
     let valid = right.valid in
     let words : List ℕ = start_words h bytes in
     let go = starts-go h.name h.match_length h.starts (pairs_of_words words) valid.fitting valid.starts (even-pairs h.starts words (length-words_of h.version (2 * h.starts) (drop 64 bytes))) in
@@ -167,20 +169,21 @@ head-is h bytes right =
       starts = go;
     }
 
--- a front without a fault is that of a version and a head
-pub front-of : (bytes : List ℕ) → AreBytes bytes → front_fault (length bytes) bytes ≡ None
-    → (version : Version) × (head : FileHead) × IsFront version head bytes × (length bytes ≡ text_length version head)
-front-of bytes are none =
+-- a front without a fault is that of a version that is read and a head
+pub front-of : (oldest : Version) (bytes : List ℕ) → AreBytes bytes → front_fault oldest (length bytes) bytes ≡ None
+    → (version : Version) × (head : FileHead) × IsSince oldest version × IsFront version head bytes × (length bytes ≡ text_length version head)
+front-of oldest bytes are none =
     let h = header_in (fields_of bytes) in
-    let right = right-front bytes are none in
+    let right = right-front oldest bytes are none in
     let head : FileHead = head_in h bytes in
     let again : header_of h.version head ≡ h = header-again h bytes right.valid in (
       h.version,
       head,
+      right.since,
       record {
-        valid = head-is h bytes right;
+        valid = head-is oldest h bytes right;
         takes = right.valid.takes;
-        text = ap (λ (h : Header). take (front_length h) bytes) again ∙ front-is h bytes are right ∙ ap (λ (header : Header). sealed (spelled header ++ words_text h.version (words_of_pairs head.starts.pairs))) (sym again);
+        text = ap (λ (h : Header). take (front_length h) bytes) again ∙ front-is oldest h bytes are right ∙ ap (λ (header : Header). sealed (spelled header ++ words_text h.version (words_of_pairs head.starts.pairs))) (sym again);
       },
       right.size ∙ ap file_length (sym again),
     )
@@ -225,7 +228,7 @@ length-front version head =
     let header : length (spelled h) ≡ 64 = refl in
     let cells : length (words_text version words) ≡ word_size version * (2 * h.starts) = length-cells (word_size version) words ∙ ap (λ (n : ℕ). word_size version * n) (length-words head.starts.pairs) in
     let both = length-append (spelled h) (words_text version words) in
-    let all = length-sealed (spelled h ++ words_text version words) in
+    let all = length-sealed [] (spelled h ++ words_text version words) in
     omega (arith, header, cells, both, all, starts-size h)
 
 -- what stands behind the header
@@ -284,11 +287,26 @@ head-read version head bytes is =
     by_name JacobyBeavers starts go = sym (ap (λ (starts : StartPairs). starts.match_length) go)
     by_name (Match score) starts go = refl
 
+-- and its digest
+pub digest-read : (version : Version) (head : FileHead) (bytes : List ℕ) → IsFront version head bytes → digest_in (header_of version head) bytes ≡ head_digest version head
+digest-read version head bytes is =
+    let h = header_of version head in
+    let k = front_length h in
+    let d = digest_place h in
+    let text : List ℕ = head_text version head in
+    let long = length-front version head in
+    let count : length text ≡ d = omega (arith, long, length-sealed [] text) in
+    let parts : k ≡ d + 32 = omega arith in
+    sym (drop-take d 32 bytes)
+    ∙ ap (λ (n : ℕ). drop d (take n bytes)) (sym parts)
+    ∙ ap₂ (λ (n : ℕ) (front : List ℕ). drop n front) (sym count) is.text
+    ∙ drop-append_seam text (head_digest version head)
+
 -- nothing is wrong with the starts
 starts-pass : (version : Version) (head : FileHead) (bytes : List ℕ) → IsFront version head bytes → starts_fault (header_of version head) bytes ≡ None
 starts-pass version head bytes is =
     let h = header_of version head in
-    let sealed_is : is_sealed (take (front_length h) bytes) ≡ true = ap is_sealed is.text ∙ is_sealed-sealed (spelled h ++ words_text version (words_of_pairs head.starts.pairs)) in
+    let sealed_is : is_sealed (take (front_length h) bytes) ≡ true = ap is_sealed is.text ∙ is_sealed-sealed [] (spelled h ++ words_text version (words_of_pairs head.starts.pairs)) in
     let none : pairs_flaw version (point_units 1) 64 (start_words h bytes) ≡ None =
     ap (pairs_flaw version (point_units 1) 64) (words-read version head bytes is) ∙ within-none version (point_units 1) 64 (words_of_pairs head.starts.pairs) (words-within head.starts.pairs is.valid.valid.within) in
     ap₂ (λ (b : Bool) (flaw : Option Flaw). if b then option_map bad_of flaw else Some (record { fault = faults.HeadDigest; at = digest_place h })) sealed_is none
@@ -299,23 +317,23 @@ opening-pass h rest size long =
     ap (λ (b : Bool). if b then Some (record { fault = faults.Short; at = size }) else first_wrong (check faults.Magic 0 (not (bytes_eq (take 8 (spelled h ++ rest)) magic)) ∷ [])) e
 
 -- nor with the header, where the size is right
-header-pass : (version : Version) (head : FileHead) (bytes : List ℕ) → IsFront version head bytes → length bytes ≡ text_length version head → header_fault (length bytes) bytes ≡ None
-header-pass version head bytes is size =
+header-pass : (oldest version : Version) (head : FileHead) (bytes : List ℕ) → IsSince oldest version → IsFront version head bytes → length bytes ≡ text_length version head → header_fault oldest (length bytes) bytes ≡ None
+header-pass oldest version head bytes since is size =
     let h = header_of version head in
     let valid = header-valid version head is.valid is.takes in
     let rest = behind version head bytes in
     let parts = parts-of version head bytes is in
     let opening : first_wrong (opening_checks (length bytes) bytes) ≡ None = ap (λ (b : List ℕ). first_wrong (opening_checks (length bytes) b)) parts ∙ opening-pass h rest (length bytes) (omega (arith, size)) in
     let fields : fields_of bytes ≡ numbers_of h = ap fields_of parts ∙ fields-spelled h rest valid in
-    after-fields (length bytes) bytes opening (ap (λ (f : Fields). first_wrong (field_checks f)) fields ∙ numbers-pass h valid)
+    after-fields oldest (length bytes) bytes opening (ap (λ (f : Fields). first_wrong (field_checks oldest f)) fields ∙ numbers-pass oldest h valid since)
     ∙ length-pass (length bytes) (file_length (header_in (fields_of bytes))) (size ∙ ap file_length (sym (header-read version head bytes is)))
 
 -- nothing is wrong with the front of a text of the right size
-pub front-right : (version : Version) (head : FileHead) (bytes : List ℕ) → IsFront version head bytes → length bytes ≡ text_length version head → front_fault (length bytes) bytes ≡ None
-front-right version head bytes is size =
-    ap₂ (λ (header : Option BadFile) (starts : Option BadFile). option_or header starts) (header-pass version head bytes is size)
+pub front-right : (oldest version : Version) (head : FileHead) (bytes : List ℕ) → IsSince oldest version → IsFront version head bytes → length bytes ≡ text_length version head → front_fault oldest (length bytes) bytes ≡ None
+front-right oldest version head bytes since is size =
+    ap₂ (λ (header : Option BadFile) (starts : Option BadFile). option_or header starts) (header-pass oldest version head bytes since is size)
     (ap (λ (h : Header). starts_fault h bytes) (header-read version head bytes is) ∙ starts-pass version head bytes is)
 
-pub front-exactly : (bytes : List ℕ) → AreBytes bytes
-    → (front_fault (length bytes) bytes ≡ None) ↔ ((version : Version) × (head : FileHead) × IsFront version head bytes × (length bytes ≡ text_length version head))
-front-exactly bytes are = (front-of bytes are, λ front. front-right front.0 front.1 bytes front.2 front.3)
+pub front-exactly : (oldest : Version) (bytes : List ℕ) → AreBytes bytes
+    → (front_fault oldest (length bytes) bytes ≡ None) ↔ ((version : Version) × (head : FileHead) × IsSince oldest version × IsFront version head bytes × (length bytes ≡ text_length version head))
+front-exactly oldest bytes are = (front-of oldest bytes are, λ front. front-right oldest front.0 front.1 bytes front.2 front.3 front.4)

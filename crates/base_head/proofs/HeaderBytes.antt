@@ -7,14 +7,15 @@ use Rattle.std.proofs.lemmas.Slice.Eq.{bytes_eq-Decides}
 use Rattle.std.specs.Str.{bytes_eq}
 use Rattle.byteorder.specs.Endian.{big_bytes, big_number}
 use Rattle.cube_actions.specs.Scores.{MatchScore}
-use Rattle.word_pages.specs.declared.version.Version.TheVariants.{One, Two}
+use Rattle.word_pages.specs.declared.version.Version.TheVariants.{One, Two, Three}
+use Rattle.word_pages.specs.declared.version.Version.{Version}
 use Rattle.word_pages.specs.Pages.{AreBytes}
 use Rattle.word_pages.proofs.Back.{text-words_of}
 use Rattle.base_head.specs.declared.fault.BadFile.{BadFile}
 use Rattle.base_head.specs.declared.fields.Fields.{Fields}
 use Rattle.base_head.specs.Faults.{first_wrong}
 use Rattle.base_head.specs.Headers.{far_field, field, magic, near_field, phase_field, phase_number, spelled, stakes_number, version_number}
-use Rattle.base_head.specs.HeaderFaults.{field_checks, fields_of, header_in, is_from_to, name_numbered, number_at, opening_checks, phase_numbered, version_in}
+use Rattle.base_head.specs.HeaderFaults.{field_checks, fields_of, header_in, is_from_to, name_numbered, number_at, opening_checks, phase_numbered, version_in, version_numbered}
 use Rattle.base_head.proofs.Checked.{right-if, right-then}
 use Rattle.base_head.proofs.FieldChecks.{all-parts}
 use Rattle.base_head.proofs.RightFields.{RightStakes, between, counts-right, last-five, stakes-right}
@@ -83,14 +84,15 @@ written-back bytes long are begins =
 
 -- ---- the numbers of the header that they say
 
-version-back : (fields : Fields) → 1 ≤ fields.version → fields.version ≤ 2 → version_number (version_in fields) ≡ fields.version
+pub version-back : (fields : Fields) → 1 ≤ fields.version → fields.version ≤ 3 → version_number (version_in fields) ≡ fields.version
 version-back fields from to = by_number fields.version from to
   where
-    by_number : (n : ℕ) → 1 ≤ n → n ≤ 2 → version_number (if n == 1 then One else Two) ≡ n
+    by_number : (n : ℕ) → 1 ≤ n → n ≤ 3 → version_number (version_numbered n) ≡ n
     by_number zero from to = absurd (omega (arith, from))
     by_number (suc zero) from to = refl
     by_number (suc (suc zero)) from to = refl
-    by_number (suc (suc (suc n))) from to = absurd (omega (arith, to))
+    by_number (suc (suc (suc zero))) from to = refl
+    by_number (suc (suc (suc (suc n)))) from to = absurd (omega (arith, to))
 
 phase-back : (n : ℕ) → n ≤ 2 → phase_number (phase_numbered n) ≡ n
 phase-back zero low = refl
@@ -118,19 +120,32 @@ name-in : (fields : Fields) → RightStakes fields → NameNumbers fields.stakes
 name-in fields right =
     name-back fields.stakes fields.near fields.far fields.phase (omega (arith, right.last, last-five (version_in fields))) (λ is. (right.matched is).phase) (λ isnt. let none = right.other isnt in (none.near, none.far, none.phase))
 
-spelled-as : (fields : Fields) → first_wrong (field_checks fields) ≡ None → spelled (header_in fields) ≡ written_as fields
+some-version : (oldest : Version) → 1 ≤ version_number oldest
+some-version One = omega arith
+some-version Two = omega arith
+some-version Three = omega arith
+
+-- the version is one of those that are read
+pub version-right : (oldest : Version) (fields : Fields) → first_wrong (field_checks oldest fields) ≡ None → (version_number oldest ≤ fields.version) × (fields.version ≤ 3)
+version-right oldest fields none =
+    let parts = all-parts oldest fields none in between (version_number oldest) 3 fields.version (right-if (is_from_to (version_number oldest) 3 fields.version) _ parts.0)
+
+pub version-numbers : (oldest : Version) (fields : Fields) → first_wrong (field_checks oldest fields) ≡ None → version_number (version_in fields) ≡ fields.version
+version-numbers oldest fields none =
+    let from_to = version-right oldest fields none in version-back fields (omega (arith, some-version oldest, from_to.0)) from_to.1
+
+spelled-as : (oldest : Version) (fields : Fields) → first_wrong (field_checks oldest fields) ≡ None → spelled (header_in fields) ≡ written_as fields
 unfolding written written_as
-spelled-as fields none =
-    let parts = all-parts fields none in
-    let from_to = between 1 2 fields.version (right-if (is_from_to 1 2 fields.version) _ parts.0) in
-    let version = version-back fields from_to.0 from_to.1 in
+spelled-as oldest fields none =
+    let parts = all-parts oldest fields none in
+    let version = version-numbers oldest fields none in
     let name = name-in fields (stakes-right fields parts.2) in
     let rest : 0 ≡ fields.rest = sym (counts-right fields parts.3).rest in
     λ i. written (version i) fields.checkers (name.is i) (name.near_is i) (name.far_is i) (name.phase_is i) fields.match_length fields.kinds fields.rounds fields.starts fields.positions (rest i)
 
 -- the bytes of a header are those as which the header that they say is written
-pub spelled-back : (bytes : List ℕ) → 64 ≤ length bytes → AreBytes bytes → take 8 bytes ≡ magic → first_wrong (field_checks (fields_of bytes)) ≡ None → spelled (header_in (fields_of bytes)) ≡ take 64 bytes
-spelled-back bytes long are begins none = spelled-as (fields_of bytes) none ∙ written-back bytes long are begins
+pub spelled-back : (oldest : Version) (bytes : List ℕ) → 64 ≤ length bytes → AreBytes bytes → take 8 bytes ≡ magic → first_wrong (field_checks oldest (fields_of bytes)) ≡ None → spelled (header_in (fields_of bytes)) ≡ take 64 bytes
+spelled-back oldest bytes long are begins none = spelled-as oldest (fields_of bytes) none ∙ written-back bytes long are begins
 
 -- ---- where nothing is wrong with the first ones
 

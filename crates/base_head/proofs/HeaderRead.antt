@@ -12,15 +12,15 @@ use Rattle.cube_actions.specs.Scores.{MatchScore}
 use Rattle.cube_actions.specs.Starts.{ladder_place}
 use Rattle.position_rank.specs.LiveRanks.{live_positions}
 use Rattle.word_pages.specs.declared.version.Version.{Version}
-use Rattle.word_pages.specs.declared.version.Version.TheVariants.{One, Two}
+use Rattle.word_pages.specs.declared.version.Version.TheVariants.{One, Two, Three}
 use Rattle.base_head.specs.declared.fault.BadFile.{BadFile}
 use Rattle.base_head.specs.declared.fault.FileFault.TheVariants as faults
 use Rattle.base_head.specs.declared.fields.Fields.{Fields}
 use Rattle.base_head.specs.declared.header.Header.{Header}
 use Rattle.base_head.specs.Faults.{first_wrong}
 use Rattle.base_head.specs.Heads.{TakesStakes}
-use Rattle.base_head.specs.Headers.{HasScore, IsHeader, IsLengthOf, far_field, near_field, phase_field, phase_number, spelled, stakes_number, starts_before, version_number}
-use Rattle.base_head.specs.HeaderFaults.{checkers_check, count_checks, field_checks, fields_of, header_in, is_from_to, is_phase_at, is_phase_in, last_stakes, match_checks, name_in, name_numbered, number_at, other_checks, phase_numbered, score_in, stakes_checks, version_check, version_in}
+use Rattle.base_head.specs.Headers.{HasScore, IsHeader, IsLengthOf, IsSince, far_field, near_field, phase_field, phase_number, spelled, stakes_number, starts_before, version_number}
+use Rattle.base_head.specs.HeaderFaults.{checkers_check, count_checks, field_checks, fields_of, header_in, is_from_to, is_phase_at, is_phase_in, last_stakes, match_checks, name_in, name_numbered, number_at, other_checks, phase_numbered, score_in, stakes_checks, version_check, version_in, version_numbered}
 use Rattle.base_head.proofs.Counts.{header-kinds-few, header-positions-few, header-starts-few}
 use Rattle.base_head.proofs.FieldChecks.{after-name}
 use Rattle.base_head.proofs.Scores.{score-numbers}
@@ -44,9 +44,10 @@ numbers_of h = record {
   rest = 0;
 }
 
-version-low : (version : Version) → version_number version ≤ 2
+version-low : (version : Version) → version_number version ≤ 3
 version-low One = omega arith
 version-low Two = omega arith
+version-low Three = omega arith
 
 stakes-low : (name : StakesName) → stakes_number name ≤ 5
 stakes-low Cubeless = omega arith
@@ -112,9 +113,10 @@ fields-spelled h rest is =
 
 -- ---- the header that they say
 
-version-same : (version : Version) → (if version_number version == 1 then One else Two) ≡ version
+version-same : (version : Version) → version_numbered (version_number version) ≡ version
 version-same One = refl
 version-same Two = refl
+version-same Three = refl
 
 phase-same : (phase : Phase) → phase_numbered (phase_number phase) ≡ phase
 phase-same Normal = refl
@@ -167,13 +169,10 @@ is-eq a b same = grind (arith, nat_tests)
 from-to : (first last number : ℕ) → first ≤ number → number ≤ last → is_from_to first last number ≡ true
 from-to first last number from to = both (nat_le first number) (nat_le number last) (is-le first number from) (is-le number last to)
 
-version-passes : (h : Header) → first_wrong (version_check (numbers_of h) ∷ []) ≡ None
+version-passes : (oldest : Version) (h : Header) → IsSince oldest h.version → first_wrong (version_check oldest (numbers_of h) ∷ []) ≡ None
 unfolding numbers_of
-version-passes h = pass (is_from_to 1 2 (version_number h.version)) _ None (from-to 1 2 (version_number h.version) (some h.version) (version-low h.version)) refl
-  where
-    some : (version : Version) → 1 ≤ version_number version
-    some One = omega arith
-    some Two = omega arith
+version-passes oldest h since =
+    pass (is_from_to (version_number oldest) 3 (version_number h.version)) _ None (from-to (version_number oldest) 3 (version_number h.version) since (version-low h.version)) refl
 
 checkers-pass : (h : Header) → IsHeader h → first_wrong (checkers_check (numbers_of h) ∷ []) ≡ None
 unfolding numbers_of
@@ -182,6 +181,7 @@ checkers-pass h is = pass (is_from_to 1 3 h.checkers) _ None (from-to 1 3 h.chec
 -- the number is one of the version's
 last-same : (version : Version) (name : StakesName) → TakesStakes version name → stakes_number name ≤ last_stakes version
 last-same Two name takes = stakes-low name
+last-same Three name takes = stakes-low name
 last-same One Cubeless takes = omega arith
 last-same One Money takes = omega arith
 last-same One Jacoby takes = omega arith
@@ -238,5 +238,5 @@ counts-pass h is =
     (pass (f.positions == live_positions f.checkers) _ _ (is-eq _ _ is.positions)
     (pass (f.rest == 0) (record { fault = faults.Head; at = 56 }) None refl refl))))
 
-pub numbers-pass : (h : Header) → IsHeader h → first_wrong (field_checks (numbers_of h)) ≡ None
-numbers-pass h is = after-name (numbers_of h) (version-passes h) (checkers-pass h is) (stakes-pass h is) ∙ counts-pass h is
+pub numbers-pass : (oldest : Version) (h : Header) → IsHeader h → IsSince oldest h.version → first_wrong (field_checks oldest (numbers_of h)) ≡ None
+numbers-pass oldest h is since = after-name oldest (numbers_of h) (version-passes oldest h since) (checkers-pass h is) (stakes-pass h is) ∙ counts-pass h is

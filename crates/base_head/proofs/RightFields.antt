@@ -7,7 +7,7 @@ use Rattle.cube_actions.specs.Ladder.{ladder}
 use Rattle.cube_actions.specs.Starts.{ladder_place}
 use Rattle.cube_actions.specs.Scores.{MatchScore}
 use Rattle.word_pages.specs.declared.version.Version.{Version}
-use Rattle.word_pages.specs.declared.version.Version.TheVariants.{One, Two}
+use Rattle.word_pages.specs.declared.version.Version.TheVariants.{One, Two, Three}
 use Rattle.base_head.specs.Faults.{first_wrong}
 use Rattle.base_head.specs.Heads.{has_beavers}
 use Rattle.base_head.specs.Headers.{HasScore, IsHeader, IsLengthOf, starts_before}
@@ -137,6 +137,7 @@ fits-length (suc (suc (suc (suc (suc (suc n)))))) score match_length low matched
 pub last-five : (version : Version) → last_stakes version ≤ 5
 last-five One = omega arith
 last-five Two = omega arith
+last-five Three = omega arith
 
 takes-name : (version : Version) (stakes : ℕ) (score : MatchScore) → stakes ≤ last_stakes version → version ≡ One → has_beavers (name_numbered stakes score) ≡ false
 takes-name version stakes score last one = no_beavers stakes (subst (λ (v : Version). stakes ≤ last_stakes v) one last)
@@ -148,9 +149,9 @@ takes-name version stakes score last one = no_beavers stakes (subst (λ (v : Ver
     no_beavers (suc (suc (suc zero))) low = refl
     no_beavers (suc (suc (suc (suc n)))) low = absurd (omega (arith, low))
 
-pub none-header : (fields : Fields) → first_wrong (field_checks fields) ≡ None → IsHeader (header_in fields)
-none-header fields none =
-    let parts = all-parts fields none in
+pub none-header : (oldest : Version) (fields : Fields) → first_wrong (field_checks oldest fields) ≡ None → IsHeader (header_in fields)
+none-header oldest fields none =
+    let parts = all-parts oldest fields none in
     let checkers = between 1 3 fields.checkers (right-if (is_from_to 1 3 fields.checkers) _ parts.1) in
     let stakes = stakes-right fields parts.2 in
     let counts = counts-right fields parts.3 in

@@ -4,7 +4,7 @@ use Rattle.std.proofs.lemmas.Int.{ints}
 use Rattle.directed_fixed.specs.Bounds.{Bounds, IsWithin, IsWithinUnits}
 use Rattle.cube_actions.specs.Stakes.{point_units}
 use Rattle.word_pages.specs.declared.version.Version.{Version}
-use Rattle.word_pages.specs.declared.version.Version.TheVariants.{One, Two}
+use Rattle.word_pages.specs.declared.version.Version.TheVariants.{One, Two, Three}
 use Rattle.word_pages.specs.Flaws.{value_of}
 use Rattle.word_pages.specs.Words.{Fits, word_size}
 use Rattle.word_pages.proofs.Pairs.{drop_pair}
@@ -44,6 +44,7 @@ low-upper pair value word within same is = low-value value word (rw same within.
 fits-version : (version : Version) (word : ℕ) → word < 1099511627776 → Fits version word
 fits-version One word low = omega (arith, low)
 fits-version Two word low = omega (arith, low)
+fits-version Three word low = omega (arith, low)
 
 pub fit-pair : (version : Version) (a b : ℕ) → a < 1099511627776 → b < 1099511627776 → (k d : ℕ) → k < 2 → Fits version (slice_index_or (a ∷ b ∷ []) k d)
 fit-pair version a b first then zero d lt = fits-version version a first
@@ -57,6 +58,7 @@ length-words (pair ∷ pairs) = let rest = length-words pairs in omega (arith, r
 pub room-for : (version : Version) (i n out len most : ℕ) → i < n → out + pair_size version * n ≤ most → len ≡ out + word_size version * (2 * i) → len + word_size version * 2 ≤ most
 room-for One i n out len most lt room is = omega (arith, lt, room, is)
 room-for Two i n out len most lt room is = omega (arith, lt, room, is)
+room-for Three i n out len most lt room is = omega (arith, lt, room, is)
 
 -- a pair is taken from the words that are left
 pub next-pair : (pairs : List Bounds) (pair : Bounds) (i : ℕ) (words : List ℕ) → 2 * i + 1 < length words

@@ -1,6 +1,7 @@
 -- The head's part of a file: the header, the starts, and the digest of both.
 use Rattle.std.specs.Prelude.{ℕ, ◌*◌, ℤ, ◌+ℤ◌, nat_abs, List, [], ◌∷◌, ◌++◌, flat_map, take, drop, Option, Some, Result, if◌then◌else◌}
 use Rattle.std.specs.Option.{option_map}
+use Rattle.sha2.specs.Sha256.{sha256}
 use Rattle.directed_fixed.specs.Bounds.{Bounds}
 use Rattle.directed_fixed.specs.declared.word.TheConstants.{WORD_OFFSET}
 use Rattle.hyper_outside.specs.declared.outside.PageFault.{PageFault}
@@ -32,10 +33,22 @@ words_of_pair pair = word_of pair.lower ∷ word_of pair.upper ∷ []
 abbrev pub words_of_pairs : List Bounds → List ℕ
 words_of_pairs pairs = flat_map words_of_pair pairs
 
--- the header, the pairs of the starts in the order of the ladder, and the digest of both
+-- the header, and the pairs of the starts in the order of the ladder
+abbrev pub head_text : Version → FileHead → List ℕ
+head_text version head =
+    header_text version head ++ words_text version (words_of_pairs head.starts.pairs)
+
+-- their digest, to which the pages are bound
+abbrev pub head_digest : Version → FileHead → List ℕ
+head_digest version head = sha256 (head_text version head)
+
+-- both
 abbrev pub front_text : Version → FileHead → List ℕ
-front_text version head =
-    sealed (header_text version head ++ words_text version (words_of_pairs head.starts.pairs))
+front_text version head = sealed (head_text version head)
+
+-- the digest that stands in a file with this header, behind the starts
+abbrev pub digest_in : Header → List ℕ → List ℕ
+digest_in header bytes = take 32 (drop (digest_place header) bytes)
 
 -- the pairs that words stand for
 abbrev pub pairs_of_words : List ℕ → List Bounds

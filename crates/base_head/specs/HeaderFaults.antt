@@ -12,13 +12,13 @@ use Rattle.cube_actions.specs.Names.{names_of}
 use Rattle.cube_actions.specs.Scores.{MatchScore}
 use Rattle.cube_actions.specs.Starts.{ladder_place}
 use Rattle.base_head.specs.Faults.{Check, check, first_wrong, checked}
-use Rattle.base_head.specs.Headers.{magic, file_length, starts_before}
+use Rattle.base_head.specs.Headers.{magic, file_length, starts_before, version_number}
 use Rattle.base_head.specs.declared.fault.BadFile.{BadFile}
 use Rattle.base_head.specs.declared.fault.FileFault.TheVariants as faults
 use Rattle.base_head.specs.declared.fields.Fields.{Fields}
 use Rattle.base_head.specs.declared.header.Header.{Header}
 use Rattle.word_pages.specs.declared.version.Version.{Version}
-use Rattle.word_pages.specs.declared.version.Version.TheVariants.{One, Two}
+use Rattle.word_pages.specs.declared.version.Version.TheVariants.{One, Two, Three}
 
 -- the number in so many bytes from a place on, the highest first
 abbrev pub number_at : ℕ → ℕ → List ℕ → ℕ
@@ -41,9 +41,12 @@ fields_of bytes = record {
   rest = number_at 56 8 bytes;
 }
 
--- the version that a number stands for, where it is 1 or 2
+-- the version that a number stands for, where it is 1 to 3
+abbrev pub version_numbered : ℕ → Version
+version_numbered number = if number == 1 then One else if number == 2 then Two else Three
+
 abbrev pub version_in : Fields → Version
-version_in fields = if fields.version == 1 then One else Two
+version_in fields = version_numbered fields.version
 
 -- the phase that a number stands for, where it is at most 2
 abbrev pub phase_numbered : ℕ → Phase
@@ -88,7 +91,7 @@ is_from_to first last number = nat_le first number && nat_le number last
 -- version 1 has no stakes with beavers
 abbrev pub last_stakes : Version → ℕ
 last_stakes One = 3
-last_stakes Two = 5
+last_stakes _ = 5
 
 -- both sides need two points or more before the Crawford game, one side one and the other more in it, one side one after it
 abbrev pub is_phase_at : ℕ → ℕ → Phase → Bool
@@ -141,16 +144,18 @@ count_checks fields =
     ∷ check faults.Head 56 (not (fields.rest == 0))
     ∷ []
 
-abbrev pub version_check : Fields → Check
-version_check fields = check faults.Version 8 (not (is_from_to 1 2 fields.version))
+-- the version is one of those that are read: `oldest` and the later ones
+abbrev pub version_check : Version → Fields → Check
+version_check oldest fields =
+    check faults.Version 8 (not (is_from_to (version_number oldest) 3 fields.version))
 
 abbrev pub checkers_check : Fields → Check
 checkers_check fields = check faults.Head 12 (not (is_from_to 1 3 fields.checkers))
 
 -- what can be wrong with the numbers of a header, in the order of their places
-abbrev pub field_checks : Fields → List Check
-field_checks fields =
-    version_check fields
+abbrev pub field_checks : Version → Fields → List Check
+field_checks oldest fields =
+    version_check oldest fields
     ∷ checkers_check fields
     ∷ (stakes_checks fields ++ count_checks fields)
 
@@ -166,16 +171,18 @@ abbrev pub length_checks : ℕ → ℕ → List Check
 length_checks size whole =
     check faults.Short size (nat_lt size whole) ∷ check faults.Long whole (nat_lt whole size) ∷ []
 
--- what is wrong first with a file of this size up to its starts, of which these are the first bytes
-abbrev pub header_checks : ℕ → List ℕ → List Check
-header_checks size bytes =
+-- what can be wrong with a file of this size up to its starts, of which these are the first bytes
+abbrev pub header_checks : Version → ℕ → List ℕ → List Check
+header_checks oldest size bytes =
     opening_checks size bytes
-    ++ (field_checks (fields_of bytes)
+    ++ (field_checks oldest (fields_of bytes)
     ++ length_checks size (file_length (header_in (fields_of bytes))))
 
-abbrev pub header_fault : ℕ → List ℕ → Option BadFile
-header_fault size bytes = first_wrong (header_checks size bytes)
+-- what is wrong first with it, where the versions from `oldest` on are read
+abbrev pub header_fault : Version → ℕ → List ℕ → Option BadFile
+header_fault oldest size bytes = first_wrong (header_checks oldest size bytes)
 
 -- the header, or what is wrong first
-abbrev pub header_read : ℕ → List ℕ → Result Header BadFile
-header_read size bytes = checked (header_fault size bytes) (header_in (fields_of bytes))
+abbrev pub header_read : Version → ℕ → List ℕ → Result Header BadFile
+header_read oldest size bytes =
+    checked (header_fault oldest size bytes) (header_in (fields_of bytes))

@@ -15,7 +15,7 @@ use Rattle.word_pages.specs.Words.{word_size}
 use Rattle.word_pages.specs.Pages.{pages_in}
 use Rattle.base_head.specs.declared.header.Header.{Header}
 use Rattle.word_pages.specs.declared.version.Version.{Version}
-use Rattle.word_pages.specs.declared.version.Version.TheVariants.{One, Two}
+use Rattle.word_pages.specs.declared.version.Version.TheVariants.{One, Two, Three}
 
 -- the eight bytes with which every file begins
 abbrev pub magic : List ℕ
@@ -24,6 +24,11 @@ magic = codes "HYPGAMMN"
 abbrev pub version_number : Version → ℕ
 version_number One = 1
 version_number Two = 2
+version_number Three = 3
+
+-- a version is the oldest that is read, or a later one
+abbrev pub IsSince : Version → Version → Type 0
+IsSince oldest version = version_number oldest ≤ version_number version
 
 abbrev pub stakes_number : StakesName → ℕ
 stakes_number Cubeless = 0

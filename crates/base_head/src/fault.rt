@@ -10,7 +10,7 @@ pub enum FileFault {
     Long,
     /// It doesn't begin as such files do.
     Magic,
-    /// No version has this number.
+    /// No version that is read has this number.
     Version,
     /// A field of its header is wrong.
     Head,

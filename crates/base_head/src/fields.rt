@@ -5,11 +5,11 @@ ghost use Rattle.cube_actions.specs.Names.{names_of};
 ghost use Rattle.position_rank.specs.LiveRanks.{live_positions};
 ghost use Rattle.base_head.specs.Faults.{checked, first_wrong};
 ghost use Rattle.base_head.specs.Headers.{HasScore, IsHeader, IsLengthOf, starts_before};
-ghost use Rattle.base_head.specs.HeaderFaults.{checkers_check, count_checks, field_checks, fields_of, header_in, is_length_of, is_phase_in, match_checks, name_in, number_at, other_checks, score_in, stakes_checks, version_in, version_check};
+ghost use Rattle.base_head.specs.HeaderFaults.{checkers_check, count_checks, field_checks, fields_of, header_in, is_length_of, is_phase_in, last_stakes, match_checks, name_in, number_at, other_checks, score_in, stakes_checks, version_in, version_check};
 
 use crate::fault::{BadFile, FileFault, check};
 use crate::head::ladder_place;
-use crate::header::Header;
+use crate::header::{Header, version_number};
 use byteorder::{BigEndian, ByteOrder};
 use cube_actions::{Phase, Score, Stakes, StakesName, Starts, ladder};
 use directed_fixed::{Fixed, Pair};
@@ -54,12 +54,13 @@ impl Fields {
         }
     }
 
-    /// The header that the numbers say.
-    pub(crate) fn header(&self) -> Result<Header, BadFile>
-        ensures read { result ≡ checked (first_wrong (field_checks self.now)) (header_in self.now) }
+    /// The header that the numbers say, where its version is `oldest` or a later one.
+    pub(crate) fn header(&self, oldest: Version) -> Result<Header, BadFile>
+        ensures read { result
+            ≡ checked (first_wrong (field_checks oldest self.now)) (header_in self.now) }
         ensures valid { IfOk result IsHeader }
     {
-        let version = self.version()?;
+        let version = self.version(oldest)?;
         let checkers = self.checkers()?;
         let name = self.name(version)?;
         self.check_counts(&name)?;
@@ -94,18 +95,18 @@ impl Fields {
         }
     }
 
-    fn version(&self) -> Result<Version, BadFile>
+    /// The version, where it is `oldest` or a later one.
+    fn version(&self, oldest: Version) -> Result<Version, BadFile>
         ensures { result
-            ≡ checked (first_wrong (version_check self.now ∷ [])) (version_in self.now) }
+            ≡ checked (first_wrong (version_check oldest self.now ∷ [])) (version_in self.now) }
     {
-        match self.version {
-            1 => Ok(Version::One),
-            2 => Ok(Version::Two),
-            _ => Err(BadFile {
-                fault: FileFault::Version,
-                at: 8,
-            }),
-        }
+        let is_read = version_number(oldest) <= self.version && self.version <= 3;
+        check(is_read, FileFault::Version, 8)?;
+        Ok(match self.version {
+            1 => Version::One,
+            2 => Version::Two,
+            _ => Version::Three,
+        })
     }
 
     fn checkers(&self) -> Result<u8, BadFile>
@@ -127,11 +128,7 @@ impl Fields {
         ensures read { result ≡ checked (first_wrong (stakes_checks self.now)) (name_in self.now) }
         ensures fitting { IfOk result (λ name. IsLengthOf name self.now.match_length) }
     {
-        let last = match version {
-            Version::One => 3,
-            Version::Two => 5,
-        };
-        check(self.stakes <= last, FileFault::Head, 16)?;
+        check(self.stakes <= last_stakes(version), FileFault::Head, 16)?;
         if self.stakes == 3 {
             let score = self.score()?;
             return Ok(StakesName::Match(score));
@@ -219,6 +216,16 @@ impl Fields {
             48,
         )?;
         check(self.rest == 0, FileFault::Head, 56)
+    }
+}
+
+/// The last number of stakes. Version 1 has none with beavers.
+fn last_stakes(version: Version) -> u32
+    ensures { result ≡ last_stakes version }
+{
+    match version {
+        Version::One => 3,
+        Version::Two | Version::Three => 5,
     }
 }
 

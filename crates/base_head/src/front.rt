@@ -5,7 +5,7 @@ ghost use Rattle.cube_actions.specs.Stakes.{point_units};
 ghost use Rattle.word_pages.specs.Flaws.{AreWithin, pairs_flaw};
 ghost use Rattle.word_pages.specs.Words.{words_of, words_text};
 ghost use Rattle.base_head.specs.Faults.{checked};
-ghost use Rattle.base_head.specs.Fronts.{bad_of, fault_of, front_text, pairs_of_words, starts_length, starts_read, words_of_pairs};
+ghost use Rattle.base_head.specs.Fronts.{bad_of, digest_in, fault_of, front_text, head_digest, pairs_of_words, starts_length, starts_read, words_of_pairs};
 ghost use Rattle.base_head.specs.Heads.{AreStartsOf, HasText};
 ghost use Rattle.base_head.specs.Headers.{IsHeader, front_length, header_of, pair_size};
 
@@ -18,16 +18,21 @@ use directed_fixed::{Fixed, Pair, to_word};
 use hyper_outside::PageFault;
 use word_pages::{Flaw, Version, is_sealed, put_digest, put_words, read_pairs};
 
-/// Adds the front of a file to an empty list: header, starts, and the digest of both.
-pub fn put_front<const N: usize>(head: &Head, version: Version, out: &mut ArrayVec<u8, N>)
+/// Adds the front of a file to an empty list: header, starts, and the digest of both, which it answers.
+pub fn put_front<const N: usize>(
+    head: &Head,
+    version: Version,
+    out: &mut ArrayVec<u8, N>,
+) -> [u8; 32]
     requires empty { out.old.items ≡ [] }
     requires room { front_length (header_of version head.now) ≤ N }
     requires text { HasText version head.now }
-    ensures { out.new.items ≡ front_text version head.now }
+    ensures text { out.new.items ≡ front_text version head.now }
+    ensures digest { result ≡ head_digest version head.now }
 {
     Header::of(head, version).put(out);
     put_starts(head.starts(), version, out);
-    put_digest(out);
+    put_digest(out)
 }
 
 /// Adds the words of the starts, of each pair the lower one and then the upper one.
@@ -81,6 +86,19 @@ impl Header {
         )?;
         let starts = self.starts_of(&bytes[64..])?;
         Ok(self.head(starts))
+    }
+
+    /// The digest of the head of a file with this header, which begins with these bytes: at least those before
+    /// the first page.
+    pub fn digest_in(&self, bytes: &[u8]) -> [u8; 32]
+        requires valid { IsHeader self.now }
+        requires long { front_length self.now ≤ length bytes.now }
+        ensures { result ≡ digest_in self.now bytes.now }
+    {
+        let place = self.digest_place() as usize;
+        let mut digest = [0; 32];
+        digest.copy_from_slice(&bytes[place..place + 32]);
+        digest
     }
 
     /// The starts, whose words are the first of these bytes, or their first flaw.

@@ -25,6 +25,9 @@ pub struct Header {
     pub positions: u64,
 }
 
+/// The bytes with which every file of bounds begins.
+pub const BASE_START: [u8; 8] = *b"HYPGAMMN";
+
 /// Positions on a page.
 const PAGE: u64 = 1024;
 
@@ -62,7 +65,7 @@ impl Header {
         ensures { out.new.items ≡ out.old.items ++ spelled self.now }
     {
         let [near, far, phase] = match_fields(self.name);
-        put_bytes(b"HYPGAMMN", out);
+        put_bytes(&BASE_START, out);
         put_fields(
             &[
                 version_number(self.version),
@@ -118,12 +121,13 @@ fn pair_size(version: Version) -> u64
     2 * version.word_size() as u64
 }
 
-fn version_number(version: Version) -> u32
+pub(crate) fn version_number(version: Version) -> u32
     ensures { result ≡ version_number version }
 {
     match version {
         Version::One => 1,
         Version::Two => 2,
+        Version::Three => 3,
     }
 }
 

@@ -5,17 +5,19 @@ ghost use Rattle.base_head.specs.HeaderFaults.{header_read, length_checks, openi
 
 use crate::fault::{BadFile, FileFault};
 use crate::fields::Fields;
-use crate::header::Header;
+use crate::header::{BASE_START, Header};
+use word_pages::Version;
 
-/// The header of a file of this size, which begins with these bytes: at least the first 64 where it has so many. What is wrong
-/// first is told, up to the size: a wrong field by its place, and that the file is too short or too long for what they say.
-pub fn read_header(size: u64, bytes: &[u8]) -> Result<Header, BadFile>
+/// The header of a file of this size, which begins with these bytes: at least the first 64 where it has so
+/// many. What is wrong first is told, up to the size: a version before `oldest` or a later one than is
+/// known, another wrong field by its place, and that the file is too short or too long for what they say.
+pub fn read_header(oldest: Version, size: u64, bytes: &[u8]) -> Result<Header, BadFile>
     requires { 64 ≤ size → 64 ≤ length bytes.now }
-    ensures read { result ≡ header_read size bytes.now }
+    ensures read { result ≡ header_read oldest size bytes.now }
     ensures valid { IfOk result IsHeader }
 {
     check_opening(size, bytes)?;
-    let header = Fields::read(bytes).header()?;
+    let header = Fields::read(bytes).header(oldest)?;
     check_length(size, header.file_length())?;
     Ok(header)
 }
@@ -31,7 +33,7 @@ fn check_opening(size: u64, bytes: &[u8]) -> Result<(), BadFile>
             at: size,
         });
     }
-    if !bytes.starts_with(b"HYPGAMMN") {
+    if !bytes.starts_with(&BASE_START) {
         return Err(BadFile {
             fault: FileFault::Magic,
             at: 0,

@@ -15,7 +15,7 @@ use Rattle.game_record.specs.declared.decision.Answer.TheVariants.{Take, Pass, B
 use Rattle.play_analyser.specs.declared.advice.CubeAction.{CubeAction}
 use Rattle.play_analyser.specs.declared.advice.CubeAdvice.{CubeAdvice}
 use Rattle.turn_rule.specs.Turn.{Words}
-use Rattle.turn_rule.specs.Looks.{Damage, Looked, MayFollowTurn, MayStop, Source}
+use Rattle.turn_rule.specs.Looks.{all_told, Damage, Looked, MayFollowTurn, MayStop, Notes, Source}
 use Rattle.turn_rule.specs.Following.{AgreeOn}
 use Rattle.directed_fixed.specs.declared.bounds.End.{End}
 use Rattle.cube_actions.specs.Stakes.{Terms, kind_at}
@@ -85,19 +85,19 @@ module _ (words : WordList) (p : Placement) (k : ℕ) where
   answer-is (Err stop) is = absurd is
 
   -- advice that was looked up in the words
-  pub advised : ((source : Source) (u : Words) (stakes : Terms) (p : Placement) (k : ℕ) (advice : CubeAdvice)
-      → IsTrue source.tells → ((end : End) → AgreeOn (MayFollowTurn stakes p k) end source.floor u) → IsCubeAdvice stakes p k source u advice → IsCubeAdviceOver stakes u p k advice)
+  pub advised : ((source : Source) (u : Notes) (stakes : Terms) (p : Placement) (k : ℕ) (advice : CubeAdvice)
+      → IsTrue u.told → ((end : End) → AgreeOn (MayFollowTurn stakes p k) end source.floor u.words) → IsCubeAdvice stakes p k source u advice → IsCubeAdviceOver stakes u.words p k advice)
       → (source : Source) (stakes : Terms) (new : WordList) → source ≡ source_of words → stakes ≡ words.game.stakes → source_of new ≡ source
-      → (before now : ℕ) (old : Words) (meant : Damage → Type 0) (r : Result CubeAdvice LookStop)
-      → Looked source old (words_in_list new) before now meant (IsCubeAdvice stakes p k source (words_in_list new)) r
+      → (before now : ℕ) (old : Notes) (meant : Damage → Type 0) (r : Result CubeAdvice LookStop)
+      → Looked source old (all_told (words_in_list new)) before now meant (IsCubeAdvice stakes p k source (all_told (words_in_list new))) r
       → IsOkAnd r (IsCubeAdviceOver words.game.stakes (words_in_list words) p k)
   advised law source stakes new at same there before now old meant (Err stop) looked = absurd (false≢true (sym (stops stop looked.stop) ∙ ap (λ (s : Source). s.sure) at)) where
-    stops : (stop : LookStop) → MayStop source before now meant stop → source.sure ≡ false
+    stops : (stop : LookStop) → MayStop source (all_told (words_in_list new)) before now meant stop → source.sure ≡ false
     stops ReadFault may = may.0
     stops (BadPage fault place) may = may.0
     stops NoMemory may = may
   advised law source stakes new at same there before now old meant (Ok advice) looked =
       let u = words_in_list new in
       let notes : u ≡ words_in_list words = ap (λ (s : Source). s.floor) (there ∙ at) in
-      let over = law source u stakes p k advice (ap (λ (s : Source). s.tells) at) (λ end q j _. ap (λ (s : Source). s.floor end q j) (sym there)) looked.answer in
+      let over = law source (all_told u) stakes p k advice refl (λ end q j _. ap (λ (s : Source). s.floor end q j) (sym there)) looked.answer in
       subst (λ (t : Terms). IsCubeAdviceOver t (words_in_list words) p k advice) same (subst (λ (v : Words). IsCubeAdviceOver stakes v p k advice) notes over)

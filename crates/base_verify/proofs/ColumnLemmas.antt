@@ -9,7 +9,7 @@ use Rattle.cube_actions.specs.Stakes.{nothing}
 use Rattle.turn_rule.specs.Games.{kinds_of}
 use Rattle.turn_rule.specs.Turn.{Words, turn}
 use Rattle.turn_rule.specs.States.{IsState}
-use Rattle.turn_rule.specs.Looks.{IsTurnPair, MayFollowTurn}
+use Rattle.turn_rule.specs.Looks.{IsTurnPair, MayFollowTurn, all_told}
 use Rattle.turn_rule.proofs.Sure.{exact-pair}
 use Rattle.column_sums.specs.Leaps.{layout_at}
 use Rattle.column_turns.specs.Columns.{ColumnPairs}
@@ -34,16 +34,16 @@ module _ (words : WordList) (column : ColumnPairs) (rank : ℕ) (room : HasRoomF
       }
 
   -- over the words alone, a column's pairs are the turns
-  pub column-turned : (noted : Words) → noted ≡ words_in_list words → AreTurnsOf (source_of words) noted words.game.stakes (position_in column) (length column.movers) column.pairs → (i : ℕ) → i < length column.movers → IsTurned words column i
+  pub column-turned : (noted : Words) → noted ≡ words_in_list words → AreTurnsOf (source_of words) (all_told noted) words.game.stakes (position_in column) (length column.movers) column.pairs → (i : ℕ) → i < length column.movers → IsTurned words column i
   column-turned noted same found i below = record {
     states = λ k kind. column-state i k below kind;
     turns = λ k kind.
         let p = position_in column i in
         let value : End → Words → ℤ = λ end w. turn words.game.stakes w end p k in
         let pair = get_or column.pairs (i * kinds_of words.game + k) nothing in
-        let is = subst (λ (w : Words). IsTurnPair words.game.stakes p k (source_of words) w pair) same (found i k below kind) in
+        let is = subst (λ (w : Words). IsTurnPair words.game.stakes p k (source_of words) (all_told w) pair) same (found i k below kind) in
         ap (λ (n : ℕ). get_or column.pairs (i * n + k) nothing) room.kinds
-        ∙ exact-pair (source_of words) (words_in_list words) (MayFollowTurn words.game.stakes p k) words.game.stakes.bound value pair refl (λ end. refl) is;
+        ∙ exact-pair (source_of words) (all_told (words_in_list words)) (MayFollowTurn words.game.stakes p k) words.game.stakes.bound value pair refl (λ end. refl) is;
   }
 
   -- where all of a column's positions hold, the column does

@@ -11,7 +11,7 @@ use Rattle.turn_rule.specs.declared.game.Game.{Game}
 use Rattle.turn_rule.specs.Games.{kinds_of}
 use Rattle.turn_rule.specs.Turn.{Words, turn}
 use Rattle.turn_rule.specs.States.{IsState, pair_of}
-use Rattle.turn_rule.specs.Looks.{IsTurnPair, MayFollowTurn}
+use Rattle.turn_rule.specs.Looks.{IsTurnPair, MayFollowTurn, all_told}
 use Rattle.turn_rule.proofs.Sure.{exact-pair}
 use Rattle.column_sums.specs.Leaps.{layout_at}
 use Rattle.column_turns.specs.Columns.{ColumnPairs}
@@ -42,15 +42,15 @@ module _ (game : Game) (column : ColumnPairs) (other : ℕ) (room : HasRoomFor g
       }
 
   -- over these pairs alone, a column's pairs are the turns
-  pub column-turned : (old : StatePairs) (noted : Words) → noted ≡ words_by old → AreTurnsOf (source_by game old) noted game.stakes (position_in column) (length column.movers) column.pairs
+  pub column-turned : (old : StatePairs) (noted : Words) → noted ≡ words_by old → AreTurnsOf (source_by game old) (all_told noted) game.stakes (position_in column) (length column.movers) column.pairs
       → (i k : ℕ) → i < length column.movers → k < kinds_of game → pair_in column i k ≡ pair_of (turn game.stakes (words_by old)) (position_in column i) k
   column-turned old noted same found i k below kind =
       let p = position_in column i in
       let value : End → Words → ℤ = λ end w. turn game.stakes w end p k in
       let pair = get_or column.pairs (i * kinds_of game + k) nothing in
-      let is = subst (λ (w : Words). IsTurnPair game.stakes p k (source_by game old) w pair) same (found i k below kind) in
+      let is = subst (λ (w : Words). IsTurnPair game.stakes p k (source_by game old) (all_told w) pair) same (found i k below kind) in
       ap (λ (n : ℕ). get_or column.pairs (i * n + k) nothing) room.kinds
-      ∙ exact-pair (source_by game old) (words_by old) (MayFollowTurn game.stakes p k) game.stakes.bound value pair refl (λ end. refl) is
+      ∙ exact-pair (source_by game old) (all_told (words_by old)) (MayFollowTurn game.stakes p k) game.stakes.bound value pair refl (λ end. refl) is
 
   module _ (target : Words) (turned : (i k : ℕ) → i < length column.movers → k < kinds_of game → pair_in column i k ≡ pair_of target (position_in column i) k) where
     -- one more position

@@ -21,7 +21,6 @@ source_by game bank = record {
   kinds = kinds_of game;
   bound = game.stakes.bound;
   sure = true;
-  tells = true;
   floor = words_by bank;
   damage = λ _ _. None;
 }

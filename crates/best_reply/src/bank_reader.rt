@@ -1,6 +1,7 @@
 ghost use Rattle.std.specs.Prelude.{◌≡◌};
 ghost use Rattle.position_rank.specs.Ranks.{square_rank_of};
 ghost use Rattle.turn_rule.specs.States.{IsState, pair_of};
+ghost use Rattle.turn_rule.specs.Looks.{all_told};
 ghost use Rattle.best_reply.specs.Tables.{IsRightBank, words_by};
 ghost use Rattle.best_reply.specs.Columns.{source_by};
 
@@ -47,7 +48,7 @@ impl Pairs for BankReader<'_> {
 
     ghost seen = { λ reader. record {
       source = source_by reader.words.now.game reader.bank.now;
-      notes = words_by reader.bank.now;
+      notes = all_told (words_by reader.bank.now);
       faults = 0;
     } };
 

@@ -10,10 +10,10 @@ use Rattle.move_rules.proofs.EndsExact.{legal_ends-sound}
 use Rattle.move_rules.proofs.StayLive.{legal_end-stays}
 use Rattle.directed_fixed.specs.declared.bounds.End.{End}
 use Rattle.cube_actions.specs.Stakes.{Terms, kind_at, IsValid}
-use Rattle.turn_rule.specs.Turn.{Words, worth, sum_over}
+use Rattle.turn_rule.specs.Turn.{worth, sum_over}
 use Rattle.turn_rule.specs.States.{IsStateOf, IsState}
 use Rattle.turn_rule.specs.Games.{game_of}
-use Rattle.turn_rule.specs.Looks.{Source, AreStakesOf, IsLeft, MayFollow}
+use Rattle.turn_rule.specs.Looks.{Source, Notes, AreStakesOf, IsLeft, MayFollow}
 use Rattle.turn_rule.specs.Found.{IsFound, LeavesState}
 use Rattle.turn_rule.specs.Layouts.{AreLayouts}
 use Rattle.turn_rule.proofs.Within.{next_state, bound-positive}
@@ -34,7 +34,7 @@ some-is (Some z) x y e f = cc
 same-board : (m o : List ℕ) (q : Placement) → m ≡ q.mover → o ≡ q.other → record { mover = m; other = o } ≡ q
 same-board m o q a b = ap (λ (x : List ℕ). record { mover = x; other = o }) a ∙ ap (λ (x : List ℕ). record { mover = q.mover; other = x }) b
 
-module _ (end : End) (s : Source) (stakes : Terms) (noted : Words) (k : ℕ) (all others : List (List ℕ)) (row : List (Option ℤ)) (layouts-are : AreLayouts s.checkers all) (few : length all ≤ 3276) (eight : length others ≤ 8)
+module _ (end : End) (s : Source) (stakes : Terms) (noted : Notes) (k : ℕ) (all others : List (List ℕ)) (row : List (Option ℤ)) (layouts-are : AreLayouts s.checkers all) (few : length all ≤ 3276) (eight : length others ≤ 8)
     (distinct : AreDistinct others) (is-row : IsRow row) (found : AreFoundCells end s noted (kind_at stakes k) all others row) where
   -- the value of the placement of a cell
   cell-value : (layer rank : ℕ) → layer < length others → rank < length all → (x : ℤ) → get_or row (cell_of layer rank) None ≡ Some x → value_of others row (placement_of all others layer rank) ≡ x

@@ -9,8 +9,8 @@ use Rattle.move_rules.proofs.Members.{Contains-Among}
 use Rattle.move_rules.proofs.EndsExact.{legal_ends-complete}
 use Rattle.directed_fixed.specs.declared.bounds.End.{End}
 use Rattle.cube_actions.specs.Stakes.{Terms, kind_at}
-use Rattle.turn_rule.specs.Turn.{Words, worth, sum_over}
-use Rattle.turn_rule.specs.Looks.{Source, IsLeft, MayFollow}
+use Rattle.turn_rule.specs.Turn.{worth, sum_over}
+use Rattle.turn_rule.specs.Looks.{Source, Notes, IsLeft, MayFollow}
 use Rattle.turn_rule.specs.Found.{IsFound}
 use Rattle.turn_rule.proofs.Greatest.{AreRolls, all_rolls-right, sum-upto, sum-from, total-all_rolls}
 use Rattle.turn_rule.proofs.Tightness.{tight-sum}
@@ -28,11 +28,11 @@ pub all-best : (f : Placement → ℤ) (p : Placement) → sum_over all_rolls f 
 all-best f p = sum-best f p all_rolls all_rolls-right
 
 -- what each end was found to be worth
-abbrev pub AreFound : End → Source → Terms → Words → Placement → ℕ → (Placement → ℤ) → Type 0
+abbrev pub AreFound : End → Source → Terms → Notes → Placement → ℕ → (Placement → ℤ) → Type 0
 AreFound end s stakes noted p k value = (roll : Dice) (q : Placement) → IsRoll roll → Among q (legal_ends p roll)
     → IsFound end s noted (IsLeft (kind_at stakes k).next q) s.bound (λ u. worth end (kind_at stakes k) u q) (value q)
 
-pub found-sum : (end : End) (s : Source) (stakes : Terms) (noted : Words) (p : Placement) (k : ℕ) (value : Placement → ℤ) → pos 0 ≤ℤ s.bound → AreFound end s stakes noted p k value
+pub found-sum : (end : End) (s : Source) (stakes : Terms) (noted : Notes) (p : Placement) (k : ℕ) (value : Placement → ℤ) → pos 0 ≤ℤ s.bound → AreFound end s stakes noted p k value
     → IsFound end s noted (MayFollow stakes p k) (pos 36 *ℤ s.bound) (λ u. sum_over all_rolls (worth end (kind_at stakes k) u) p) (sum_over all_rolls value p)
 found-sum end s stakes noted p k value positive found = record {
   within = (
@@ -40,9 +40,9 @@ found-sum end s stakes noted p k value positive found = record {
       let low = sum-from value (neg_ℤ s.bound) negative p (λ roll q right m. (found roll q right m).within.from) all_rolls all_rolls-right in
       let high = sum-upto value s.bound positive p (λ roll q right m. (found roll q right m).within.to) all_rolls all_rolls-right in
       record { from = rw (total-all_rolls, times-neg) at low; to = rw total-all_rolls at high });
-  floor = λ tells. tight-sum end value (worth end (kind_at stakes k) s.floor) p (λ roll q right m. (found roll q right m).floor tells);
-  notes = λ tells later tight. tight-sum end (worth end (kind_at stakes k) later) value p (λ roll q right m. (found roll q right m).notes tells later tight);
-  right = λ tells q j h. (found h.roll h.end h.right (Contains-Among h.end (legal_ends p h.roll) (legal_ends-complete p h.roll h.end h.legal))).right tells q j h.left;
+  floor = λ told. tight-sum end value (worth end (kind_at stakes k) s.floor) p (λ roll q right m. (found roll q right m).floor told);
+  notes = λ told later tight. tight-sum end (worth end (kind_at stakes k) later) value p (λ roll q right m. (found roll q right m).notes told later tight);
+  right = λ told q j h. (found h.roll h.end h.right (Contains-Among h.end (legal_ends p h.roll) (legal_ends-complete p h.roll h.end h.legal))).right told q j h.left;
 }
 
 -- ---- whether there is a value doesn't depend on the values

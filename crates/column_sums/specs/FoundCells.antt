@@ -3,8 +3,7 @@ use Rattle.std.specs.Prelude.{◌≡◌, ◌<◌, ℕ, ℤ, List, length, Option
 use Rattle.position_rank.specs.Placement.{Placement, IsPosition}
 use Rattle.directed_fixed.specs.declared.bounds.End.{End}
 use Rattle.cube_actions.specs.declared.kind.Kind.{Kind}
-use Rattle.turn_rule.specs.Turn.{Words}
-use Rattle.turn_rule.specs.Looks.{Source}
+use Rattle.turn_rule.specs.Looks.{Source, Notes}
 use Rattle.turn_rule.specs.Found.{IsFoundOf, LeavesState, of_play}
 use Rattle.column_sums.specs.Leaps.{layout_at}
 use Rattle.column_sums.specs.Cells.{cell_of}
@@ -17,7 +16,7 @@ placement_of layouts others layer rank = record {
 }
 
 -- where a play may leave the position of a cell, its value is what was found of it, at one end in a kind
-abbrev pub AreFoundCells : End → Source → Words → Kind → List (List ℕ) → List (List ℕ)
+abbrev pub AreFoundCells : End → Source → Notes → Kind → List (List ℕ) → List (List ℕ)
     → List (Option ℤ) → Type 0
 AreFoundCells end source noted kind layouts others row =
     (layer rank : ℕ) → layer < length others → rank < length layouts

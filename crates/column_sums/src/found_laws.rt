@@ -5,8 +5,7 @@ ghost use Rattle.move_rules.specs.Ends.{legal_ends};
 ghost use Rattle.move_rules.specs.Listing.{Among};
 ghost use Rattle.directed_fixed.specs.declared.bounds.End.{End};
 ghost use Rattle.cube_actions.specs.Stakes.{Terms, kind_at, IsValid};
-ghost use Rattle.turn_rule.specs.Turn.{Words};
-ghost use Rattle.turn_rule.specs.Looks.{Source, AreStakesOf};
+ghost use Rattle.turn_rule.specs.Looks.{Source, Notes, AreStakesOf};
 ghost use Rattle.turn_rule.specs.States.{IsStateOf};
 ghost use Rattle.turn_rule.specs.Found.{IsFoundOf, of_play, of_sum};
 ghost use Rattle.turn_rule.specs.Layouts.{AreLayouts};
@@ -18,7 +17,7 @@ ghost use Rattle.column_sums.specs.Values.{value_of};
 
 /// What was found of the ends of all rolls, each as it was looked up, makes the sum over the rolls found.
 pub fn found_ends_give_the_sum()
-    ensures { (end : End) (source : Source) (stakes : Terms) (noted : Words) (p : Placement) (k : ℕ)
+    ensures { (end : End) (source : Source) (stakes : Terms) (noted : Notes) (p : Placement) (k : ℕ)
         (value : Placement → ℤ)
         → pos 0 ≤ℤ source.bound
         → ((roll : Dice) (q : Placement) → IsRoll roll → Among q (legal_ends p roll)
@@ -28,7 +27,7 @@ pub fn found_ends_give_the_sum()
 
 /// What was looked up cell by cell makes the sums of a column found, at one end in a kind.
 pub fn found_cells_give_the_sum()
-    ensures { (end : End) (source : Source) (stakes : Terms) (noted : Words) (k : ℕ)
+    ensures { (end : End) (source : Source) (stakes : Terms) (noted : Notes) (k : ℕ)
         (layouts others : List (List ℕ)) (row : List (Option ℤ)) → IsValid stakes
         → AreStakesOf source stakes
         → AreLayouts source.checkers layouts → length layouts ≤ 3276 → length others ≤ 8

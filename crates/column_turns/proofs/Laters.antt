@@ -1,23 +1,22 @@
 -- Moments one after another.
 use Rattle.std.proofs.Common.{◌∙◌, ℤ, arith, refl, subst}
 use Rattle.directed_fixed.specs.declared.bounds.End.{End}
-use Rattle.turn_rule.specs.Looks.{Source, Seen, Sought}
+use Rattle.turn_rule.specs.Looks.{Source, Seen, Sought, AreLater}
 use Rattle.turn_rule.specs.Found.{IsFoundOf}
-use Rattle.turn_rule.proofs.Tight.{words-refl, words-trans}
-use Rattle.turn_rule.proofs.Found.{found-later, Tightened}
+use Rattle.turn_rule.proofs.Found.{notes-refl, notes-trans, found-later}
 use Rattle.column_turns.specs.Moments.{IsLater}
 
 pub later-refl : (a : Seen) → IsLater a a
-later-refl a = record { source = refl; notes = λ tells. words-refl a.source.checkers a.source.kinds a.notes; faults = omega arith }
+later-refl a = record { source = refl; notes = notes-refl a.source a.notes; faults = omega arith }
 
 -- the notes of a later moment, in terms of the first one's source
-pub later-notes : (a b c : Seen) → IsLater a b → IsLater b c → Tightened a.source c.notes b.notes
-later-notes a b c one two = subst (λ (s : Source). Tightened s c.notes b.notes) one.source two.notes
+pub later-notes : (a b c : Seen) → IsLater a b → IsLater b c → AreLater a.source b.notes c.notes
+later-notes a b c one two = subst (λ (s : Source). AreLater s b.notes c.notes) one.source two.notes
 
 pub later-trans : (a b c : Seen) → IsLater a b → IsLater b c → IsLater a c
 later-trans a b c one two = record {
   source = two.source ∙ one.source;
-  notes = λ tells. words-trans a.source.checkers a.source.kinds c.notes b.notes a.notes (later-notes a b c one two tells) (one.notes tells);
+  notes = notes-trans a.source a.notes b.notes c.notes one.notes (later-notes a b c one two);
   faults = omega (arith, one.faults, two.faults);
 }
 

@@ -8,7 +8,7 @@ use Rattle.directed_fixed.specs.Bounds.{IsNoLooser, IsWithin, IsWithinUnits, at,
 use Rattle.hyper_outside.specs.declared.outside.LookStop.{LookStop}
 use Rattle.cube_actions.specs.declared.kind.Kind.{Kind}
 use Rattle.turn_rule.specs.Turn.{Words, win, if_won, worth}
-use Rattle.turn_rule.specs.Looks.{Source}
+use Rattle.turn_rule.specs.Looks.{Source, Notes}
 use Rattle.turn_rule.specs.Found.{IsSame, IsFoundOf, of_play}
 use Rattle.turn_rule.proofs.Tight.{tight-refl}
 use Rattle.turn_rule.proofs.Found.{FindsFrom}
@@ -18,20 +18,20 @@ use Rattle.turn_rule.proofs.Values.{end-within}
 none_some : {X : Type 0} (o : Option X) (x : X) → o ≡ None → o ≡ Some x → ⊥
 none_some o x none some = cc
 
-module _ (end : End) (s : Source) (noted : Words) (q : Placement) (kind : Kind) where
+module _ (end : End) (s : Source) (noted : Notes) (q : Placement) (kind : Kind) where
   -- the game has ended
   pub won-found : (won : Won) (x : ℤ) → points q ≡ Some won → x ≡ at end (win kind won) → IsWithin s.bound (win kind won) → IsFoundOf end (of_play kind q) s noted x
   won-found won x some is within =
       let same : (w : Words) → worth end kind w q ≡ x = λ w. ap (λ (o : Option Won). if_won o (λ won. at end (win kind won)) (neg_ℤ (w (other end) (swap q) kind.next))) some ∙ sym is in
       record {
         within = subst (IsWithinUnits s.bound) (sym is) (end-within end s.bound (win kind won) within);
-        floor = λ tells. subst (λ (z : ℤ). IsNoLooser end x z) (sym (same s.floor)) (tight-refl end x);
-        notes = λ tells later t. subst (λ (z : ℤ). IsNoLooser end z x) (sym (same later)) (tight-refl end x);
-        right = λ tells p k left. absurd (none_some (points q) won left.goes_on some);
+        floor = λ told. subst (λ (z : ℤ). IsNoLooser end x z) (sym (same s.floor)) (tight-refl end x);
+        notes = λ told later t. subst (λ (z : ℤ). IsNoLooser end z x) (sym (same later)) (tight-refl end x);
+        right = λ told p k left. absurd (none_some (points q) won left.goes_on some);
       }
 
   -- it goes on
-  pub word-found : (u : Words) (a b : ℕ) (result : Result ℤ LookStop) (x y : ℤ) → points q ≡ None → result ≡ Ok x → y ≡ neg_ℤ x
+  pub word-found : (u : Notes) (a b : ℕ) (result : Result ℤ LookStop) (x y : ℤ) → points q ≡ None → result ≡ Ok x → y ≡ neg_ℤ x
       → FindsFrom (other end) s u noted a b (IsSame (swap q) kind.next) s.bound (λ w. w (other end) (swap q) kind.next) result → IsFoundOf end (of_play kind q) s noted y
   word-found u a b result x y none ok is looked =
       (left-worth end s u noted a b q kind x y none is (subst (FindsFrom (other end) s u noted a b (IsSame (swap q) kind.next) s.bound (λ w. w (other end) (swap q) kind.next)) ok looked)).answer

@@ -6,8 +6,7 @@ use Rattle.position_rank.specs.Placement.{Placement, IsPosition}
 use Rattle.directed_fixed.specs.declared.bounds.End.{End}
 use Rattle.directed_fixed.specs.Bounds.{IsWithinUnits}
 use Rattle.cube_actions.specs.declared.kind.Kind.{Kind}
-use Rattle.turn_rule.specs.Turn.{Words}
-use Rattle.turn_rule.specs.Looks.{Seen}
+use Rattle.turn_rule.specs.Looks.{Notes, Seen}
 use Rattle.turn_rule.specs.Found.{LeavesState, IsFoundOf, of_play}
 use Rattle.column_sums.specs.Leaps.{layout_at}
 use Rattle.column_sums.specs.Cells.{cell_of}
@@ -47,7 +46,7 @@ module _ (end : End) (old : Seen) (kind : Kind) where
         (λ position leaves. (x, get_or-set_same row (cell_of layer rank) (Some x) None here, found leaves)))
 
     -- one cell more, of no position
-    pub cell-none : (noted : Words) (row : List (Option ℤ)) (layer rank : ℕ) → (IsPosition (record { mover = layout_at layouts rank; other = other }) → ⊥)
+    pub cell-none : (noted : Notes) (row : List (Option ℤ)) (layer rank : ℕ) → (IsPosition (record { mover = layout_at layouts rank; other = other }) → ⊥)
         → AreFoundTo end old.source noted kind layouts other row layer rank → AreFoundTo end old.source noted kind layouts other row layer (rank + 1)
     cell-none noted row layer rank none before =
         below_more (λ (r : ℕ). IsFoundEnd end old.source noted kind (record { mover = layout_at layouts r; other = other }) (at_cell row layer r)) rank before (λ position leaves. absurd (none position))

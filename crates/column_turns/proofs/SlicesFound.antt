@@ -4,12 +4,11 @@ use Rattle.std.proofs.lemmas.List.{get_or-drop, get_or-take}
 use Rattle.position_rank.specs.Placement.{Placement}
 use Rattle.directed_fixed.specs.declared.bounds.End.{End}
 use Rattle.cube_actions.specs.Stakes.{Terms}
-use Rattle.turn_rule.specs.Turn.{Words}
-use Rattle.turn_rule.specs.Looks.{Source}
+use Rattle.turn_rule.specs.Looks.{Source, Notes}
 use Rattle.turn_rule.specs.Found.{IsFoundOf, AreFoundSums, of_sum}
 use Rattle.column_turns.specs.Turns.{AreSumsOf}
 
-pub slice-found : (end : End) (source : Source) (noted : Words) (stakes : Terms) (place : ℕ → Placement) (many i n : ℕ) (sums : List ℤ) → i < many → n ≡ length stakes.kinds
+pub slice-found : (end : End) (source : Source) (noted : Notes) (stakes : Terms) (place : ℕ → Placement) (many i n : ℕ) (sums : List ℤ) → i < many → n ≡ length stakes.kinds
     → AreSumsOf end source noted stakes place many (length stakes.kinds) sums → AreFoundSums end source noted stakes (place i) (take (i * n + n - i * n) (drop (i * n) sums))
 slice-found end source noted stakes place many i n sums here is found k below =
     let within : k < i * n + n - i * n = omega (arith, below, is) in

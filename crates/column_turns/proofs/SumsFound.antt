@@ -5,8 +5,7 @@ use Rattle.roll_table.specs.Rolls.{all_rolls}
 use Rattle.directed_fixed.specs.declared.bounds.End.{End}
 use Rattle.directed_fixed.specs.Bounds.{IsWithinUnits}
 use Rattle.cube_actions.specs.Stakes.{Terms, kind_at, IsValid}
-use Rattle.turn_rule.specs.Turn.{Words}
-use Rattle.turn_rule.specs.Looks.{Source, AreStakesOf}
+use Rattle.turn_rule.specs.Looks.{Source, Notes, AreStakesOf}
 use Rattle.turn_rule.specs.Found.{IsFoundOf, of_sum}
 use Rattle.column_sums.specs.Leaps.{layout_at}
 use Rattle.column_sums.specs.AfterHits.{AreDistinct, AreClosed}
@@ -21,7 +20,7 @@ use Rattle.column_sums.proofs.ColumnFound.{column-found}
 use Rattle.column_turns.specs.Rows.{AreFoundLayers}
 use Rattle.column_turns.specs.Turns.{mover_at, IsColumnOf}
 
-module _ (end : End) (s : Source) (stakes : Terms) (noted : Words) (k : ℕ) (column : ColumnOf) (row : List (Option ℤ)) (one : List ℤ) where
+module _ (end : End) (s : Source) (stakes : Terms) (noted : Notes) (k : ℕ) (column : ColumnOf) (row : List (Option ℤ)) (one : List ℤ) where
   pub sums-found : IsValid stakes → AreStakesOf s stakes → IsColumnOf s column.layouts column.others column.movers → length column.others ≤ 8 → AreDistinct column.others → AreClosed column.others → IsRow row → k < length stakes.kinds
       → AreFoundLayers end s noted (kind_at stakes k) column.layouts column.others row (length column.others)
       → ((value : Placement → ℤ) → IsTable value [] column.layouts column.others row → AreColumnSums value column all_rolls one)

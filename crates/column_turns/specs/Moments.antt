@@ -1,11 +1,9 @@
 -- A place of look-ups at two moments.
-use Rattle.std.specs.Prelude.{◌≡◌, ◌≤◌, IsTrue}
-use Rattle.turn_rule.specs.States.{AreNoLooserOf}
-use Rattle.turn_rule.specs.Looks.{Seen}
+use Rattle.std.specs.Prelude.{◌≡◌, ◌≤◌}
+use Rattle.turn_rule.specs.Looks.{Seen, AreLater}
 
--- the same source, no looser notes, and a count of faults that hasn't fallen
+-- the same source, later notes, and a count of faults that hasn't fallen
 pub record IsLater (old new : Seen) : Type 0 where
   pub source : new.source ≡ old.source
-  pub notes : IsTrue old.source.tells
-      → AreNoLooserOf old.source.checkers old.source.kinds new.notes old.notes
+  pub notes : AreLater old.source old.notes new.notes
   pub faults : old.faults ≤ new.faults

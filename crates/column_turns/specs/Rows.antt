@@ -4,8 +4,7 @@ use Rattle.std.specs.Prelude.{◌≡◌, ◌<◌, ◌*◌, ℕ, ℤ, List, lengt
 use Rattle.position_rank.specs.Placement.{Placement, IsPosition}
 use Rattle.directed_fixed.specs.declared.bounds.End.{End}
 use Rattle.cube_actions.specs.declared.kind.Kind.{Kind}
-use Rattle.turn_rule.specs.Turn.{Words}
-use Rattle.turn_rule.specs.Looks.{Source}
+use Rattle.turn_rule.specs.Looks.{Source, Notes}
 use Rattle.turn_rule.specs.Found.{LeavesState, IsFoundOf, of_play}
 use Rattle.column_sums.specs.Leaps.{layout_at}
 use Rattle.column_sums.specs.Cells.{cell_of}
@@ -14,13 +13,13 @@ abbrev pub at_cell : List (Option ℤ) → ℕ → ℕ → Option ℤ
 at_cell row layer rank = slice_index_or row (cell_of layer rank) None
 
 -- where a play may leave these checkers, there is a value, which was found of what the mover then has
-abbrev pub IsFoundEnd : End → Source → Words → Kind → Placement → Option ℤ → Type 0
+abbrev pub IsFoundEnd : End → Source → Notes → Kind → Placement → Option ℤ → Type 0
 IsFoundEnd end source noted kind left worth =
     IsPosition left → LeavesState source kind.next left
     → (x : ℤ) × (worth ≡ Some x) × IsFoundOf end (of_play kind left) source noted x
 
 -- so it is of the first few cells of a layer
-abbrev pub AreFoundTo : End → Source → Words → Kind → List (List ℕ) → List ℕ → List (Option ℤ) → ℕ
+abbrev pub AreFoundTo : End → Source → Notes → Kind → List (List ℕ) → List ℕ → List (Option ℤ) → ℕ
     → ℕ → Type 0
 AreFoundTo end source noted kind layouts other row layer count =
     (rank : ℕ) → rank < count
@@ -28,7 +27,7 @@ AreFoundTo end source noted kind layouts other row layer count =
     (at_cell row layer rank)
 
 -- so it is of all cells of the first few layers
-abbrev pub AreFoundLayers : End → Source → Words → Kind → List (List ℕ) → List (List ℕ)
+abbrev pub AreFoundLayers : End → Source → Notes → Kind → List (List ℕ) → List (List ℕ)
     → List (Option ℤ) → ℕ → Type 0
 AreFoundLayers end source noted kind layouts others row count =
     (layer : ℕ) → layer < count

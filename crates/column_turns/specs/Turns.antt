@@ -5,8 +5,7 @@ use Rattle.directed_fixed.specs.declared.bounds.End.{End}
 use Rattle.directed_fixed.specs.declared.bounds.End.TheVariants.{Lower, Upper}
 use Rattle.directed_fixed.specs.Bounds.{Bounds}
 use Rattle.cube_actions.specs.Stakes.{Terms, nothing}
-use Rattle.turn_rule.specs.Turn.{Words}
-use Rattle.turn_rule.specs.Looks.{Source, AreStakesOf, IsSourceState, AreSourceWords, IsTurnPair}
+use Rattle.turn_rule.specs.Looks.{Source, Notes, AreStakesOf, IsSourceState, AreSourceWords, IsTurnPair}
 use Rattle.turn_rule.specs.Found.{IsFoundOf, of_sum}
 use Rattle.turn_rule.specs.Layouts.{AreLayouts}
 use Rattle.column_sums.specs.Leaps.{layout_at}
@@ -31,21 +30,21 @@ abbrev pub place_in : ℕ → ℕ → ℕ → ℕ
 place_in kinds i k = i * kinds + k
 
 -- for so many positions, what was found of the sum of one kind
-abbrev pub AreSumsOfKind : End → Source → Words → Terms → (ℕ → Placement) → ℕ → ℕ → List ℤ → Type 0
+abbrev pub AreSumsOfKind : End → Source → Notes → Terms → (ℕ → Placement) → ℕ → ℕ → List ℤ → Type 0
 AreSumsOfKind end source noted stakes place many k sums =
     (i : ℕ) → i < many
     → IsFoundOf end (of_sum stakes (place i) k) source noted
     (slice_index_or sums (place_in (length stakes.kinds) i k) (pos 0))
 
 -- for so many positions, what was found of the sums of the first few kinds
-abbrev pub AreSumsOf : End → Source → Words → Terms → (ℕ → Placement) → ℕ → ℕ → List ℤ → Type 0
+abbrev pub AreSumsOf : End → Source → Notes → Terms → (ℕ → Placement) → ℕ → ℕ → List ℤ → Type 0
 AreSumsOf end source noted stakes place many count sums =
     (i k : ℕ) → i < many → k < count
     → IsFoundOf end (of_sum stakes (place i) k) source noted
     (slice_index_or sums (place_in (length stakes.kinds) i k) (pos 0))
 
 -- for so many positions, the pair of the turn in each kind
-abbrev pub AreTurnsOf : Source → Words → Terms → (ℕ → Placement) → ℕ → List Bounds → Type 0
+abbrev pub AreTurnsOf : Source → Notes → Terms → (ℕ → Placement) → ℕ → List Bounds → Type 0
 AreTurnsOf source noted stakes place many pairs =
     (i k : ℕ) → i < many → k < length stakes.kinds
     → IsTurnPair stakes (place i) k source noted
@@ -65,10 +64,10 @@ pub record IsColumnOf (source : Source) (layouts others : List (List ℕ))
       → IsSourceState source (mover_at layouts (layout_at others 0) movers i) k
 
 -- For so many positions, each a state of the source in each kind, both ends of the sums of all kinds were found.
-pub record AreSummed (source : Source) (noted : Words) (stakes : Terms) (place : ℕ → Placement)
+pub record AreSummed (source : Source) (noted : Notes) (stakes : Terms) (place : ℕ → Placement)
     (many : ℕ) (lower upper : List ℤ) : Type 0 where
   pub fits : AreStakesOf source stakes
-  pub within : IsTrue source.tells → AreSourceWords source noted
+  pub within : IsTrue noted.told → AreSourceWords source noted.words
   pub states : (i k : ℕ) → i < many → k < length stakes.kinds → IsSourceState source (place i) k
   pub low : AreSumsOf Lower source noted stakes place many (length stakes.kinds) lower
   pub high : AreSumsOf Upper source noted stakes place many (length stakes.kinds) upper

@@ -2,8 +2,7 @@ ghost use Rattle.std.specs.Prelude.{◌≡◌, ◌≢◌, ◌<◌, ◌≤◌, �
 ghost use Rattle.position_rank.specs.Placement.{Placement};
 ghost use Rattle.directed_fixed.specs.Bounds.{IsWithinUnits};
 ghost use Rattle.cube_actions.specs.Stakes.{nothing};
-ghost use Rattle.turn_rule.specs.Turn.{Words};
-ghost use Rattle.turn_rule.specs.Looks.{Source, AreStakesOf, IsTurnPair};
+ghost use Rattle.turn_rule.specs.Looks.{Source, Notes, AreStakesOf, IsTurnPair};
 ghost use Rattle.column_sums.specs.Leaps.{layout_at};
 ghost use Rattle.column_sums.specs.Tables.{IsRow};
 ghost use Rattle.column_turns.specs.Moments.{IsLater};
@@ -30,7 +29,7 @@ fn pair_position(i: usize, stakes: &Stakes, lower: &[Fixed], upper: &[Fixed], pa
     requires small_lower { All (IsWithinUnits (pos (2 ^ 42))) lower.now }
     requires small_upper { All (IsWithinUnits (pos (2 ^ 42))) upper.now }
     ensures room { length pairs.new ≡ length pairs.old }
-    ensures turns { (source : Source) (noted : Words) (place : ℕ → Placement) (many : ℕ) → i < many
+    ensures turns { (source : Source) (noted : Notes) (place : ℕ → Placement) (many : ℕ) → i < many
         → AreSummed source noted stakes.now place many lower.now upper.now
         → (k : ℕ) → k < length stakes.now.kinds
         → IsTurnPair stakes.now (place i) k source noted
@@ -63,7 +62,7 @@ pub(crate) fn pair_positions(
     requires small_lower { All (IsWithinUnits (pos (2 ^ 42))) lower.now }
     requires small_upper { All (IsWithinUnits (pos (2 ^ 42))) upper.now }
     ensures room { length pairs.new ≡ length pairs.old }
-    ensures turns { (source : Source) (noted : Words) (place : ℕ → Placement)
+    ensures turns { (source : Source) (noted : Notes) (place : ℕ → Placement)
         → AreSummed source noted stakes.now place many lower.now upper.now
         → AreTurnsOf source noted stakes.now place many pairs.new }
 {

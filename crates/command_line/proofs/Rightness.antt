@@ -188,17 +188,22 @@ show-from (Some f) (Some p) name = name
 show-right : (given : Values) → Right (show_values given)
 show-right given = show-from (file_name (value_of (codes "FILE") given)) (value_of (codes "POSITION") given) (named (value_of (codes "FILE") given))
 
-migrate-from : (old : Option Bytes) (given : Option Bytes) → IfSome old IsName →
-    Right (checked 1 old (λ old. checked 2 (other_name old given) (λ new. Ok (command.Migrate (record { old = old; new = new })))))
-migrate-from None given name = tt
-migrate-from (Some old) given name = new-from old (other_name old given) name (other old given)
+migrate-from : (old : Option Bytes) (given : Option Bytes) (workers : Option ℕ) → IfSome old IsName → IfSome workers (Within MOST_WORKERS) →
+    Right (checked 1 old (λ old. checked 2 (other_name old given) (λ new. checked 3 workers (λ workers. Ok (command.Migrate (record { old = old; new = new; workers = workers }))))))
+migrate-from None given workers name most = tt
+migrate-from (Some old) given workers name most = new-from old (other_name old given) workers name (other old given) most
   where
-    new-from : (old : Bytes) (new : Option Bytes) → IsName old → IfSome new (IsOther old) → Right (checked 2 new (λ new. Ok (command.Migrate (record { old = old; new = new }))))
-    new-from old None name is = tt
-    new-from old (Some new) name is = record { old = name; new = is.0; apart = is.1 }
+    new-from : (old : Bytes) (new : Option Bytes) (workers : Option ℕ) → IsName old → IfSome new (IsOther old) → IfSome workers (Within MOST_WORKERS)
+        → Right (checked 2 new (λ new. checked 3 workers (λ workers. Ok (command.Migrate (record { old = old; new = new; workers = workers })))))
+    new-from old None workers name is most = tt
+    new-from old (Some new) None name is most = tt
+    new-from old (Some new) (Some w) name is most = record { old = name; new = is.0; apart = is.1; one = most.0; most = most.1 }
 
 migrate-right : (given : Values) → Right (migrate_values given)
-migrate-right given = migrate-from (file_name (value_of (codes "OLD") given)) (value_of (codes "NEW") given) (named (value_of (codes "OLD") given))
+migrate-right given =
+    let workers = value_of (codes "workers") given in
+    migrate-from (file_name (value_of (codes "OLD") given)) (value_of (codes "NEW") given) (number_or MOST_WORKERS 1 workers)
+    (named (value_of (codes "OLD") given)) (or-within MOST_WORKERS 1 workers (omega arith, omega arith))
 
 advise-from : (file position : Option Bytes) (kind : Option (Option KindName)) (roll : Option Bytes) → IfSome file IsName →
     Right (checked 1 file (λ file. checked 2 position (λ position. checked 3 kind (λ kind.

@@ -83,14 +83,18 @@ show_values given =
     Ok (Show (record { file = file; position = position }))))
 
 abbrev pub migrate_form : Form
-migrate_form = record { arguments = codes "OLD" ∷ codes "NEW" ∷ []; options = [] }
+migrate_form = record {
+  arguments = codes "OLD" ∷ codes "NEW" ∷ [];
+  options = codes "workers" ∷ [];
+}
 
 -- the new name is another one
 abbrev pub migrate_values : Values → Result Asked BadWords
 migrate_values given =
     checked 1 (file_name (value_of (codes "OLD") given)) (λ old.
     checked 2 (other_name old (value_of (codes "NEW") given)) (λ new.
-    Ok (Migrate (record { old = old; new = new }))))
+    checked 3 (number_or MOST_WORKERS 1 (value_of (codes "workers") given)) (λ workers.
+    Ok (Migrate (record { old = old; new = new; workers = workers })))))
 
 abbrev pub advise_form : Form
 advise_form = record {

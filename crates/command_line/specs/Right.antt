@@ -58,6 +58,8 @@ pub record IsRightMigrate (migrate : MigrateWords) : Type 0 where
   pub old : IsName migrate.old
   pub new : IsName migrate.new
   pub apart : migrate.old ≢ migrate.new
+  pub one : 1 ≤ migrate.workers
+  pub most : migrate.workers ≤ MOST_WORKERS
 
 abbrev pub IsRightAdvise : AdviseWords → Type 0
 IsRightAdvise advise = IsName advise.file

@@ -49,13 +49,16 @@ pub struct Show {
     pub position: Text,
 }
 
-/// A file that is written anew under another name, in the latest version.
+/// A file whose words are checked by some workers, and which is written anew under another name, in the latest
+/// version.
 #[derive(Drop)]
 pub struct Migrate {
     /// The name of the file to be read, 1 to 255 bytes.
     pub old: Text,
     /// The name of the file to be written, 1 to 255 bytes, another one.
     pub new: Text,
+    /// 1 to 64.
+    pub workers: u32,
 }
 
 /// A position in which advice is sought from a file.
@@ -208,6 +211,8 @@ static SHOW: [&str; 2] = ["FILE", "POSITION"];
 
 static MIGRATE: [&str; 2] = ["OLD", "NEW"];
 
+static MIGRATE_OPTIONS: [&str; 1] = ["workers"];
+
 static ADVISE: [&str; 2] = ["FILE", "POSITION"];
 
 static ADVISE_OPTIONS: [&str; 2] = ["kind", "roll"];
@@ -294,6 +299,7 @@ impl CommandName {
     {
         match self {
             CommandName::Solve => SOLVE_OPTIONS.as_slice(),
+            CommandName::Migrate => MIGRATE_OPTIONS.as_slice(),
             CommandName::Advise => ADVISE_OPTIONS.as_slice(),
             CommandName::Verify => VERIFY_OPTIONS.as_slice(),
             CommandName::Ladder => LADDER_OPTIONS.as_slice(),
@@ -304,7 +310,6 @@ impl CommandName {
             CommandName::Bound
             | CommandName::Race
             | CommandName::Show
-            | CommandName::Migrate
             | CommandName::Analyse
             | CommandName::Make => NO_OPTIONS.as_slice(),
         }

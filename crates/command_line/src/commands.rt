@@ -136,9 +136,14 @@ fn read_migrate(alloc: Global, values: &ArgMatches<'_>) -> Result<Command, Words
     let Some(new) = other_name(old, values.get_str("NEW")) else {
         return Err(bad_value(2));
     };
+    let given = values.get_str("workers");
+    let Some(workers) = number_or(given, MOST_WORKERS, 1) else {
+        return Err(bad_value(3));
+    };
     Ok(Command::Migrate(Migrate {
         old: Text::new(alloc, old)?,
         new: Text::new(alloc, new)?,
+        workers,
     }))
 }
 

@@ -19,7 +19,7 @@ use Rattle.cube_actions.specs.MatchKinds.{match_kinds}
 use Rattle.cube_actions.specs.Names.{name_of, names_of}
 use Rattle.cube_actions.specs.Scores.{MatchScore}
 use Rattle.word_pages.specs.declared.version.Version.{Version}
-use Rattle.word_pages.specs.declared.version.Version.TheVariants.{One, Two}
+use Rattle.word_pages.specs.declared.version.Version.TheVariants.{One, Two, Three}
 use Rattle.word_pages.specs.Words.{word_size}
 use Rattle.base_head.specs.declared.header.Header.{Header}
 use Rattle.base_head.specs.Fronts.{head_in}
@@ -66,6 +66,7 @@ pages-low pages some =
     word-low : (version : Version) → word_size version ≤ 8
     word-low One = omega arith
     word-low Two = omega arith
+    word-low Three = omega arith
 
 kinds-some : (score : MatchScore) → 0 < length (match_kinds score)
 unfolding match_kinds
@@ -105,15 +106,15 @@ to-offset JacobyBeavers = omega (arith, ints)
 to-offset (Match score) = omega (arith, ints)
 
 -- a file's header gives pages that can be read
-pub pages-valid : (header : Header) → IsHeader header → ArePages (pages_behind header)
-pages-valid header valid =
+pub pages-valid : (header : Header) (digest : List ℕ) → IsHeader header → ArePages (pages_behind header digest)
+pages-valid header digest valid =
     let kinds = header-kinds-few header valid in
     let positions = header-positions-few header valid in
     let front : front_length header ≤ 368 = front-low header valid in
     let words : header.kinds * header.positions ≤ 14 * 10732176 = mul-le-mul kinds positions in
     let count : 2 * header.kinds * header.positions ≡ 2 * (header.kinds * header.positions) = mul_assoc 2 header.kinds header.positions in
     let some : 0 < words_a_page header.kinds = omega (arith, valid.kinds, names-some header.name) in
-    let low = pages-low (pages_behind header) some in
+    let low = pages-low (pages_behind header digest) some in
     record {
       some = some;
       few = omega (arith, kinds);

@@ -5,7 +5,7 @@ use Rattle.std.proofs.Math.Nat.{add-mul, mul-le-mul_right, suc-mul}
 use Rattle.std.proofs.Math.Seq.{drop-append_seam, take-append_seam}
 use Rattle.std.proofs.lemmas.Bool.{cases_lt, leb-true}
 use Rattle.std.proofs.lemmas.List.{drop-drop, drop-take, take-take, take_all, take_min}
-use Rattle.hyper_outside.specs.Files.{Fills, bytes_from}
+use Rattle.outside_log.specs.Files.{Fills, bytes_from}
 use Rattle.word_pages.specs.declared.flaws.Flaw.{Flaw}
 use Rattle.word_pages.specs.Words.{words_of}
 use Rattle.word_pages.specs.Pages.{page_size, page_flaw}
@@ -17,18 +17,18 @@ use Rattle.database_file.specs.declared.pages.Pages.{Pages}
 use Rattle.database_file.specs.declared.pages.PagesStop.{PagesStop}
 use Rattle.database_file.specs.declared.pages.PagesStop.TheVariants.{BadPage, NoMemory, ReadFault}
 use Rattle.database_file.specs.Batches.{AddsBatch, AnswersEach, AnswersOn, AreOnPage, AreRead, IsBatch, batch_size, size_on}
-use Rattle.database_file.specs.Pages.{AnswersPages, first_flaw, flaw_on, page_count, page_words, place_of, whole_page, words_on}
+use Rattle.database_file.specs.Pages.{AnswersPages, binding_on, first_flaw, flaw_on, page_count, page_words, place_of, whole_page, words_on}
 use Rattle.database_file.proofs.ManyPages.{bytes_behind, flaw-is, is_whole, one_more, page_fits}
 
 -- ---- one page
 
 pub flaw-on_page : (pages : Pages) (page : ℕ) (bytes all : List ℕ) → AreOnPage pages page bytes all
-    → page_flaw pages.version pages.bound (words_on pages page) (place_of pages page) bytes ≡ flaw_on pages all page
+    → page_flaw pages.version (binding_on pages page) pages.bound (words_on pages page) (place_of pages page) bytes ≡ flaw_on pages all page
 flaw-on_page pages page bytes all are =
     let n = words_on pages page in
     let at = place_of pages page in
-    sym (page_flaw-take pages.version pages.bound n at bytes) ∙ ap (page_flaw pages.version pages.bound n at) are
-    ∙ page_flaw-take pages.version pages.bound n at (drop (page * whole_page pages) all)
+    sym (page_flaw-take pages.version (binding_on pages page) pages.bound n at bytes) ∙ ap (page_flaw pages.version (binding_on pages page) pages.bound n at) are
+    ∙ page_flaw-take pages.version (binding_on pages page) pages.bound n at (drop (page * whole_page pages) all)
 
 pub words-on_page : (pages : Pages) (page : ℕ) (bytes all : List ℕ) → AreOnPage pages page bytes all → words_of pages.version (words_on pages page) bytes ≡ page_words pages all page
 words-on_page pages page bytes all are =
@@ -40,21 +40,28 @@ words-on_page pages page bytes all are =
 pub written : {A : Type 0} (len : ℕ) (new items : List A) → len ≡ length new → take len (new ++ drop (length new) items) ≡ new
 written len new items is = ap (λ n. take n (new ++ drop (length new) items)) is ∙ take-append_seam new (drop (length new) items)
 
+-- a page's flaw, as it was looked for
+looked_for : (pages : Pages) (page n at : ℕ) (binding bytes all : List ℕ) → n ≡ words_on pages page → at ≡ place_of pages page → binding ≡ binding_on pages page → AreOnPage pages page bytes all
+    → flaw_on pages all page ≡ page_flaw pages.version binding pages.bound n at bytes
+looked_for pages page n at binding bytes all count place bound are =
+    sym (flaw-on_page pages page bytes all are)
+    ∙ ap₂ (λ (n : ℕ) (at : ℕ). page_flaw pages.version (binding_on pages page) pages.bound n at bytes) (sym count) (sym place)
+    ∙ ap (λ (binding : List ℕ). page_flaw pages.version binding pages.bound n at bytes) (sym bound)
+
 -- what was read where the page isn't right
-pub page_wrong : (pages : Pages) (page n at : ℕ) (bytes all : List ℕ) (flaw : Flaw) (result : Result (Vec ℕ Global) PagesStop) → n ≡ words_on pages page → at ≡ place_of pages page
-    → AreOnPage pages page bytes all → Some flaw ≡ page_flaw pages.version pages.bound n at bytes → IsErrAnd result (λ given. given ≡ BadPage flaw) → AnswersOn pages page all result
-page_wrong pages page n at bytes all flaw (Ok words) count place are told wrong = absurd wrong
-page_wrong pages page n at bytes all flaw (Err given) count place are told same =
-    subst (λ (given : PagesStop). AnswersOn pages page all (Err given)) (sym same)
-    (sym (flaw-on_page pages page bytes all are) ∙ ap₂ (λ (n : ℕ) (at : ℕ). page_flaw pages.version pages.bound n at bytes) (sym count) (sym place) ∙ sym told)
+pub page_wrong : (pages : Pages) (page n at : ℕ) (binding bytes all : List ℕ) (flaw : Flaw) (result : Result (Vec ℕ Global) PagesStop) → n ≡ words_on pages page → at ≡ place_of pages page → binding ≡ binding_on pages page
+    → AreOnPage pages page bytes all → Some flaw ≡ page_flaw pages.version binding pages.bound n at bytes → IsErrAnd result (λ given. given ≡ BadPage flaw) → AnswersOn pages page all result
+page_wrong pages page n at binding bytes all flaw (Ok words) count place bound are told wrong = absurd wrong
+page_wrong pages page n at binding bytes all flaw (Err given) count place bound are told same =
+    subst (λ (given : PagesStop). AnswersOn pages page all (Err given)) (sym same) (looked_for pages page n at binding bytes all count place bound are ∙ sym told)
 
 -- and where it is right
-pub page_right : (pages : Pages) (page n at len : ℕ) (bytes all cells items : List ℕ) → n ≡ words_on pages page → at ≡ place_of pages page → len ≡ length items → length items ≡ n
-    → AreOnPage pages page bytes all → None ≡ page_flaw pages.version pages.bound n at bytes → cells ≡ words_of pages.version n bytes
+pub page_right : (pages : Pages) (page n at len : ℕ) (binding bytes all cells items : List ℕ) → n ≡ words_on pages page → at ≡ place_of pages page → binding ≡ binding_on pages page → len ≡ length items → length items ≡ n
+    → AreOnPage pages page bytes all → None ≡ page_flaw pages.version binding pages.bound n at bytes → cells ≡ words_of pages.version n bytes
     → (flaw_on pages all page ≡ None) × (take len (cells ++ drop (length cells) items) ≡ page_words pages all page)
-page_right pages page n at len bytes all cells items count place is many are told read =
+page_right pages page n at len binding bytes all cells items count place bound is many are told read =
     let whole : len ≡ length cells = is ∙ many ∙ sym (length-words_of pages.version n bytes) ∙ sym (ap (λ (words : List ℕ). length words) read) in (
-      sym (flaw-on_page pages page bytes all are) ∙ ap₂ (λ (n : ℕ) (at : ℕ). page_flaw pages.version pages.bound n at bytes) (sym count) (sym place) ∙ sym told,
+      looked_for pages page n at binding bytes all count place bound are ∙ sym told,
       written len cells items whole ∙ read ∙ ap (λ n. words_of pages.version n bytes) count ∙ words-on_page pages page bytes all are,
     )
 

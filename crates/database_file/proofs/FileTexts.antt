@@ -11,6 +11,7 @@ use Rattle.interval_words.specs.WordLists.{AreRight, WordList, list_of}
 use Rattle.turn_rule.specs.declared.game.Game.{Game}
 use Rattle.word_pages.specs.declared.flaws.Flaw.{Flaw}
 use Rattle.word_pages.specs.declared.version.Version.{Version}
+use Rattle.word_pages.specs.declared.version.Version.TheVariants.{One, Two, Three}
 use Rattle.word_pages.specs.Flaws.{AreWithin}
 use Rattle.word_pages.specs.Pages.{AreBytes, pages_in, pages_text}
 use Rattle.word_pages.specs.Words.{Fits, word_size}
@@ -19,15 +20,15 @@ use Rattle.word_pages.proofs.Within.{or_none, within-fit}
 use Rattle.base_head.specs.declared.fault.FileFault.TheVariants as faults
 use Rattle.base_head.specs.declared.header.Header.{Header}
 use Rattle.base_head.specs.Faults.{check, first_wrong}
-use Rattle.base_head.specs.Fronts.{bad_of, front_text, head_in, starts_fault}
+use Rattle.base_head.specs.Fronts.{bad_of, digest_in, front_text, head_digest, head_in, starts_fault}
 use Rattle.base_head.specs.FrontTexts.{IsFront, front_fault}
 use Rattle.base_head.specs.Heads.{FileHead}
-use Rattle.base_head.specs.Headers.{IsHeader, file_length, front_length, header_of, text_length}
+use Rattle.base_head.specs.Headers.{IsHeader, IsSince, file_length, front_length, header_of, text_length}
 use Rattle.base_head.specs.HeaderFaults.{header_fault}
 use Rattle.base_head.proofs.Checked.{none_or}
-use Rattle.base_head.proofs.FrontTexts.{front-of, front-right, head-read, header-read, header-valid, length-front}
-use Rattle.database_file.specs.Bases.{IsBaseOf, base_with, words_of_file}
-use Rattle.database_file.specs.Faults.{ends_before, fault_before_pages, file_fault, header_of_file, pages_behind, short_fault, starts_wrong, whole}
+use Rattle.base_head.proofs.FrontTexts.{digest-read, front-of, front-right, head-read, header-read, header-valid, length-front}
+use Rattle.database_file.specs.Bases.{IsBaseFrom, base_with, words_of_file}
+use Rattle.database_file.specs.Faults.{ends_before, fault_from, front_fault_from, header_of_file, pages_behind, pages_in_file, short_fault, starts_wrong, whole}
 use Rattle.database_file.specs.FileBases.{FileBase}
 use Rattle.database_file.specs.Pages.{flaw_in, words_in}
 use Rattle.database_file.specs.Texts.{IsText, game_in, words_a_page}
@@ -39,31 +40,34 @@ use Rattle.database_file.proofs.Words.{right-within}
 
 -- ---- bytes without a fault
 
-front-none : (bytes : List ℕ) → file_fault (whole bytes) ≡ None → front_fault (length bytes) bytes ≡ None
-front-none bytes right =
-    let before = none_or (short_fault (whole bytes)) _ (none_or (fault_before_pages (whole bytes)) _ right).0 in
-    let parts = none_or (header_fault (length bytes) bytes) (starts_wrong (header_of_file bytes) bytes) before.1 in
+pub front-none : (oldest : Version) (bytes : List ℕ) → fault_from oldest (whole bytes) ≡ None → front_fault oldest (length bytes) bytes ≡ None
+front-none oldest bytes right =
+    let before = none_or (short_fault (whole bytes)) _ (none_or (front_fault_from oldest (whole bytes)) _ right).0 in
+    let parts = none_or (header_fault oldest (length bytes) bytes) (starts_wrong (header_of_file bytes) bytes) before.1 in
     let starts = none_or (ends_before (front_length (header_of_file bytes)) bytes) (starts_fault (header_of_file bytes) bytes) parts.1 in
     or_none _ _ parts.0 starts.1
 
-pub text-of : (bytes : List ℕ) → AreBytes bytes → file_fault (whole bytes) ≡ None → (version : Version) × (head : FileHead) × (words : WordList) × IsText version head words bytes
-text-of bytes are right =
-    let front = front-of bytes are (front-none bytes right) in
+pub text-of : (oldest : Version) (bytes : List ℕ) → AreBytes bytes → fault_from oldest (whole bytes) ≡ None → (version : Version) × (head : FileHead) × (words : WordList) × IsSince oldest version × IsText version head words bytes
+text-of oldest bytes are right =
+    let front = front-of oldest bytes are (front-none oldest bytes right) in
     let version = front.0 in
     let head = front.1 in
-    let begins = front.2 in
+    let begins = front.3 in
     let list : List ℕ = words_of_file bytes in
     let h = header_of version head in
     let header : header_of_file bytes ≡ h = header-read version head bytes begins in
     let head_is : head_in (header_of_file bytes) bytes ≡ head = ap (λ (h : Header). head_in h bytes) header ∙ head-read version head bytes begins in
-    let file = right-file bytes are right in
+    let file = right-file oldest bytes are right in
+    let digest : digest_in (header_of_file bytes) bytes ≡ head_digest version head = ap (λ (h : Header). digest_in h bytes) header ∙ digest-read version head bytes begins in
     let words : list_of (game_in (head_in (header_of_file bytes) bytes)) (header_of_file bytes).rounds list ≡ list_of (game_in head) head.rounds list =
     ap₂ (λ (head : FileHead) (h : Header). list_of (game_in head) h.rounds list) head_is header in
-    let pages : drop (front_length h) bytes ≡ pages_text version (words_a_page h.kinds) list =
-    subst (λ (h : Header). drop (front_length h) bytes ≡ pages_text h.version (words_a_page h.kinds) list) header file.0 in (
+    let pages : drop (front_length h) bytes ≡ pages_text version (head_digest version head) (words_a_page h.kinds) list =
+    subst (λ (h : Header). drop (front_length h) bytes ≡ pages_text h.version (head_digest version head) (words_a_page h.kinds) list) header
+    (file.0 ∙ ap (λ (digest : List ℕ). pages_text (header_of_file bytes).version digest (words_a_page (header_of_file bytes).kinds) list) digest) in (
       version,
       head,
       list_of (game_in head) head.rounds list,
+      front.2,
       record {
         valid = begins.valid;
         takes = begins.takes;
@@ -76,10 +80,10 @@ text-of bytes are right =
 -- ---- texts
 
 begins-with : (version : Version) (head : FileHead) (words : WordList) (bytes : List ℕ) → IsText version head words bytes
-    → IsFront version head bytes × (drop (front_length (header_of version head)) bytes ≡ pages_text version (words_a_page (header_of version head).kinds) words.list)
+    → IsFront version head bytes × (drop (front_length (header_of version head)) bytes ≡ pages_text version (head_digest version head) (words_a_page (header_of version head).kinds) words.list)
 begins-with version head words bytes is =
     let front : List ℕ = front_text version head in
-    let pages : List ℕ = pages_text version (words_a_page (header_of version head).kinds) words.list in
+    let pages : List ℕ = pages_text version (head_digest version head) (words_a_page (header_of version head).kinds) words.list in
     let k = front_length (header_of version head) in
     let count = length-front version head in (
       record {
@@ -101,7 +105,7 @@ text-pages : (version : Version) (head : FileHead) (words : WordList) (bytes : L
 text-pages version head words bytes is =
     let h = header_of version head in
     let valid = header-valid version head is.valid is.takes in
-    let pages = pages-valid h valid in
+    let pages = pages-valid h (head_digest version head) valid in
     let same = head-read version head bytes (begins-with version head words bytes is).0 in
     let count : length words.list ≡ 2 * h.kinds * h.positions =
     is.right.long ∙ ap core.words_in (is.fitting.game ∙ ap game_in (sym same)) ∙ sym (words-many h bytes valid) in
@@ -121,18 +125,18 @@ length-text version head words bytes is =
     let h = header_of version head in
     let size = words_a_page h.kinds in
     let front : List ℕ = front_text version head in
-    let text : List ℕ = pages_text version size words.list in
+    let text : List ℕ = pages_text version (head_digest version head) size words.list in
     let pages = text-pages version head words bytes is in
     let all : length bytes ≡ length front + length text = ap (λ (bytes : List ℕ). length bytes) is.text ∙ length-append front text in
     let cells : word_size version * length words.list ≡ 2 * word_size version * h.kinds * h.positions = ap (λ (n : ℕ). word_size version * n) pages.many ∙ same-cells (word_size version) h.kinds h.positions in
     let many : pages_in size (length words.list) ≡ pages_in 1024 h.positions = ap (λ (n : ℕ). pages_in size n) pages.many ∙ pages-same (2 * h.kinds) h.positions (words-some h.kinds pages.some) in
-    omega (arith, all, length-front version head, length-pages version size words.list pages.some, cells, many)
+    omega (arith, all, length-front version head, length-pages version (head_digest version head) size words.list pages.some, cells, many)
 
 -- nothing is wrong with them
-before-none : (bytes : List ℕ) → length bytes ≡ file_length (header_of_file bytes) → front_fault (length bytes) bytes ≡ None → fault_before_pages (whole bytes) ≡ None
-before-none bytes size right =
+before-none : (oldest : Version) (bytes : List ℕ) → length bytes ≡ file_length (header_of_file bytes) → front_fault oldest (length bytes) bytes ≡ None → front_fault_from oldest (whole bytes) ≡ None
+before-none oldest bytes size right =
     let h = header_of_file bytes in
-    let parts = none_or (header_fault (length bytes) bytes) (starts_fault h bytes) right in
+    let parts = none_or (header_fault oldest (length bytes) bytes) (starts_fault h bytes) right in
     let long : nat_lt (length bytes) 64 ≡ false = not_less (length bytes) (file_length h) size (omega arith) in
     let short : first_wrong (check faults.Short (length bytes) (nat_lt (length bytes) 64) ∷ []) ≡ None = ap (λ (b : Bool). if b then Some (record { fault = faults.Short; at = length bytes }) else None) long in
     or_none _ _ (or_none _ _ short (none-before 64 bytes (omega (arith, size))))
@@ -143,20 +147,22 @@ before-none bytes size right =
 
 -- the words are read from their pages
 pages-read : (version : Version) (head : FileHead) (words : WordList) (bytes : List ℕ) → IsText version head words bytes
-    → (flaw_in (pages_behind (header_of_file bytes)) (drop (front_length (header_of_file bytes)) bytes) ≡ None) × (words_of_file bytes ≡ words.list)
+    → (flaw_in (pages_in_file bytes) (drop (front_length (header_of_file bytes)) bytes) ≡ None) × (words_of_file bytes ≡ words.list)
 pages-read version head words bytes is =
     let h = header_of version head in
     let begins = begins-with version head words bytes is in
     let pages = text-pages version head words bytes is in
-    let text : List ℕ = pages_text version (words_a_page h.kinds) words.list in
+    let digest : List ℕ = head_digest version head in
+    let text : List ℕ = pages_text version digest (words_a_page h.kinds) words.list in
     let there : drop (front_length h) bytes ≡ text ++ [] = begins.1 ∙ sym (append-nil text) in
-    let read = pages-right (pages_behind h) (h.kinds * 1024) words.list [] pages.some (mul_assoc 2 h.kinds 1024) pages.many pages.fit pages.within in
-    subst (λ (h : Header). (flaw_in (pages_behind h) (drop (front_length h) bytes) ≡ None) × (words_in (pages_behind h) (drop (front_length h) bytes) ≡ words.list)) (sym (header-read version head bytes begins.0))
-    (subst (λ (bytes : List ℕ). (flaw_in (pages_behind h) bytes ≡ None) × (words_in (pages_behind h) bytes ≡ words.list)) (sym there) read)
+    let read = pages-right (pages_behind h digest) (h.kinds * 1024) words.list [] pages.some (mul_assoc 2 h.kinds 1024) pages.many pages.fit pages.within in
+    subst (λ (h : Header). (flaw_in (pages_behind h (digest_in h bytes)) (drop (front_length h) bytes) ≡ None) × (words_in (pages_behind h (digest_in h bytes)) (drop (front_length h) bytes) ≡ words.list)) (sym (header-read version head bytes begins.0))
+    (subst (λ (digest : List ℕ). (flaw_in (pages_behind h digest) (drop (front_length h) bytes) ≡ None) × (words_in (pages_behind h digest) (drop (front_length h) bytes) ≡ words.list)) (sym (digest-read version head bytes begins.0))
+    (subst (λ (bytes : List ℕ). (flaw_in (pages_behind h digest) bytes ≡ None) × (words_in (pages_behind h digest) bytes ≡ words.list)) (sym there) read))
 
 -- what a file with a text holds
-pub base-of : (version : Version) (head : FileHead) (words : WordList) (bytes : List ℕ) → IsText version head words bytes → IsBaseOf (whole bytes) (record { head = head; words = words })
-base-of version head words bytes is =
+pub base-of : (oldest version : Version) (head : FileHead) (words : WordList) (bytes : List ℕ) → IsSince oldest version → IsText version head words bytes → IsBaseFrom oldest (whole bytes) (record { head = head; words = words })
+base-of oldest version head words bytes since is =
     let begins = (begins-with version head words bytes is).0 in
     let header : header_of_file bytes ≡ header_of version head = header-read version head bytes begins in
     let head_is : head_in (header_of_file bytes) bytes ≡ head = ap (λ (h : Header). head_in h bytes) header ∙ head-read version head bytes begins in
@@ -164,16 +170,32 @@ base-of version head words bytes is =
     let read = pages-read version head words bytes is in
     let words_are : words ≡ list_of (game_in head) head.rounds words.list = λ i. record { game = is.fitting.game i; rounds = is.fitting.rounds i; list = words.list } in
     record {
-      right = or_none _ _ (before-none bytes (size ∙ ap file_length (sym header)) (front-right version head bytes begins size)) (ap (λ (flaw : Option Flaw). option_map bad_of flaw) read.0);
+      right = or_none _ _ (before-none oldest bytes (size ∙ ap file_length (sym header)) (front-right oldest version head bytes since begins size)) (ap (λ (flaw : Option Flaw). option_map bad_of flaw) read.0);
       holds = ap (λ (words : WordList). record { head = head; words = words }) words_are ∙ ap₂ (λ (head : FileHead) (list : List ℕ). base_with head list) (sym head_is) (sym read.1);
     }
 
 -- bytes that are loaded as a base are a text of it
-pub text-loaded : (bytes : List ℕ) (base : FileBase) → AreBytes bytes → IsBaseOf (whole bytes) base → (version : Version) × IsText version base.head base.words bytes
-text-loaded bytes base are is =
-    let text = text-of bytes are is.right in
-    let same : record { head = text.1; words = text.2 } ≡ base = (base-of text.0 text.1 text.2 bytes text.3).holds ∙ sym is.holds in
-    (text.0, subst (λ (base : FileBase). IsText text.0 base.head base.words bytes) same text.3)
+pub text-loaded : (oldest : Version) (bytes : List ℕ) (base : FileBase) → AreBytes bytes → IsBaseFrom oldest (whole bytes) base → (version : Version) × IsSince oldest version × IsText version base.head base.words bytes
+text-loaded oldest bytes base are is =
+    let text = text-of oldest bytes are is.right in
+    let same : record { head = text.1; words = text.2 } ≡ base = (base-of oldest text.0 text.1 text.2 bytes text.3 text.4).holds ∙ sym is.holds in
+    (text.0, text.3, subst (λ (base : FileBase). IsText text.0 base.head base.words bytes) same text.4)
+
+-- a version that isn't before the latest is the latest
+pub latest : (version : Version) → IsSince Three version → version ≡ Three
+latest One since = absurd (omega (arith, since))
+latest Two since = absurd (omega (arith, since))
+latest Three since = refl
+
+pub text-latest : (bytes : List ℕ) → AreBytes bytes → fault_from Three (whole bytes) ≡ None → (head : FileHead) × (words : WordList) × IsText Three head words bytes
+text-latest bytes are right =
+    let text = text-of Three bytes are right in (text.1, text.2, subst (λ (version : Version). IsText version text.1 text.2 bytes) (latest text.0 text.3) text.4)
+
+-- every version is one since the first
+pub since-first : (version : Version) → IsSince One version
+since-first One = omega arith
+since-first Two = omega arith
+since-first Three = omega arith
 
 -- ---- one text
 
@@ -181,8 +203,8 @@ text-loaded bytes base are is =
 pub text-one : (version other : Version) (head other_head : FileHead) (words other_words : WordList) (bytes : List ℕ) → IsText version head words bytes → IsText other other_head other_words bytes
     → (version ≡ other) × (head ≡ other_head) × (words ≡ other_words)
 text-one version other head other_head words other_words bytes is also =
-    let one = base-of version head words bytes is in
-    let two = base-of other other_head other_words bytes also in
+    let one = base-of One version head words bytes (since-first version) is in
+    let two = base-of One other other_head other_words bytes (since-first other) also in
     let base = one.holds ∙ sym two.holds in
     let header = sym (header-read version head bytes (begins-with version head words bytes is).0) ∙ header-read other other_head bytes (begins-with other other_head other_words bytes also).0 in
     (ap (λ (h : Header). h.version) header, ap (λ (base : FileBase). base.head) base, ap (λ (base : FileBase). base.words) base)

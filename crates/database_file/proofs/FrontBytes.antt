@@ -6,9 +6,10 @@ use Rattle.std.proofs.Math.Nat.{mul_assoc, mul_left_comm}
 use Rattle.std.proofs.lemmas.Bool.{cases_lt}
 use Rattle.std.proofs.lemmas.Bool.Decides.{nat_tests}
 use Rattle.std.proofs.lemmas.List.{drop-take, length-take, length-take-le, take-append-le, take-take, take_all, take_min}
-use Rattle.hyper_outside.specs.Files.{Fills, bytes_from}
+use Rattle.outside_log.specs.Files.{Fills, bytes_from}
 use Rattle.byteorder.specs.Endian.{big_number}
 use Rattle.byteorder.specs.Numbers.{big_from-take}
+use Rattle.word_pages.specs.declared.version.Version.{Version}
 use Rattle.word_pages.specs.Sealed.{is_sealed}
 use Rattle.word_pages.specs.Flaws.{pairs_flaw}
 use Rattle.word_pages.specs.Words.{word_size, words_of}
@@ -18,7 +19,7 @@ use Rattle.base_head.specs.declared.fault.BadFile.{BadFile}
 use Rattle.base_head.specs.declared.fault.FileFault.TheVariants as faults
 use Rattle.base_head.specs.declared.header.Header.{Header}
 use Rattle.base_head.specs.Faults.{check, first_wrong}
-use Rattle.base_head.specs.Fronts.{bad_of, head_in, pairs_of_words, start_words, starts_fault, starts_length}
+use Rattle.base_head.specs.Fronts.{bad_of, digest_in, head_in, pairs_of_words, start_words, starts_fault, starts_length}
 use Rattle.base_head.specs.Heads.{FileHead}
 use Rattle.base_head.specs.Headers.{IsHeader, digest_place, file_length, front_length, magic, pair_size}
 use Rattle.base_head.specs.HeaderFaults.{field_checks, fields_of, header_fault, header_in, length_checks, number_at}
@@ -29,7 +30,7 @@ use Rattle.base_head.proofs.Checked.{none_or}
 use Rattle.database_file.specs.declared.front.Front.{Front}
 use Rattle.database_file.specs.declared.stop.LoadStop.{LoadStop}
 use Rattle.database_file.specs.declared.stop.LoadStop.TheVariants.{BadFile as Bad, Missing, NoMemory, ReadFault}
-use Rattle.database_file.specs.Faults.{AnswersFront, IsFrontOf, ends_before, fault_before_pages, header_of_file, starts_wrong, whole}
+use Rattle.database_file.specs.Faults.{AnswersFront, IsFrontFrom, ends_before, front_fault_from, header_of_file, starts_wrong, whole}
 
 -- a number within the first bytes
 number-front : (at size n : ℕ) (bytes : List ℕ) → at + size ≤ n → number_at at size (take n bytes) ≡ number_at at size bytes
@@ -55,11 +56,11 @@ fields-front n bytes room =
     rw (version, checkers, stakes, near, far, phase, match_length, kinds, rounds, starts, positions, rest) refl
 
 -- the header's faults
-pub header-front : (size n : ℕ) (bytes : List ℕ) → 64 ≤ n → header_fault size (take n bytes) ≡ header_fault size bytes
-header-front size n bytes room =
+pub header-front : (oldest : Version) (size n : ℕ) (bytes : List ℕ) → 64 ≤ n → header_fault oldest size (take n bytes) ≡ header_fault oldest size bytes
+header-front oldest size n bytes room =
     ap₂ (λ (begins : List ℕ) fields. first_wrong (
     (check faults.Short size (nat_lt size 64) ∷ check faults.Magic 0 (not (bytes_eq begins magic)) ∷ [])
-    ++ (field_checks fields ++ length_checks size (file_length (header_in fields)))))
+    ++ (field_checks oldest fields ++ length_checks size (file_length (header_in fields)))))
     (take-take 8 n bytes (omega (arith, room))) (fields-front n bytes room)
 
 pub header_of-front : (n : ℕ) (bytes : List ℕ) → 64 ≤ n → header_of_file (take n bytes) ≡ header_of_file bytes
@@ -91,9 +92,16 @@ head-front header n bytes room = ap (λ (words : List ℕ). head_of header words
       starts = record { match_length = starts_length header.name header.match_length; pairs = pairs_of_words words };
     }
 
+-- the digest of the head
+pub digest-front : (header : Header) (n : ℕ) (bytes : List ℕ) → front_length header ≤ n → digest_in header (take n bytes) ≡ digest_in header bytes
+digest-front header n bytes room =
+    let d = digest_place header in
+    let split : d + (n - d) ≡ n = omega (arith, room) in
+    ap (λ k. take 32 (drop d (take k bytes))) (sym split) ∙ ap (take 32) (drop-take d (n - d) bytes) ∙ take-take 32 (n - d) (drop d bytes) (omega (arith, room))
+
 -- a header without a fault
-pub right-header : (size : ℕ) (bytes : List ℕ) → header_fault size bytes ≡ None → IsHeader (header_of_file bytes)
-right-header size bytes none = none-header (fields_of bytes) (all-header size bytes none).1
+pub right-header : (oldest : Version) (size : ℕ) (bytes : List ℕ) → header_fault oldest size bytes ≡ None → IsHeader (header_of_file bytes)
+right-header oldest size bytes none = none-header oldest (fields_of bytes) (all-header oldest size bytes none).1
 
 pub front-low : (header : Header) → IsHeader header → front_length header ≤ 368
 front-low header valid = omega (arith, digest_place-low header valid)
@@ -105,29 +113,29 @@ none-before place bytes long = ap (λ (wrong : Bool). if wrong then Some (record
     not_less a b le = grind (arith, nat_tests)
 
 -- where bytes of the front are left out, nothing is told of what comes behind them; else the first ones tell all
-pub first-tell : (size n : ℕ) (bytes : List ℕ) → 368 ≤ n → fault_before_pages (record { size = size; bytes = take n bytes }) ≡ fault_before_pages (record { size = size; bytes = bytes })
-first-tell size n bytes room = by_length (cases_lt (length bytes) n)
+pub first-tell : (oldest : Version) (size n : ℕ) (bytes : List ℕ) → 368 ≤ n → front_fault_from oldest (record { size = size; bytes = take n bytes }) ≡ front_fault_from oldest (record { size = size; bytes = bytes })
+first-tell oldest size n bytes room = by_length (cases_lt (length bytes) n)
   where
-    by_length : (length bytes < n) ⊎ (n ≤ length bytes) → fault_before_pages (record { size = size; bytes = take n bytes }) ≡ fault_before_pages (record { size = size; bytes = bytes })
-    by_length (inl all) = ap (λ (bytes : List ℕ). fault_before_pages (record { size = size; bytes = bytes })) (take_all n bytes (omega (arith, all)))
+    by_length : (length bytes < n) ⊎ (n ≤ length bytes) → front_fault_from oldest (record { size = size; bytes = take n bytes }) ≡ front_fault_from oldest (record { size = size; bytes = bytes })
+    by_length (inl all) = ap (λ (bytes : List ℕ). front_fault_from oldest (record { size = size; bytes = bytes })) (take_all n bytes (omega (arith, all)))
     by_length (inr long) =
         let count = length-take-le n bytes long in
-        let header = header-front size n bytes (omega (arith, room)) in
+        let header = header-front oldest size n bytes (omega (arith, room)) in
         ap₂ (λ (short : Option BadFile) (rest : Option BadFile). option_or (option_or (first_wrong (check faults.Short size (nat_lt size 64) ∷ [])) short) rest)
         (none-before 64 (take n bytes) (omega (arith, room, count)) ∙ sym (none-before 64 bytes (omega (arith, room, long))))
-        (behind (header_fault size (take n bytes)) header refl)
+        (behind (header_fault oldest size (take n bytes)) header refl)
       where
-        behind : (fault : Option BadFile) → fault ≡ header_fault size bytes → header_fault size (take n bytes) ≡ fault → option_or (header_fault size (take n bytes)) (starts_wrong (header_of_file (take n bytes)) (take n bytes)) ≡ option_or (header_fault size bytes) (starts_wrong (header_of_file bytes) bytes)
+        behind : (fault : Option BadFile) → fault ≡ header_fault oldest size bytes → header_fault oldest size (take n bytes) ≡ fault → option_or (header_fault oldest size (take n bytes)) (starts_wrong (header_of_file (take n bytes)) (take n bytes)) ≡ option_or (header_fault oldest size bytes) (starts_wrong (header_of_file bytes) bytes)
         behind (Some bad) is was =
             ap (λ (fault : Option BadFile). option_or fault (starts_wrong (header_of_file (take n bytes)) (take n bytes))) was
             ∙ ap (λ (fault : Option BadFile). option_or fault (starts_wrong (header_of_file bytes) bytes)) is
         behind None is was =
             let header = header_of_file bytes in
-            let low = front-low header (right-header size bytes (sym is)) in
+            let low = front-low header (right-header oldest size bytes (sym is)) in
             let same = header_of-front n bytes (omega (arith, room)) in
             let count = length-take-le n bytes long in
             ap₂ (λ (fault : Option BadFile) (header : Header). option_or fault (starts_wrong header (take n bytes))) (was ∙ is) same
-            ∙ ap₂ (λ (short : Option BadFile) (starts : Option BadFile). option_or (header_fault size bytes) (option_or short starts))
+            ∙ ap₂ (λ (short : Option BadFile) (starts : Option BadFile). option_or (header_fault oldest size bytes) (option_or short starts))
             (none-before (front_length header) (take n bytes) (omega (arith, room, low, count)) ∙ sym (none-before (front_length header) bytes (omega (arith, room, low, long))))
             (starts-front header n bytes (omega (arith, room, low)))
 
@@ -155,31 +163,32 @@ goes_on place bytes none = by_length (cases_lt (length bytes) place)
 
 -- ---- what the first bytes tell of a file
 
-pub front-tells : (size : ℕ) (bytes file : List ℕ) (front : Front) → size ≡ length file → bytes ≡ take 368 file → IsFrontOf (record { size = size; bytes = bytes }) front → IsFrontOf (whole file) front
-front-tells size bytes file front is are told =
+pub front-tells : (oldest : Version) (size : ℕ) (bytes file : List ℕ) (front : Front) → size ≡ length file → bytes ≡ take 368 file → IsFrontFrom oldest (record { size = size; bytes = bytes }) front → IsFrontFrom oldest (whole file) front
+front-tells oldest size bytes file front is are told =
     let first : List ℕ = take 368 file in
-    let right = ap (λ (bytes : List ℕ). fault_before_pages (record { size = size; bytes = bytes })) (sym are) ∙ told.right in
+    let right = ap (λ (bytes : List ℕ). front_fault_from oldest (record { size = size; bytes = bytes })) (sym are) ∙ told.right in
     let same = header_of-front 368 file (omega arith) in
-    let tell = first-tell size 368 file (omega arith) in
-    let header : IsHeader (header_of_file first) = right-header size first (none_or _ _ (none_or _ _ right).1).0 in
+    let tell = first-tell oldest size 368 file (omega arith) in
+    let header : IsHeader (header_of_file first) = right-header oldest size first (none_or _ _ (none_or _ _ right).1).0 in
     let low : front_length (header_of_file file) ≤ 368 = front-low (header_of_file file) (subst (λ (header : Header). IsHeader header) same header) in
     record {
-      right = ap (λ size. fault_before_pages (record { size = size; bytes = file })) (sym is) ∙ sym tell ∙ right;
+      right = ap (λ size. front_fault_from oldest (record { size = size; bytes = file })) (sym is) ∙ sym tell ∙ right;
       header = told.header ∙ ap header_of_file are ∙ same;
       head = told.head ∙ ap (λ (bytes : List ℕ). head_in (header_of_file bytes) bytes) are ∙ ap (λ (header : Header). head_in header first) same ∙ head-front (header_of_file file) 368 file low;
+      digest = told.digest ∙ ap (λ (bytes : List ℕ). digest_in (header_of_file bytes) bytes) are ∙ ap (λ (header : Header). digest_in header first) same ∙ digest-front (header_of_file file) 368 file low;
     }
 
-pub answers-tell : (size : ℕ) (bytes : List ℕ) (held : Option (List ℕ)) (result : Result Front LoadStop) → Some size ≡ option_map (λ (bytes : List ℕ). length bytes) held
-    → ((file : List ℕ) → held ≡ Some file → bytes ≡ take 368 file) → AnswersFront (Some (record { size = size; bytes = bytes })) result → AnswersFront (option_map whole held) result
-answers-tell size bytes None result is are told = absurd (grind (arith, is))
-answers-tell size bytes (Some file) (Ok front) is are told = front-tells size bytes file front (grind (arith, is)) (are file refl) told
-answers-tell size bytes (Some file) (Err (Bad bad)) is are told =
+pub answers-tell : (oldest : Version) (size : ℕ) (bytes : List ℕ) (held : Option (List ℕ)) (result : Result Front LoadStop) → Some size ≡ option_map (λ (bytes : List ℕ). length bytes) held
+    → ((file : List ℕ) → held ≡ Some file → bytes ≡ take 368 file) → AnswersFront oldest (Some (record { size = size; bytes = bytes })) result → AnswersFront oldest (option_map whole held) result
+answers-tell oldest size bytes None result is are told = absurd (grind (arith, is))
+answers-tell oldest size bytes (Some file) (Ok front) is are told = front-tells oldest size bytes file front (grind (arith, is)) (are file refl) told
+answers-tell oldest size bytes (Some file) (Err (Bad bad)) is are told =
     let long : size ≡ length file = grind (arith, is) in
-    ap (λ size. fault_before_pages (record { size = size; bytes = file })) (sym long) ∙ sym (first-tell size 368 file (omega arith))
-    ∙ ap (λ (bytes : List ℕ). fault_before_pages (record { size = size; bytes = bytes })) (sym (are file refl)) ∙ told
-answers-tell size bytes (Some file) (Err ReadFault) is are told = told
-answers-tell size bytes (Some file) (Err Missing) is are told = told
-answers-tell size bytes (Some file) (Err NoMemory) is are told = told
+    ap (λ size. front_fault_from oldest (record { size = size; bytes = file })) (sym long) ∙ sym (first-tell oldest size 368 file (omega arith))
+    ∙ ap (λ (bytes : List ℕ). front_fault_from oldest (record { size = size; bytes = bytes })) (sym (are file refl)) ∙ told
+answers-tell oldest size bytes (Some file) (Err ReadFault) is are told = told
+answers-tell oldest size bytes (Some file) (Err Missing) is are told = told
+answers-tell oldest size bytes (Some file) (Err NoMemory) is are told = told
 
 -- the first bytes that were read
 pub filled : (size count : ℕ) (file old : List ℕ) → length old ≡ min size 368 → size ≡ length file → count ≡ min (length old) (length file) → take count file ≡ take 368 file
@@ -196,10 +205,10 @@ read-first size count held there old new rest room same is fills long file holds
     take-append-le count new rest (omega (arith, many, long)) ∙ fills.front ∙ ap (λ (bytes : List ℕ). take count bytes) known ∙ filled size count file old room known_size many
 
 -- a fault that is told
-pub bad_front : (size : ℕ) (bytes : List ℕ) (bad : BadFile) (result : Result Front LoadStop) → IsErrAnd result (λ stop. stop ≡ Bad bad)
-    → fault_before_pages (record { size = size; bytes = bytes }) ≡ Some bad → AnswersFront (Some (record { size = size; bytes = bytes })) result
-bad_front size bytes bad (Ok front) wrong is = absurd wrong
-bad_front size bytes bad (Err stop) same is = subst (λ (stop : LoadStop). AnswersFront (Some (record { size = size; bytes = bytes })) (Err stop)) (sym same) is
+pub bad_front : (oldest : Version) (size : ℕ) (bytes : List ℕ) (bad : BadFile) (result : Result Front LoadStop) → IsErrAnd result (λ stop. stop ≡ Bad bad)
+    → front_fault_from oldest (record { size = size; bytes = bytes }) ≡ Some bad → AnswersFront oldest (Some (record { size = size; bytes = bytes })) result
+bad_front oldest size bytes bad (Ok front) wrong is = absurd wrong
+bad_front oldest size bytes bad (Err stop) same is = subst (λ (stop : LoadStop). AnswersFront oldest (Some (record { size = size; bytes = bytes })) (Err stop)) (sym same) is
 
 pub room-is : (room size : ℕ) (buf : List ℕ) → length buf ≡ 368 → room ≡ min size 368 → length (take room buf) ≡ min size 368
 room-is room size buf long is = omega (arith, length-take room buf, long, is)

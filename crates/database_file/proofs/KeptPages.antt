@@ -6,7 +6,7 @@ use Rattle.std.proofs.lemmas.List.{length-replicate}
 use Rattle.std.proofs.Math.ListN.{replicate}
 use Rattle.lru.specs.LruCache.{LruCache, lru_cache, promoted, put_entries}
 use Rattle.lru.proofs.CallerLemmas.{Contains-lookup, Contains-promoted, Contains-put_entries}
-use Rattle.hyper_outside.specs.Files.{bytes_from}
+use Rattle.outside_log.specs.Files.{bytes_from}
 use Rattle.word_pages.specs.Flaws.{AreWithin}
 use Rattle.word_pages.proofs.Texts.{length-words_of}
 use Rattle.database_file.specs.declared.pages.Pages.{Pages}

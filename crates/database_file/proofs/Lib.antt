@@ -1,6 +1,7 @@
 pub mod Bases
 pub mod Batches
 pub mod FileTexts
+pub mod Places
 pub mod FrontBytes
 pub mod KeptPages
 pub mod Loading

@@ -1,20 +1,24 @@
 -- What is answered of a file that is opened.
-use Rattle.std.proofs.Common.{◌≡◌, ◌∙◌, Option, None, Some, Result, Ok, Err, IsErrAnd, [], Bool, Contains, refl, sym, ap, subst}
+use Rattle.std.proofs.Common.{◌≡◌, ◌∙◌, Option, None, Some, Result, Ok, Err, IsErrAnd, [], List, ℕ, Bool, IsTrue, Contains, refl, sym, ap, subst}
+use Rattle.std.specs.Option.{option_map}
 use Rattle.lru.proofs.Splits.{Contains-nil}
-use Rattle.hyper_outside.specs.Files.{Contents}
+use Rattle.outside_log.specs.Files.{Contents}
+use Rattle.word_pages.specs.declared.version.Version.{Version}
+use Rattle.base_head.specs.declared.header.Header.{Header}
+use Rattle.base_head.specs.Fronts.{digest_in}
 use Rattle.base_head.specs.Headers.{IsHeader}
 use Rattle.database_file.specs.declared.front.Front.{Front}
 use Rattle.database_file.specs.declared.stop.LoadStop.{LoadStop}
 use Rattle.database_file.specs.declared.stop.LoadStop.TheVariants.{BadFile as Bad, Missing, NoMemory, ReadFault}
-use Rattle.database_file.specs.Faults.{AnswersFront, Read}
-use Rattle.database_file.specs.Opened.{AnswersPaged}
-use Rattle.database_file.specs.Paged.{IsPagedFile, Kept, KeepsPagesOf}
+use Rattle.database_file.specs.Faults.{AnswersFront, Read, whole}
+use Rattle.database_file.specs.Opened.{AnswersPagedFrom}
+use Rattle.database_file.specs.Paged.{IsPagedFile, Kept, KeepsPagesOf, digest_told}
 use Rattle.database_file.specs.PagedFiles.{PagedFile}
 
 -- a front of which no page was read goes with its head
-pub front-fits : (file : Option Read) (front : Front) → AnswersFront file (Ok front) → IsHeader front.header → IsPagedFile front.header front.head front.header.checkers []
-front-fits None front told valid = absurd told
-front-fits (Some file) front told valid = record {
+pub front-fits : (oldest : Version) (file : Option Read) (front : Front) → AnswersFront oldest file (Ok front) → IsHeader front.header → IsPagedFile front.header front.head front.digest front.header.checkers []
+front-fits oldest None front told valid = absurd told
+front-fits oldest (Some file) front told valid = record {
   valid = valid;
   checkers = ap (λ head. head.checkers) told.head ∙ sym (ap (λ header. header.checkers) told.header);
   name = ap (λ head. head.name) told.head ∙ sym (ap (λ header. header.name) told.header);
@@ -24,11 +28,11 @@ front-fits (Some file) front told valid = record {
 }
 
 -- what stops at the front stops the opening
-pub front-stopped : (file : Option Read) (stop : LoadStop) (result : Result PagedFile LoadStop) → AnswersFront file (Err stop) → IsErrAnd result (λ given. given ≡ stop) → AnswersPaged file result
-front-stopped file stop (Ok base) told wrong = absurd wrong
-front-stopped file stop (Err given) told same = subst (λ (stop : LoadStop). AnswersPaged file (Err stop)) (sym same) (by_file file stop told)
+pub front-stopped : (oldest : Version) (file : Option Read) (stop : LoadStop) (result : Result PagedFile LoadStop) → AnswersFront oldest file (Err stop) → IsErrAnd result (λ given. given ≡ stop) → AnswersPagedFrom oldest file result
+front-stopped oldest file stop (Ok base) told wrong = absurd wrong
+front-stopped oldest file stop (Err given) told same = subst (λ (stop : LoadStop). AnswersPagedFrom oldest file (Err stop)) (sym same) (by_file file stop told)
   where
-    by_file : (file : Option Read) (stop : LoadStop) → AnswersFront file (Err stop) → AnswersPaged file (Err stop)
+    by_file : (file : Option Read) (stop : LoadStop) → AnswersFront oldest file (Err stop) → AnswersPagedFrom oldest file (Err stop)
     by_file None Missing told = tt
     by_file None ReadFault told = tt
     by_file None (Bad bad) told = absurd told
@@ -39,13 +43,24 @@ front-stopped file stop (Err given) told same = subst (λ (stop : LoadStop). Ans
     by_file (Some file) NoMemory told = tt
 
 -- where no page is kept, each that is is one of the file
-pub none-of-file : (base : PagedFile) (tells : Bool) (held : Contents) → base.kept ≡ [] → KeepsPagesOf base tells held
-none-of-file base tells held none told page among = absurd (Contains-nil page (subst (λ (kept : Kept). Contains kept page) none among))
+pub none-of-file : (base : PagedFile) (tells : Bool) (held : Contents) → base.kept ≡ [] → (IsTrue tells → base.digest ≡ digest_told base.header (held base.name)) → KeepsPagesOf base tells held
+none-of-file base tells held none digest = record {
+  digest = digest;
+  pages = λ told page among. absurd (Contains-nil page (subst (λ (kept : Kept). Contains kept page) none among));
+}
 
-pub opened : (file : Option Read) (front : Front) (base : PagedFile) → AnswersFront file (Ok front) → base.header ≡ front.header → base.head ≡ front.head → AnswersPaged file (Ok base)
-opened None front base told header head = absurd told
-opened (Some file) front base told header head = record {
+-- the digest that was read is that of the file
+pub digest-told-is : (oldest : Version) (held there : Option (List ℕ)) (front : Front) (header : Header) (digest : List ℕ) → AnswersFront oldest (option_map whole held) (Ok front) → header ≡ front.header → digest ≡ front.digest → there ≡ held
+    → digest ≡ digest_told header there
+digest-told-is oldest None there front header digest told same is stays = absurd told
+digest-told-is oldest (Some bytes) there front header digest told same is stays =
+    is ∙ told.digest ∙ ap (λ (h : Header). digest_in h bytes) (sym told.header ∙ sym same) ∙ ap (digest_told header) (sym stays)
+
+pub opened : (oldest : Version) (file : Option Read) (front : Front) (base : PagedFile) → AnswersFront oldest file (Ok front) → base.header ≡ front.header → base.head ≡ front.head → base.digest ≡ front.digest → AnswersPagedFrom oldest file (Ok base)
+opened oldest None front base told header head digest = absurd told
+opened oldest (Some file) front base told header head digest = record {
   right = told.right;
   header = header ∙ told.header;
   head = head ∙ told.head;
+  digest = digest ∙ told.digest;
 }

@@ -9,16 +9,17 @@ use Rattle.std.proofs.lemmas.List.Elements.{All-drop, All-take}
 use Rattle.directed_fixed.specs.declared.word.TheConstants.{WORD_OFFSET}
 use Rattle.directed_fixed.specs.Bounds.{IsWithin}
 use Rattle.sha2.specs.Sha256.{sha256}
+use Rattle.word_pages.specs.Sealed.{binding_of}
 use Rattle.word_pages.specs.Words.{Fits, word_size, words_of, words_text}
 use Rattle.word_pages.specs.Flaws.{AreWithin, pair_of, value_of}
-use Rattle.word_pages.specs.Pages.{AreBytes, first_pages, page_flaw, page_size, page_text, pages_in, pages_text}
+use Rattle.word_pages.specs.Pages.{AreBytes, first_pages, page_flaw, page_size, page_text, pages_from, pages_in, pages_text}
 use Rattle.word_pages.proofs.Back.{words_of-text}
 use Rattle.word_pages.proofs.PageFlaws.{page_flaw-take}
 use Rattle.word_pages.proofs.PageTexts.{length-pages, page-exactly, page-right, page-stands}
 use Rattle.word_pages.proofs.Texts.{length-words_of, words_of-take}
 use Rattle.word_pages.proofs.Within.{is_well, none_or, none-within, or_none, within-fit}
 use Rattle.database_file.specs.declared.pages.Pages.{Pages}
-use Rattle.database_file.specs.Pages.{first_flaw, first_words, flaw_in, flaw_on, page_count, page_words, place_of, whole_page, words_in, words_on}
+use Rattle.database_file.specs.Pages.{binding_on, first_flaw, first_words, flaw_in, flaw_on, page_count, page_words, place_of, whole_page, words_in, words_on}
 use Rattle.database_file.proofs.Writing.{next_page}
 
 -- ---- the words
@@ -99,16 +100,16 @@ AreBytes-take n bytes are k = by_place (cases_lt k n)
 
 -- a page without a flaw is the page of its words, which lie within the bound
 page-back : (pages : Pages) (bytes : List ℕ) (page : ℕ) → AreBytes bytes → flaw_on pages bytes page ≡ None
-    → (take (page_size pages.version (words_on pages page)) (drop (page * whole_page pages) bytes) ≡ page_text pages.version (page_words pages bytes page)) × AreWithin pages.bound (page_words pages bytes page)
+    → (take (page_size pages.version (words_on pages page)) (drop (page * whole_page pages) bytes) ≡ page_text pages.version (binding_on pages page) (page_words pages bytes page)) × AreWithin pages.bound (page_words pages bytes page)
 page-back pages bytes page are right =
     let n = words_on pages page in
     let size = page_size pages.version n in
     let there : List ℕ = drop (page * whole_page pages) bytes in
     let long = leb-true size (length there) (is_well _ _ _ (none_or _ _ right).0) in
     let same = words_of-take pages.version n size there (omega arith) in
-    let back = (page-exactly pages.version pages.bound n (pages.at + page * whole_page pages) (take size there) (AreBytes-take size there (AreBytes-drop (page * whole_page pages) bytes are)) (length-take-le size there long)).0
-    (page_flaw-take pages.version pages.bound n (pages.at + page * whole_page pages) there ∙ right) in
-    (back.0 ∙ ap (page_text pages.version) same, subst (AreWithin pages.bound) same back.1)
+    let back = (page-exactly pages.version (binding_on pages page) pages.bound n (pages.at + page * whole_page pages) (take size there) (AreBytes-take size there (AreBytes-drop (page * whole_page pages) bytes are)) (length-take-le size there long)).0
+    (page_flaw-take pages.version (binding_on pages page) pages.bound n (pages.at + page * whole_page pages) there ∙ right) in
+    (back.0 ∙ ap (page_text pages.version (binding_on pages page)) same, subst (AreWithin pages.bound) same back.1)
 
 -- how many bytes the first n pages have
 abbrev pub first_length : Pages → ℕ → ℕ
@@ -140,7 +141,7 @@ first_length-all pages some =
 
 -- the first pages are the pages of the words
 text-first : (pages : Pages) (bytes : List ℕ) (n : ℕ) → 0 < pages.size → AreBytes bytes → flaw_in pages bytes ≡ None → n ≤ page_count pages
-    → first_pages pages.version pages.size n (words_in pages bytes) ≡ take (first_length pages n) bytes
+    → first_pages pages.version pages.digest pages.size 0 n (words_in pages bytes) ≡ take (first_length pages n) bytes
 text-first pages bytes zero some are right within = ap (λ n. take n bytes) (sym (first_length-zero pages))
 text-first pages bytes (suc n) some are right within =
     let there : n < page_count pages = omega (arith, within) in
@@ -149,10 +150,10 @@ text-first pages bytes (suc n) some are right within =
     let before = text-first pages bytes n some are right (omega (arith, within)) in
     let page = (page-back pages bytes n are (each_right pages bytes (page_count pages) right n there)).0 in
     let place = first_length-before pages n some there in
-    ap (λ n. first_pages pages.version pages.size n words) (one n)
-    ∙ next_page pages.version pages.size n words
+    ap (λ n. first_pages pages.version pages.digest pages.size 0 n words) (one n)
+    ∙ next_page pages.version pages.digest pages.size n words
     ∙ ap₂ (λ (before : List ℕ) (page : List ℕ). before ++ page) before
-    (ap (page_text pages.version) (page-part pages bytes n some there) ∙ sym page ∙ ap (λ at. take size (drop at bytes)) (sym place))
+    (ap (page_text pages.version (binding_on pages n)) (page-part pages bytes n some there) ∙ sym page ∙ ap (λ at. take size (drop at bytes)) (sym place))
     ∙ sym (take-add (first_length pages n) size bytes)
     ∙ ap (λ n. take n bytes) (sym (first_length-next pages n))
   where
@@ -160,10 +161,10 @@ text-first pages bytes (suc n) some are right within =
     one n = omega arith
 
 pub pages-back : (pages : Pages) (bytes : List ℕ) → 0 < pages.size → AreBytes bytes → length bytes ≡ word_size pages.version * pages.count + 32 * page_count pages
-    → flaw_in pages bytes ≡ None → bytes ≡ pages_text pages.version pages.size (words_in pages bytes)
+    → flaw_in pages bytes ≡ None → bytes ≡ pages_text pages.version pages.digest pages.size (words_in pages bytes)
 pages-back pages bytes some are long right =
     let words = words_in pages bytes in
-    sym (ap (λ n. first_pages pages.version pages.size (pages_in pages.size n) words) (length-words_in pages bytes some)
+    sym (ap (λ n. first_pages pages.version pages.digest pages.size 0 (pages_in pages.size n) words) (length-words_in pages bytes some)
     ∙ text-first pages bytes (page_count pages) some are right (omega arith)
     ∙ take_all (first_length pages (page_count pages)) bytes (omega (arith, long, first_length-all pages some)))
 
@@ -216,34 +217,35 @@ within-part bound m n words within k there =
 
 -- a page of words that fit and lie within the bound has no flaw, and these are its words
 page-of : (pages : Pages) (half : ℕ) (words rest : List ℕ) (page : ℕ) → 0 < pages.size → pages.size ≡ 2 * half → length words ≡ pages.count → All (Fits pages.version) words → AreWithin pages.bound words → page < page_count pages
-    → (flaw_on pages (pages_text pages.version pages.size words ++ rest) page ≡ None) × (page_words pages (pages_text pages.version pages.size words ++ rest) page ≡ take pages.size (drop (page * pages.size) words))
+    → (flaw_on pages (pages_text pages.version pages.digest pages.size words ++ rest) page ≡ None) × (page_words pages (pages_text pages.version pages.digest pages.size words ++ rest) page ≡ take pages.size (drop (page * pages.size) words))
 page-of pages half words rest page some even count fit within there =
     let version = pages.version in
-    let text : List ℕ = pages_text version pages.size words in
+    let binding = binding_on pages page in
+    let text : List ℕ = pages_text version pages.digest pages.size words in
     let part : List ℕ = take pages.size (drop (page * pages.size) words) in
-    let others : List ℕ = pages_text version pages.size (drop ((page + 1) * pages.size) words) in
+    let others : List ℕ = pages_from version pages.digest pages.size (page + 1) (drop ((page + 1) * pages.size) words) in
     let begins = page_begins pages page some there in
     let n : length part ≡ words_on pages page = omega (arith, length-take pages.size (drop (page * pages.size) words), length-drop (page * pages.size) words, count) in
     let last : page < pages_in pages.size (length words) = subst (λ n. page < pages_in pages.size n) (sym count) there in
-    let bytes = length-pages version pages.size words some in
+    let bytes = length-pages version pages.digest pages.size words some in
     let before = first_length-before pages page some there in
     let room : page * whole_page pages ≤ length text =
     omega (arith, bytes, before, ap (λ n. pages_in pages.size n) count, ap (λ n. word_size version * n) count, there, mul-le-mul_left (word_size version) (le_min (page * pages.size) pages.count)) in
-    let stands : drop (page * whole_page pages) (text ++ rest) ≡ page_text version part ++ (others ++ rest) =
-    drop-append-le (page * whole_page pages) text rest room ∙ ap (λ bytes. bytes ++ rest) (page-stands version pages.size words page some last) ∙ append_assoc (page_text version part) others rest in
+    let stands : drop (page * whole_page pages) (text ++ rest) ≡ page_text version binding part ++ (others ++ rest) =
+    drop-append-le (page * whole_page pages) text rest room ∙ ap (λ bytes. bytes ++ rest) (page-stands version pages.digest pages.size words page some last) ∙ append_assoc (page_text version binding part) others rest in
     let fits = All-take (Fits version) pages.size (drop (page * pages.size) words) (All-drop (Fits version) (page * pages.size) words fit) in
     let place : page * pages.size ≡ 2 * (page * half) = ap (λ size. page * size) even ∙ mul_left_comm page 2 half in
     let inside : AreWithin pages.bound part = subst (λ at. AreWithin pages.bound (take pages.size (drop at words))) (sym place) (within-part pages.bound (page * half) pages.size words within) in (
-      ap₂ (λ (n : ℕ) (bytes : List ℕ). page_flaw version pages.bound n (pages.at + page * whole_page pages) bytes) (sym n) stands ∙ page-right version pages.bound (pages.at + page * whole_page pages) part (others ++ rest) fits inside,
+      ap₂ (λ (n : ℕ) (bytes : List ℕ). page_flaw version binding pages.bound n (pages.at + page * whole_page pages) bytes) (sym n) stands ∙ page-right version binding pages.bound (pages.at + page * whole_page pages) part (others ++ rest) fits inside,
       ap₂ (λ (n : ℕ) (bytes : List ℕ). words_of version n bytes) (sym n) stands
-          ∙ ap (words_of version (length part)) (append_assoc (words_text version part) (sha256 (words_text version part)) (others ++ rest)) ∙ words_of-text version part (sha256 (words_text version part) ++ (others ++ rest)) fits,
+          ∙ ap (words_of version (length part)) (append_assoc (words_text version part) (sha256 (binding ++ words_text version part)) (others ++ rest)) ∙ words_of-text version part (sha256 (binding ++ words_text version part) ++ (others ++ rest)) fits,
     )
   where
     le_min : (a b : ℕ) → min a b ≤ b
     le_min a b = omega arith
 
 pages-of : (pages : Pages) (half : ℕ) (words rest : List ℕ) (n : ℕ) → 0 < pages.size → pages.size ≡ 2 * half → length words ≡ pages.count → All (Fits pages.version) words → AreWithin pages.bound words → n ≤ page_count pages
-    → (first_flaw pages (pages_text pages.version pages.size words ++ rest) n ≡ None) × (first_words pages (pages_text pages.version pages.size words ++ rest) n ≡ take (n * pages.size) words)
+    → (first_flaw pages (pages_text pages.version pages.digest pages.size words ++ rest) n ≡ None) × (first_words pages (pages_text pages.version pages.digest pages.size words ++ rest) n ≡ take (n * pages.size) words)
 pages-of pages half words rest zero some even count fit within there = (refl, ap (λ n. take n words) (none pages.size))
   where
     none : (size : ℕ) → 0 ≡ 0 * size
@@ -258,7 +260,7 @@ pages-of pages half words rest (suc n) some even count fit within there =
 
 -- so are all pages of such words
 pub pages-right : (pages : Pages) (half : ℕ) (words rest : List ℕ) → 0 < pages.size → pages.size ≡ 2 * half → length words ≡ pages.count → All (Fits pages.version) words → AreWithin pages.bound words
-    → (flaw_in pages (pages_text pages.version pages.size words ++ rest) ≡ None) × (words_in pages (pages_text pages.version pages.size words ++ rest) ≡ words)
+    → (flaw_in pages (pages_text pages.version pages.digest pages.size words ++ rest) ≡ None) × (words_in pages (pages_text pages.version pages.digest pages.size words ++ rest) ≡ words)
 pages-right pages half words rest some even count fit within =
     let all = pages-of pages half words rest (page_count pages) some even count fit within (omega arith) in
     (all.0, all.1 ∙ take_all (page_count pages * pages.size) words (omega (arith, count, pages_cover pages some)))
@@ -266,12 +268,12 @@ pages-right pages half words rest some even count fit within =
 -- pages have no flaw exactly where they are those of their words, which lie within the bound
 pub pages-exactly : (pages : Pages) (half all : ℕ) (bytes : List ℕ) → 0 < pages.size → pages.size ≡ 2 * half → pages.count ≡ 2 * all → AreBytes bytes
     → length bytes ≡ word_size pages.version * pages.count + 32 * page_count pages → pages.bound ≤ℤ WORD_OFFSET
-    → (flaw_in pages bytes ≡ None) ↔ ((bytes ≡ pages_text pages.version pages.size (words_in pages bytes)) × AreWithin pages.bound (words_in pages bytes))
+    → (flaw_in pages bytes ≡ None) ↔ ((bytes ≡ pages_text pages.version pages.digest pages.size (words_in pages bytes)) × AreWithin pages.bound (words_in pages bytes))
 pages-exactly pages half all bytes some size count are long bound = (
   λ right. (pages-back pages bytes some are long right, words-within pages bytes half all size count right),
   λ text.
       let words = words_in pages bytes in
       let many = length-words_in pages bytes some in
       let fit = within-fit pages.version pages.bound all words bound (many ∙ count) text.1 in
-      ap (flaw_in pages) (text.0 ∙ sym (append-nil (pages_text pages.version pages.size words))) ∙ (pages-right pages half words [] some size many fit text.1).0,
+      ap (flaw_in pages) (text.0 ∙ sym (append-nil (pages_text pages.version pages.digest pages.size words))) ∙ (pages-right pages half words [] some size many fit text.1).0,
 )

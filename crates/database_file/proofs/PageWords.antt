@@ -9,18 +9,19 @@ use Rattle.position_rank.specs.LiveRanks.{live_rank_of}
 use Rattle.directed_fixed.specs.declared.bounds.End.{End}
 use Rattle.directed_fixed.specs.declared.bounds.End.TheVariants.{Lower, Upper}
 use Rattle.directed_fixed.specs.Bounds.{IsNoLooser}
-use Rattle.hyper_outside.specs.Files.{Contents}
+use Rattle.outside_log.specs.Files.{Contents}
 use Rattle.turn_rule.specs.States.{IsStateOf}
 use Rattle.turn_rule.specs.Looks.{Damage, IsAnswer}
 use Rattle.word_pages.specs.declared.flaws.Flaw.{Flaw}
 use Rattle.interval_words.specs.Numbers.{state_of, value_of, word_of, words_of}
 use Rattle.base_head.specs.declared.header.Header.{Header}
+use Rattle.base_head.specs.Fronts.{digest_in}
 use Rattle.base_head.specs.Headers.{IsHeader, front_length}
 use Rattle.database_file.specs.declared.pages.Pages.{Pages}
 use Rattle.database_file.specs.Pages.{page_count, page_words, words_in, words_on}
 use Rattle.database_file.specs.Faults.{pages_behind}
 use Rattle.database_file.specs.PagedFiles.{PagedFile}
-use Rattle.database_file.specs.Paged.{damage_of, flaw_at, page_of, source_of, state_on_page, word_at, words_of_pages}
+use Rattle.database_file.specs.Paged.{damage_of, flaw_at, notes_of, page_of, source_of, state_on_page, word_at}
 use Rattle.database_file.proofs.Bases.{pages-valid}
 use Rattle.database_file.proofs.PageLists.{page-part}
 use Rattle.database_file.proofs.PagedLooks.{told-right}
@@ -53,14 +54,14 @@ inside Lower state count less = omega (arith, less)
 inside Upper state count less = less
 
 pub word-among : (header : Header) (bytes : List ℕ) (end : End) (p : Placement) (k : ℕ) → IsHeader header → IsStateOf header.checkers header.kinds p k
-    → word_at header (Some bytes) end p k ≡ words_of header.kinds (words_in (pages_behind header) (drop (front_length header) bytes)) end p k
+    → word_at header (Some bytes) end p k ≡ words_of header.kinds (words_in (pages_behind header (digest_in header bytes)) (drop (front_length header) bytes)) end p k
 unfolding value_of state_of
 word-among header bytes end p k valid is =
-    let pages = pages_behind header in
+    let pages = pages_behind header (digest_in header bytes) in
     let rest : List ℕ = drop (front_length header) bytes in
-    let stands = state-stands header valid p k is in
+    let stands = state-stands header (digest_in header bytes) valid p k is in
     let state = state_on_page header.kinds p k in
-    ap value_of (among-all pages rest (page_of p) (word_of end state) (pages-valid header valid).some stands.0 (inside end state (words_on pages (page_of p)) stands.1)
+    ap value_of (among-all pages rest (page_of p) (word_of end state) (pages-valid header (digest_in header bytes) valid).some stands.0 (inside end state (words_on pages (page_of p)) stands.1)
     ∙ ap (slice_index (words_in pages rest)) (place end pages.size (page_of p) state (live_rank_of p * header.kinds + k) (number-split header.kinds (live_rank_of p) k)))
 
 -- no looser one way and the other is the same
@@ -68,7 +69,7 @@ same-both : (end : End) (a b : ℤ) → IsNoLooser end a b → IsNoLooser end b 
 same-both Lower a b one other = omega (arith, ints, one, other)
 same-both Upper a b one other = omega (arith, ints, one, other)
 
-pub answer-exact : (base : PagedFile) (held : Contents) (end : End) (p : Placement) (k : ℕ) (value : ℤ) → IsAnswer end (source_of base true held) (words_of_pages base true held) p k value
+pub answer-exact : (base : PagedFile) (held : Contents) (end : End) (p : Placement) (k : ℕ) (value : ℤ) → IsAnswer end (source_of base true held) (notes_of base true held) p k value
     → (flaw_at base.header (held base.name) p ≡ None) × (value ≡ word_at base.header (held base.name) end p k)
 answer-exact base held end p k value answer =
     let right = no-flaw (flaw_at base.header (held base.name) p) (answer.right refl) in

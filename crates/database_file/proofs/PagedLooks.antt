@@ -10,7 +10,7 @@ use Rattle.directed_fixed.specs.declared.bounds.End.TheVariants.{Lower, Upper}
 use Rattle.directed_fixed.specs.Bounds.{IsNoLooser, IsWithinUnits}
 use Rattle.cube_actions.specs.Stakes.{bound_of}
 use Rattle.hyper_outside.specs.Causes.{Rose}
-use Rattle.hyper_outside.specs.Files.{Contents, SameFiles, bytes_from}
+use Rattle.outside_log.specs.Files.{Contents, SameFiles, bytes_from}
 use Rattle.hyper_outside.specs.declared.outside.LookStop.{LookStop}
 use Rattle.hyper_outside.specs.declared.outside.LookStop.TheVariants.{ReadFault, BadPage, NoMemory}
 use Rattle.turn_rule.specs.Turn.{Words}
@@ -22,9 +22,8 @@ use Rattle.database_file.specs.declared.pages.Pages.{Pages}
 use Rattle.database_file.specs.declared.pages.PagesStop.{PagesStop}
 use Rattle.database_file.specs.declared.pages.PagesStop.TheVariants as pages
 use Rattle.database_file.specs.Stops.{looking_stopped}
-use Rattle.database_file.specs.Faults.{pages_behind}
 use Rattle.database_file.specs.PagedFiles.{PagedFile}
-use Rattle.database_file.specs.Paged.{AnswersLook, AnswersWord, AreOfFile, Kept, bound_end, damage_of, flaw_at, page_bytes, paged_source, source_of, spot_of, told_files, told_unless, told_words, word_at, words_of_pages}
+use Rattle.database_file.specs.Paged.{AnswersLook, AnswersWord, AreOfFile, Kept, bound_end, damage_of, flaw_at, notes_of, page_bytes, pages_told, paged_source, source_of, spot_of, told_files, told_unless, told_words, word_at, words_of_pages}
 
 -- what is told stays where the files stay
 pub same-told : (tells now : Bool) (held after : Contents) → now ≡ tells → (IsTrue tells → SameFiles held after) → told_files now after ≡ told_files tells held
@@ -56,38 +55,41 @@ module _ (old new : PagedFile) (tells now : Bool) (held after : Contents) (kept 
   words-same = λ i. told_words (kept i).header (file-same i)
 
   pub source-same : source_of new now after ≡ source_of old tells held
-  source-same = λ i. paged_source (kept i).header (same i) (file-same i)
+  source-same = λ i. paged_source (kept i).header (file-same i)
+
+  was-told : IsTrue now → IsTrue tells
+  was-told = subst IsTrue same
 
   module _ (end : End) (p : Placement) (k before later : ℕ) where
     answer : (result : Result ℤ LookStop) → IfOk result (IsWithinUnits (bound_of old.header.name)) → (IsTrue tells → AnswersLook old.header (told_files tells held old.name) end p k result)
-        → IfOk result (IsAnswer end (source_of old tells held) (words_of_pages new now after) p k)
+        → IfOk result (IsAnswer end (source_of old tells held) (notes_of new now after) p k)
     answer (Ok value) within answers =
-        let told = λ (told : IsTrue tells).
-        let found = answers told in
+        let told = λ (told : IsTrue now).
+        let found = answers (was-told told) in
         found.1 ∙ sym (told-right old.header (told_files tells held old.name) end p k found.0) in
         record {
           within = within;
           floor = λ is. no-looser end _ _ (told is);
           notes = λ is. no-looser end _ _ (ap (λ (words : Words). words end p k) words-same ∙ sym (told is));
-          right = λ is. ap (option_map damage_of) (answers is).0;
+          right = λ is. ap (option_map damage_of) (answers (was-told is)).0;
         }
     answer (Err stop) within answers = tt
 
     stop : (result : Result ℤ LookStop) → (result ≡ Err ReadFault → Rose before later) → (IsTrue tells → AnswersLook old.header (told_files tells held old.name) end p k result)
-        → IfErr result (MayStop (source_of old tells held) before later (λ damage. (source_of old tells held).damage p k ≡ Some damage))
+        → IfErr result (MayStop (source_of old tells held) (notes_of new now after) before later (λ damage. (source_of old tells held).damage p k ≡ Some damage))
     stop (Ok value) cause answers = tt
     stop (Err ReadFault) cause answers = (refl, cause refl)
-    stop (Err (BadPage fault at)) cause answers = (refl, λ told. ap (option_map damage_of) (answers told))
+    stop (Err (BadPage fault at)) cause answers = (refl, λ told. ap (option_map damage_of) (answers (was-told told)))
     stop (Err NoMemory) cause answers = refl
 
     pub looked : (result : Result ℤ LookStop) → before ≤ later → (result ≡ Err ReadFault → Rose before later) → IfOk result (IsWithinUnits (bound_of old.header.name))
         → (IsTrue tells → AnswersLook old.header (held old.name) end p k result)
-        → FindsWord end p k (record { source = source_of old tells held; notes = words_of_pages old tells held; faults = before }) (record { source = source_of new now after; notes = words_of_pages new now after; faults = later }) result
+        → FindsWord end p k (record { source = source_of old tells held; notes = notes_of old tells held; faults = before }) (record { source = source_of new now after; notes = notes_of new now after; faults = later }) result
     looked result rises cause within answers =
         let told = λ (told : IsTrue tells). subst (λ (files : Contents). AnswersLook old.header (files old.name) end p k result) (sym (told-when tells held told)) (answers told) in
         record {
           later = rises;
-          notes = λ is end p k state. no-looser end _ _ (ap (λ (words : Words). words end p k) words-same);
+          notes = record { told = was-told; words = λ is end p k state. no-looser end _ _ (ap (λ (words : Words). words end p k) words-same) };
           answer = answer result within told;
           stop = stop result cause told;
         }
@@ -109,13 +111,13 @@ moved-answer held pages others name other spot place result same-pages same-name
 
 -- what stops at a page stops the look-up
 pub look-stopped : (header : Header) (file : Option (List ℕ)) (end : End) (p : Placement) (k : ℕ) (stop : PagesStop) (result : Result ℤ LookStop)
-    → AnswersWord (pages_behind header) (page_bytes header file) (spot_of header.kinds p k end) (Err stop)
+    → AnswersWord (pages_told header file) (page_bytes header file) (spot_of header.kinds p k end) (Err stop)
     → IsErrAnd result (λ given. given ≡ looking_stopped stop) → AnswersLook header file end p k result
 look-stopped header file end p k stop result answers given =
     let is = err_from_is_err_and result given in
     subst (AnswersLook header file end p k) (sym (is.1 ∙ ap (λ (stop : LookStop). Err stop) is.2)) (by_stop stop answers)
   where
-    by_stop : (stop : PagesStop) → AnswersWord (pages_behind header) (page_bytes header file) (spot_of header.kinds p k end) (Err stop) → AnswersLook header file end p k (Err (looking_stopped stop))
+    by_stop : (stop : PagesStop) → AnswersWord (pages_told header file) (page_bytes header file) (spot_of header.kinds p k end) (Err stop) → AnswersLook header file end p k (Err (looking_stopped stop))
     by_stop pages.ReadFault answers = tt
     by_stop (pages.BadPage flaw) answers = answers
     by_stop pages.NoMemory answers = tt

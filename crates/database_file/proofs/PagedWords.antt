@@ -1,5 +1,5 @@
 -- The words of pages, where they are looked up by states.
-use Rattle.std.proofs.Common.{◌≡◌, ◌∙◌, ℕ, suc, ◌+◌, ◌*◌, ◌-◌, ◌/◌, ◌%◌, ◌<◌, ◌≤◌, min, sum, Bool, List, length, drop, Option, None, Some, refl, sym, ap, subst, arith}
+use Rattle.std.proofs.Common.{◌≡◌, ◌∙◌, ℕ, suc, ◌+◌, ◌*◌, ◌-◌, ◌/◌, ◌%◌, ◌<◌, ◌≤◌, min, sum, Bool, List, [], length, drop, Option, None, Some, refl, sym, ap, subst, arith}
 use Rattle.std.proofs.Math.Nat.{div-add-mod, le-div_iff_mul-le, mod-lt, mul-add, mul-le-mul_left, mul-le-mul_right, mul_assoc, mul_comm, mul_left_comm, suc-mul}
 use Rattle.std.proofs.lemmas.Int.{ints}
 use Rattle.position_rank.specs.Placement.{Placement}
@@ -10,7 +10,7 @@ use Rattle.directed_fixed.specs.Bounds.{IsWithin}
 use Rattle.cube_actions.specs.Stakes.{bound_of}
 use Rattle.cube_actions.specs.Names.{names_of}
 use Rattle.cube_actions.specs.declared.name.StakesName.{StakesName}
-use Rattle.hyper_outside.specs.Files.{Contents}
+use Rattle.outside_log.specs.Files.{Contents}
 use Rattle.turn_rule.specs.States.{AreWithinOf, IsStateOf}
 use Rattle.word_pages.specs.declared.flaws.Flaw.{Flaw}
 use Rattle.word_pages.specs.Pages.{pages_in}
@@ -19,7 +19,7 @@ use Rattle.base_head.specs.declared.header.Header.{Header}
 use Rattle.base_head.specs.Headers.{IsHeader}
 use Rattle.database_file.specs.Pages.{page_count, whole_page, words_on}
 use Rattle.database_file.specs.Faults.{pages_behind}
-use Rattle.database_file.specs.Paged.{IsPagedFile, IsSourceOfHead, bound_end, flaw_at, page_bytes, page_of, source_of, state_on_page, told_unless, told_words, word_at}
+use Rattle.database_file.specs.Paged.{IsPagedFile, IsSourceOfHead, bound_end, digest_told, flaw_at, page_bytes, page_of, pages_told, source_of, state_on_page, told_unless, told_words, word_at}
 use Rattle.database_file.specs.PagedFiles.{PagedFile}
 use Rattle.database_file.proofs.Bases.{bound-named, kinds-named, pages-valid}
 use Rattle.database_file.proofs.PageLists.{page-within}
@@ -55,9 +55,9 @@ on-page kinds positions rank k below kind =
         suc_is r = omega arith
 
 -- a state of a header's game stands on one of its pages
-pub state-stands : (header : Header) → IsHeader header → (p : Placement) (k : ℕ) → IsStateOf header.checkers header.kinds p k
-    → (page_of p < page_count (pages_behind header)) × (2 * state_on_page header.kinds p k + 1 < words_on (pages_behind header) (page_of p))
-state-stands header valid p k is =
+pub state-stands : (header : Header) (digest : List ℕ) → IsHeader header → (p : Placement) (k : ℕ) → IsStateOf header.checkers header.kinds p k
+    → (page_of p < page_count (pages_behind header digest)) × (2 * state_on_page header.kinds p k + 1 < words_on (pages_behind header digest) (page_of p))
+state-stands header digest valid p k is =
     let many : live_positions (sum p.mover) ≡ header.positions = ap live_positions is.many ∙ sym valid.positions in
     on-page header.kinds header.positions (live_rank_of p) k (subst (λ n. live_rank_of p < n) many (live-rank-in p is.position is.live)) is.kind
 
@@ -70,15 +70,16 @@ told-within header file valid p k is = by_flaw (flaw_at header file p) refl
       upper = told_unless flaw (word_at header file Upper p k) (bound_end (bound_of header.name) Upper);
     })
     by_flaw None right =
-        let stands = (state-stands header valid p k is).1 in
-        let long = length-words_of header.version (words_on (pages_behind header) (page_of p)) (drop (page_of p * whole_page (pages_behind header)) (page_bytes header file)) in
-        page-within (pages_behind header) (page_bytes header file) (page_of p) right (state_on_page header.kinds p k) (omega (arith, stands, long))
+        let pages = pages_told header file in
+        let stands = (state-stands header (digest_told header file) valid p k is).1 in
+        let long = length-words_of header.version (words_on pages (page_of p)) (drop (page_of p * whole_page pages) (page_bytes header file)) in
+        page-within pages (page_bytes header file) (page_of p) right (state_on_page header.kinds p k) (omega (arith, stands, long))
     by_flaw (Some flaw) wrong =
-        let from = (pages-valid header valid).from in
+        let from = (pages-valid header [] valid).from in
         record { from = omega (arith, ints); in_order = omega (arith, ints, from); to = omega (arith, ints) }
 
 -- the words of the head's game are looked up in its file
-pub source-of-head : (base : PagedFile) (index : ℕ) (tells : Bool) (held : Contents) → IsPagedFile base.header base.head index base.kept → IsSourceOfHead (source_of base tells held) base.head
+pub source-of-head : (base : PagedFile) (index : ℕ) (tells : Bool) (held : Contents) → IsPagedFile base.header base.head base.digest index base.kept → IsSourceOfHead (source_of base tells held) base.head
 source-of-head base index tells held is = record {
   checkers = sym is.checkers;
   stakes = record {

@@ -6,8 +6,9 @@ use Rattle.interval_words.specs.WordLists.{AreRight, list_of}
 use Rattle.word_pages.specs.declared.flaws.Flaw.{Flaw}
 use Rattle.word_pages.specs.Flaws.{AreWithin}
 use Rattle.word_pages.specs.Pages.{AreBytes, pages_in, pages_text}
+use Rattle.word_pages.specs.declared.version.Version.{Version}
 use Rattle.word_pages.specs.Words.{word_size}
-use Rattle.base_head.specs.Fronts.{bad_of, head_in}
+use Rattle.base_head.specs.Fronts.{bad_of, digest_in, head_in}
 use Rattle.base_head.specs.Headers.{file_length, front_length}
 use Rattle.base_head.specs.HeaderFaults.{header_fault}
 use Rattle.base_head.proofs.Checked.{none_or}
@@ -15,7 +16,7 @@ use Rattle.base_head.proofs.FieldChecks.{all-header}
 use Rattle.base_head.proofs.FrontTexts.{length-right}
 use Rattle.database_file.specs.Pages.{flaw_in, page_count}
 use Rattle.database_file.specs.Texts.{game_in, words_a_page}
-use Rattle.database_file.specs.Faults.{file_fault, header_of_file, pages_behind, short_fault, starts_wrong, whole}
+use Rattle.database_file.specs.Faults.{fault_from, header_of_file, pages_in_file, short_fault, starts_wrong, whole}
 use Rattle.database_file.specs.Bases.{words_of_file}
 use Rattle.database_file.proofs.Bases.{bound-named, pages-valid, words-many, words-right}
 use Rattle.database_file.proofs.FrontBytes.{right-header}
@@ -47,19 +48,19 @@ pub same-cells : (size kinds positions : ℕ) → size * (2 * kinds * positions)
 same-cells size kinds positions = sym (mul_assoc size (2 * kinds) positions) ∙ ap (λ n. n * positions) (mul_left_comm size 2 kinds ∙ sym (mul_assoc 2 size kinds))
 
 -- where nothing is wrong, the bytes behind the starts are the pages of the words, which are right
-pub right-file : (bytes : List ℕ) → AreBytes bytes → file_fault (whole bytes) ≡ None
-    → (drop (front_length (header_of_file bytes)) bytes ≡ pages_text (header_of_file bytes).version (words_a_page (header_of_file bytes).kinds) (words_of_file bytes))
+pub right-file : (oldest : Version) (bytes : List ℕ) → AreBytes bytes → fault_from oldest (whole bytes) ≡ None
+    → (drop (front_length (header_of_file bytes)) bytes ≡ pages_text (header_of_file bytes).version (digest_in (header_of_file bytes) bytes) (words_a_page (header_of_file bytes).kinds) (words_of_file bytes))
     × AreRight (list_of (game_in (head_in (header_of_file bytes) bytes)) (header_of_file bytes).rounds (words_of_file bytes))
-right-file bytes are right =
+right-file oldest bytes are right =
     let h = header_of_file bytes in
-    let pages = pages_behind h in
+    let pages = pages_in_file bytes in
     let k = front_length h in
     let rest : List ℕ = drop k bytes in
     let front = none_or (short_fault (whole bytes)) _ (none_or _ _ right).0 in
-    let behind = none_or (header_fault (length bytes) bytes) (starts_wrong h bytes) front.1 in
-    let valid = right-header (length bytes) bytes behind.0 in
-    let size = length-right (length bytes) (file_length h) (all-header (length bytes) bytes behind.0).2 in
-    let some = (pages-valid h valid).some in
+    let behind = none_or (header_fault oldest (length bytes) bytes) (starts_wrong h bytes) front.1 in
+    let valid = right-header oldest (length bytes) bytes behind.0 in
+    let size = length-right (length bytes) (file_length h) (all-header oldest (length bytes) bytes behind.0).2 in
+    let some = (pages-valid h (digest_in h bytes) valid).some in
     let two : 2 * h.kinds * h.positions ≡ 2 * (h.kinds * h.positions) = mul_assoc 2 h.kinds h.positions in
     let many : page_count pages ≡ pages_in 1024 h.positions = pages-same (2 * h.kinds) h.positions (words-some h.kinds some) in
     let cells : word_size h.version * (2 * h.kinds * h.positions) ≡ 2 * word_size h.version * h.kinds * h.positions = same-cells (word_size h.version) h.kinds h.positions in

@@ -6,6 +6,6 @@ pub mod Opened
 pub mod Paged
 pub mod PagedFiles
 pub mod Pages
+pub mod Places
 pub mod Stops
 pub mod Texts
-pub mod Writing

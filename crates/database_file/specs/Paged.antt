@@ -1,5 +1,5 @@
 -- Words that are looked up in a file page by page.
-use Rattle.std.specs.Prelude.{◌≡◌, ℕ, ◌*◌, ◌+◌, ◌/◌, ◌%◌, ℤ, neg_ℤ, Bool, true, false, IsTrue, List, length, slice_index, Contains, Option, None, Some, Result, Ok, Err, Vec, ⊤}
+use Rattle.std.specs.Prelude.{◌≡◌, ℕ, ◌*◌, ◌+◌, ◌/◌, ◌%◌, ℤ, neg_ℤ, Bool, true, false, IsTrue, List, length, take, slice_index, Contains, Option, None, Some, Result, Ok, Err, Vec, ⊤}
 use Rattle.std.specs.Global.{Global}
 use Rattle.std.specs.Option.{option_map}
 use Rattle.std.specs.Borrow.{GName}
@@ -8,16 +8,17 @@ use Rattle.position_rank.specs.LiveRanks.{live_rank_of}
 use Rattle.directed_fixed.specs.declared.bounds.End.{End}
 use Rattle.directed_fixed.specs.declared.bounds.End.TheVariants.{Lower, Upper}
 use Rattle.cube_actions.specs.Stakes.{bound_of}
-use Rattle.hyper_outside.specs.Files.{Contents, bytes_from}
+use Rattle.outside_log.specs.Files.{Contents, bytes_from}
+use Rattle.outside_log.specs.Log.{Event}
 use Rattle.hyper_outside.specs.declared.outside.LookStop.{LookStop}
 use Rattle.hyper_outside.specs.declared.outside.LookStop.TheVariants as looks
 use Rattle.turn_rule.specs.Turn.{Words}
-use Rattle.turn_rule.specs.Looks.{AreStakesOf, Damage, Source}
+use Rattle.turn_rule.specs.Looks.{AreStakesOf, Damage, Notes, Source, all_told}
 use Rattle.word_pages.specs.declared.flaws.Flaw.{Flaw}
 use Rattle.word_pages.specs.Flaws.{AreWithin, value_of}
 use Rattle.interval_words.specs.Numbers.{word_of}
 use Rattle.base_head.specs.Heads.{FileHead, stakes_of}
-use Rattle.base_head.specs.Headers.{IsHeader, front_length}
+use Rattle.base_head.specs.Headers.{IsHeader, digest_place, front_length}
 use Rattle.base_head.specs.declared.header.Header.{Header}
 use Rattle.database_file.specs.declared.kept.Spot.{Spot}
 use Rattle.database_file.specs.declared.pages.Pages.{Pages}
@@ -39,14 +40,21 @@ state_on_page kinds p k = live_rank_of p % 1024 * kinds + k
 abbrev pub page_bytes : Header → Option (List ℕ) → List ℕ
 page_bytes header file = bytes_from (front_length header) file
 
+-- the digest of its head, and the pages that are bound to it
+abbrev pub digest_told : Header → Option (List ℕ) → List ℕ
+digest_told header file = take 32 (bytes_from (digest_place header) file)
+
+abbrev pub pages_told : Header → Option (List ℕ) → Pages
+pages_told header file = pages_behind header (digest_told header file)
+
 -- the first flaw of a position's page
 abbrev pub flaw_at : Header → Option (List ℕ) → Placement → Option Flaw
-flaw_at header file p = flaw_on (pages_behind header) (page_bytes header file) (page_of p)
+flaw_at header file p = flaw_on (pages_told header file) (page_bytes header file) (page_of p)
 
 -- the word of a state that its page has
 abbrev pub word_at : Header → Option (List ℕ) → Words
 word_at header file end p k =
-    value_of (slice_index (page_words (pages_behind header) (page_bytes header file) (page_of p))
+    value_of (slice_index (page_words (pages_told header file) (page_bytes header file) (page_of p))
     (word_of end (state_on_page header.kinds p k)))
 
 -- what the bound alone tells
@@ -65,17 +73,20 @@ told_words header file end p k =
     told_unless (flaw_at header file p) (word_at header file end p k)
     (bound_end (bound_of header.name) end)
 
+-- notes of these words, and all is told
+abbrev pub told_notes : Header → Option (List ℕ) → Notes
+told_notes header file = all_told (told_words header file)
+
 abbrev pub damage_of : Flaw → Damage
 damage_of flaw = record { fault = flaw.fault; at = flaw.at }
 
 -- Where the words of a file with this header are looked up: a state is damaged where its page has a flaw, by the first one.
-abbrev pub paged_source : Header → Bool → Option (List ℕ) → Source
-paged_source header tells file = record {
+abbrev pub paged_source : Header → Option (List ℕ) → Source
+paged_source header file = record {
   checkers = header.checkers;
   kinds = header.kinds;
   bound = bound_of header.name;
   sure = false;
-  tells = tells;
   floor = told_words header file;
   damage = λ p k. option_map damage_of (flaw_at header file p);
 }
@@ -103,14 +114,16 @@ abbrev pub ArePagesKept : Pages → Kept → Type 0
 ArePagesKept pages kept =
     (page : ℕ × Vec ℕ Global) → Contains kept page → IsPage pages page.0 page.1.items
 
--- a header and the head that it begins, an index of the positions of so many checkers, and kept pages
-pub record IsPagedFile (header : Header) (head : FileHead) (index : ℕ) (kept : Kept) : Type 0 where
+-- a header and the head that it begins, a digest, an index of the positions of so many checkers, and
+-- kept pages
+pub record IsPagedFile (header : Header) (head : FileHead) (digest : List ℕ) (index : ℕ)
+    (kept : Kept) : Type 0 where
   pub valid : IsHeader header
   pub checkers : head.checkers ≡ header.checkers
   pub name : head.name ≡ header.name
   pub rounds : head.rounds ≡ header.rounds
   pub indexed : index ≡ header.checkers
-  pub right : ArePagesKept (pages_behind header) kept
+  pub right : ArePagesKept (pages_behind header digest) kept
 
 -- where the file is told, each page that is kept is one of its right pages
 abbrev pub AreOfFile : Pages → Bool → Option (List ℕ) → Kept → Type 0
@@ -118,9 +131,11 @@ AreOfFile pages tells file kept =
     IsTrue tells → (page : ℕ × Vec ℕ Global) → Contains kept page
     → IsPageOf pages (bytes_from pages.at file) page.0 page.1.items
 
--- the file of this name is one whose right pages are kept, where the files tell it
-abbrev pub KeepsPagesOf : PagedFile → Bool → Contents → Type 0
-KeepsPagesOf base tells held = AreOfFile (pages_behind base.header) tells (held base.name) base.kept
+-- the file of this name has the digest that was read and is one whose right pages are kept, where the
+-- files tell it
+pub record KeepsPagesOf (base : PagedFile) (tells : Bool) (held : Contents) : Type 0 where
+  pub digest : IsTrue tells → base.digest ≡ digest_told base.header (held base.name)
+  pub pages : AreOfFile (pages_behind base.header base.digest) tells (held base.name) base.kept
 
 -- the bytes under each name, where they are told
 abbrev pub told_files : Bool → Contents → Contents
@@ -129,11 +144,15 @@ told_files false held = λ _. None
 
 -- where its words are looked up
 abbrev pub source_of : PagedFile → Bool → Contents → Source
-source_of base tells held = paged_source base.header tells (told_files tells held base.name)
+source_of base tells held = paged_source base.header (told_files tells held base.name)
 
 -- its words, as far as they are told
 abbrev pub words_of_pages : PagedFile → Bool → Contents → Words
 words_of_pages base tells held = told_words base.header (told_files tells held base.name)
+
+-- these words, and whether they are told
+abbrev pub notes_of : PagedFile → Bool → Contents → Notes
+notes_of base tells held = record { words = words_of_pages base tells held; told = tells }
 
 -- where these are the bytes of the pages, these are the words of one and it has no flaw, or this is its first flaw; a fault of the files or
 -- of memory says nothing
@@ -165,13 +184,13 @@ AnswersLook header file end p k (Err (looks.BadPage fault at)) =
     flaw_at header file p ≡ Some (record { fault = fault; at = at })
 AnswersLook header file end p k (Err _) = ⊤
 
--- What no look-up changes: the head, the file's name, how many pages are kept at most, what the files tell, how often a call that writes has
--- failed, and which files are lent.
+-- What no look-up changes: the head, the file's name, how many pages are kept at most, what the files tell, what calls that write have done,
+-- and which files are lent.
 pub record PagedStays : Type 0 where
   pub head : FileHead
   pub name : List ℕ
   pub most : ℕ
   pub tells : Bool
   pub files : Contents
-  pub write_faults : ℕ
+  pub log : List Event
   pub lent : GName

@@ -7,6 +7,7 @@ use Rattle.word_pages.specs.declared.flaws.Flaw.{Flaw}
 use Rattle.word_pages.specs.declared.load.PageStop.{PageStop}
 use Rattle.word_pages.specs.declared.load.PageStop.TheVariants as pages
 use Rattle.word_pages.specs.Words.{words_of}
+use Rattle.word_pages.specs.Sealed.{binding_of}
 use Rattle.word_pages.specs.Pages.{page_size, page_flaw, pages_in}
 use Rattle.database_file.specs.declared.pages.Pages.{Pages}
 use Rattle.database_file.specs.declared.pages.PagesStop.{PagesStop}
@@ -38,10 +39,14 @@ abbrev pub page_words : Pages → List ℕ → ℕ → List ℕ
 page_words pages bytes page =
     words_of pages.version (words_on pages page) (drop (page * whole_page pages) bytes)
 
+-- what it is bound to
+abbrev pub binding_on : Pages → ℕ → List ℕ
+binding_on pages page = binding_of pages.version pages.digest page
+
 -- its first flaw
 abbrev pub flaw_on : Pages → List ℕ → ℕ → Option Flaw
-flaw_on pages bytes page = page_flaw pages.version pages.bound (words_on pages page)
-    (place_of pages page) (drop (page * whole_page pages) bytes)
+flaw_on pages bytes page = page_flaw pages.version (binding_on pages page) pages.bound
+    (words_on pages page) (place_of pages page) (drop (page * whole_page pages) bytes)
 
 -- the words of the first n pages
 abbrev pub first_words : Pages → List ℕ → ℕ → List ℕ

@@ -7,7 +7,7 @@ use Rattle.word_pages.specs.declared.version.Version.{Version}
 use Rattle.word_pages.specs.Pages.{pages_text}
 use Rattle.base_head.specs.Heads.{FileHead, IsHead, HasText, stakes_of}
 use Rattle.base_head.specs.Headers.{header_of}
-use Rattle.base_head.specs.Fronts.{front_text}
+use Rattle.base_head.specs.Fronts.{front_text, head_digest}
 
 -- the game of a head
 abbrev pub game_in : FileHead → Game
@@ -17,10 +17,11 @@ game_in head = game_of head.checkers (stakes_of head)
 abbrev pub words_a_page : ℕ → ℕ
 words_a_page kinds = 2 * kinds * 1024
 
--- the head, and then the words in pages
+-- the head, and then the words in pages, which are bound to the head in version 3
 abbrev pub file_text : Version → FileHead → List ℕ → List ℕ
 file_text version head words = front_text version head
-    ++ pages_text version (words_a_page (header_of version head).kinds) words
+    ++ pages_text version (head_digest version head)
+    (words_a_page (header_of version head).kinds) words
 
 -- the words are those of the head's game after its rounds
 pub record AreWordsOf (head : FileHead) (words : WordList) : Type 0 where

@@ -1,6 +1,6 @@
 ghost use Rattle.std.specs.Prelude.{◌≡◌, ◌≤◌, ◌<◌, ◌+◌, ◌-◌, ◌++◌, ◌*◌, ◌^◌, ℕ, List, IfErr, IfOk, IsTrue, Err, length};
 ghost use Rattle.hyper_outside.specs.Causes.{Rose};
-ghost use Rattle.hyper_outside.specs.Files.{SameFiles, bytes_from};
+ghost use Rattle.outside_log.specs.Files.{SameFiles, bytes_from};
 ghost use Rattle.database_file.specs.declared.batch.Batch.{Batch as BatchOf};
 ghost use Rattle.database_file.specs.declared.pages.Pages.{Pages as PagesOf};
 ghost use Rattle.database_file.specs.declared.pages.PagesStop.TheVariants.{ReadFault, NoMemory};
@@ -8,7 +8,7 @@ ghost use Rattle.database_file.specs.Pages.{ArePages, page_count, place_of, whol
 ghost use Rattle.database_file.specs.Batches.{AddsBatch, AnswersEach, AnswersOn, AreOnPage, IsBatch, batch_size};
 
 use crate::pages::{Pages, PagesStop};
-use hyper_outside::{Files, fill};
+use outside_log::{Files, fill};
 use std::alloc::Global;
 use std::thread::Threads;
 use std::{mem, thread};
@@ -46,7 +46,15 @@ fn read_one(pages: &Pages, page: usize, bytes: &[u8], room: Vec<u64>) -> Result<
     let mut words = room;
     words.resize(pages.words_on(page), 0)?;
     let place = pages.place_of(page);
-    read_page(pages.version, pages.bound, place, bytes, &mut words)?;
+    let binding = pages.binding_on(page);
+    read_page(
+        pages.version,
+        binding.as_slice(),
+        pages.bound,
+        place,
+        bytes,
+        &mut words,
+    )?;
     Ok(words)
 }
 
@@ -171,7 +179,7 @@ pub(crate) fn add_batch<R: Threads + Sync, F: Files>(
     ensures later { F.read_faults files.old ≤ F.read_faults files.new }
     ensures cause { result ≡ Err ReadFault
         → Rose (F.read_faults files.old) (F.read_faults files.new) }
-    ensures write_faults { F.write_faults files.new ≡ F.write_faults files.old }
+    ensures log { F.log files.new ≡ F.log files.old }
 {
     let size = batch_size(pages, batch);
     let count = fill(files, name, pages.place_of(batch.first), &mut buf[..size])?;

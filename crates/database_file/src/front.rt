@@ -3,13 +3,14 @@ ghost use Rattle.std.specs.Option.{option_map};
 ghost use Rattle.std.specs.Result.{result_err};
 ghost use Rattle.base_head.specs.Headers.{IsHeader};
 ghost use Rattle.hyper_outside.specs.Causes.{Rose};
-ghost use Rattle.hyper_outside.specs.Files.{SameFiles};
+ghost use Rattle.outside_log.specs.Files.{SameFiles};
 ghost use Rattle.database_file.specs.declared.stop.LoadStop.TheVariants.{ReadFault};
-ghost use Rattle.database_file.specs.Faults.{AnswersFront, IsFrontOf, Read, ends_before, fault_before_pages, short_fault, whole};
+ghost use Rattle.database_file.specs.Faults.{AnswersFront, IsFrontFrom, Read, ends_before, front_fault_from, short_fault, whole};
 
 use crate::stop::LoadStop;
 use base_head::{BadFile, FileFault, Head, Header, read_header};
-use hyper_outside::{Files, fill};
+use outside_log::{Files, fill};
+use word_pages::Version;
 
 /// How many bytes the header has.
 const HEADER: usize = 64;
@@ -22,6 +23,8 @@ const LONGEST_FRONT: usize = 368;
 pub(crate) struct Front {
     pub header: Header,
     pub head: Head,
+    /// The digest of header and starts.
+    pub digest: [u8; 32],
 }
 
 /// Tells that a file is too short for a header, or that fewer bytes of it were there.
@@ -50,35 +53,46 @@ fn check_long(place: usize, bytes: &[u8]) -> Result<(), BadFile>
     Ok(())
 }
 
-/// What stands before the pages of a file that is said to have `size` bytes, where these are its first ones: all, or at least as many as
-/// can stand there. What is wrong first up to there is told.
-fn front_of(size: u64, bytes: &[u8]) -> Result<Front, BadFile>
+/// What stands before the pages of a file that is said to have `size` bytes, where these are its first ones:
+/// all, or at least as many as can stand there. What is wrong first up to there is told: also that the version
+/// comes before `oldest`.
+fn front_of(oldest: Version, size: u64, bytes: &[u8]) -> Result<Front, BadFile>
     ensures fault { result_err result
-        ≡ fault_before_pages (record { size = size; bytes = bytes.now }) }
-    ensures front { IfOk result (λ front. IsFrontOf
+        ≡ front_fault_from oldest (record { size = size; bytes = bytes.now }) }
+    ensures front { IfOk result (λ front. IsFrontFrom oldest
         (record { size = size; bytes = bytes.now }) front) }
     ensures valid { IfOk result (λ front. IsHeader front.header) }
 {
     check_begins(size, bytes)?;
-    let header = read_header(size, bytes)?;
+    let header = read_header(oldest, size, bytes)?;
     check_long(header.front_length() as usize, bytes)?;
     let head = header.read_starts(bytes)?;
-    Ok(Front { header, head })
+    let digest = header.digest_in(bytes);
+    Ok(Front {
+        header,
+        head,
+        digest,
+    })
 }
 
-/// Reads what stands in a file before the pages: it asks for the size, and reads the first bytes, as many as can stand there. What is
-/// wrong first up to there is told, in the order of the format.
-pub(crate) fn read_front<F: Files>(files: &mut F, name: &str) -> Result<Front, LoadStop>
-    ensures read { (file : Option Read) × AnswersFront file result }
+/// Reads what stands before the pages in a file of the version `oldest` or a later one: it asks for the size,
+/// and reads the first bytes, as many as can stand there. What is wrong first up to there is told, in the
+/// order of the format.
+pub(crate) fn read_front<F: Files>(
+    files: &mut F,
+    name: &str,
+    oldest: Version,
+) -> Result<Front, LoadStop>
+    ensures read { (file : Option Read) × AnswersFront oldest file result }
     ensures told { IsTrue (F.tells files.old)
-        → AnswersFront (option_map whole (F.held files.old name.now)) result }
+        → AnswersFront oldest (option_map whole (F.held files.old name.now)) result }
     ensures same { IsTrue (F.tells files.old)
         → SameFiles (F.held files.old) (F.held files.new) }
     ensures tells { F.tells files.new ≡ F.tells files.old }
     ensures later { F.read_faults files.old ≤ F.read_faults files.new }
     ensures cause { result ≡ Err ReadFault
         → Rose (F.read_faults files.old) (F.read_faults files.new) }
-    ensures write_faults { F.write_faults files.new ≡ F.write_faults files.old }
+    ensures log { F.log files.new ≡ F.log files.old }
     ensures valid { IfOk result (λ front. IsHeader front.header) }
 {
     let Some(size) = files.size(name)? else {
@@ -87,6 +101,6 @@ pub(crate) fn read_front<F: Files>(files: &mut F, name: &str) -> Result<Front, L
     let mut buf = [0; LONGEST_FRONT];
     let room = size.min(LONGEST_FRONT as u64) as usize;
     let count = fill(files, name, 0, &mut buf[..room])?;
-    let front = front_of(size, &buf[..count])?;
+    let front = front_of(oldest, size, &buf[..count])?;
     Ok(front)
 }

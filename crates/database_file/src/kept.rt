@@ -3,7 +3,7 @@ ghost use Rattle.std.specs.Map.{lookup};
 ghost use Rattle.directed_fixed.specs.declared.word.TheConstants.{WORD_OFFSET};
 ghost use Rattle.directed_fixed.specs.Bounds.{IsWithinUnits};
 ghost use Rattle.hyper_outside.specs.Causes.{Rose};
-ghost use Rattle.hyper_outside.specs.Files.{SameFiles, bytes_from};
+ghost use Rattle.outside_log.specs.Files.{SameFiles, bytes_from};
 ghost use Rattle.word_pages.specs.Flaws.{AreWithin, value_of};
 ghost use Rattle.interval_words.specs.Numbers.{word_of};
 ghost use Rattle.database_file.specs.declared.pages.PagesStop.TheVariants.{ReadFault};
@@ -12,8 +12,8 @@ ghost use Rattle.database_file.specs.Paged.{AnswersOnePage, AnswersWord, AreOfFi
 
 use crate::pages::{Pages, PagesStop, add_page};
 use directed_fixed::{End, Fixed};
-use hyper_outside::Files;
 use lru::LruCache;
+use outside_log::Files;
 use std::alloc::Global;
 
 /// Where a word stands.
@@ -47,7 +47,7 @@ fn read_page<F: Files>(
     ensures later { F.read_faults files.old ≤ F.read_faults files.new }
     ensures cause { result ≡ Err ReadFault
         → Rose (F.read_faults files.old) (F.read_faults files.new) }
-    ensures write_faults { F.write_faults files.new ≡ F.write_faults files.old }
+    ensures log { F.log files.new ≡ F.log files.old }
 {
     let mut buf = vec![in alloc; 0u8; pages.version.page_size(pages.size)]?;
     let mut cells = vec![in alloc; 0u64; pages.size]?;
@@ -101,7 +101,7 @@ pub(crate) fn word_on<F: Files>(
     ensures later { F.read_faults files.old ≤ F.read_faults files.new }
     ensures cause { result ≡ Err ReadFault
         → Rose (F.read_faults files.old) (F.read_faults files.new) }
-    ensures write_faults { F.write_faults files.new ≡ F.write_faults files.old }
+    ensures log { F.log files.new ≡ F.log files.old }
 {
     if let Some(words) = kept.get(&spot.page) {
         return Ok(word_in(words, spot.state, spot.end, pages.bound));

@@ -2,14 +2,14 @@ ghost use Rattle.std.specs.Prelude.{◌≡◌, ◌≤◌, ◌*◌, Option, IfOk,
 ghost use Rattle.std.specs.Option.{option_map};
 ghost use Rattle.cube_actions.specs.Stakes.{bound_of};
 ghost use Rattle.hyper_outside.specs.Causes.{Rose};
-ghost use Rattle.hyper_outside.specs.Files.{SameFiles};
+ghost use Rattle.outside_log.specs.Files.{SameFiles};
 ghost use Rattle.word_pages.specs.Flaws.{AreWithin};
 ghost use Rattle.interval_words.specs.Core.{words_in};
 ghost use Rattle.base_head.specs.Headers.{IsHeader};
 ghost use Rattle.database_file.specs.declared.stop.LoadStop.TheVariants.{ReadFault, NoMemory};
 ghost use Rattle.database_file.specs.Texts.{AreWordsOf, game_in};
 ghost use Rattle.database_file.specs.Faults.{Read, pages_behind, whole};
-ghost use Rattle.database_file.specs.Bases.{AnswersBase, base_with};
+ghost use Rattle.database_file.specs.Bases.{AnswersFrom, base_with};
 
 use crate::front::{Front, read_front};
 use crate::pages::{Pages, read_pages};
@@ -17,11 +17,13 @@ use crate::stop::LoadStop;
 use base_head::{Head, Header};
 use cube_actions::StakesName;
 use directed_fixed::Fixed;
-use hyper_outside::{Files, NoMemory};
+use hyper_outside::NoMemory;
 use interval_words::{LiveIndex, Words};
+use outside_log::Files;
 use std::alloc::Global;
 use std::marker::Model;
 use std::thread::Threads;
+use word_pages::Version;
 
 /// How many positions a page has.
 pub(crate) const PAGE_POSITIONS: usize = 1024;
@@ -72,14 +74,15 @@ fn bound_of(name: StakesName) -> Fixed
     }
 }
 
-/// The pages of a file with this header.
-pub(crate) fn pages_behind(header: &Header) -> Pages
+/// The pages of a file with this header, whose head has this digest.
+pub(crate) fn pages_behind(header: &Header, digest: [u8; 32]) -> Pages
     requires { IsHeader header.now }
-    ensures { result ≡ pages_behind header.now }
+    ensures { result ≡ pages_behind header.now digest }
 {
     let kinds = usize::from(header.kinds);
     Pages {
         version: header.version,
+        digest,
         bound: bound_of(header.name),
         at: header.front_length(),
         size: 2 * kinds * PAGE_POSITIONS,
@@ -98,32 +101,38 @@ fn base_of(alloc: Global, head: Head, list: Vec<u64>) -> Result<Base, NoMemory>
     Ok(Base { head, words })
 }
 
-/// Loads a file of bounds of either version: it asks for the size, and then reads header, starts and pages in order, some
-/// pages together, which are checked by 1 to 64 workers, each in a thread of its own where one can be started. What it answers is the same
-/// for each number of workers. `Missing` comes exactly where there is no file of this name, and `BadFile` exactly where the bytes that were read aren't a file
-/// of bounds: it tells the first fault in the order of the format, and its place. `ReadFault` comes only where the files' count of reads
-/// rose. No file changes.
+/// Loads a file of bounds of the version `oldest` or a later one: it asks for the size, and then reads header,
+/// starts and pages in order, some pages together, which are checked by 1 to 64 workers, each in a thread of
+/// its own where one can be started. What it answers is the same for each number of workers. `Missing` comes
+/// exactly where there is no file of this name, and `BadFile` exactly where the bytes that were read aren't a
+/// file of bounds of such a version: it tells the first fault in the order of the format, and its place.
+/// `ReadFault` comes only where the files' count of reads rose. No file changes.
 pub fn load_base<R: Threads + Sync, F: Files>(
     rt: &R,
     alloc: Global,
     files: &mut F,
     name: &str,
+    oldest: Version,
     workers: u32,
 ) -> Result<Base, LoadStop>
     requires workers { (1 ≤ workers) × (workers ≤ 64) }
-    ensures read { (file : Option Read) × AnswersBase file result }
+    ensures read { (file : Option Read) × AnswersFrom oldest file result }
     ensures told { IsTrue (F.tells files.old)
-        → AnswersBase (option_map whole (F.held files.old name.now)) result }
+        → AnswersFrom oldest (option_map whole (F.held files.old name.now)) result }
     ensures same { IsTrue (F.tells files.old)
         → SameFiles (F.held files.old) (F.held files.new) }
     ensures tells { F.tells files.new ≡ F.tells files.old }
     ensures later { F.read_faults files.old ≤ F.read_faults files.new }
     ensures cause { result ≡ Err ReadFault
         → Rose (F.read_faults files.old) (F.read_faults files.new) }
-    ensures write_faults { F.write_faults files.new ≡ F.write_faults files.old }
+    ensures log { F.log files.new ≡ F.log files.old }
 {
-    let Front { header, head } = read_front(files, name)?;
-    let pages = pages_behind(&header);
+    let Front {
+        header,
+        head,
+        digest,
+    } = read_front(files, name, oldest)?;
+    let pages = pages_behind(&header, digest);
     let list = read_pages(rt, alloc, files, name, &pages, workers as usize)?;
     let base = base_of(alloc, head, list)?;
     Ok(base)

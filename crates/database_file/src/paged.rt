@@ -3,7 +3,7 @@ ghost use Rattle.std.specs.Map.{lookup};
 ghost use Rattle.directed_fixed.specs.Bounds.{IsWithinUnits};
 ghost use Rattle.cube_actions.specs.Stakes.{bound_of};
 ghost use Rattle.hyper_outside.specs.Causes.{Rose};
-ghost use Rattle.hyper_outside.specs.Files.{SameFiles};
+ghost use Rattle.outside_log.specs.Files.{SameFiles};
 ghost use Rattle.hyper_outside.specs.declared.outside.LookStop.TheVariants.{ReadFault};
 ghost use Rattle.turn_rule.specs.Looks.{AreSourceWords};
 ghost use Rattle.turn_rule.specs.States.{IsStateOf};
@@ -17,9 +17,10 @@ use crate::kept::{Spot, word_on};
 use crate::load::{PAGE_POSITIONS, pages_behind};
 use base_head::Head;
 use directed_fixed::{End, Fixed};
-use hyper_outside::{Files, LookStop, NoMemory};
+use hyper_outside::{LookStop, NoMemory};
 use interval_words::LiveIndex;
 use lru::LruCache;
+use outside_log::Files;
 use position_rank::Position;
 use std::alloc::Global;
 use std::marker::Model;
@@ -46,12 +47,14 @@ impl Model for PagedBase {
     ghost view = { λ a. record {
       header = a.front.header;
       head = a.front.head;
+      digest = a.front.digest;
       name = string_bytes a.name;
       most = a.kept.cap;
       kept = a.kept.entries;
     } };
 
-    ghost invariant = { λ a. IsPagedFile a.front.header a.front.head a.index a.kept.entries };
+    ghost invariant = { λ a. IsPagedFile a.front.header a.front.head a.front.digest
+        a.index a.kept.entries };
 }
 
 impl PagedBase {
@@ -63,10 +66,12 @@ impl PagedBase {
         pages: usize,
     ) -> Result<PagedBase, NoMemory>
         requires some { 1 ≤ pages }
-        requires fitting { IsPagedFile front.header front.head front.header.checkers [] }
+        requires fitting { IsPagedFile front.header front.head front.digest
+            front.header.checkers [] }
         ensures { IfOk result (λ base. base ≡ record {
           header = front.header;
           head = front.head;
+          digest = front.digest;
           name = name.now;
           most = pages;
           kept = [];
@@ -116,9 +121,10 @@ impl PagedBase {
         requires { IsStateOf self.now.header.checkers self.now.header.kinds
             position.now kind }
         ensures spot { result ≡ spot_of self.now.header.kinds position.now kind end }
-        ensures there { result.page < page_count (pages_behind self.now.header) }
+        ensures there { result.page
+            < page_count (pages_behind self.now.header self.now.digest) }
         ensures state { 2 * result.state + 1
-            < words_on (pages_behind self.now.header) result.page }
+            < words_on (pages_behind self.now.header self.now.digest) result.page }
     {
         let rank = self.index.rank(position) as usize;
         let kinds = usize::from(self.front.header.kinds);
@@ -157,10 +163,10 @@ impl PagedBase {
         ensures later { F.read_faults files.old ≤ F.read_faults files.new }
         ensures cause { result ≡ Err ReadFault
             → Rose (F.read_faults files.old) (F.read_faults files.new) }
-        ensures write_faults { F.write_faults files.new ≡ F.write_faults files.old }
+        ensures log { F.log files.new ≡ F.log files.old }
     {
         let spot = self.spot(position, kind, end);
-        let pages = pages_behind(&self.front.header);
+        let pages = pages_behind(&self.front.header, self.front.digest);
         let word = word_on(
             &mut self.kept,
             self.alloc,
@@ -193,7 +199,7 @@ impl<F: Files> PagedReader<'_, F> {
 }
 
 impl<'a, F: Files> Pairs for PagedReader<'a, F> {
-    ghost use Rattle.database_file.specs.Paged.{PagedStays, source_of, told_files, words_of_pages};
+    ghost use Rattle.database_file.specs.Paged.{PagedStays, notes_of, source_of, told_files};
 
     ghost Stays = { PagedStays };
 
@@ -203,13 +209,13 @@ impl<'a, F: Files> Pairs for PagedReader<'a, F> {
       most = r.base.now.most;
       tells = F.tells r.files.now;
       files = told_files (F.tells r.files.now) (F.held r.files.now);
-      write_faults = F.write_faults r.files.now;
+      log = F.log r.files.now;
       lent = r.files.ghost_name;
     } };
 
     ghost seen = { λ r. record {
       source = source_of r.base.now (F.tells r.files.now) (F.held r.files.now);
-      notes = words_of_pages r.base.now (F.tells r.files.now) (F.held r.files.now);
+      notes = notes_of r.base.now (F.tells r.files.now) (F.held r.files.now);
       faults = F.read_faults r.files.now;
     } };
 

@@ -1,16 +1,17 @@
 ghost use Rattle.std.specs.Prelude.{◌≡◌, ◌≤◌, ◌<◌, ◌+◌, ◌++◌, ◌*◌, ◌^◌, ℕ, List, IsTrue, Err, length, take, drop};
 ghost use Rattle.hyper_outside.specs.Causes.{Rose};
-ghost use Rattle.hyper_outside.specs.Files.{SameFiles, bytes_from};
+ghost use Rattle.outside_log.specs.Files.{SameFiles, bytes_from};
 ghost use Rattle.word_pages.specs.Pages.{page_size};
 ghost use Rattle.database_file.specs.declared.pages.PagesStop.TheVariants.{ReadFault, BadPage, NoMemory};
-ghost use Rattle.database_file.specs.Pages.{AddsPage, AnswersPages, ArePages, page_count, place_of, stopped_by, whole_page, words_on};
+ghost use Rattle.database_file.specs.Pages.{AddsPage, AnswersPages, ArePages, binding_on, page_count, place_of, stopped_by, whole_page, words_on};
 
 use crate::batch::{Batch, add_batch, make_room};
 use directed_fixed::Fixed;
-use hyper_outside::{Failed, Files};
+use hyper_outside::Failed;
+use outside_log::Files;
 use std::alloc::{AllocError, AllocFailed, Global};
 use std::thread::Threads;
-use word_pages::{Flaw, PageStop, Version, load_page};
+use word_pages::{Binding, Flaw, PageStop, Version, binding_of, load_page};
 
 /// How many pages are read together: so many that the workers seldom wait for the slowest of them, which they do once for each batch.
 const BATCH_PAGES: usize = 256;
@@ -19,6 +20,8 @@ const BATCH_PAGES: usize = 256;
 #[derive(Clone, Copy)]
 pub struct Pages {
     pub version: Version,
+    /// The digest of the file's head.
+    pub digest: [u8; 32],
     /// The greatest value of a word on both sides of 0.
     pub bound: Fixed,
     /// The place of the first page.
@@ -101,6 +104,13 @@ impl Pages {
         self.size.min(self.count - page * self.size)
     }
 
+    /// What the page with this number is bound to.
+    pub fn binding_on(&self, page: usize) -> Binding
+        ensures { result.items ≡ binding_on self.now page }
+    {
+        binding_of(self.version, &self.digest, page)
+    }
+
     /// At which place of the file the page with this number begins.
     pub fn place_of(&self, page: usize) -> u64
         requires pages { ArePages self.now }
@@ -140,7 +150,7 @@ pub(crate) fn add_page<F: Files>(
     ensures later { F.read_faults files.old ≤ F.read_faults files.new }
     ensures cause { result ≡ Err ReadFault
         → Rose (F.read_faults files.old) (F.read_faults files.new) }
-    ensures write_faults { F.write_faults files.new ≡ F.write_faults files.old }
+    ensures log { F.log files.new ≡ F.log files.old }
 {
     let count = pages.words_on(page);
     let size = pages.version.page_size(count);
@@ -150,6 +160,7 @@ pub(crate) fn add_page<F: Files>(
         name,
         pages.place_of(page),
         pages.version,
+        pages.binding_on(page).as_slice(),
         pages.bound,
         &mut buf[..size],
         cells,
@@ -180,7 +191,7 @@ pub fn read_pages<R: Threads + Sync, F: Files>(
     ensures later { F.read_faults files.old ≤ F.read_faults files.new }
     ensures cause { result ≡ Err ReadFault
         → Rose (F.read_faults files.old) (F.read_faults files.new) }
-    ensures write_faults { F.write_faults files.new ≡ F.write_faults files.old }
+    ensures log { F.log files.new ≡ F.log files.old }
 {
     let count = pages.page_count();
     let most = BATCH_PAGES.min(count);

@@ -3,7 +3,7 @@ use Rattle.std.proofs.Common.{◌≡◌, ◌≤◌, ◌∙◌, ◌+◌, ◌<◌,
 use Rattle.std.specs.List.{flat_map}
 use Rattle.std.proofs.lemmas.List.{append-nil}
 use Rattle.hyper_outside.specs.Causes.{Rose, HasCause}
-use Rattle.hyper_outside.specs.Sink.{Output, Gains, Puts}
+use Rattle.outside_log.specs.Sink.{Output, Gains, Puts}
 use Rattle.hyper_outside.specs.declared.outside.Failed.{Failed}
 
 abbrev pub Answer : Type 0

@@ -14,7 +14,7 @@ use Rattle.base_head.specs.declared.fault.FileFault.{FileFault}
 use Rattle.base_head.specs.declared.fault.FileFault.TheVariants as faults
 use Rattle.equity_report.specs.declared.text.GameName.{GameName}
 use Rattle.equity_report.specs.declared.refusal.Refusal.{Refusal}
-use Rattle.equity_report.specs.declared.refusal.Refusal.TheVariants.{Words, Position, Missing, File, Record, Read, Write, Memory, Base, Roll, Inconsistent, Contact, Condition}
+use Rattle.equity_report.specs.declared.refusal.Refusal.TheVariants.{Words, Position, Missing, File, Record, Read, Write, Memory, Base, Roll, Inconsistent, Contact, Condition, Other}
 use Rattle.equity_report.specs.declared.refusal.Wanted.{Wanted}
 use Rattle.equity_report.specs.declared.refusal.Wanted.TheVariants.{Checkers, Kind, Fits, Scored}
 use Rattle.equity_report.specs.Reports.{line, counted_text}
@@ -69,6 +69,7 @@ status_of (Roll bad) = 2
 status_of (Inconsistent unheld) = 9
 status_of Contact = 12
 status_of (Condition word) = 11
+status_of (Other name) = 13
 
 abbrev pub bad_words_text : BadWords → List ℕ
 bad_words_text bad = codes "words " ++ counted_text (words_text bad.kind) bad.place
@@ -101,6 +102,7 @@ reason_text (Roll bad) = counted_text (codes "roll") (roll_kind bad)
 reason_text (Inconsistent unheld) = unheld_text unheld
 reason_text Contact = codes "contact"
 reason_text (Condition word) = counted_text (codes "condition") word
+reason_text (Other name) = codes "other " ++ name.bytes
 
 abbrev pub refusal_text : Refusal → List ℕ
 refusal_text refusal =

@@ -1,5 +1,5 @@
 ghost use Rattle.std.specs.Prelude.{◌≡◌, ◌≤◌, ◌<◌, ◌++◌, ◌+◌, ◌*◌, All, codes, length};
-ghost use Rattle.hyper_outside.specs.Sink.{Puts};
+ghost use Rattle.outside_log.specs.Sink.{Puts};
 ghost use Rattle.move_rules.specs.Notation.{CanFollow};
 ghost use Rattle.move_rules.specs.declared.play.TheConstants.{MOST_PLAYS};
 ghost use Rattle.roll_table.specs.Text.{roll_text};
@@ -13,8 +13,9 @@ use arrayvec::ArrayString;
 use cube_actions::KindName;
 use directed_fixed::{Fixed, Pair, print_up};
 use game_record::{Answer, Offer};
-use hyper_outside::{Failed, Sink};
+use hyper_outside::Failed;
 use move_rules::print_play;
+use outside_log::Sink;
 use play_analyser::{CubeAction, CubeAdvice, PlayRow, Ranking};
 use position_rank::Position;
 use roll_table::Roll;

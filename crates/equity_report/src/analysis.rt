@@ -1,6 +1,6 @@
 ghost use Rattle.std.specs.Prelude.{◌≡◌, ◌≤◌, ◌++◌, ◌+◌, length};
 ghost use Rattle.std.specs.List.{flat_map};
-ghost use Rattle.hyper_outside.specs.Sink.{Puts};
+ghost use Rattle.outside_log.specs.Sink.{Puts};
 ghost use Rattle.game_record.specs.Lines.{player_text};
 ghost use Rattle.record_analysis.specs.Totals.{losses_by, total_of};
 ghost use Rattle.equity_report.specs.Analyses.{analysis_text, choice_text, decision_text, judged_text, lost_text, made_text, total_text, totals_text};
@@ -8,7 +8,8 @@ ghost use Rattle.equity_report.specs.Analyses.{analysis_text, choice_text, decis
 use crate::text::{Report, add_counted, add_number, add_points};
 use directed_fixed::Pair;
 use game_record::{Choice, Decision, Player};
-use hyper_outside::{Failed, Sink};
+use hyper_outside::Failed;
+use outside_log::Sink;
 use record_analysis::{Analysis, Judged};
 
 fn player_text(player: Player) -> &'static str

@@ -1,13 +1,14 @@
 ghost use Rattle.std.specs.Prelude.{◌≡◌, ◌≤◌, ◌++◌, ◌+◌, ◌*◌, codes, length};
 ghost use Rattle.std.specs.List.{flat_map};
-ghost use Rattle.hyper_outside.specs.Sink.{Puts};
+ghost use Rattle.outside_log.specs.Sink.{Puts};
 ghost use Rattle.equity_report.specs.Files.{rounds_text, written_text, size_text, solved_text, migrated_text, row_text, shown_text};
 
 use crate::report::add_position;
 use crate::text::{GameName, Report, add_counted, add_game, add_number, add_points, add_units};
 use cube_actions::KindName;
 use directed_fixed::{Fixed, Pair, print_up};
-use hyper_outside::{Failed, Sink};
+use hyper_outside::Failed;
+use outside_log::Sink;
 use position_rank::Position;
 
 /// A game that was solved.

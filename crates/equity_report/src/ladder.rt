@@ -1,11 +1,12 @@
 ghost use Rattle.std.specs.Prelude.{◌≡◌, ◌≤◌, ◌++◌, ◌+◌, length};
-ghost use Rattle.hyper_outside.specs.Sink.{Puts};
+ghost use Rattle.outside_log.specs.Sink.{Puts};
 ghost use Rattle.equity_report.specs.Ladder.{ladder_end_text, ladder_score_text, match_text, work_text};
 
 use crate::text::{Report, add_counted, add_points};
 use cube_actions::Score;
 use directed_fixed::{Fixed, Pair, print_up};
-use hyper_outside::{Failed, Sink};
+use hyper_outside::Failed;
+use outside_log::Sink;
 
 fn add_match(report: &mut Report, checkers: u8, match_length: u8)
     requires { length report.old.bytes ≤ 1000 }

@@ -1,12 +1,13 @@
 ghost use Rattle.std.specs.Prelude.{◌≡◌, ◌≤◌, ◌++◌, codes, decimal, length};
-ghost use Rattle.hyper_outside.specs.Sink.{Puts};
+ghost use Rattle.outside_log.specs.Sink.{Puts};
 ghost use Rattle.equity_report.specs.Races.{race_text};
 ghost use Rattle.equity_report.specs.Reports.{line};
 
 use crate::report::{add_alone, add_position};
 use crate::text::{Report, add_number};
 use directed_fixed::Pair;
-use hyper_outside::{Failed, Sink};
+use hyper_outside::Failed;
+use outside_log::Sink;
 use position_rank::Position;
 
 fn add_turns(report: &mut Report, turns: u32)

@@ -1,6 +1,6 @@
 ghost use Rattle.std.specs.Prelude.{◌≡◌, ◌≤◌, ◌++◌, ◌+◌, ℕ, codes, decimal, length};
 ghost use Rattle.equity_report.specs.Refusals.{words_text, bad_words_text, file_fault_text, bad_file_text, base_text, wanted_text, position_kind, roll_kind, status_of, reason_text, refusal_text};
-ghost use Rattle.hyper_outside.specs.Sink.{Puts};
+ghost use Rattle.outside_log.specs.Sink.{Puts};
 
 use crate::record::add_bad_record;
 use crate::text::{GameName, Report, add_counted, add_game, add_number, add_stakes};
@@ -9,7 +9,8 @@ use arrayvec::ArrayString;
 use base_head::{BadFile, FileFault};
 use cube_actions::{KindName, Score, StakesName};
 use game_record::BadRecord;
-use hyper_outside::{BadWords, Failed, Sink, WordsKind};
+use hyper_outside::{BadWords, Failed, WordsKind};
+use outside_log::Sink;
 use position_rank::BadPosition;
 use roll_table::BadRoll;
 
@@ -58,6 +59,8 @@ pub enum Refusal {
     Contact,
     /// With this word of the condition's text, counted from 0, no text of a condition can go on.
     Condition { word: u32 },
+    /// A file of this name is there, and isn't of the kind that is to be written.
+    Other(FileName),
 }
 
 fn words_text(kind: WordsKind) -> &'static str
@@ -93,7 +96,7 @@ impl Refusal {
     /// The status with which a run ends that is refused so.
     pub fn status(&self) -> u8
         ensures status { result ≡ status_of self.now }
-        ensures small { result ≤ 12 }
+        ensures small { result ≤ 13 }
     {
         match self {
             Refusal::Words(_) => 1,
@@ -108,6 +111,7 @@ impl Refusal {
             Refusal::Inconsistent(_) => 9,
             Refusal::Condition { .. } => 11,
             Refusal::Contact => 12,
+            Refusal::Other(_) => 13,
         }
     }
 }
@@ -203,6 +207,10 @@ fn add_reason(line: &mut Report, refusal: &Refusal)
         Refusal::Record(bad) => add_bad_record(line, *bad),
         Refusal::Contact => line.push_str("contact"),
         Refusal::Condition { word } => add_counted(line, "condition", u64::from(*word)),
+        Refusal::Other(name) => {
+            line.push_str("other ");
+            line.push_str(name.as_str());
+        }
     }
 }
 

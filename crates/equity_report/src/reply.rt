@@ -1,4 +1,4 @@
-ghost use Rattle.hyper_outside.specs.Sink.{Puts};
+ghost use Rattle.outside_log.specs.Sink.{Puts};
 ghost use Rattle.equity_report.specs.Replies.{reply_text};
 
 use crate::advice::{add_kind, add_worth};
@@ -6,7 +6,8 @@ use crate::report::add_position;
 use crate::text::Report;
 use cube_actions::KindName;
 use directed_fixed::Pair;
-use hyper_outside::{Failed, Sink};
+use hyper_outside::Failed;
+use outside_log::Sink;
 use position_rank::Position;
 
 /// Puts what the side to move has in a state, in five lines: the position, the kind, and three pairs in points, rounded outwards: what it has

@@ -1,11 +1,12 @@
 ghost use Rattle.std.specs.Prelude.{◌≡◌, ◌≤◌, ◌++◌, ◌+◌, codes, decimal, length};
-ghost use Rattle.hyper_outside.specs.Sink.{Puts};
+ghost use Rattle.outside_log.specs.Sink.{Puts};
 ghost use Rattle.position_rank.specs.Text.{position_text};
 ghost use Rattle.equity_report.specs.Reports.{line, bound_text, pair_text};
 
 use crate::text::{Report, add_number, add_points, add_units};
 use directed_fixed::Pair;
-use hyper_outside::{Failed, Sink};
+use hyper_outside::Failed;
+use outside_log::Sink;
 use position_rank::{Position, print_position};
 
 pub(crate) fn add_position(report: &mut Report, position: &Position)

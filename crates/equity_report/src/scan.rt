@@ -1,13 +1,14 @@
 ghost use Rattle.std.specs.Prelude.{◌≡◌, All};
 ghost use Rattle.std.specs.List.{flat_map};
-ghost use Rattle.hyper_outside.specs.Sink.{Puts};
+ghost use Rattle.outside_log.specs.Sink.{Puts};
 ghost use Rattle.base_scan.specs.Found.{IsStateIn};
 ghost use Rattle.equity_report.specs.Scans.{found_end_text, found_text, scan_text};
 
 use crate::text::{Report, add_counted, add_number, add_points};
 use base_scan::{Found, State};
-use hyper_outside::{Failed, Sink};
+use hyper_outside::Failed;
 use interval_words::Words;
+use outside_log::Sink;
 use position_rank::print_position;
 
 /// The line of a state that was found.

@@ -1,14 +1,15 @@
 ghost use Rattle.std.specs.Prelude.{◌≡◌, ◌≤◌, ◌++◌, ◌+◌, codes, length};
 ghost use Rattle.std.specs.Fmt.{signed_decimal};
 ghost use Rattle.cube_actions.specs.Names.{kind_text};
-ghost use Rattle.hyper_outside.specs.Sink.{Puts};
+ghost use Rattle.outside_log.specs.Sink.{Puts};
 ghost use Rattle.equity_report.specs.Verify.{end_text, unheld_text, verified_text};
 
 use crate::files::add_rounds;
 use crate::text::{GameName, Report, add_counted};
 use cube_actions::KindName;
 use directed_fixed::{End, Fixed, print_units};
-use hyper_outside::{Failed, Sink};
+use hyper_outside::Failed;
+use outside_log::Sink;
 use position_rank::{Position, print_position};
 
 /// A word of a file that is tighter than the turn over the file's words.

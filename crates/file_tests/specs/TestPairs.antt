@@ -2,11 +2,15 @@
 use Rattle.std.specs.Prelude.{pos, true, false, None}
 use Rattle.cube_actions.specs.Stakes.{point_units}
 use Rattle.turn_rule.specs.Turn.{Words}
-use Rattle.turn_rule.specs.Looks.{Source}
+use Rattle.turn_rule.specs.Looks.{Source, Notes}
 
 -- each word is 0
 abbrev pub zeros : Words
 zeros end p k = pos 0
+
+-- nothing is told
+abbrev pub untold_zeros : Notes
+untold_zeros = record { words = zeros; told = false }
 
 -- words that aren't told, with the cube centred or on either side
 abbrev pub untold_cube : Source
@@ -15,7 +19,6 @@ untold_cube = record {
   kinds = 3;
   bound = point_units 3;
   sure = true;
-  tells = false;
   floor = zeros;
   damage = λ p k. None;
 }

@@ -14,7 +14,7 @@ use crate::task::{CubeTask, Part};
 use arrayvec::ArrayVec;
 use cube_actions::Stakes;
 use database_file::load_base;
-use hyper_outside::{LookStop, RealFiles};
+use hyper_outside::LookStop;
 use interval_words::Words;
 use move_rules::PlayList;
 use play_analyser::{CubeAdvice, cube_advice_of, one_list_gives_the_advice};
@@ -23,7 +23,9 @@ use std::alloc::Global;
 use std::io::Print;
 use std::rt::Files;
 use std::thread::Threads;
+use system_files::RealFiles;
 use turn_rule::RollEnds;
+use word_pages::Version;
 
 /// How many of so many live positions stand in the first of some equal parts.
 fn share(live: u64, number: u32, of: u32) -> u64
@@ -172,7 +174,7 @@ pub(crate) fn count_calls<R: Threads + Sync + Print + Files>(
     ensures { IfErr result (λ stop. stop ≢ BadWords) }
 {
     let mut files = RealFiles::new(rt, alloc);
-    let base = load_base(rt, alloc, &mut files, task.file, 1)?;
+    let base = load_base(rt, alloc, &mut files, task.file, Version::Three, 1)?;
     let words = base.words();
     PartCensus::of(words, &task.part).print(rt, words.stakes())
 }

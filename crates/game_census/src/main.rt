@@ -21,13 +21,13 @@ use crate::stop::Stop;
 use crate::task::Task;
 use crate::widths::tell_widths;
 use crate::words::read_task;
-use hyper_outside::RealFiles;
 use std::alloc::Global;
 use std::io::Print;
 use std::process::ExitCode;
 use std::rt::{Env, Files};
 use std::thread::Threads;
 use std::{env, io};
+use system_files::RealFiles;
 
 /// The words after the program's name.
 fn words_of<R: Env + AllocGlobal>(rt: &R) -> io::Result<Vec<String>> {

@@ -1,5 +1,4 @@
-ghost use Rattle.std.specs.Prelude.{◌≡◌, ◌<◌, ◌+◌, IsTrue, IsOk, IfOk, IfSome};
-ghost use Rattle.hyper_outside.specs.Files.{KeepsOthers};
+ghost use Rattle.std.specs.Prelude.{◌≡◌, ◌<◌, ◌+◌, IsOk, IfOk, IfSome};
 ghost use Rattle.interval_words.specs.Seats.{SitsAt};
 ghost use Rattle.interval_words.specs.WordLists.{list_of, states_of};
 ghost use Rattle.database_file.specs.Texts.{game_in};
@@ -8,10 +7,11 @@ ghost use Rattle.game_census.specs.Saved.{WereRead, IsSaved};
 use crate::stop::Stop;
 use crate::widths::state_count;
 use base_head::Head;
-use database_file::write_base;
+use database_file::append_base;
 use directed_fixed::to_word;
-use hyper_outside::{Files, NoMemory};
+use hyper_outside::NoMemory;
 use interval_words::{Board, BoardSeat, LiveIndex, Words, states_are_numbered};
+use outside_log::Files;
 use std::alloc::{AllocError, Global};
 use word_pages::Version;
 
@@ -65,7 +65,7 @@ fn words_of(alloc: Global, head: &Head, list: Vec<u64>) -> Result<Option<Words>,
     Ok(Words::from_list(index, &head.stakes(), head.rounds(), list))
 }
 
-/// Writes the words on the board as a file of bounds, of version 2.
+/// Writes the words on the board as a file of bounds, of version 3.
 pub(crate) fn save<F: Files>(
     alloc: Global,
     board: &Board,
@@ -76,15 +76,17 @@ pub(crate) fn save<F: Files>(
 ) -> Result<(), Stop>
     requires seat { SitsAt board.now seat.old }
     requires game { board.now.game ≡ game_in head.now }
-    ensures saved { IsTrue (F.tells files.old) → IsOk result
-        → IsSaved head.now (F.held files.new name.now) }
-    ensures others { IsTrue (F.tells files.old)
-        → KeepsOthers name.now (F.held files.old) (F.held files.new) }
+    ensures { IsOk result
+        → IsSaved head.now name.now (F.log files.old) (F.log files.new) }
 {
     let list = read_words(alloc, board, seat)?;
     let Some(words) = words_of(alloc, head, list)? else {
         return Err(Stop::Unsaved);
     };
-    write_base(files, name, head, &words, Version::Two)?;
+    // What every list of words keeps holds where it is asked for.
+    words.right();
+    files.start(name)?;
+    append_base(files, name, head, &words, Version::Three)?;
+    files.finish(name)?;
     Ok(())
 }

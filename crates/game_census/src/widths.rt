@@ -1,7 +1,7 @@
 //! Solves a game by rounds of one worker and tells how tight its words are meanwhile: the width of the widest pair, and the start's pair in
 //! its first kind; then writes the words as a file of bounds, where one is named.
 
-ghost use Rattle.std.specs.Prelude.{◌≡◌, ◌<◌, ◌^◌, IsTrue, IsOk, IfOk, IfSome};
+ghost use Rattle.std.specs.Prelude.{◌≡◌, ◌<◌, ◌^◌, IsOk, IfOk, IfSome};
 ghost use Rattle.interval_words.specs.Seats.{IsNumber, SitsAt};
 ghost use Rattle.interval_words.specs.WordLists.{states_of};
 ghost use Rattle.worker_sweep.specs.Workers.{WorksAt};
@@ -14,8 +14,8 @@ use crate::task::WidthsTask;
 use base_head::Head;
 use block_claims::Claims;
 use directed_fixed::{Fixed, print_down, print_up};
-use hyper_outside::Files;
 use interval_words::{Board, BoardSeat, states_are_numbered};
+use outside_log::Files;
 use position_rank::Position;
 use std::alloc::Global;
 use std::io::Print;
@@ -140,8 +140,8 @@ pub(crate) fn tell_widths<R: Print, F: Files>(
     task: &WidthsTask,
     files: &mut F,
 ) -> Result<(), Stop>
-    ensures { IsTrue (F.tells files.old) → IsOk result → IfSome task.now.file
-        (λ name. IsSaved (head_asked task.now) (F.held files.new name.now)) }
+    ensures { IsOk result → IfSome task.now.file
+        (λ name. IsSaved (head_asked task.now) name.now (F.log files.old) (F.log files.new)) }
 {
     let head = Head::of_stakes(task.checkers, task.stakes, task.rounds);
     let (board, mut seat) = solve(rt, alloc, &head)?;

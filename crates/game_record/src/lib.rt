@@ -30,13 +30,13 @@ pub use examples::{
 };
 pub use fault::{BadRecord, RecordFault, RecordStop};
 pub use laws::{
-    no_record_text_begins_another, record_texts_have_no_fault, records_have_few_lines,
-    texts_have_one_first_fault, texts_tell_records,
+    no_record_text_begins_another, record_texts_begin_so, record_texts_have_no_fault,
+    records_have_few_lines, texts_have_one_first_fault, texts_tell_records,
 };
 pub use line::{Line, LineKind};
 pub use moment::Moment;
 pub use player::Player;
-pub use print::print_record;
+pub use print::{RECORD_START, print_record};
 pub use progress::{Progress, Win};
 pub use read::read_record;
 pub use record::{Action, Actions, Ending, Game, Games, Record, RecordStakes, What};

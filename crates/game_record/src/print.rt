@@ -12,13 +12,16 @@ use move_rules::{Step, Written};
 use position_rank::place_name;
 use std::alloc::Global;
 
+/// The first line of a record's text, with its end.
+pub const RECORD_START: [u8; 21] = *b"hypergammon record 1\n";
+
 #[tactic(auto, using(crate::proofs::Printing::lines_text_append))]
 /// The text of a record, which no other record has. It asks for memory, and may answer `NoMemory`.
 pub fn print_record(alloc: Global, rec: &Record) -> Result<Vec<u8>, NoMemory>
     ensures { IfOk result (λ text. text.items ≡ record_text rec.now) }
 {
     let mut text = Vec::new(alloc);
-    add(&mut text, "hypergammon record 1\n")?;
+    text.extend_from_slice(&RECORD_START)?;
     add_checkers(&mut text, rec.checkers)?;
     add_stakes(&mut text, rec.stakes)?;
     add_games(&mut text, rec.games.as_slice())?;

@@ -1,11 +1,1 @@
 pub mod Causes
-pub mod Sink
-pub mod Files
-pub mod Calls
-pub mod Pile
-pub mod Store
-pub mod Places
-pub mod MemFiles
-pub mod HonestFiles
-pub mod Reading
-pub mod Opened

@@ -1,5 +1,8 @@
 /// Where a worker stops before each block.
 pub trait Gate {
+    /// So many rounds over so many blocks each are to come. A run that can tell says it once, before it comes to the first block.
+    fn expect(&self, rounds: u32, blocks: u32);
+
     /// The worker of this number comes to the block of this number.
     fn pass(&self, worker: u32, block: u64);
 }
@@ -9,5 +12,7 @@ pub trait Gate {
 pub struct OpenGate;
 
 impl Gate for OpenGate {
+    fn expect(&self, _rounds: u32, _blocks: u32) {}
+
     fn pass(&self, _worker: u32, _block: u64) {}
 }

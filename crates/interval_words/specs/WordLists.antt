@@ -64,7 +64,6 @@ source_of words = record {
   kinds = kinds_of words.game;
   bound = words.game.stakes.bound;
   sure = true;
-  tells = true;
   floor = words_in_list words;
   damage = λ _ _. None;
 }

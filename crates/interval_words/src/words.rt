@@ -3,7 +3,7 @@ ghost use Rattle.position_rank.specs.Ranks.{square_rank_of};
 ghost use Rattle.directed_fixed.specs.Bounds.{IsWithin, IsWithinUnits};
 ghost use Rattle.directed_fixed.specs.declared.word.TheConstants.{WORD_OFFSET};
 ghost use Rattle.turn_rule.specs.Games.{IsGame, game_of};
-ghost use Rattle.turn_rule.specs.Looks.{AreStakesOf};
+ghost use Rattle.turn_rule.specs.Looks.{AreStakesOf, all_told};
 ghost use Rattle.turn_rule.specs.States.{IsState, AreWithin, pair_of};
 ghost use Rattle.interval_words.specs.Numbers.{value_in, word_of};
 ghost use Rattle.interval_words.specs.WordLists.{WordList, AreRight, AreClosed, IsWidest, list_of, states_of, words_in_list, pair_at, source_of};
@@ -253,7 +253,7 @@ impl Words {
         ensures source { (⟦<WordsReader<'static> as Pairs>⟧.seen result).source
             ≡ source_of self.now }
         ensures notes { (⟦<WordsReader<'static> as Pairs>⟧.seen result).notes
-            ≡ words_in_list self.now }
+            ≡ all_told (words_in_list self.now) }
         ensures stakes { AreStakesOf (⟦<WordsReader<'static> as Pairs>⟧.seen result).source
             self.now.game.stakes }
     {
@@ -318,7 +318,7 @@ impl Pairs for WordsReader<'_> {
 
     ghost seen = { λ reader. record {
       source = source_of reader.words.now;
-      notes = words_in_list reader.words.now;
+      notes = all_told (words_in_list reader.words.now);
       faults = 0;
     } };
 

@@ -1,5 +1,5 @@
 ghost use Rattle.std.specs.Prelude.{◌≡◌, ◌≤◌, ◌+◌, ◌++◌, length};
-ghost use Rattle.hyper_outside.specs.Sink.{Puts};
+ghost use Rattle.outside_log.specs.Sink.{Puts};
 ghost use Rattle.directed_fixed.specs.Decimal.{millionths_down, millionths_text, millionths_up, size_text, six_digits};
 ghost use Rattle.cube_actions.specs.Ladder.{ladder};
 ghost use Rattle.cube_actions.specs.MatchKinds.{may_double};
@@ -12,8 +12,9 @@ use crate::values::{gammon_price_at, take_point_at};
 use arrayvec::ArrayString;
 use cube_actions::{Phase, Score, Side, Starts, ladder};
 use directed_fixed::{Pair, print_down, print_up};
-use hyper_outside::{Failed, Sink};
+use hyper_outside::Failed;
 use itoa::Buffer;
+use outside_log::Sink;
 
 /// The text of a plan, which has at most 18 scores.
 type Plan = ArrayString<8192>;

@@ -8,7 +8,7 @@ use Rattle.directed_fixed.specs.declared.bounds.End.{End}
 use Rattle.cube_actions.specs.Stakes.{Terms, nothing}
 use Rattle.turn_rule.specs.Turn.{Words, turn}
 use Rattle.turn_rule.specs.States.{pair_of}
-use Rattle.turn_rule.specs.Looks.{MayFollowTurn, IsTurnPair}
+use Rattle.turn_rule.specs.Looks.{MayFollowTurn, IsTurnPair, all_told}
 use Rattle.turn_rule.specs.Layouts.{AreLayouts, HasRank}
 use Rattle.turn_rule.proofs.Sure.{exact-pair}
 use Rattle.column_sums.specs.Leaps.{layout_at}
@@ -20,14 +20,14 @@ use Rattle.plain_table.specs.Rounds.{AreAlike, IsTurnedBefore}
 
 -- over a table's words alone, a column's pairs are the turns
 pub turns-exact : (stakes : Terms) (old : PairTable) (bound : ℤ) (noted : Words) (column : ColumnPairs) → column.kinds ≡ length stakes.kinds → noted ≡ words_of old
-    → AreTurnsOf (read_from old bound) noted stakes (position_at column) (length column.movers) column.pairs
+    → AreTurnsOf (read_from old bound) (all_told noted) stakes (position_at column) (length column.movers) column.pairs
     → (i k : ℕ) → i < length column.movers → k < length stakes.kinds → turn_at column i k ≡ pair_of (turn stakes (words_of old)) (position_at column i) k
 turns-exact stakes old bound noted column kinds same found i k here kind =
     let p = position_at column i in
     let value : End → Words → ℤ = λ end w. turn stakes w end p k in
-    let is = subst (λ (w : Words). IsTurnPair stakes p k (read_from old bound) w (get_or column.pairs (i * length stakes.kinds + k) nothing)) same (found i k here kind) in
+    let is = subst (λ (w : Words). IsTurnPair stakes p k (read_from old bound) (all_told w) (get_or column.pairs (i * length stakes.kinds + k) nothing)) same (found i k here kind) in
     ap (λ (n : ℕ). get_or column.pairs (i * n + k) nothing) kinds
-    ∙ exact-pair (read_from old bound) (words_of old) (MayFollowTurn stakes p k) bound value (get_or column.pairs (i * length stakes.kinds + k) nothing) refl (λ end. refl) is
+    ∙ exact-pair (read_from old bound) (all_told (words_of old)) (MayFollowTurn stakes p k) bound value (get_or column.pairs (i * length stakes.kinds + k) nothing) refl (λ end. refl) is
 
 -- the first few positions of a column have their turn over the old table, and those of other columns have the pairs of the start
 pub record IsFilled (stakes : Terms) (old start : PairTable) (column : ColumnPairs) (count : ℕ) (new : PairTable) : Type 0 where

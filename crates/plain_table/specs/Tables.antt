@@ -34,7 +34,6 @@ read_from table bound = record {
   kinds = table.kinds;
   bound = bound;
   sure = true;
-  tells = true;
   floor = words_of table;
   damage = λ p k. None;
 }

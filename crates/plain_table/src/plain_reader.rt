@@ -4,7 +4,7 @@ ghost use Rattle.directed_fixed.specs.declared.bounds.End.TheVariants.{Lower, Up
 ghost use Rattle.turn_rule.specs.Turn.{Words};
 ghost use Rattle.turn_rule.specs.States.{IsStateOf, AreWithinOf};
 ghost use Rattle.plain_table.specs.Tables.{words_of, read_from};
-ghost use Rattle.turn_rule.specs.Looks.{Source, Looked, IsAnswer};
+ghost use Rattle.turn_rule.specs.Looks.{Source, Looked, IsAnswer, all_told};
 
 use crate::table::Table;
 use directed_fixed::Fixed;
@@ -36,7 +36,7 @@ impl Pairs for PlainReader<'_> {
 
     ghost seen = { λ s. record {
       source = read_from s.table.now s.bound;
-      notes = words_of s.table.now;
+      notes = all_told (words_of s.table.now);
       faults = 0;
     } };
 
@@ -70,7 +70,7 @@ impl Pairs for PlainReader<'_> {
         Ok(self.table.pair_at(position, square, kind).upper())
     }
 
-    ghost floor_within = { λ s tells. s.within };
+    ghost floor_within = { λ s _. s.within };
 
-    ghost notes_within = { λ s tells. s.within };
+    ghost notes_within = { λ s _. s.within };
 }

@@ -2,7 +2,7 @@ ghost use Rattle.std.specs.Prelude.{◌≡◌, ◌≤◌, ◌+◌, ℕ, IfOk};
 ghost use Rattle.turn_rule.specs.Games.{game_of};
 ghost use Rattle.plain_table.specs.Tables.{words_of, read_from};
 ghost use Rattle.turn_rule.specs.States.{IsState, pair_of};
-ghost use Rattle.turn_rule.specs.Looks.{AreStakesOf};
+ghost use Rattle.turn_rule.specs.Looks.{AreStakesOf, all_told};
 ghost use Rattle.plain_table.specs.Rounds.{HasRounds, IsTurned};
 
 use crate::plain_reader::PlainReader;
@@ -77,7 +77,7 @@ impl PlainTable {
         ensures source { (⟦<PlainReader<'static> as Pairs>⟧.seen result).source
             ≡ read_from self.now.table self.now.stakes.bound }
         ensures notes { (⟦<PlainReader<'static> as Pairs>⟧.seen result).notes
-            ≡ words_of self.now.table }
+            ≡ all_told (words_of self.now.table) }
         ensures stakes { AreStakesOf (⟦<PlainReader<'static> as Pairs>⟧.seen result).source
             self.now.stakes }
     {

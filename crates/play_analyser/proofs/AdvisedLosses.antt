@@ -1,5 +1,5 @@
 -- What is advised from words that enclose every state loses at most its bound.
-use Rattle.std.proofs.Common.{◌≡◌, ◌≢◌, ◌<◌, ◌↔◌, ◌∙◌, ℕ, ℤ, List, [], ◌∷◌, length, map, AllPairs, Contains, Option, None, Some, suc, IsTrue, inl, inr, ap, refl, subst, sym, arith}
+use Rattle.std.proofs.Common.{◌≡◌, ◌≢◌, ◌<◌, ◌↔◌, ◌∙◌, ℕ, ℤ, List, [], ◌∷◌, length, map, AllPairs, Contains, Option, None, Some, suc, inl, inr, ap, refl, subst, sym, arith}
 use Rattle.std.specs.Bool.{⊤}
 use Rattle.position_rank.specs.Placement.{Placement}
 use Rattle.roll_table.specs.Rolls.{Dice, IsRoll}
@@ -17,7 +17,7 @@ use Rattle.turn_rule.specs.Turn.{Words}
 use Rattle.turn_rule.specs.States.{IsState}
 use Rattle.turn_rule.specs.Exact.{Scoring}
 use Rattle.turn_rule.specs.Truth.{Encloses}
-use Rattle.turn_rule.specs.Looks.{Source, IsPairFor, roll_pair}
+use Rattle.turn_rule.specs.Looks.{roll_pair}
 use Rattle.turn_rule.proofs.Fractions.{bound-looser}
 use Rattle.game_record.specs.declared.decision.Choice.{Choice}
 use Rattle.game_record.specs.declared.decision.Choice.TheVariants.{Played, Offered, Answered}
@@ -28,7 +28,6 @@ use Rattle.play_analyser.specs.declared.ranking.PlayRow.{PlayRow}
 use Rattle.play_analyser.specs.Losses.{Options, loss, least_pair}
 use Rattle.play_analyser.specs.Choices.{IsChoice, IfDouble, HasAnswer, offer_options, answer_options}
 use Rattle.play_analyser.specs.Regrets.{play_pair, taken_pair, loss_of, regret_of, counted_over}
-use Rattle.play_analyser.specs.Sought.{of_loss}
 use Rattle.play_analyser.specs.Advice.{IsAction, IsActionBy, IsAdviceOn, IsBestAnswer, taken_of}
 use Rattle.play_analyser.specs.Advised.{ActionLosesAtMost, AreTrueWords, FirstLosesAtMost, LosesAtMost}
 use Rattle.play_analyser.specs.Rankings.{LeaveDifferent, first_loss, pairs_of}
@@ -82,16 +81,13 @@ length-map f (x ∷ xs) = ap suc (length-map f xs)
 
 module _ (game : Game) (scoring : Scoring) (turns : ℕ) (u : Words) (true_words : AreTrueWords game scoring turns u) (p : Placement) (k : ℕ) (state : IsState game p k) where
   -- a loss that is no tighter than that over the words
-  looser-encloses : (choice : Choice) → IsChoice game.stakes p k choice → (pair : Bounds) → AreNoLooserPairs (loss_of game.stakes u p k choice) pair → Encloses pair (regret_of game.stakes scoring turns p k choice) (counted_over scoring turns choice)
+  pub looser-encloses : (choice : Choice) → IsChoice game.stakes p k choice → (pair : Bounds) → AreNoLooserPairs (loss_of game.stakes u p k choice) pair → Encloses pair (regret_of game.stakes scoring turns p k choice) (counted_over scoring turns choice)
   looser-encloses choice is pair tight =
       let over_words = loss-of-encloses game true_words.right scoring true_words.within turns u true_words.words p k state choice is in
       record {
         lower = bound-looser Lower (loss_of game.stakes u p k choice).lower pair.lower (regret_of game.stakes scoring turns p k choice) (counted_over scoring turns choice) tight.lower over_words.lower;
         upper = bound-looser Upper (loss_of game.stakes u p k choice).upper pair.upper (regret_of game.stakes scoring turns p k choice) (counted_over scoring turns choice) tight.upper over_words.upper;
       }
-
-  pub looked-encloses : (choice : Choice) → IsChoice game.stakes p k choice → (source : Source) (pair : Bounds) → IsTrue source.tells → IsPairFor (of_loss game.stakes p k choice) source u pair → Encloses pair (regret_of game.stakes scoring turns p k choice) (counted_over scoring turns choice)
-  looked-encloses choice is source pair tells looked = looser-encloses choice is pair (record { lower = looked.lower_notes tells; upper = looked.upper_notes tells })
 
   -- the loss among options that are no tighter than those over the words
   options-enclose : (choice : Choice) → IsChoice game.stakes p k choice → (over options : Options Bounds) → loss over ≡ loss_of game.stakes u p k choice → OptionsTighter over options → Encloses (loss options) (regret_of game.stakes scoring turns p k choice) (counted_over scoring turns choice)

@@ -14,7 +14,7 @@ use Rattle.cube_actions.specs.Stakes.{Terms, kind_at, no_kind, IsValid, IsRightD
 use Rattle.turn_rule.specs.Games.{game_of}
 use Rattle.turn_rule.specs.Turn.{Words, least}
 use Rattle.turn_rule.specs.States.{IsStateOf}
-use Rattle.turn_rule.specs.Looks.{Source, AreStakesOf, IsPairFor, MayFollow, MayFollowTurn, MayFollowDouble, of_roll, roll_pair}
+use Rattle.turn_rule.specs.Looks.{Source, Notes, AreStakesOf, IsPairFor, MayFollow, MayFollowTurn, MayFollowDouble, of_roll, roll_pair}
 use Rattle.turn_rule.proofs.Within.{follow-state, at_member}
 use Rattle.turn_rule.proofs.Integers.{le_refl}
 use Rattle.turn_rule.proofs.Found.{AreAmong}
@@ -236,7 +236,7 @@ module _ (s : Source) (stakes : Terms) (valid : IsValid stakes) (fits : AreStake
   pub pass-within : IsWithin (pos 4 *ℤ s.bound) double.pass
   pass-within = wider s.bound double.pass positive (subst (λ (b : ℤ). IsWithin b double.pass) (sym fits.bound) right-double.pass)
 
-  module _ (w : Words) (found : List Bounds) (are : ArePairsFor (of_answer stakes p) double.answers.items s w found) where
+  module _ (w : Notes) (found : List Bounds) (are : ArePairsFor (of_answer stakes p) double.answers.items s w found) where
     pub taken-within : (pair : Bounds) → Among pair found → IsWithin (pos 4 *ℤ s.bound) pair
     taken-within = pairs-within s (of_answer stakes p) w (pos 4 *ℤ s.bound) double.answers.items answer-limit found are
 
@@ -246,23 +246,23 @@ module _ (s : Source) (stakes : Terms) (valid : IsValid stakes) (fits : AreStake
     pub doubled-within : IsWithin (pos 4 *ℤ s.bound) (least_pair double.pass found)
     doubled-within = least-within (pos 4 *ℤ s.bound) double.pass found pass-within taken-within
 
-    doubled-right : IsTrue s.tells → (q : Placement) (j : ℕ) → MayFollowDouble stakes p k q j → s.damage q j ≡ None
-    doubled-right tells q j may =
-        pairs-right s (of_answer stakes p) w tells double.answers.items found are may.taken
+    doubled-right : IsTrue w.told → (q : Placement) (j : ℕ) → MayFollowDouble stakes p k q j → s.damage q j ≡ None
+    doubled-right told q j may =
+        pairs-right s (of_answer stakes p) w told double.answers.items found are may.taken
         (Contains-Among may.taken double.answers.items (subst (λ (d : Double). Contains d.answers.items may.taken) (same_some _ _ _ may.right is) may.answer)) q j may.after
 
-    floor-taken : IsTrue s.tells → AllTighter found (taken_over stakes p double s.floor)
-    floor-taken tells = pairs-floor s (of_answer stakes p) w tells double.answers.items found are
+    floor-taken : IsTrue w.told → AllTighter found (taken_over stakes p double s.floor)
+    floor-taken told = pairs-floor s (of_answer stakes p) w told double.answers.items found are
 
-    notes-taken : IsTrue s.tells → AllTighter (taken_over stakes p double w) found
-    notes-taken tells = pairs-notes s (of_answer stakes p) w tells double.answers.items found are
+    notes-taken : IsTrue w.told → AllTighter (taken_over stakes p double w.words) found
+    notes-taken told = pairs-notes s (of_answer stakes p) w told double.answers.items found are
 
     pub answer-loss : (answer : Answer) → IsPairFor (of_loss stakes p k (Answered answer)) s w (loss (answer_options (negated double.pass) (map negated found) answer))
     answer-loss answer =
         loss-pair s w (MayFollowDouble stakes p k) (answers_over stakes p double answer) (λ u. loss_of stakes u p k (Answered answer)) (answers-same stakes p k double is answer) positive (answer_options (negated double.pass) (map negated found) answer)
         (answers-within (pos 4 *ℤ s.bound) (negated double.pass) (map negated found) answer (negated-within (pos 4 *ℤ s.bound) double.pass pass-within) (all-negated-within (pos 4 *ℤ s.bound) found taken-within))
-        (λ tells. answers-tighter (negated double.pass) (negated double.pass) (map negated found) (map negated (taken_over stakes p double s.floor)) answer (negated-tighter double.pass double.pass (same-pair double.pass)) (all-negated-tighter found (taken_over stakes p double s.floor) (floor-taken tells)))
-        (λ tells. answers-tighter (negated double.pass) (negated double.pass) (map negated (taken_over stakes p double w)) (map negated found) answer (negated-tighter double.pass double.pass (same-pair double.pass)) (all-negated-tighter (taken_over stakes p double w) found (notes-taken tells)))
+        (λ told. answers-tighter (negated double.pass) (negated double.pass) (map negated found) (map negated (taken_over stakes p double s.floor)) answer (negated-tighter double.pass double.pass (same-pair double.pass)) (all-negated-tighter found (taken_over stakes p double s.floor) (floor-taken told)))
+        (λ told. answers-tighter (negated double.pass) (negated double.pass) (map negated (taken_over stakes p double w.words)) (map negated found) answer (negated-tighter double.pass double.pass (same-pair double.pass)) (all-negated-tighter (taken_over stakes p double w.words) found (notes-taken told)))
         doubled-right
 
     -- an offer
@@ -274,9 +274,9 @@ module _ (s : Source) (stakes : Terms) (valid : IsValid stakes) (fits : AreStake
       offer-loss offer =
           loss-pair s w (MayFollowTurn stakes p k) (offers_over stakes p k double offer) (λ u. loss_of stakes u p k (Offered offer)) (offers-same stakes p k double is offer) positive (offer_options rolling (least_pair double.pass found) offer)
           (offers-within (pos 4 *ℤ s.bound) rolling (least_pair double.pass found) offer rolling-within doubled-within)
-          (λ tells. offers-tighter rolling (least_pair double.pass found) _ _ offer (pair-floor s (of_roll stakes p k 1) w rolling roll tells) (least-tighter double.pass double.pass found (taken_over stakes p double s.floor) (same-pair double.pass) (floor-taken tells)))
-          (λ tells. offers-tighter _ _ rolling (least_pair double.pass found) offer (pair-notes s (of_roll stakes p k 1) w rolling roll tells) (least-tighter double.pass double.pass (taken_over stakes p double w) found (same-pair double.pass) (notes-taken tells)))
-          (λ tells q j may. elim may [ inl after ↦ roll.right tells q j after | inr after ↦ doubled-right tells q j after ])
+          (λ told. offers-tighter rolling (least_pair double.pass found) _ _ offer (pair-floor s (of_roll stakes p k 1) w rolling roll told) (least-tighter double.pass double.pass found (taken_over stakes p double s.floor) (same-pair double.pass) (floor-taken told)))
+          (λ told. offers-tighter _ _ rolling (least_pair double.pass found) offer (pair-notes s (of_roll stakes p k 1) w rolling roll told) (least-tighter double.pass double.pass (taken_over stakes p double w.words) found (same-pair double.pass) (notes-taken told)))
+          (λ told q j may. elim may [ inl after ↦ roll.right told q j after | inr after ↦ doubled-right told q j after ])
 
   pub answers-follow : AreAmong (SomeStates (of_answer stakes p) double.answers.items) (MayFollowDouble stakes p k)
   answers-follow q j h = record { double = double; right = is; taken = h.0; answer = Among-Contains h.0 _ h.1; after = h.2 }
@@ -301,7 +301,7 @@ two-answers pairs theirs answer beaver among is =
     omega (arith, many, two)
 
 -- as many pairs as answers
-pub answer-count : (s : Source) (stakes : Terms) (p : Placement) (w : Words) (double : Double) (found : List Bounds) (answer : Answer) → ArePairsFor (of_answer stakes p) double.answers.items s w found → HasAnswer double answer → IsAmongAnswers (length found) answer
+pub answer-count : (s : Source) (stakes : Terms) (p : Placement) (w : Notes) (double : Double) (found : List Bounds) (answer : Answer) → ArePairsFor (of_answer stakes p) double.answers.items s w found → HasAnswer double answer → IsAmongAnswers (length found) answer
 answer-count s stakes p w double found Take are has = let many = pairs-length s (of_answer stakes p) double.answers.items w found are in omega (arith, many, has)
 answer-count s stakes p w double found Pass are has = tt
 answer-count s stakes p w double found Beaver are has = let many = pairs-length s (of_answer stakes p) double.answers.items w found are in omega (arith, many, has)

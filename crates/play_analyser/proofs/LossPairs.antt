@@ -8,7 +8,7 @@ use Rattle.directed_fixed.specs.declared.bounds.End.{End}
 use Rattle.directed_fixed.specs.declared.bounds.End.TheVariants.{Lower, Upper}
 use Rattle.directed_fixed.specs.Bounds.{Bounds, IsWithin, IsWithinUnits, AreNoLooserPairs, at, negated}
 use Rattle.turn_rule.specs.Turn.{Words}
-use Rattle.turn_rule.specs.Looks.{Source, Sought, States, IsPairOf, IsPairFor}
+use Rattle.turn_rule.specs.Looks.{Source, Notes, Sought, States, IsPairOf, IsPairFor}
 use Rattle.play_analyser.specs.Losses.{Options, ahead, loss, lower_ends, upper_ends}
 use Rattle.play_analyser.specs.Sought.{ArePairsFor}
 use Rattle.play_analyser.proofs.Tighter.{AllTighter, OptionsTighter, loss-tighter, negated-tighter}
@@ -67,22 +67,22 @@ loss-within bound z options within = record {
 pub units-of : (bound : ℤ) (pair : Bounds) → IsWithin bound pair → IsWithinUnits bound pair.lower × IsWithinUnits bound pair.upper
 units-of bound pair h = (record { from = h.from; to = between _ _ _ h.in_order h.to }, record { from = between _ _ _ h.from h.in_order; to = h.to })
 
-pub loss-pair : (s : Source) (w : Words) (states : States) (over : Words → Options Bounds) (value : Words → Bounds) → ((u : Words) → loss (over u) ≡ value u) → pos 0 ≤ℤ s.bound → (options : Options Bounds) → OptionsWithin (pos 4 *ℤ s.bound) options
-    → (IsTrue s.tells → OptionsTighter options (over s.floor)) → (IsTrue s.tells → OptionsTighter (over w) options) → (IsTrue s.tells → (p : Placement) (k : ℕ) → states p k → s.damage p k ≡ None)
+pub loss-pair : (s : Source) (w : Notes) (states : States) (over : Words → Options Bounds) (value : Words → Bounds) → ((u : Words) → loss (over u) ≡ value u) → pos 0 ≤ℤ s.bound → (options : Options Bounds) → OptionsWithin (pos 4 *ℤ s.bound) options
+    → (IsTrue w.told → OptionsTighter options (over s.floor)) → (IsTrue w.told → OptionsTighter (over w.words) options) → (IsTrue w.told → (p : Placement) (k : ℕ) → states p k → s.damage p k ≡ None)
     → IsPairOf s w states (pos 8 *ℤ s.bound) (λ (end : End) (u : Words). at end (value u)) (loss options)
 loss-pair s w states over value same z options within floor notes right =
     let inside = loss-within s.bound z options within in
     let units = units-of (pos 8 *ℤ s.bound) (loss options) inside in
-    let upon : IsTrue s.tells → AreNoLooserPairs (loss options) (value s.floor) = λ tells. subst (AreNoLooserPairs (loss options)) (same s.floor) (loss-tighter options (over s.floor) (floor tells)) in
-    let under : IsTrue s.tells → AreNoLooserPairs (value w) (loss options) = λ tells. subst (λ (b : Bounds). AreNoLooserPairs b (loss options)) (same w) (loss-tighter (over w) options (notes tells)) in
+    let upon : IsTrue w.told → AreNoLooserPairs (loss options) (value s.floor) = λ told. subst (AreNoLooserPairs (loss options)) (same s.floor) (loss-tighter options (over s.floor) (floor told)) in
+    let under : IsTrue w.told → AreNoLooserPairs (value w.words) (loss options) = λ told. subst (λ (b : Bounds). AreNoLooserPairs b (loss options)) (same w.words) (loss-tighter (over w.words) options (notes told)) in
     record {
       in_order = inside.in_order;
       lower = units.0;
       upper = units.1;
-      lower_floor = λ tells. (upon tells).lower;
-      upper_floor = λ tells. (upon tells).upper;
-      lower_notes = λ tells. (under tells).lower;
-      upper_notes = λ tells. (under tells).upper;
+      lower_floor = λ told. (upon told).lower;
+      upper_floor = λ told. (upon told).upper;
+      lower_notes = λ told. (under told).lower;
+      upper_notes = λ told. (under told).upper;
       right = right;
     }
 
@@ -92,27 +92,27 @@ loss-pair s w states over value same z options within floor notes right =
 abbrev pub pair_over : Sought → Words → Bounds
 pair_over sought u = record { lower = sought.value Lower u; upper = sought.value Upper u }
 
-pub pair-floor : (s : Source) (sought : Sought) (w : Words) (pair : Bounds) → IsPairFor sought s w pair → IsTrue s.tells → AreNoLooserPairs pair (pair_over sought s.floor)
-pair-floor s sought w pair is tells = record { lower = is.lower_floor tells; upper = is.upper_floor tells }
+pub pair-floor : (s : Source) (sought : Sought) (w : Notes) (pair : Bounds) → IsPairFor sought s w pair → IsTrue w.told → AreNoLooserPairs pair (pair_over sought s.floor)
+pair-floor s sought w pair is told = record { lower = is.lower_floor told; upper = is.upper_floor told }
 
-pub pair-notes : (s : Source) (sought : Sought) (w : Words) (pair : Bounds) → IsPairFor sought s w pair → IsTrue s.tells → AreNoLooserPairs (pair_over sought w) pair
-pair-notes s sought w pair is tells = record { lower = is.lower_notes tells; upper = is.upper_notes tells }
+pub pair-notes : (s : Source) (sought : Sought) (w : Notes) (pair : Bounds) → IsPairFor sought s w pair → IsTrue w.told → AreNoLooserPairs (pair_over sought w.words) pair
+pair-notes s sought w pair is told = record { lower = is.lower_notes told; upper = is.upper_notes told }
 
-pub pair-within : (s : Source) (sought : Sought) (w : Words) (pair : Bounds) (bound : ℤ) → sought.limit s.bound ≤ℤ bound → IsPairFor sought s w pair → IsWithin bound pair
+pub pair-within : (s : Source) (sought : Sought) (w : Notes) (pair : Bounds) (bound : ℤ) → sought.limit s.bound ≤ℤ bound → IsPairFor sought s w pair → IsWithin bound pair
 pair-within s sought w pair bound h is = let low = is.lower.from in let high = is.upper.to in record { from = omega (arith, ints); in_order = is.in_order; to = omega (arith, ints) }
 
-module _ {X : Type 0} (s : Source) (sought : X → Sought) (w : Words) where
-  pub pairs-floor : IsTrue s.tells → (xs : List X) (pairs : List Bounds) → ArePairsFor sought xs s w pairs → AllTighter pairs (map (λ (x : X). pair_over (sought x) s.floor) xs)
-  pairs-floor tells [] [] are = tt
-  pairs-floor tells [] (pair ∷ pairs) are = absurd are
-  pairs-floor tells (x ∷ xs) [] are = absurd are
-  pairs-floor tells (x ∷ xs) (pair ∷ pairs) are = (pair-floor s (sought x) w pair are.0 tells, pairs-floor tells xs pairs are.1)
+module _ {X : Type 0} (s : Source) (sought : X → Sought) (w : Notes) where
+  pub pairs-floor : IsTrue w.told → (xs : List X) (pairs : List Bounds) → ArePairsFor sought xs s w pairs → AllTighter pairs (map (λ (x : X). pair_over (sought x) s.floor) xs)
+  pairs-floor told [] [] are = tt
+  pairs-floor told [] (pair ∷ pairs) are = absurd are
+  pairs-floor told (x ∷ xs) [] are = absurd are
+  pairs-floor told (x ∷ xs) (pair ∷ pairs) are = (pair-floor s (sought x) w pair are.0 told, pairs-floor told xs pairs are.1)
 
-  pub pairs-notes : IsTrue s.tells → (xs : List X) (pairs : List Bounds) → ArePairsFor sought xs s w pairs → AllTighter (map (λ (x : X). pair_over (sought x) w) xs) pairs
-  pairs-notes tells [] [] are = tt
-  pairs-notes tells [] (pair ∷ pairs) are = absurd are
-  pairs-notes tells (x ∷ xs) [] are = absurd are
-  pairs-notes tells (x ∷ xs) (pair ∷ pairs) are = (pair-notes s (sought x) w pair are.0 tells, pairs-notes tells xs pairs are.1)
+  pub pairs-notes : IsTrue w.told → (xs : List X) (pairs : List Bounds) → ArePairsFor sought xs s w pairs → AllTighter (map (λ (x : X). pair_over (sought x) w.words) xs) pairs
+  pairs-notes told [] [] are = tt
+  pairs-notes told [] (pair ∷ pairs) are = absurd are
+  pairs-notes told (x ∷ xs) [] are = absurd are
+  pairs-notes told (x ∷ xs) (pair ∷ pairs) are = (pair-notes s (sought x) w pair are.0 told, pairs-notes told xs pairs are.1)
 
   pub pairs-within : (bound : ℤ) (xs : List X) → ((x : X) → Among x xs → (sought x).limit s.bound ≤ℤ bound) → (pairs : List Bounds) → ArePairsFor sought xs s w pairs → (pair : Bounds) → Among pair pairs → IsWithin bound pair
   pairs-within bound [] limit [] are pair m = absurd m
@@ -121,11 +121,11 @@ module _ {X : Type 0} (s : Source) (sought : X → Sought) (w : Words) where
   pairs-within bound (x ∷ xs) limit (first ∷ pairs) are pair (inl is) = subst (IsWithin bound) (sym is) (pair-within s (sought x) w first bound (limit x (inl refl)) are.0)
   pairs-within bound (x ∷ xs) limit (first ∷ pairs) are pair (inr m) = pairs-within bound xs (λ y n. limit y (inr n)) pairs are.1 pair m
 
-  pub pairs-right : IsTrue s.tells → (xs : List X) (pairs : List Bounds) → ArePairsFor sought xs s w pairs → (x : X) → Among x xs → (p : Placement) (k : ℕ) → (sought x).states p k → s.damage p k ≡ None
-  pairs-right tells [] pairs are x m p k may = absurd m
-  pairs-right tells (y ∷ xs) [] are x m p k may = absurd are
-  pairs-right tells (y ∷ xs) (pair ∷ pairs) are x (inl is) p k may = are.0.right tells p k (subst (λ (z : X). (sought z).states p k) is may)
-  pairs-right tells (y ∷ xs) (pair ∷ pairs) are x (inr m) p k may = pairs-right tells xs pairs are.1 x m p k may
+  pub pairs-right : IsTrue w.told → (xs : List X) (pairs : List Bounds) → ArePairsFor sought xs s w pairs → (x : X) → Among x xs → (p : Placement) (k : ℕ) → (sought x).states p k → s.damage p k ≡ None
+  pairs-right told [] pairs are x m p k may = absurd m
+  pairs-right told (y ∷ xs) [] are x m p k may = absurd are
+  pairs-right told (y ∷ xs) (pair ∷ pairs) are x (inl is) p k may = are.0.right told p k (subst (λ (z : X). (sought z).states p k) is may)
+  pairs-right told (y ∷ xs) (pair ∷ pairs) are x (inr m) p k may = pairs-right told xs pairs are.1 x m p k may
 
 -- ---- for the other side
 

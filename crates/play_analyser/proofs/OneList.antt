@@ -17,7 +17,7 @@ use Rattle.cube_actions.specs.declared.kind.Kind.{Kind}
 use Rattle.cube_actions.specs.declared.kind.Taken.{Taken}
 use Rattle.cube_actions.specs.Stakes.{Terms, kind_at}
 use Rattle.turn_rule.specs.Turn.{Words, win, if_won, worth, roll_value, least}
-use Rattle.turn_rule.specs.Looks.{Source, IsPairFor, of_roll, IsLeft, MayFollowTurn, MayFollow, MayFollowDouble, roll_pair}
+use Rattle.turn_rule.specs.Looks.{Source, Notes, IsPairFor, of_roll, IsLeft, MayFollowTurn, MayFollow, MayFollowDouble, roll_pair}
 use Rattle.turn_rule.specs.Following.{AgreeOn}
 use Rattle.turn_rule.specs.Found.{of_play}
 use Rattle.turn_rule.proofs.Agreement.{roll-agree}
@@ -113,46 +113,46 @@ module _ (stakes : Terms) (u v : Words) (p : Placement) (k : ℕ) where
 
 -- ---- rankings and advice
 
-pub play-exact : (source : Source) (u : Words) (kind : Kind) (q : Placement) (pair : Bounds) → IsTrue source.tells → ((end : End) → AgreeOn (IsLeft kind.next q) end source.floor u) → IsPairFor (of_play kind q) source u pair → pair ≡ play_pair kind u q
-play-exact source u kind q pair tells same is =
-    exact-pair source u (IsLeft kind.next q) source.bound (λ (end : End) (w : Words). worth end kind w q) pair tells (λ end. worth-same end kind source.floor u q (same (other end))) is
+pub play-exact : (source : Source) (u : Notes) (kind : Kind) (q : Placement) (pair : Bounds) → IsTrue u.told → ((end : End) → AgreeOn (IsLeft kind.next q) end source.floor u.words) → IsPairFor (of_play kind q) source u pair → pair ≡ play_pair kind u.words q
+play-exact source u kind q pair told same is =
+    exact-pair source u (IsLeft kind.next q) source.bound (λ (end : End) (w : Words). worth end kind w q) pair told (λ end. worth-same end kind source.floor u.words q (same (other end))) is
 
-pub roll-exact : (source : Source) (u : Words) (stakes : Terms) (p : Placement) (k factor : ℕ) (pair : Bounds) → IsTrue source.tells → ((end : End) → AgreeOn (MayFollow stakes p k) end source.floor u) → IsPairFor (of_roll stakes p k factor) source u pair → pair ≡ roll_pair stakes u p k factor
-roll-exact source u stakes p k factor pair tells same is =
-    exact-pair source u (MayFollow stakes p k) (pos factor *ℤ source.bound) (λ (end : End) (w : Words). roll_value end stakes w p k factor) pair tells (λ end. roll-agree stakes source.floor u end p k factor (same (other end))) is
+pub roll-exact : (source : Source) (u : Notes) (stakes : Terms) (p : Placement) (k factor : ℕ) (pair : Bounds) → IsTrue u.told → ((end : End) → AgreeOn (MayFollow stakes p k) end source.floor u.words) → IsPairFor (of_roll stakes p k factor) source u pair → pair ≡ roll_pair stakes u.words p k factor
+roll-exact source u stakes p k factor pair told same is =
+    exact-pair source u (MayFollow stakes p k) (pos factor *ℤ source.bound) (λ (end : End) (w : Words). roll_value end stakes w p k factor) pair told (λ end. roll-agree stakes source.floor u.words end p k factor (same (other end))) is
 
-pub rows-exact : (source : Source) (u : Words) (stakes : Terms) (p : Placement) (k : ℕ) (roll : Dice) (rows : List PlayRow) → IsTrue source.tells → ((end : End) → AgreeOn (MayFollowRoll stakes p k roll) end source.floor u) → ((q : Placement) → Contains (map (λ (row : PlayRow). row.entry.end) rows) q ↔ IsLegalEnd p roll q)
-    → All (λ (row : PlayRow). IsPairFor (of_play (kind_at stakes k) row.entry.end) source u row.pair) rows → All (λ (row : PlayRow). row.pair ≡ play_pair (kind_at stakes k) u row.entry.end) rows
-rows-exact source u stakes p k roll rows tells same ends pairs = all-of (λ (row : PlayRow). row.pair ≡ play_pair (kind_at stakes k) u row.entry.end) rows of_row where
-  of_row : (row : PlayRow) → Among row rows → row.pair ≡ play_pair (kind_at stakes k) u row.entry.end
+pub rows-exact : (source : Source) (u : Notes) (stakes : Terms) (p : Placement) (k : ℕ) (roll : Dice) (rows : List PlayRow) → IsTrue u.told → ((end : End) → AgreeOn (MayFollowRoll stakes p k roll) end source.floor u.words) → ((q : Placement) → Contains (map (λ (row : PlayRow). row.entry.end) rows) q ↔ IsLegalEnd p roll q)
+    → All (λ (row : PlayRow). IsPairFor (of_play (kind_at stakes k) row.entry.end) source u row.pair) rows → All (λ (row : PlayRow). row.pair ≡ play_pair (kind_at stakes k) u.words row.entry.end) rows
+rows-exact source u stakes p k roll rows told same ends pairs = all-of (λ (row : PlayRow). row.pair ≡ play_pair (kind_at stakes k) u.words row.entry.end) rows of_row where
+  of_row : (row : PlayRow) → Among row rows → row.pair ≡ play_pair (kind_at stakes k) u.words row.entry.end
   of_row row m =
       let end = row.entry.end in
       let legal = (ends end).0 (Among-Contains end (map (λ (r : PlayRow). r.entry.end) rows) (Among-map (λ (r : PlayRow). r.entry.end) row rows m)) in
-      play-exact source u (kind_at stakes k) end row.pair tells (λ e q j left. same e q j (record { end = end; legal = legal; left = left }))
+      play-exact source u (kind_at stakes k) end row.pair told (λ e q j left. same e q j (record { end = end; legal = legal; left = left }))
       (member (λ (r : PlayRow). IsPairFor (of_play (kind_at stakes k) r.entry.end) source u r.pair) rows pairs row m)
 
-answers-exact : (source : Source) (u : Words) (stakes : Terms) (p : Placement) (answers : List Taken) → IsTrue source.tells → ((taken : Taken) → Among taken answers → (end : End) → AgreeOn (MayFollow stakes p taken.kind) end source.floor u) → (pairs : List Bounds) → ArePairsFor (of_answer stakes p) answers source u pairs → pairs ≡ map (λ (taken : Taken). taken_pair stakes u p taken) answers
-answers-exact source u stakes p [] tells same [] are = refl
-answers-exact source u stakes p [] tells same (pair ∷ pairs) are = absurd are
-answers-exact source u stakes p (taken ∷ answers) tells same [] are = absurd are
-answers-exact source u stakes p (taken ∷ answers) tells same (pair ∷ pairs) are =
-    ap (λ (b : Bounds). b ∷ pairs) (roll-exact source u stakes p taken.kind taken.factor pair tells (same taken (inl refl)) are.0)
-    ∙ ap (λ (bs : List Bounds). taken_pair stakes u p taken ∷ bs) (answers-exact source u stakes p answers tells (λ t m. same t (inr m)) pairs are.1)
+answers-exact : (source : Source) (u : Notes) (stakes : Terms) (p : Placement) (answers : List Taken) → IsTrue u.told → ((taken : Taken) → Among taken answers → (end : End) → AgreeOn (MayFollow stakes p taken.kind) end source.floor u.words) → (pairs : List Bounds) → ArePairsFor (of_answer stakes p) answers source u pairs → pairs ≡ map (λ (taken : Taken). taken_pair stakes u.words p taken) answers
+answers-exact source u stakes p [] told same [] are = refl
+answers-exact source u stakes p [] told same (pair ∷ pairs) are = absurd are
+answers-exact source u stakes p (taken ∷ answers) told same [] are = absurd are
+answers-exact source u stakes p (taken ∷ answers) told same (pair ∷ pairs) are =
+    ap (λ (b : Bounds). b ∷ pairs) (roll-exact source u stakes p taken.kind taken.factor pair told (same taken (inl refl)) are.0)
+    ∙ ap (λ (bs : List Bounds). taken_pair stakes u.words p taken ∷ bs) (answers-exact source u stakes p answers told (λ t m. same t (inr m)) pairs are.1)
 
-pub advice-exact : (source : Source) (u : Words) (stakes : Terms) (p : Placement) (k : ℕ) (advice : CubeAdvice) → IsTrue source.tells → ((end : End) → AgreeOn (MayFollowTurn stakes p k) end source.floor u) → IsCubeAdvice stakes p k source u advice → IsCubeAdviceOver stakes u p k advice
-advice-exact source u stakes p k advice tells same is = record {
-  no_double = roll-exact source u stakes p k 1 advice.no_double tells (λ end q j after. same end q j (inl after)) is.no_double;
+pub advice-exact : (source : Source) (u : Notes) (stakes : Terms) (p : Placement) (k : ℕ) (advice : CubeAdvice) → IsTrue u.told → ((end : End) → AgreeOn (MayFollowTurn stakes p k) end source.floor u.words) → IsCubeAdvice stakes p k source u advice → IsCubeAdviceOver stakes u.words p k advice
+advice-exact source u stakes p k advice told same is = record {
+  no_double = roll-exact source u stakes p k 1 advice.no_double told (λ end q j after. same end q j (inl after)) is.no_double;
   action = by_both (kind_at stakes k).double refl advice.action is.action;
 } where
   over : List Taken → List Bounds → Type 0
-  over answers pairs = pairs ≡ map (λ (taken : Taken). taken_pair stakes u p taken) answers
+  over answers pairs = pairs ≡ map (λ (taken : Taken). taken_pair stakes u.words p taken) answers
 
   by_both : (o : Option Double) → (kind_at stakes k).double ≡ o → (action : Option CubeAction) → IsAdviceOn o action (λ d a. IsActionBy (λ answers pairs. ArePairsFor (of_answer stakes p) answers source u pairs) advice.no_double d a) → IsAdviceOn o action (λ d a. IsActionBy over advice.no_double d a)
   by_both None none None h = tt
   by_both None none (Some action) h = absurd h
   by_both (Some double) some None h = absurd h
   by_both (Some double) some (Some action) h = record {
-    taken = answers-exact source u stakes p double.answers.items tells (λ taken m end q j after. same end q j (answer-follows stakes p k double some taken m q j after)) (taken_of action) h.taken;
+    taken = answers-exact source u stakes p double.answers.items told (λ taken m end q j after. same end q j (answer-follows stakes p k double some taken m q j after)) (taken_of action) h.taken;
     pass = h.pass;
     advised = h.advised;
   }

@@ -12,12 +12,12 @@ use Rattle.directed_fixed.specs.Bounds.{Bounds, IsNoLooser, IsWithin, other, at}
 use Rattle.cube_actions.specs.declared.kind.Kind.{Kind}
 use Rattle.turn_rule.specs.Turn.{Words, win, if_won, worth}
 use Rattle.turn_rule.specs.States.{AreNoLooserOf}
-use Rattle.turn_rule.specs.Looks.{Source, Sought, Looked, HasDamage, IsPairFor, AreSourceWords}
+use Rattle.turn_rule.specs.Looks.{Source, Notes, Sought, AreLater, Looked, HasDamage, IsPairFor, AreSourceWords}
 use Rattle.turn_rule.specs.Found.{LeavesState, of_play}
 use Rattle.turn_rule.proofs.Integers.{neg_le}
 use Rattle.turn_rule.proofs.Tight.{tight-refl, tight-trans}
 use Rattle.turn_rule.proofs.Tightness.{tight-neg}
-use Rattle.turn_rule.proofs.Found.{AreAmong, Tightened, then-ok}
+use Rattle.turn_rule.proofs.Found.{AreAmong, then-ok}
 use Rattle.play_analyser.specs.Sought.{ArePairsFor, SomeStates}
 
 -- over tighter words of a source, what is sought is as tight
@@ -52,40 +52,40 @@ among-take (first ∷ rest) zero x m = absurd m
 among-take (first ∷ rest) (suc i) x (inl is) = inl is
 among-take (first ∷ rest) (suc i) x (inr m) = inr (among-take rest i x m)
 
-pub pair-later : (s : Source) (sought : Sought) → Tightens s sought → (u v : Words) → Tightened s v u → (pair : Bounds) → IsPairFor sought s u pair → IsPairFor sought s v pair
+pub pair-later : (s : Source) (sought : Sought) → Tightens s sought → (u v : Notes) → AreLater s u v → (pair : Bounds) → IsPairFor sought s u pair → IsPairFor sought s v pair
 pair-later s sought tightens u v tighter pair is = record {
   in_order = is.in_order;
   lower = is.lower;
   upper = is.upper;
-  lower_floor = is.lower_floor;
-  upper_floor = is.upper_floor;
-  lower_notes = λ tells. tight-trans Lower _ _ _ (tightens Lower v u (tighter tells)) (is.lower_notes tells);
-  upper_notes = λ tells. tight-trans Upper _ _ _ (tightens Upper v u (tighter tells)) (is.upper_notes tells);
-  right = is.right;
+  lower_floor = λ told. is.lower_floor (tighter.told told);
+  upper_floor = λ told. is.upper_floor (tighter.told told);
+  lower_notes = λ told. tight-trans Lower _ _ _ (tightens Lower v.words u.words (tighter.words told)) (is.lower_notes (tighter.told told));
+  upper_notes = λ told. tight-trans Upper _ _ _ (tightens Upper v.words u.words (tighter.words told)) (is.upper_notes (tighter.told told));
+  right = λ told. is.right (tighter.told told);
 }
 
 module _ {X : Type 0} (s : Source) (sought : X → Sought) where
-  pub pairs-later : (xs : List X) → ((x : X) → Among x xs → Tightens s (sought x)) → (u v : Words) → Tightened s v u → (pairs : List Bounds) → ArePairsFor sought xs s u pairs → ArePairsFor sought xs s v pairs
+  pub pairs-later : (xs : List X) → ((x : X) → Among x xs → Tightens s (sought x)) → (u v : Notes) → AreLater s u v → (pairs : List Bounds) → ArePairsFor sought xs s u pairs → ArePairsFor sought xs s v pairs
   pairs-later [] tightens u v tighter [] are = tt
   pairs-later [] tightens u v tighter (pair ∷ pairs) are = absurd are
   pairs-later (x ∷ xs) tightens u v tighter [] are = absurd are
   pairs-later (x ∷ xs) tightens u v tighter (pair ∷ pairs) are =
       (pair-later s (sought x) (tightens x (inl refl)) u v tighter pair are.0, pairs-later xs (λ y m. tightens y (inr m)) u v tighter pairs are.1)
 
-  pairs-append : (xs : List X) (x : X) (u : Words) (pairs : List Bounds) (pair : Bounds) → ArePairsFor sought xs s u pairs → IsPairFor (sought x) s u pair → ArePairsFor sought (xs ++ x ∷ []) s u (pairs ++ pair ∷ [])
+  pairs-append : (xs : List X) (x : X) (u : Notes) (pairs : List Bounds) (pair : Bounds) → ArePairsFor sought xs s u pairs → IsPairFor (sought x) s u pair → ArePairsFor sought (xs ++ x ∷ []) s u (pairs ++ pair ∷ [])
   pairs-append [] x u [] pair are is = (is, tt)
   pairs-append [] x u (first ∷ pairs) pair are is = absurd are
   pairs-append (y ∷ xs) x u [] pair are is = absurd are
   pairs-append (y ∷ xs) x u (first ∷ pairs) pair are is = (are.0, pairs-append xs x u pairs pair are.1 is)
 
-  pub pairs-length : (xs : List X) (u : Words) (pairs : List Bounds) → ArePairsFor sought xs s u pairs → length pairs ≡ length xs
+  pub pairs-length : (xs : List X) (u : Notes) (pairs : List Bounds) → ArePairsFor sought xs s u pairs → length pairs ≡ length xs
   pairs-length [] u [] are = refl
   pairs-length [] u (pair ∷ pairs) are = absurd are
   pairs-length (x ∷ xs) u [] are = absurd are
   pairs-length (x ∷ xs) u (pair ∷ pairs) are = ap suc (pairs-length xs u pairs are.1)
 
   -- one more, after those before it
-  pub next-pair : (xs : List X) (u v w : Words) (a b c i : ℕ) (x : X) (found now : ArrayVec Bounds) (pair : Bounds) → i < length xs → x ≡ get_or xs i x → ((y : X) → Among y xs → Tightens s (sought y)) → now.items ≡ found.items ++ pair ∷ []
+  pub next-pair : (xs : List X) (u v w : Notes) (a b c i : ℕ) (x : X) (found now : ArrayVec Bounds) (pair : Bounds) → i < length xs → x ≡ get_or xs i x → ((y : X) → Among y xs → Tightens s (sought y)) → now.items ≡ found.items ++ pair ∷ []
       → Looked s u v a b (HasDamage s (SomeStates sought xs)) (λ (f : ArrayVec Bounds). ArePairsFor sought (take i xs) s v f.items) (Ok found)
       → Looked s v w b c (HasDamage s (sought x).states) (IsPairFor (sought x) s w) (Ok pair)
       → Looked s u w a c (HasDamage s (SomeStates sought xs)) (λ (f : ArrayVec Bounds). ArePairsFor sought (take (i + 1) xs) s w f.items) (Ok now)

@@ -18,12 +18,11 @@ use Rattle.cube_actions.specs.Stakes.{Terms, kind_at, no_kind, IsValid}
 use Rattle.turn_rule.specs.Games.{game_of}
 use Rattle.turn_rule.specs.Turn.{Words, win}
 use Rattle.turn_rule.specs.States.{IsStateOf, IsState}
-use Rattle.turn_rule.specs.Looks.{Source, Damage, Looked, HasDamage, IsPairFor, AreStakesOf, IsLeft}
+use Rattle.turn_rule.specs.Looks.{Source, Notes, Damage, Looked, HasDamage, IsPairFor, AreStakesOf, IsLeft}
 use Rattle.turn_rule.specs.Found.{LeavesState, of_play}
 use Rattle.turn_rule.proofs.Within.{bound-positive, bound-small, win-within, next_state}
 use Rattle.turn_rule.proofs.Integers.{le_refl}
-use Rattle.turn_rule.proofs.Tight.{words-refl}
-use Rattle.turn_rule.proofs.Found.{AreAmong, then-ok, then-err}
+use Rattle.turn_rule.proofs.Found.{AreAmong, notes-refl, then-ok, then-err}
 use Rattle.game_record.specs.declared.decision.Choice.TheVariants.{Played}
 use Rattle.play_analyser.specs.Losses.{Options, ahead, loss}
 use Rattle.play_analyser.specs.Choices.{all_but, same_position}
@@ -88,14 +87,14 @@ all-of P (x ∷ xs) h zero d below = h x (inl refl)
 all-of P (x ∷ xs) h (suc i) d below = all-of P xs (λ y m. h y (inr m)) i d (omega arith)
 
 -- no look-up
-pub nothing-looked : (s : Source) (u : Words) (a : ℕ) (meant : Damage → Type 0) → Looked s u u a a meant (λ (x : Unit {0}). ⊤) (Ok tt)
-nothing-looked s u a meant = record { later = omega arith; notes = λ tells. words-refl s.checkers s.kinds u; answer = tt; stop = tt }
+pub nothing-looked : (s : Source) (u : Notes) (a : ℕ) (meant : Damage → Type 0) → Looked s u u a a meant (λ (x : Unit {0}). ⊤) (Ok tt)
+nothing-looked s u a meant = record { later = omega arith; notes = notes-refl s u; answer = tt; stop = tt }
 
-pub asked-nothing : {A : Type 0} (s : Source) (u : Words) (a : ℕ) (meant : Damage → Type 0) (right : A → Type 0) (x : A) → right x → Looked s u u a a meant right (Ok x)
-asked-nothing s u a meant right x is = record { later = omega arith; notes = λ tells. words-refl s.checkers s.kinds u; answer = is; stop = tt }
+pub asked-nothing : {A : Type 0} (s : Source) (u : Notes) (a : ℕ) (meant : Damage → Type 0) (right : A → Type 0) (x : A) → right x → Looked s u u a a meant right (Ok x)
+asked-nothing s u a meant right x is = record { later = omega arith; notes = notes-refl s u; answer = is; stop = tt }
 
 -- the first look-up stopped
-pub first-err : {A B : Type 0} (s : Source) (u v : Words) (a b : ℕ) (meant meant' : Damage → Type 0) (right : A → Type 0) (right' : B → Type 0) (stop : LookStop) → Looked s u v a b meant right (Err stop) → ((damage : Damage) → meant damage → meant' damage) → Looked s u v a b meant' right' (Err stop)
+pub first-err : {A B : Type 0} (s : Source) (u v : Notes) (a b : ℕ) (meant meant' : Damage → Type 0) (right : A → Type 0) (right' : B → Type 0) (stop : LookStop) → Looked s u v a b meant right (Err stop) → ((damage : Damage) → meant damage → meant' damage) → Looked s u v a b meant' right' (Err stop)
 first-err s u v a b meant meant' right right' stop looked within = then-err s u u v a a b meant' meant meant' (λ (x : Unit {0}). ⊤) right right' tt stop (nothing-looked s u a meant') looked within
 
 pub no-others : (xs : List Placement) → length xs ≡ 0 → xs ≡ []
@@ -150,10 +149,10 @@ module _ (s : Source) (stakes : Terms) (valid : IsValid stakes) (fits : AreStake
   once : s.bound ≤ℤ (pos 4 *ℤ s.bound)
   once = let z = source-positive in omega (arith, ints)
 
-  pub near-play : (q : Placement) (w : Words) (pair : Bounds) → IsPairFor (of_play (kind_at stakes k) q) s w pair → IsNear pair
+  pub near-play : (q : Placement) (w : Notes) (pair : Bounds) → IsPairFor (of_play (kind_at stakes k) q) s w pair → IsNear pair
   near-play q w pair is = source-near pair (pair-within s (of_play (kind_at stakes k) q) w pair (pos 4 *ℤ s.bound) once is)
 
-  pub near-plays : (qs : List Placement) (w : Words) (pairs : List Bounds) → ArePairsFor (of_play (kind_at stakes k)) qs s w pairs → All IsNear pairs
+  pub near-plays : (qs : List Placement) (w : Notes) (pairs : List Bounds) → ArePairsFor (of_play (kind_at stakes k)) qs s w pairs → All IsNear pairs
   near-plays qs w pairs rest = all-of IsNear pairs (λ pair m. source-near pair (pairs-within s (of_play (kind_at stakes k)) w (pos 4 *ℤ s.bound) qs (λ q n. once) pairs rest pair m))
 
   module _ (roll : Dice) (end : Placement) (others : List Placement) (are : AreOthers p roll end others) where
@@ -166,23 +165,23 @@ module _ (s : Source) (stakes : Terms) (valid : IsValid stakes) (fits : AreStake
     pub others-follow : AreAmong (SomeStates (of_play (kind_at stakes k)) others) (MayFollowPlay stakes p k roll end)
     others-follow q j may = record { other = may.0; allowed = (are.legal may.0 may.1).0; differs = (are.legal may.0 may.1).1; end = may.0; legal = (are.legal may.0 may.1).0; left = may.2 }
 
-    module _ (w : Words) (chosen : Bounds) (pairs : List Bounds) (one : IsPairFor (of_play (kind_at stakes k) end) s w chosen) (rest : ArePairsFor (of_play (kind_at stakes k)) others s w pairs) where
-      right : IsTrue s.tells → (q : Placement) (j : ℕ) → MayFollowPlay stakes p k roll end q j → s.damage q j ≡ None
-      right tells q j may = by_same (same_position may.end end) refl where
+    module _ (w : Notes) (chosen : Bounds) (pairs : List Bounds) (one : IsPairFor (of_play (kind_at stakes k) end) s w chosen) (rest : ArePairsFor (of_play (kind_at stakes k)) others s w pairs) where
+      right : IsTrue w.told → (q : Placement) (j : ℕ) → MayFollowPlay stakes p k roll end q j → s.damage q j ≡ None
+      right told q j may = by_same (same_position may.end end) refl where
         by_same : (same : Bool) → same_position may.end end ≡ same → s.damage q j ≡ None
-        by_same true is = one.right tells q j (subst (λ (r : Placement). IsLeft (kind_at stakes k).next r q j) (same-is may.end end is) may.left)
-        by_same false is = pairs-right s (of_play (kind_at stakes k)) w tells others pairs rest may.end (are.all may.end may.legal (other-is may.end end is)) q j may.left
+        by_same true is = one.right told q j (subst (λ (r : Placement). IsLeft (kind_at stakes k).next r q j) (same-is may.end end is) may.left)
+        by_same false is = pairs-right s (of_play (kind_at stakes k)) w told others pairs rest may.end (are.all may.end may.legal (other-is may.end end is)) q j may.left
 
       pub play-loss : IsPairFor (of_loss stakes p k (Played roll end)) s w (loss (record { chosen = chosen; others = pairs }))
       play-loss =
           let kind = kind_at stakes k in
           loss-pair s w (MayFollowPlay stakes p k roll end) (plays_over stakes k end others) (λ u. loss_of stakes u p k (Played roll end)) (same-loss stakes p k roll end others are) source-positive (record { chosen = chosen; others = pairs })
           (record { chosen = pair-within s (of_play kind end) w chosen (pos 4 *ℤ s.bound) once one; others = pairs-within s (of_play kind) w (pos 4 *ℤ s.bound) others (λ q m. once) pairs rest })
-          (λ tells. record { chosen = pair-floor s (of_play kind end) w chosen one tells; others = pairs-floor s (of_play kind) w tells others pairs rest })
-          (λ tells. record { chosen = pair-notes s (of_play kind end) w chosen one tells; others = pairs-notes s (of_play kind) w tells others pairs rest })
+          (λ told. record { chosen = pair-floor s (of_play kind end) w chosen one told; others = pairs-floor s (of_play kind) w told others pairs rest })
+          (λ told. record { chosen = pair-notes s (of_play kind end) w chosen one told; others = pairs-notes s (of_play kind) w told others pairs rest })
           right
 
-    pub play-losses : IsLegalEnd p roll end → IsRoll roll → (u v w : Words) (a b c : ℕ) (chosen : Bounds) (found : ArrayVec Bounds) (now : Bounds) → now ≡ loss (record { chosen = chosen; others = found.items })
+    pub play-losses : IsLegalEnd p roll end → IsRoll roll → (u v w : Notes) (a b c : ℕ) (chosen : Bounds) (found : ArrayVec Bounds) (now : Bounds) → now ≡ loss (record { chosen = chosen; others = found.items })
         → Looked s u v a b (HasDamage s (IsLeft (kind_at stakes k).next end)) (IsPairFor (of_play (kind_at stakes k) end) s v) (Ok chosen)
         → Looked s v w b c (HasDamage s (SomeStates (of_play (kind_at stakes k)) others)) (λ (f : ArrayVec Bounds). ArePairsFor (of_play (kind_at stakes k)) others s w f.items) (Ok found)
         → Looked s u w a c (HasDamage s (MayFollowPlay stakes p k roll end)) (IsPairFor (of_loss stakes p k (Played roll end)) s w) (Ok now)
@@ -197,16 +196,16 @@ module _ (s : Source) (stakes : Terms) (valid : IsValid stakes) (fits : AreStake
     zero-units = let z = source-positive in record { from = omega (arith, ints); to = omega (arith, ints) }
 
     -- the one play that a roll allows
-    pub lone-play : (w : Words) → IsPairFor (of_loss stakes p k (Played roll end)) s w at_zero
+    pub lone-play : (w : Notes) → IsPairFor (of_loss stakes p k (Played roll end)) s w at_zero
     lone-play w =
         let zero_is = λ (u : Words). same-loss stakes p k roll end [] are u in
         record {
           in_order = le_refl _;
           lower = zero-units;
           upper = zero-units;
-          lower_floor = λ tells. subst (λ (b : Bounds). b.lower ≤ℤ pos 0) (zero_is s.floor) (le_refl _);
-          upper_floor = λ tells. subst (λ (b : Bounds). pos 0 ≤ℤ b.upper) (zero_is s.floor) (le_refl _);
-          lower_notes = λ tells. subst (λ (b : Bounds). pos 0 ≤ℤ b.lower) (zero_is w) (le_refl _);
-          upper_notes = λ tells. subst (λ (b : Bounds). b.upper ≤ℤ pos 0) (zero_is w) (le_refl _);
-          right = λ tells q j may. absurd (are.all may.other may.allowed may.differs);
+          lower_floor = λ told. subst (λ (b : Bounds). b.lower ≤ℤ pos 0) (zero_is s.floor) (le_refl _);
+          upper_floor = λ told. subst (λ (b : Bounds). pos 0 ≤ℤ b.upper) (zero_is s.floor) (le_refl _);
+          lower_notes = λ told. subst (λ (b : Bounds). pos 0 ≤ℤ b.lower) (zero_is w.words) (le_refl _);
+          upper_notes = λ told. subst (λ (b : Bounds). b.upper ≤ℤ pos 0) (zero_is w.words) (le_refl _);
+          right = λ told q j may. absurd (are.all may.other may.allowed may.differs);
         }

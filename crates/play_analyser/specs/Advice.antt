@@ -7,7 +7,7 @@ use Rattle.cube_actions.specs.declared.kind.Double.{Double as DoubleOf}
 use Rattle.cube_actions.specs.declared.kind.Taken.{Taken}
 use Rattle.cube_actions.specs.Stakes.{Terms, kind_at}
 use Rattle.turn_rule.specs.Turn.{Words}
-use Rattle.turn_rule.specs.Looks.{Source, IsRollPair, roll_pair}
+use Rattle.turn_rule.specs.Looks.{Source, Notes, IsRollPair, roll_pair}
 use Rattle.game_record.specs.declared.decision.Offer.{Offer}
 use Rattle.game_record.specs.declared.decision.Offer.TheVariants.{NoDouble, Double}
 use Rattle.game_record.specs.declared.decision.Answer.{Answer}
@@ -85,7 +85,7 @@ pub record IsAdvisedBy (rolling_is : Bounds → Type 0)
       (λ double action. IsActionBy taken_are advice.no_double double action)
 
 -- by pairs from a source's words
-abbrev pub IsCubeAdvice : Terms → Placement → ℕ → Source → Words → CubeAdvice → Type 0
+abbrev pub IsCubeAdvice : Terms → Placement → ℕ → Source → Notes → CubeAdvice → Type 0
 IsCubeAdvice stakes p k source noted =
     IsAdvisedBy (IsRollPair stakes p k 1 source noted)
     (λ answers pairs. ArePairsFor (of_answer stakes p) answers source noted pairs) stakes k

@@ -7,8 +7,7 @@ use Rattle.move_rules.specs.Sequences.{IsLegalEnd}
 use Rattle.directed_fixed.specs.Bounds.{Bounds, IsWithin, at}
 use Rattle.cube_actions.specs.declared.kind.Taken.{Taken}
 use Rattle.cube_actions.specs.Stakes.{Terms, kind_at}
-use Rattle.turn_rule.specs.Turn.{Words}
-use Rattle.turn_rule.specs.Looks.{Source, States, Sought, IsPairFor, IsLeft, MayFollowTurn, MayFollowDouble, of_roll}
+use Rattle.turn_rule.specs.Looks.{Source, Notes, States, Sought, IsPairFor, IsLeft, MayFollowTurn, MayFollowDouble, of_roll}
 use Rattle.game_record.specs.declared.decision.Choice.{Choice}
 use Rattle.game_record.specs.declared.decision.Choice.TheVariants.{Played, Offered, Answered}
 use Rattle.play_analyser.specs.Regrets.{loss_of}
@@ -46,7 +45,7 @@ abbrev pub SomeStates : {X : Type 0} → (X → Sought) → List X → States
 SomeStates {X} sought xs q j = (x : X) × Among x xs × (sought x).states q j
 
 -- a pair for each of some, in their order
-abbrev pub ArePairsFor : {X : Type 0} → (X → Sought) → List X → Source → Words → List Bounds
+abbrev pub ArePairsFor : {X : Type 0} → (X → Sought) → List X → Source → Notes → List Bounds
     → Type 0
 ArePairsFor sought [] source noted [] = ⊤
 ArePairsFor sought [] source noted (pair ∷ pairs) = ⊥

@@ -20,6 +20,7 @@ ghost use Rattle.turn_rule.specs.Looks.{
   IsPairFor,
   LooksUp,
   MayFollowTurn,
+  Notes,
   Seen,
   Source,
 };
@@ -36,40 +37,43 @@ ghost use Rattle.play_analyser.specs.Sought.{MayFollowChoice, of_loss};
 /// Where a source's floor and its notes are the same words on the states that may follow, the pair
 /// of a play is what it gives over these words.
 pub fn one_list_gives_the_play()
-    ensures { (source : Source) (u : Words) (kind : Kind) (q : Placement) (pair : Bounds)
-        → IsTrue source.tells
-        → ((end : End) → AgreeOn (IsLeft kind.next q) end source.floor u)
-        → IsPairFor (of_play kind q) source u pair → pair ≡ play_pair kind u q }
+    ensures { (source : Source) (noted : Notes) (kind : Kind) (q : Placement) (pair : Bounds)
+        → IsTrue noted.told
+        → ((end : End) → AgreeOn (IsLeft kind.next q) end source.floor noted.words)
+        → IsPairFor (of_play kind q) source noted pair → pair ≡ play_pair kind noted.words q }
 {}
 
 /// Where a source's floor and its notes are the same words on the states that may follow, the loss
 /// of a choice is what it loses over these words.
 pub fn one_list_gives_the_loss()
-    ensures { (source : Source) (u : Words) (stakes : Terms) (p : Placement) (k : ℕ)
+    ensures { (source : Source) (noted : Notes) (stakes : Terms) (p : Placement) (k : ℕ)
         (choice : Choice) (pair : Bounds)
-        → IsTrue source.tells → IsChoice stakes p k choice
-        → ((end : End) → AgreeOn (MayFollowChoice stakes p k choice) end source.floor u)
-        → IsPairFor (of_loss stakes p k choice) source u pair → pair ≡ loss_of stakes u p k choice }
+        → IsTrue noted.told → IsChoice stakes p k choice
+        → ((end : End) → AgreeOn (MayFollowChoice stakes p k choice) end source.floor noted.words)
+        → IsPairFor (of_loss stakes p k choice) source noted pair
+        → pair ≡ loss_of stakes noted.words p k choice }
 {}
 
 /// Where a source's floor and its notes are the same words on the states that may follow, a ranking
 /// is that over these words.
 pub fn one_list_gives_the_ranking()
-    ensures { (source : Source) (u : Words) (stakes : Terms) (p : Placement) (k : ℕ) (roll : Dice)
-        (ranking : Ranking)
-        → IsTrue source.tells
-        → ((end : End) → AgreeOn (MayFollowRoll stakes p k roll) end source.floor u)
-        → IsRanking stakes p k roll source u ranking → IsRankingOver stakes u p k roll ranking }
+    ensures { (source : Source) (noted : Notes) (stakes : Terms) (p : Placement) (k : ℕ)
+        (roll : Dice) (ranking : Ranking)
+        → IsTrue noted.told
+        → ((end : End) → AgreeOn (MayFollowRoll stakes p k roll) end source.floor noted.words)
+        → IsRanking stakes p k roll source noted ranking
+        → IsRankingOver stakes noted.words p k roll ranking }
 {}
 
 /// Where a source's floor and its notes are the same words on the states that may follow, advice is
 /// that over these words.
 pub fn one_list_gives_the_advice()
-    ensures { (source : Source) (u : Words) (stakes : Terms) (p : Placement) (k : ℕ)
+    ensures { (source : Source) (noted : Notes) (stakes : Terms) (p : Placement) (k : ℕ)
         (advice : CubeAdvice)
-        → IsTrue source.tells
-        → ((end : End) → AgreeOn (MayFollowTurn stakes p k) end source.floor u)
-        → IsCubeAdvice stakes p k source u advice → IsCubeAdviceOver stakes u p k advice }
+        → IsTrue noted.told
+        → ((end : End) → AgreeOn (MayFollowTurn stakes p k) end source.floor noted.words)
+        → IsCubeAdvice stakes p k source noted advice
+        → IsCubeAdviceOver stakes noted.words p k advice }
 {}
 
 /// Over a sure source each call is answered.
@@ -93,12 +97,12 @@ pub fn sure_sources_advise()
 /// Where words enclose every state, the loss of a choice that was looked up in a source with these
 /// words noted encloses what the choice loses exactly, a turn before.
 pub fn looked_losses_enclose_regrets()
-    ensures { (game : Game) (scoring : Scoring) (turns : ℕ) (u : Words)
-        → AreTrueWords game scoring turns u
+    ensures { (game : Game) (scoring : Scoring) (turns : ℕ) (noted : Notes)
+        → AreTrueWords game scoring turns noted.words
         → (p : Placement) (k : ℕ) → IsState game p k
         → (choice : Choice) → IsChoice game.stakes p k choice
         → (source : Source) (pair : Bounds)
-        → IsTrue source.tells → IsPairFor (of_loss game.stakes p k choice) source u pair
+        → IsTrue noted.told → IsPairFor (of_loss game.stakes p k choice) source noted pair
         → Encloses pair (regret_of game.stakes scoring turns p k choice)
         (counted_over scoring turns choice) }
 {}
@@ -112,12 +116,12 @@ pub fn best_plays_lose_at_most_their_bounds()
         → (roll : Dice) → IsRoll roll
         → (ranking : Ranking) → IsRankingOver game.stakes u p k roll ranking
         → FirstLosesAtMost game scoring turns p k roll ranking.rows.items ranking.loss_bound }
-    ensures looked { (game : Game) (scoring : Scoring) (turns : ℕ) (u : Words)
-        → AreTrueWords game scoring turns u
+    ensures looked { (game : Game) (scoring : Scoring) (turns : ℕ) (noted : Notes)
+        → AreTrueWords game scoring turns noted.words
         → (p : Placement) (k : ℕ) → IsState game p k
         → (roll : Dice) → IsRoll roll
         → (source : Source) (ranking : Ranking)
-        → IsTrue source.tells → IsRanking game.stakes p k roll source u ranking
+        → IsTrue noted.told → IsRanking game.stakes p k roll source noted ranking
         → FirstLosesAtMost game scoring turns p k roll ranking.rows.items ranking.loss_bound }
 {}
 
@@ -128,10 +132,10 @@ pub fn advised_actions_lose_at_most_their_bounds()
         → (p : Placement) (k : ℕ) → IsState game p k
         → (advice : CubeAdvice) → IsCubeAdviceOver game.stakes u p k advice
         → ActionLosesAtMost game scoring turns p k advice.action }
-    ensures looked { (game : Game) (scoring : Scoring) (turns : ℕ) (u : Words)
-        → AreTrueWords game scoring turns u
+    ensures looked { (game : Game) (scoring : Scoring) (turns : ℕ) (noted : Notes)
+        → AreTrueWords game scoring turns noted.words
         → (p : Placement) (k : ℕ) → IsState game p k
         → (source : Source) (advice : CubeAdvice)
-        → IsTrue source.tells → IsCubeAdvice game.stakes p k source u advice
+        → IsTrue noted.told → IsCubeAdvice game.stakes p k source noted advice
         → ActionLosesAtMost game scoring turns p k advice.action }
 {}

@@ -4,20 +4,25 @@ use crate::line::{Progress, progress_line};
 use hyper_outside::Gate;
 use std::io::Eprint;
 use std::rt::Clock;
-use std::sync::atomic::{AtomicU64, Ordering};
+use std::sync::atomic::{AtomicU32, AtomicU64, Ordering};
 
 /// How long a line stands before it is written anew, in milliseconds.
 const PAUSE: u64 = 500;
 
-/// A gate that lets all pass, and tells on standard error how far a solve has come: in one line, which it writes anew at most twice a
-/// second. It changes nothing else.
+/// A gate that lets all pass, and tells on standard error how far a run has come, from where it says how many rounds are to come: in one
+/// line, which it writes anew at most twice a second. It changes nothing else.
 #[derive(Drop)]
 pub struct ProgressGate<'a, R> {
     rt: &'a R,
-    rounds: u32,
-    blocks: u32,
-    began: u64,
+    shows: bool,
+    /// How many rounds are to come; 0 where that wasn't said.
+    rounds: AtomicU32,
+    /// How many blocks a round has.
+    blocks: AtomicU32,
+    /// When they were said to come, in milliseconds.
+    began: AtomicU64,
     passed: AtomicU64,
+    /// When the line is to be written next, in milliseconds; 0 where it was never written.
     next: AtomicU64,
 }
 
@@ -32,17 +37,16 @@ fn milliseconds<R: Clock>(rt: &R) -> Option<u64> {
 }
 
 impl<'a, R: Clock + Eprint> ProgressGate<'a, R> {
-    /// A gate for a solve of so many rounds over so many blocks each. With 0 rounds it tells nothing.
-    pub fn new(rt: &'a R, rounds: u32, blocks: u32) -> Self
-        ensures rounds { result.rounds ≡ rounds }
-        ensures blocks { result.blocks ≡ blocks }
+    /// A gate that tells nothing yet, and never does where it isn't to show how far a run has come.
+    pub fn new(rt: &'a R, shows: bool) -> Self
+        ensures { result.shows ≡ shows }
     {
-        let began = milliseconds(rt).unwrap_or(0);
         ProgressGate {
             rt,
-            rounds,
-            blocks,
-            began,
+            shows,
+            rounds: AtomicU32::new(0),
+            blocks: AtomicU32::new(0),
+            began: AtomicU64::new(0),
             passed: AtomicU64::new(0),
             next: AtomicU64::new(0),
         }
@@ -69,11 +73,32 @@ impl<'a, R: Clock + Eprint> ProgressGate<'a, R> {
                 )
                 .is_ok()
     }
+
+    /// How far the run had come at this time in milliseconds, when so many blocks were passed.
+    fn progress(&self, now: u64, passed: u64) -> Progress
+        ensures { result.passed ≡ passed }
+    {
+        Progress {
+            rounds: self.rounds.load(Ordering::SeqCst),
+            blocks: self.blocks.load(Ordering::SeqCst),
+            passed,
+            seconds: now.saturating_sub(self.began.load(Ordering::SeqCst)) / 1000,
+        }
+    }
 }
 
 impl<'a, R: Clock + Eprint> Gate for ProgressGate<'a, R> {
+    fn expect(&self, rounds: u32, blocks: u32) {
+        if self.shows {
+            let now = milliseconds(self.rt).unwrap_or(0);
+            self.began.store(now, Ordering::SeqCst);
+            self.blocks.store(blocks, Ordering::SeqCst);
+            self.rounds.store(rounds, Ordering::SeqCst);
+        }
+    }
+
     fn pass(&self, _worker: u32, _block: u64) {
-        if self.rounds == 0 {
+        if self.rounds.load(Ordering::SeqCst) == 0 {
             return;
         }
         let passed = self.passed.fetch_add(1, Ordering::SeqCst);
@@ -81,13 +106,8 @@ impl<'a, R: Clock + Eprint> Gate for ProgressGate<'a, R> {
             return;
         };
         if self.is_due(now) {
-            let progress = Progress {
-                rounds: self.rounds,
-                blocks: self.blocks,
-                passed,
-                seconds: now.saturating_sub(self.began) / 1000,
-            };
-            let _ = eprint!(self.rt; "\r{}  ", progress_line(&progress).as_str());
+            let line = progress_line(&self.progress(now, passed));
+            let _ = eprint!(self.rt; "\r{}  ", line.as_str());
         }
     }
 }

@@ -20,7 +20,7 @@ use Rattle.game_record.specs.RightDecisions.{IsRightAnswer, IsRightChoice, IsRig
 use Rattle.turn_rule.specs.declared.game.Game.{Game}
 use Rattle.turn_rule.specs.Following.{AgreeOn}
 use Rattle.turn_rule.specs.Games.{IsGame}
-use Rattle.turn_rule.specs.Looks.{AreStakesOf, IsPairFor, Source}
+use Rattle.turn_rule.specs.Looks.{AreStakesOf, IsPairFor, Notes, Source}
 use Rattle.turn_rule.specs.States.{AreNoLooser}
 use Rattle.turn_rule.specs.Truth.{AreNoLooserStakes, AreSoundFrom}
 use Rattle.turn_rule.specs.Turn.{Words}
@@ -67,38 +67,38 @@ can-be-judged rec starts decision right source stakes checkers is valid fits =
 
 -- over one list of words the loss of a choice is what it loses over them
 abbrev pub OneListGives : Type 0
-OneListGives = (source : Source) (u : Words) (stakes : Terms) (p : Placement) (k : ℕ) (choice : Choice) (pair : Bounds) → IsTrue source.tells → IsChoice stakes p k choice
-    → ((end : End) → AgreeOn (MayFollowChoice stakes p k choice) end source.floor u) → IsPairFor (of_loss stakes p k choice) source u pair → pair ≡ loss_of stakes u p k choice
+OneListGives = (source : Source) (u : Notes) (stakes : Terms) (p : Placement) (k : ℕ) (choice : Choice) (pair : Bounds) → IsTrue u.told → IsChoice stakes p k choice
+    → ((end : End) → AgreeOn (MayFollowChoice stakes p k choice) end source.floor u.words) → IsPairFor (of_loss stakes p k choice) source u pair → pair ≡ loss_of stakes u.words p k choice
 
-module _ (one_list : OneListGives) (source : Source) (u : Words) (stakes : Terms) (tells : IsTrue source.tells) where
+module _ (one_list : OneListGives) (source : Source) (u : Notes) (stakes : Terms) (told : IsTrue u.told) where
   abbrev SameFor : Decision → Type 0
-  SameFor decision = (end : End) → AgreeOn (MayFollowOne None stakes (unjudged decision)) end source.floor u
+  SameFor decision = (end : End) → AgreeOn (MayFollowOne None stakes (unjudged decision)) end source.floor u.words
 
-  one-exact : (decision : Decision) (judged : Judged) → decision.score ≡ None → CanBeJudged source stakes decision → SameFor decision → Judges None stakes source u (unjudged decision) judged → judged ≡ record { decision = decision; loss = Some (lost stakes u decision) }
+  one-exact : (decision : Decision) (judged : Judged) → decision.score ≡ None → CanBeJudged source stakes decision → SameFor decision → Judges None stakes source u (unjudged decision) judged → judged ≡ record { decision = decision; loss = Some (lost stakes u.words decision) }
   one-exact decision judged outside can same is = both judged is.decision (by_loss judged.loss (is.judged outside)) where
-    by_loss : (loss : Option Bounds) → IsSomeAnd loss (IsPairFor (of_decision stakes decision) source u) → loss ≡ Some (lost stakes u decision)
+    by_loss : (loss : Option Bounds) → IsSomeAnd loss (IsPairFor (of_decision stakes decision) source u) → loss ≡ Some (lost stakes u.words decision)
     by_loss None h = absurd h
     by_loss (Some pair) h =
         ap (λ (b : Bounds). Some b)
-        (one_list source u stakes decision.position decision.kind decision.choice pair tells can.choice (λ end q j may. same end q j (record { at = outside; follows = may })) h)
+        (one_list source u stakes decision.position decision.kind decision.choice pair told can.choice (λ end q j may. same end q j (record { at = outside; follows = may })) h)
 
-    both : (j : Judged) → j.decision ≡ decision → j.loss ≡ Some (lost stakes u decision) → j ≡ record { decision = decision; loss = Some (lost stakes u decision) }
+    both : (j : Judged) → j.decision ≡ decision → j.loss ≡ Some (lost stakes u.words decision) → j ≡ record { decision = decision; loss = Some (lost stakes u.words decision) }
     both j h k =
         let f : Decision → Judged = λ d. record { decision = d; loss = j.loss } in
         let g : Option Bounds → Judged = λ o. record { decision = decision; loss = o } in
         ap f h ∙ ap g k
 
-  all-exact : (decisions : List Decision) (list : List Judged) → All (λ (decision : Decision). decision.score ≡ None) decisions → All (CanBeJudged source stakes) decisions → All SameFor decisions → JudgesAll None stakes source u (map unjudged decisions) list → list ≡ analysis_of stakes u decisions
+  all-exact : (decisions : List Decision) (list : List Judged) → All (λ (decision : Decision). decision.score ≡ None) decisions → All (CanBeJudged source stakes) decisions → All SameFor decisions → JudgesAll None stakes source u (map unjudged decisions) list → list ≡ analysis_of stakes u.words decisions
   all-exact [] [] outside can same are = refl
   all-exact [] (judged ∷ list) outside can same are = absurd are
   all-exact (decision ∷ decisions) [] outside can same are = absurd are
   all-exact (decision ∷ decisions) (judged ∷ list) outside can same are =
       ap (λ (j : Judged). j ∷ list) (one-exact decision judged (All-head (λ (d : Decision). d.score ≡ None) decision decisions outside) (All-head (CanBeJudged source stakes) decision decisions can) (All-head SameFor decision decisions same) are.0)
-      ∙ ap (λ (js : List Judged). record { decision = decision; loss = Some (lost stakes u decision) } ∷ js)
+      ∙ ap (λ (js : List Judged). record { decision = decision; loss = Some (lost stakes u.words decision) } ∷ js)
       (all-exact decisions list (All-tail (λ (d : Decision). d.score ≡ None) decision decisions outside) (All-tail (CanBeJudged source stakes) decision decisions can) (All-tail SameFor decision decisions same) are.1)
 
-  pub analysis-exact : (decisions : List Decision) (list : List Judged) → All (λ (decision : Decision). decision.score ≡ None) decisions → All (CanBeJudged source stakes) decisions → ((end : End) → AgreeOn (MayFollowSome None stakes (map unjudged decisions)) end source.floor u)
-      → JudgesAll None stakes source u (map unjudged decisions) list → list ≡ analysis_of stakes u decisions
+  pub analysis-exact : (decisions : List Decision) (list : List Judged) → All (λ (decision : Decision). decision.score ≡ None) decisions → All (CanBeJudged source stakes) decisions → ((end : End) → AgreeOn (MayFollowSome None stakes (map unjudged decisions)) end source.floor u.words)
+      → JudgesAll None stakes source u (map unjudged decisions) list → list ≡ analysis_of stakes u.words decisions
   analysis-exact decisions list outside can same are =
       all-exact decisions list outside can
       (λ i d below end q j may. same end q j (record {

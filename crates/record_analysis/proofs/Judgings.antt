@@ -12,8 +12,7 @@ use Rattle.game_record.specs.declared.decision.Choice.{Choice}
 use Rattle.turn_rule.specs.Games.{IsGame, game_of}
 use Rattle.turn_rule.specs.Turn.{Words}
 use Rattle.turn_rule.specs.States.{IsStateOf, IsState, AreNoLooserOf, AreNoLooser}
-use Rattle.turn_rule.specs.Looks.{Source, Sought, AreStakesOf, IsPairFor}
-use Rattle.turn_rule.proofs.Found.{Tightened}
+use Rattle.turn_rule.specs.Looks.{Source, Notes, Sought, AreLater, AreStakesOf, IsPairFor}
 use Rattle.turn_rule.proofs.Monotone.{same-stakes}
 use Rattle.play_analyser.specs.Choices.{IsChoice}
 use Rattle.play_analyser.specs.Regrets.{loss_of}
@@ -42,16 +41,16 @@ drop-next xs ys i same = sym (next xs i) ∙ (ap (λ (zs : List Judged). drop 1 
 abbrev Tightens : Source → Sought → Type 0
 Tightens s sought = (end : End) (u v : Words) → AreNoLooserOf s.checkers s.kinds u v → IsNoLooser end (sought.value end u) (sought.value end v)
 
-pair-later : (s : Source) (sought : Sought) → Tightens s sought → (u v : Words) → Tightened s v u → (pair : Bounds) → IsPairFor sought s u pair → IsPairFor sought s v pair
+pair-later : (s : Source) (sought : Sought) → Tightens s sought → (u v : Notes) → AreLater s u v → (pair : Bounds) → IsPairFor sought s u pair → IsPairFor sought s v pair
 pair-later s sought tightens u v tighter pair is = record {
   in_order = is.in_order;
   lower = is.lower;
   upper = is.upper;
-  lower_floor = is.lower_floor;
-  upper_floor = is.upper_floor;
-  lower_notes = λ tells. tight-trans Lower _ _ _ (tightens Lower v u (tighter tells)) (is.lower_notes tells);
-  upper_notes = λ tells. tight-trans Upper _ _ _ (tightens Upper v u (tighter tells)) (is.upper_notes tells);
-  right = is.right;
+  lower_floor = λ told. is.lower_floor (tighter.told told);
+  upper_floor = λ told. is.upper_floor (tighter.told told);
+  lower_notes = λ told. tight-trans Lower _ _ _ (tightens Lower v.words u.words (tighter.words told)) (is.lower_notes (tighter.told told));
+  upper_notes = λ told. tight-trans Upper _ _ _ (tightens Upper v.words u.words (tighter.words told)) (is.upper_notes (tighter.told told));
+  right = λ told. is.right (tighter.told told);
 }
 
 module _ (s : Source) (stakes : Terms) (valid : IsValid stakes) (fits : AreStakesOf s stakes) where
@@ -79,7 +78,7 @@ module _ (s : Source) (stakes : Terms) (valid : IsValid stakes) (fits : AreStake
     by_end Upper = pairs.upper
 
   module _ (score : Option MatchScore) where
-    pub judges-later : (u v : Words) → Tightened s v u → (old new : Judged) → (IsAt score old → CanBeJudged s stakes old.decision) → Judges score stakes s u old new → Judges score stakes s v old new
+    pub judges-later : (u v : Notes) → AreLater s u v → (old new : Judged) → (IsAt score old → CanBeJudged s stakes old.decision) → Judges score stakes s u old new → Judges score stakes s v old new
     judges-later u v tighter old new can is = record {
       decision = is.decision;
       judged = λ here. later (can here) new.loss (is.judged here);
@@ -89,7 +88,7 @@ module _ (s : Source) (stakes : Terms) (valid : IsValid stakes) (fits : AreStake
       later could None h = absurd h
       later could (Some pair) h = pair-later s (of_decision stakes old.decision) (loss-tightens old.decision.position old.decision.kind could.state old.decision.choice could.choice) u v tighter pair h
 
-    all-later : (u v : Words) → Tightened s v u → (olds news : List Judged) → All (λ (judged : Judged). IsAt score judged → CanBeJudged s stakes judged.decision) olds → JudgesAll score stakes s u olds news → JudgesAll score stakes s v olds news
+    all-later : (u v : Notes) → AreLater s u v → (olds news : List Judged) → All (λ (judged : Judged). IsAt score judged → CanBeJudged s stakes judged.decision) olds → JudgesAll score stakes s u olds news → JudgesAll score stakes s v olds news
     all-later u v tighter [] [] can are = tt
     all-later u v tighter [] (new ∷ news) can are = absurd are
     all-later u v tighter (old ∷ olds) [] can are = absurd are
@@ -99,7 +98,7 @@ module _ (s : Source) (stakes : Terms) (valid : IsValid stakes) (fits : AreStake
     )
 
     -- one more, after those before it
-    pub judges-more : (u v : Words) → Tightened s v u → (olds news : List Judged) (i : ℕ) (d new : Judged) → All (λ (judged : Judged). IsAt score judged → CanBeJudged s stakes judged.decision) olds → i < length olds → i < length news → drop i news ≡ drop i olds
+    pub judges-more : (u v : Notes) → AreLater s u v → (olds news : List Judged) (i : ℕ) (d new : Judged) → All (λ (judged : Judged). IsAt score judged → CanBeJudged s stakes judged.decision) olds → i < length olds → i < length news → drop i news ≡ drop i olds
         → JudgesAll score stakes s u (take i olds) (take i news) → Judges score stakes s v (get_or news i d) new → JudgesAll score stakes s v (take (i + 1) olds) (take (i + 1) (set news i new))
     judges-more u v tighter olds news i d new can here there rest before one =
         subst (λ (xs : List Judged). JudgesAll score stakes s v xs (take (i + 1) (set news i new))) (sym (take_more olds i d here ∙ ap (λ (x : Judged). take i olds ++ x ∷ []) (rest-at olds news i d here there rest)))
@@ -108,7 +107,7 @@ module _ (s : Source) (stakes : Terms) (valid : IsValid stakes) (fits : AreStake
         (all-later u v tighter (take i olds) (take i news) (All-take (λ (judged : Judged). IsAt score judged → CanBeJudged s stakes judged.decision) i olds can) before) one))
 
     -- those before the place where it stopped
-    pub judges-some : (u v : Words) → Tightened s v u → (olds news : List Judged) (i : ℕ) → All (λ (judged : Judged). IsAt score judged → CanBeJudged s stakes judged.decision) olds → drop i news ≡ drop i olds
+    pub judges-some : (u v : Notes) → AreLater s u v → (olds news : List Judged) (i : ℕ) → All (λ (judged : Judged). IsAt score judged → CanBeJudged s stakes judged.decision) olds → drop i news ≡ drop i olds
         → JudgesAll score stakes s u (take i olds) (take i news) → JudgesSome score stakes s v olds news
     judges-some u v tighter olds news i can rest before =
         (i, record { judged = all-later u v tighter (take i olds) (take i news) (All-take (λ (judged : Judged). IsAt score judged → CanBeJudged s stakes judged.decision) i olds can) before; rest = rest })

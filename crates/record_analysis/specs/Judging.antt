@@ -5,8 +5,7 @@ use Rattle.position_rank.specs.Placement.{Placement}
 use Rattle.cube_actions.specs.Scores.{MatchScore}
 use Rattle.cube_actions.specs.Stakes.{Terms}
 use Rattle.game_record.specs.declared.decision.Decision.{Decision}
-use Rattle.turn_rule.specs.Turn.{Words}
-use Rattle.turn_rule.specs.Looks.{Source, Sought, IsSourceState, IsPairFor}
+use Rattle.turn_rule.specs.Looks.{Source, Notes, Sought, IsSourceState, IsPairFor}
 use Rattle.play_analyser.specs.Choices.{IsChoice}
 use Rattle.play_analyser.specs.Sought.{MayFollowChoice, of_loss}
 use Rattle.record_analysis.specs.declared.analysis.Judged.{Judged}
@@ -25,7 +24,7 @@ abbrev pub IsAt : Option MatchScore → Judged → Type 0
 IsAt score judged = judged.decision.score ≡ score
 
 -- What judging makes of a decision: one at the score gets the pair of what it loses by some words; another stays as it was.
-pub record Judges (score : Option MatchScore) (stakes : Terms) (source : Source) (noted : Words)
+pub record Judges (score : Option MatchScore) (stakes : Terms) (source : Source) (noted : Notes)
     (old new : Judged) : Type 0 where
   pub decision : new.decision ≡ old.decision
   pub judged : IsAt score old
@@ -33,18 +32,18 @@ pub record Judges (score : Option MatchScore) (stakes : Terms) (source : Source)
   pub other : (IsAt score old → ⊥) → new.loss ≡ old.loss
 
 -- each of some decisions was judged that is at the score
-abbrev pub JudgesAll : Option MatchScore → Terms → Source → Words → List Judged → List Judged
+abbrev pub JudgesAll : Option MatchScore → Terms → Source → Notes → List Judged → List Judged
     → Type 0
 JudgesAll score stakes source noted = AllZip (Judges score stakes source noted)
 
 -- those before some place were judged, and the others are as they were
 pub record JudgesUpTo (place : ℕ) (score : Option MatchScore) (stakes : Terms) (source : Source)
-    (noted : Words) (old new : List Judged) : Type 0 where
+    (noted : Notes) (old new : List Judged) : Type 0 where
   pub judged : JudgesAll score stakes source noted (take place old) (take place new)
   pub rest : drop place new ≡ drop place old
 
 -- judging stopped at some place
-abbrev pub JudgesSome : Option MatchScore → Terms → Source → Words → List Judged → List Judged
+abbrev pub JudgesSome : Option MatchScore → Terms → Source → Notes → List Judged → List Judged
     → Type 0
 JudgesSome score stakes source noted old new =
     (place : ℕ) × JudgesUpTo place score stakes source noted old new

@@ -12,7 +12,7 @@ ghost use Rattle.hyper_outside.specs.declared.outside.LookStop.{LookStop};
 ghost use Rattle.turn_rule.specs.declared.game.Game.{Game};
 ghost use Rattle.turn_rule.specs.Following.{AgreeOn};
 ghost use Rattle.turn_rule.specs.Games.{IsGame};
-ghost use Rattle.turn_rule.specs.Looks.{AreStakesOf, HasDamage, LooksUp, Seen, Source};
+ghost use Rattle.turn_rule.specs.Looks.{AreStakesOf, HasDamage, LooksUp, Notes, Seen, Source};
 ghost use Rattle.turn_rule.specs.States.{AreNoLooser};
 ghost use Rattle.turn_rule.specs.Truth.{AreNoLooserStakes, AreSound, AreSoundFrom};
 ghost use Rattle.turn_rule.specs.Turn.{Words};
@@ -41,14 +41,14 @@ pub fn right_decisions_can_be_judged()
 /// Where a source's floor and its notes are the same words on the states that may follow, judging all
 /// decisions of a game outside a match gives their analysis over these words.
 pub fn one_list_gives_the_analysis()
-    ensures { (source : Source) (u : Words) (stakes : Terms) (decisions : List Decision)
-        (list : List Judged) → IsTrue source.tells
+    ensures { (source : Source) (noted : Notes) (stakes : Terms) (decisions : List Decision)
+        (list : List Judged) → IsTrue noted.told
         → All (λ decision. decision.score ≡ None) decisions
         → All (CanBeJudged source stakes) decisions
         → ((end : End) → AgreeOn (MayFollowSome None stakes (map unjudged decisions)) end
-        source.floor u)
-        → JudgesAll None stakes source u (map unjudged decisions) list
-        → list ≡ analysis_of stakes u decisions }
+        source.floor noted.words)
+        → JudgesAll None stakes source noted (map unjudged decisions) list
+        → list ≡ analysis_of stakes noted.words decisions }
 {
     one_list_gives_the_loss();
 }

@@ -8,7 +8,7 @@ use Rattle.cube_actions.specs.Scores.{MatchScore}
 use Rattle.cube_actions.specs.Stakes.{Terms}
 use Rattle.game_record.specs.declared.decision.Decision.{Decision}
 use Rattle.turn_rule.specs.Following.{AgreeOn}
-use Rattle.turn_rule.specs.Looks.{HasDamage, IsPairFor, LooksUp, Seen, Source}
+use Rattle.turn_rule.specs.Looks.{HasDamage, IsPairFor, LooksUp, Notes, Seen, Source, all_told}
 use Rattle.turn_rule.specs.Turn.{Words}
 use Rattle.hyper_outside.specs.declared.outside.LookStop.{LookStop}
 use Rattle.interval_words.specs.WordLists.{WordList, source_of, words_in_list}
@@ -19,14 +19,14 @@ use Rattle.record_analysis.proofs.Analysed.{OneListGives}
 use Rattle.record_study.proofs.Records.{answered}
 
 -- at a score, a decision has what it loses over these words, where a source's floor and its notes are the same on the states that may follow
-pub judged-at : OneListGives → (source : Source) (u : Words) (stakes : Terms) → IsTrue source.tells → (score : Option MatchScore) (old new : Judged) → IsAt score old → CanBeJudged source stakes old.decision
-    → ((end : End) → AgreeOn (MayFollowOne score stakes old) end source.floor u) → Judges score stakes source u old new → new.loss ≡ Some (lost stakes u old.decision)
-judged-at one_list source u stakes tells score old new here can same is = by_loss new.loss (is.judged here) where
-  by_loss : (loss : Option Bounds) → IsSomeAnd loss (IsPairFor (of_decision stakes old.decision) source u) → loss ≡ Some (lost stakes u old.decision)
+pub judged-at : OneListGives → (source : Source) (u : Notes) (stakes : Terms) → IsTrue u.told → (score : Option MatchScore) (old new : Judged) → IsAt score old → CanBeJudged source stakes old.decision
+    → ((end : End) → AgreeOn (MayFollowOne score stakes old) end source.floor u.words) → Judges score stakes source u old new → new.loss ≡ Some (lost stakes u.words old.decision)
+judged-at one_list source u stakes told score old new here can same is = by_loss new.loss (is.judged here) where
+  by_loss : (loss : Option Bounds) → IsSomeAnd loss (IsPairFor (of_decision stakes old.decision) source u) → loss ≡ Some (lost stakes u.words old.decision)
   by_loss None h = absurd h
   by_loss (Some pair) h =
       ap (λ (b : Bounds). Some b)
-      (one_list source u stakes old.decision.position old.decision.kind old.decision.choice pair tells can.choice (λ end q j may. same end q j (record { at = here; follows = may })) h)
+      (one_list source u stakes old.decision.position old.decision.kind old.decision.choice pair told can.choice (λ end q j may. same end q j (record { at = here; follows = may })) h)
 
 -- the law on sure sources
 abbrev pub SureLaw : Type 0
@@ -36,19 +36,19 @@ SureLaw =
 
 -- what a reader of words sees
 abbrev pub seen_in : WordList → Seen
-seen_in words = record { source = source_of words; notes = words_in_list words; faults = 0 }
+seen_in words = record { source = source_of words; notes = all_told (words_in_list words); faults = 0 }
 
 -- decisions that were judged by a reader of words were judged by the words
 pub judged-by-words : SureLaw → (words old new : WordList) → source_of old ≡ source_of words → source_of new ≡ source_of old → (score : Option MatchScore) (stakes : Terms) → stakes ≡ words.game.stakes → (before after : List Judged) (result : Result (Unit {0}) LookStop)
-    → LooksUp (seen_in old) (seen_in new) (HasDamage (source_of old) (MayFollowSome score stakes before)) (λ _. JudgesAll score stakes (source_of old) (words_in_list new) before after) result
-    → JudgesAll score words.game.stakes (source_of words) (words_in_list words) before after
+    → LooksUp (seen_in old) (seen_in new) (HasDamage (source_of old) (MayFollowSome score stakes before)) (λ _. JudgesAll score stakes (source_of old) (all_told (words_in_list new)) before after) result
+    → JudgesAll score words.game.stakes (source_of words) (all_told (words_in_list words)) before after
 judged-by-words law words old new same later score stakes of before after result looked =
     let ok = law (seen_in old) (seen_in new) score stakes before after result refl looked in
-    let judges = answered (JudgesAll score stakes (source_of old) (words_in_list new) before after) result ok looked.answer in
+    let judges = answered (JudgesAll score stakes (source_of old) (all_told (words_in_list new)) before after) result ok looked.answer in
     let notes : words_in_list new ≡ words_in_list words = ap (λ (s : Source). s.floor) (later ∙ same) in
-    let one = subst (λ (t : Terms). JudgesAll score t (source_of old) (words_in_list new) before after) of judges in
-    let two = subst (λ (s : Source). JudgesAll score words.game.stakes s (words_in_list new) before after) same one in
-    subst (λ (u : Words). JudgesAll score words.game.stakes (source_of words) u before after) notes two
+    let one = subst (λ (t : Terms). JudgesAll score t (source_of old) (all_told (words_in_list new)) before after) of judges in
+    let two = subst (λ (s : Source). JudgesAll score words.game.stakes s (all_told (words_in_list new)) before after) same one in
+    subst (λ (u : Words). JudgesAll score words.game.stakes (source_of words) (all_told u) before after) notes two
 
 -- what holds of each pair of items of two lists gives what holds of the second's
 pub zipped-all : (R : Judged → Judged → Type 0) (P Q : Judged → Type 0) → ((old new : Judged) → R old new → P old → Q new) → (olds news : List Judged) → AllZip R olds news → All P olds → All Q news

@@ -9,6 +9,7 @@ use Rattle.cube_actions.specs.Starts.{StartPairs}
 use Rattle.game_record.specs.declared.decision.Decision.{Decision}
 use Rattle.turn_rule.specs.declared.game.Game.{Game}
 use Rattle.turn_rule.specs.Games.{IsGame}
+use Rattle.turn_rule.specs.Looks.{all_told}
 use Rattle.interval_words.specs.WordLists.{WordList, list_of, source_of, words_in_list}
 use Rattle.match_scores.specs.Keepers.{no_pairs}
 use Rattle.match_scores.specs.Ladders.{score_at, with_pair, game_at, AreWordsOf, IsSolved}
@@ -63,11 +64,11 @@ module _ (judged : JudgedMatch) (score : MatchScore) (starts : StartPairs) (word
     abbrev Before : Judged → Type 0
     Before old = IsDecisionInMatch judged.checkers starts.match_length old.decision × IsJudgedBy starts so_far.words old
 
-    step : (old new : Judged) → Judges (Some score) words.game.stakes (source_of words) (words_in_list words) old new → Before old → IsJudgedBy further all_words new
+    step : (old new : Judged) → Judges (Some score) words.game.stakes (source_of words) (all_told (words_in_list words)) old new → Before old → IsJudgedBy further all_words new
     step old new is held = record { kept = kept; other = other } where
       -- at the score it has what it loses by these words
       here-loss : old.decision.score ≡ Some score → new.loss ≡ Some (lost words.game.stakes (words_in_list words) old.decision)
-      here-loss here = judged-at one_list (source_of words) (words_in_list words) words.game.stakes refl (Some score) old new here (can-judge words old.decision (at-score old.decision held.0 here)) (λ end q j may. refl) is
+      here-loss here = judged-at one_list (source_of words) (all_told (words_in_list words)) words.game.stakes refl (Some score) old new here (can-judge words old.decision (at-score old.decision held.0 here)) (λ end q j may. refl) is
 
       -- at an earlier score it has what it had
       apart : (place : ℕ) → place < count → old.decision.score ≡ Some (score_at starts.match_length place) → IsAt (Some score) old → ⊥
@@ -97,7 +98,7 @@ module _ (judged : JudgedMatch) (score : MatchScore) (starts : StartPairs) (word
           ∙ held.1.other (λ place at. none place (to-further place (let below = at.kept in omega (arith, below)) at.score))
 
     -- after the decisions at the next score were judged by its words, all are judged so far with its start pair
-    pub judged-more : (after : List Judged) → JudgesAll (Some score) words.game.stakes (source_of words) (words_in_list words) judged.list after → IsJudgedSoFar (record { checkers = judged.checkers; rounds = judged.rounds; starts = further; list = after })
+    pub judged-more : (after : List Judged) → JudgesAll (Some score) words.game.stakes (source_of words) (all_told (words_in_list words)) judged.list after → IsJudgedSoFar (record { checkers = judged.checkers; rounds = judged.rounds; starts = further; list = after })
     judged-more after judges =
         let before-all : All Before judged.list = λ i d below. (in-match i d below, subst (λ (s : StartPairs). IsJudgedBy s so_far.words (get_or judged.list i d)) (sym before) (so_far.losses i d below)) in
         let same_checkers : words.game.checkers ≡ judged.checkers = ap (λ (g : Game). g.checkers) closed.game in
@@ -106,15 +107,15 @@ module _ (judged : JudgedMatch) (score : MatchScore) (starts : StartPairs) (word
         let start : start_over judged.checkers (words_in_list words) (score_at starts.match_length count) ≡ start_over words.game.checkers (words_in_list words) score =
         ap (λ (s : MatchScore). start_over judged.checkers (words_in_list words) s) (sym next) ∙ ap (λ (n : ℕ). start_over n (words_in_list words) score) (sym same_checkers) in
         record {
-          decisions = zipped-all (Judges (Some score) words.game.stakes (source_of words) (words_in_list words)) (λ (one : Judged). IsDecisionInMatch judged.checkers starts.match_length one.decision) (λ (one : Judged). IsDecisionInMatch judged.checkers starts.match_length one.decision)
+          decisions = zipped-all (Judges (Some score) words.game.stakes (source_of words) (all_told (words_in_list words))) (λ (one : Judged). IsDecisionInMatch judged.checkers starts.match_length one.decision) (λ (one : Judged). IsDecisionInMatch judged.checkers starts.match_length one.decision)
               (λ old new is held. subst (IsDecisionInMatch judged.checkers starts.match_length) (sym is.decision) held) judged.list after judges in-match;
           words = all_words;
           solved = subst (λ pair. IsSolved judged.checkers judged.rounds (with_pair starts pair) all_words) start solved;
-          losses = zipped-all (Judges (Some score) words.game.stakes (source_of words) (words_in_list words)) Before (IsJudgedBy further all_words) step judged.list after judges before-all;
+          losses = zipped-all (Judges (Some score) words.game.stakes (source_of words) (all_told (words_in_list words))) Before (IsJudgedBy further all_words) step judged.list after judges before-all;
         }
 
     -- the same, where the keeper's start pairs get the next one
-    pub judged-next : (after : List Judged) → JudgesAll (Some score) words.game.stakes (source_of words) (words_in_list words) judged.list after → (pair : Bounds) → pair ≡ start_over words.game.checkers (words_in_list words) score
+    pub judged-next : (after : List Judged) → JudgesAll (Some score) words.game.stakes (source_of words) (all_told (words_in_list words)) judged.list after → (pair : Bounds) → pair ≡ start_over words.game.checkers (words_in_list words) score
         → (added : StartPairs) → added ≡ with_pair judged.starts pair → IsJudgedSoFar (record { checkers = judged.checkers; rounds = judged.rounds; starts = added; list = after })
     judged-next after judges pair start added is =
         let same : added ≡ further = is ∙ ap (λ (p : Bounds). with_pair judged.starts p) start ∙ ap (λ (s : StartPairs). with_pair s (start_over words.game.checkers (words_in_list words) score)) (sym before) in

@@ -109,7 +109,7 @@ one-in-match law rec match_length in_match decision right =
       at = given.1;
       of_match = given.2;
       made = λ starts game.
-          let source : Source = record { checkers = rec.checkers; kinds = kinds_of (game_at rec.checkers given.0 starts); bound = point_units 1; sure = true; tells = true; floor = bound_words (terms_of given.0 starts); damage = λ _ _. None } in
+          let source : Source = record { checkers = rec.checkers; kinds = kinds_of (game_at rec.checkers given.0 starts); bound = point_units 1; sure = true; floor = bound_words (terms_of given.0 starts); damage = λ _ _. None } in
           let named : terms_of given.0 starts ≡ terms_for (stakes_at rec.stakes decision.score) starts =
           sym (ap (λ (s : RecordStakes). terms_for (stakes_at s decision.score) starts) in_match ∙ ap (λ (o : Option MatchScore). terms_for (stakes_at (Match match_length) o) starts) given.1) in
           let can = law rec starts decision right source (terms_of given.0 starts) refl named game.stakes (record { kinds = refl; bound = refl }) in

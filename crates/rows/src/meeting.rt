@@ -35,7 +35,10 @@ pub(crate) struct Meeting {
     pub(crate) all: AtomicU64,
     /// Who came to block 1.
     pub(crate) last: AtomicU64,
-    /// How often a worker gave up, or came that isn't one of them, or to a block that there is none of.
+    /// How many rounds were said to come.
+    pub(crate) rounds: AtomicU64,
+    /// How often a worker gave up, or came that isn't one of them, or to a block that there is none of, or rounds were said to come over
+    /// another number of blocks or behind the first block.
     pub(crate) gave_up: AtomicU64,
     ghost crew: { length came.items ≡ workers },
     ghost blocks: { length passes.items ≡ 26 },
@@ -53,6 +56,7 @@ impl Meeting {
             passes: counters(alloc, BLOCKS)?,
             all: AtomicU64::new(0),
             last: AtomicU64::new(0),
+            rounds: AtomicU64::new(0),
             gave_up: AtomicU64::new(0),
         })
     }
@@ -82,6 +86,13 @@ impl Meeting {
 }
 
 impl Gate for Meeting {
+    fn expect(&self, rounds: u32, blocks: u32) {
+        if blocks as usize != BLOCKS || self.all.load(Ordering::SeqCst) > 0 {
+            self.give_up();
+        }
+        self.rounds.fetch_add(u64::from(rounds), Ordering::SeqCst);
+    }
+
     fn pass(&self, worker: u32, block: u64) {
         if worker as usize >= self.workers || block >= BLOCKS as u64 {
             self.give_up();

@@ -1,9 +1,6 @@
-ghost use Rattle.std.specs.Prelude.{◌≡◌, ◌≢◌, IfOk, IsTrue};
-ghost use Rattle.hyper_outside.specs.Files.{SameFiles};
-ghost use Rattle.equity_report.specs.declared.refusal.Refusal.TheVariants.{Memory, Write};
-ghost use Rattle.equity_report.specs.Refusals.{status_of};
-
-use hyper_outside::{Files, Gate, HonestSink, MemSink, NoMemory, OpenGate};
+use hyper_outside::{Gate, NoMemory, OpenGate};
+use memory_files::{HonestSink, MemSink};
+use outside_log::Files;
 use std::alloc::Global;
 use std::thread::Threads;
 use top_call::run;
@@ -27,10 +24,7 @@ pub fn ask_at<R: Threads + Sync, F: Files, G: Gate + Sync>(
     files: &mut F,
     words: &[&str],
     gate: &G,
-) -> Result<(u8, HonestSink), NoMemory>
-    ensures { IfOk result (λ told. told.0 ≢ 0 → told.0 ≢ status_of Write → told.0 ≢ status_of Memory
-        → IsTrue (F.tells files.old) → SameFiles (F.held files.old) (F.held files.new)) }
-{
+) -> Result<(u8, HonestSink), NoMemory> {
     let words = owned(alloc, words)?;
     let mut out = HonestSink::with_room(alloc, ROOM)?;
     let status = run(rt, alloc, words.as_slice(), files, &mut out, gate);
@@ -43,10 +37,7 @@ pub fn ask<R: Threads + Sync, F: Files>(
     alloc: Global,
     files: &mut F,
     words: &[&str],
-) -> Result<(u8, HonestSink), NoMemory>
-    ensures { IfOk result (λ told. told.0 ≢ 0 → told.0 ≢ status_of Write → told.0 ≢ status_of Memory
-        → IsTrue (F.tells files.old) → SameFiles (F.held files.old) (F.held files.new)) }
-{
+) -> Result<(u8, HonestSink), NoMemory> {
     ask_at(rt, alloc, files, words, &OpenGate)
 }
 
@@ -58,10 +49,7 @@ pub fn ask_failing<R: Threads + Sync, F: Files>(
     words: &[&str],
     call: u64,
     prefix: usize,
-) -> Result<(u8, MemSink), NoMemory>
-    ensures { IfOk result (λ told. told.0 ≢ 0 → told.0 ≢ status_of Write → told.0 ≢ status_of Memory
-        → IsTrue (F.tells files.old) → SameFiles (F.held files.old) (F.held files.new)) }
-{
+) -> Result<(u8, MemSink), NoMemory> {
     let words = owned(alloc, words)?;
     let mut out = MemSink::new(alloc);
     out.room(ROOM)?;

@@ -1,10 +1,10 @@
 -- What is advised from a file, and what refuses it.
-use Rattle.std.proofs.Common.{◌≡◌, ◌∙◌, ◌<◌, ℕ, true, List, length, Option, Some, None, Ok, Err, Result, inl, inr, refl, sym, ap, subst}
+use Rattle.std.proofs.Common.{◌≡◌, ◌∙◌, ◌<◌, ℕ, List, length, Option, Some, None, Ok, Err, Result, inl, inr, refl, sym, ap, subst}
 use Rattle.std.specs.Option.{option_map}
 use Rattle.roll_table.specs.Rolls.{Dice, IsRoll}
 use Rattle.cube_actions.specs.declared.name.StakesName.{StakesName}
 use Rattle.cube_actions.specs.Names.{names_of}
-use Rattle.hyper_outside.specs.Files.{Contents}
+use Rattle.outside_log.specs.Files.{Contents}
 use Rattle.hyper_outside.specs.declared.outside.LookStop.{LookStop}
 use Rattle.hyper_outside.specs.declared.outside.LookStop.TheVariants as looks
 use Rattle.turn_rule.specs.Games.{IsGame, kinds_of}
@@ -21,19 +21,19 @@ use Rattle.database_file.specs.declared.stop.LoadStop.{LoadStop}
 use Rattle.database_file.specs.declared.stop.LoadStop.TheVariants as stops
 use Rattle.database_file.specs.Faults.{header_of_file, whole}
 use Rattle.database_file.specs.Opened.{AnswersPaged}
-use Rattle.database_file.specs.Paged.{paged_source, told_words}
+use Rattle.database_file.specs.Paged.{paged_source, told_notes}
 use Rattle.database_file.specs.PagedFiles.{PagedFile}
 use Rattle.database_file.specs.Texts.{game_in}
 use Rattle.database_file.proofs.Bases.{kinds-named}
 use Rattle.equity_report.specs.declared.refusal.Refusal.{Refusal}
-use Rattle.equity_report.specs.declared.refusal.Refusal.TheVariants.{Words, Position, Missing, File, Read, Write, Memory, Base, Roll, Inconsistent, Record, Contact, Condition}
+use Rattle.equity_report.specs.declared.refusal.Refusal.TheVariants.{Words, Position, Missing, File, Read, Write, Memory, Base, Roll, Inconsistent, Record, Contact, Condition, Other}
 use Rattle.top_call.specs.declared.advise.AskedKind.{AskedKind}
 use Rattle.top_call.specs.declared.task.AdviseTask.{AdviseTask}
 use Rattle.top_call.specs.Loads.{TellsStop}
 use Rattle.top_call.specs.Shows.{look_refusal}
 use Rattle.top_call.specs.Tasks.{IsRightAdvise}
 use Rattle.top_call.specs.Advises.{Advises, AnswersAdvice, AnswersAsked, AnswersRanking, AnswersSought, IsOnBadPage, IsStateIn, OfHeld, Ranks, RefusesAdvice, RestsOn, WantsOther}
-use Rattle.top_call.proofs.AdviseLaws.{bad-page, source_in, told_in}
+use Rattle.top_call.proofs.AdviseLaws.{bad-page, noted_in, source_in}
 use Rattle.top_call.proofs.Loaded.{tells-missing}
 
 refuses : (task : AdviseTask) (held : Option (List ℕ)) (refusal due : Refusal) → refusal ≡ due → RefusesAdvice task due held → RefusesAdvice task refusal held
@@ -63,6 +63,7 @@ other-wanted task bytes base (Base wanted found) a w = record { front = a.right;
 other-wanted task bytes base (Roll bad) a w = absurd w
 other-wanted task bytes base (Inconsistent unheld) a w = absurd w
 other-wanted task bytes base Contact a w = absurd w
+other-wanted task bytes base (Other another) a w = absurd w
 other-wanted task bytes base (Condition word) a w = absurd w
 other-wanted task bytes base (Record bad) a w = absurd w
 
@@ -113,20 +114,20 @@ module _ (task : AdviseTask) (base : PagedFile) (kind : AskedKind) where
   Opened held = OfHeld held (λ bytes. IsStateIn task bytes base.head kind × (base.header ≡ header_of_file bytes))
 
   pub ranked : ((roll : Dice) (bytes : List ℕ) (ranking : Ranking) → IsStateIn task bytes base.head kind → IsRoll roll
-      → IsRanking (stakes_of base.head) task.position kind.number roll (source_in bytes) (told_in bytes) ranking → Ranks task roll bytes base.head kind ranking)
+      → IsRanking (stakes_of base.head) task.position kind.number roll (source_in bytes) (noted_in bytes) ranking → Ranks task roll bytes base.head kind ranking)
       → (roll : Dice) → IsRoll roll → (held : Option (List ℕ)) (ranking : Ranking) → Opened held
       → AnswersRanking base.header held (stakes_of base.head) task.position kind.number roll (Ok ranking) → OfHeld held (λ bytes. Ranks task roll bytes base.head kind ranking)
   ranked law roll right None ranking opened is = absurd opened
   ranked law roll right (Some bytes) ranking opened is =
-      law roll bytes ranking opened.0 right (subst (λ (h : Header). IsRanking (stakes_of base.head) task.position kind.number roll (paged_source h true (Some bytes)) (told_words h (Some bytes)) ranking) opened.1 is)
+      law roll bytes ranking opened.0 right (subst (λ (h : Header). IsRanking (stakes_of base.head) task.position kind.number roll (paged_source h (Some bytes)) (told_notes h (Some bytes)) ranking) opened.1 is)
 
   pub cube-advised : ((bytes : List ℕ) (advice : CubeAdvice) → IsStateIn task bytes base.head kind
-      → IsCubeAdvice (stakes_of base.head) task.position kind.number (source_in bytes) (told_in bytes) advice → Advises task bytes base.head kind advice)
+      → IsCubeAdvice (stakes_of base.head) task.position kind.number (source_in bytes) (noted_in bytes) advice → Advises task bytes base.head kind advice)
       → (held : Option (List ℕ)) (advice : CubeAdvice) → Opened held
       → AnswersAdvice base.header held (stakes_of base.head) task.position kind.number (Ok advice) → OfHeld held (λ bytes. Advises task bytes base.head kind advice)
   cube-advised law None advice opened is = absurd opened
   cube-advised law (Some bytes) advice opened is =
-      law bytes advice opened.0 (subst (λ (h : Header). IsCubeAdvice (stakes_of base.head) task.position kind.number (paged_source h true (Some bytes)) (told_words h (Some bytes)) advice) opened.1 is)
+      law bytes advice opened.0 (subst (λ (h : Header). IsCubeAdvice (stakes_of base.head) task.position kind.number (paged_source h (Some bytes)) (told_notes h (Some bytes)) advice) opened.1 is)
 
   pub not-looked-up : {A : Type 0} (right : A → Type 0) (roll : Option Dice) → task.roll ≡ roll → (held : Option (List ℕ)) (stop : LookStop) → Opened held
       → AnswersSought base.header held (RestsOn roll (stakes_of base.head) task.position kind.number) right (Err stop) → RefusesAdvice task (look_refusal stop) held
@@ -135,7 +136,7 @@ module _ (task : AdviseTask) (base : PagedFile) (kind : AskedKind) where
   not-looked-up right roll is None (looks.BadPage fault at) opened told = absurd opened
   not-looked-up right roll is (Some bytes) (looks.BadPage fault at) opened told =
       let states = RestsOn roll (stakes_of base.head) task.position kind.number in
-      let page = bad-page bytes states (record { fault = fault; at = at }) (subst (λ (h : Header). HasDamage (paged_source h true (Some bytes)) states (record { fault = fault; at = at })) opened.1 told) in
+      let page = bad-page bytes states (record { fault = fault; at = at }) (subst (λ (h : Header). HasDamage (paged_source h (Some bytes)) states (record { fault = fault; at = at })) opened.1 told) in
       inr (record {
         head = base.head;
         kind = kind;

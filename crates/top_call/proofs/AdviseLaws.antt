@@ -1,5 +1,5 @@
 -- What is looked up in a file is of its right pages, and so of all words that have the pairs of these.
-use Rattle.std.proofs.Common.{◌≡◌, ◌∙◌, ◌<◌, ℕ, zero, suc, ℤ, List, [], ◌∷◌, map, true, All, Option, Some, None, inl, inr, refl, sym, ap, subst, arith, neg_ℤ}
+use Rattle.std.proofs.Common.{◌≡◌, ◌∙◌, ◌<◌, ℕ, zero, suc, ℤ, List, [], ◌∷◌, map, All, Option, Some, None, inl, inr, refl, sym, ap, subst, arith, neg_ℤ}
 use Rattle.std.specs.Option.{option_map}
 use Rattle.std.specs.Prelude.{unwrap_or}
 use Rattle.std.proofs.lemmas.Option.{none-some}
@@ -21,7 +21,7 @@ use Rattle.cube_actions.specs.declared.kind.Taken.{Taken}
 use Rattle.cube_actions.specs.Stakes.{kind_at}
 use Rattle.turn_rule.specs.Games.{IsGame, kinds_of}
 use Rattle.turn_rule.specs.Turn.{Words, win, if_won, worth}
-use Rattle.turn_rule.specs.Looks.{Damage, HasDamage, IsLeft, IsPairFor, IsRollPair, MayFollow, MayFollowTurn, Source, Sought, States, of_roll}
+use Rattle.turn_rule.specs.Looks.{all_told, Damage, HasDamage, IsLeft, IsPairFor, IsRollPair, MayFollow, MayFollowTurn, Notes, Source, Sought, States, of_roll}
 use Rattle.turn_rule.specs.Following.{AgreeOn}
 use Rattle.turn_rule.specs.Found.{of_play}
 use Rattle.turn_rule.specs.States.{IsState, IsStateOf}
@@ -39,7 +39,7 @@ use Rattle.base_head.specs.Fronts.{bad_of}
 use Rattle.base_head.specs.Heads.{FileHead, stakes_of}
 use Rattle.base_head.specs.Headers.{IsHeader}
 use Rattle.database_file.specs.Faults.{header_of_file}
-use Rattle.database_file.specs.Paged.{damage_of, flaw_at, paged_source, told_words}
+use Rattle.database_file.specs.Paged.{damage_of, flaw_at, paged_source, told_notes, told_words}
 use Rattle.database_file.specs.Texts.{game_in}
 use Rattle.database_file.proofs.PagedLooks.{told-right}
 use Rattle.database_file.proofs.PageWords.{word-among}
@@ -48,10 +48,13 @@ use Rattle.top_call.specs.Advises.{AreOnRightPages, HavePairsOf, IsOnBadPage}
 
 -- where a file with these bytes is looked up, and its words there
 abbrev pub source_in : List ℕ → Source
-source_in bytes = paged_source (header_of_file bytes) true (Some bytes)
+source_in bytes = paged_source (header_of_file bytes) (Some bytes)
 
 abbrev pub told_in : List ℕ → Words
 told_in bytes = told_words (header_of_file bytes) (Some bytes)
+
+abbrev pub noted_in : List ℕ → Notes
+noted_in bytes = told_notes (header_of_file bytes) (Some bytes)
 
 pub all-of : {X : Type 0} (P : X → Type 0) (xs : List X) → ((x : X) → Among x xs → P x) → All P xs
 all-of P [] h i d below = absurd (omega arith)
@@ -82,15 +85,15 @@ bad-page bytes states damage is = record {
 
 -- what is sought is the same over words that give the same value
 pub pair-over : (sought : Sought) (source : Source) (noted u : Words) (pair : Bounds) → ((end : End) → sought.value end noted ≡ sought.value end u)
-    → IsPairFor sought source noted pair → IsPairFor sought source u pair
+    → IsPairFor sought source (all_told noted) pair → IsPairFor sought source (all_told u) pair
 pair-over sought source noted u pair same is = record {
   in_order = is.in_order;
   lower = is.lower;
   upper = is.upper;
   lower_floor = is.lower_floor;
   upper_floor = is.upper_floor;
-  lower_notes = λ tells. subst (λ (value : ℤ). IsNoLooser Lower value pair.lower) (same Lower) (is.lower_notes tells);
-  upper_notes = λ tells. subst (λ (value : ℤ). IsNoLooser Upper value pair.upper) (same Upper) (is.upper_notes tells);
+  lower_notes = λ told. subst (λ (value : ℤ). IsNoLooser Lower value pair.lower) (same Lower) (is.lower_notes told);
+  upper_notes = λ told. subst (λ (value : ℤ). IsNoLooser Upper value pair.upper) (same Upper) (is.upper_notes told);
   right = is.right;
 }
 
@@ -112,7 +115,7 @@ module _ (bytes : List ℕ) (head : FileHead) (p : Placement) (k : ℕ) (valid :
   agrees u have states are pages end q j is = told-agrees bytes head valid checkers kinds u have end q j (are q j is) (pages q j is)
 
   -- what was looked up rests on right pages
-  pair-pages : (sought : Sought) (pair : Bounds) → IsPairFor sought (source_in bytes) (told_in bytes) pair → AreOnRightPages bytes sought.states
+  pair-pages : (sought : Sought) (pair : Bounds) → IsPairFor sought (source_in bytes) (noted_in bytes) pair → AreOnRightPages bytes sought.states
   pair-pages sought pair is q j among = flawless (flaw_at (header_of_file bytes) (Some bytes) q) (is.right refl q j among)
 
   -- ---- the plays of a roll
@@ -127,7 +130,7 @@ module _ (bytes : List ℕ) (head : FileHead) (p : Placement) (k : ℕ) (valid :
     roll-state q j may = left-state may.end may.legal q j may.left
 
     play-over : (u : Words) → HavePairsOf bytes u → (end : Placement) (pair : Bounds) → IsLegalEnd p roll end
-        → IsPairFor (of_play (kind_at (stakes_of head) k) end) (source_in bytes) (told_in bytes) pair → IsPairFor (of_play (kind_at (stakes_of head) k) end) (source_in bytes) u pair
+        → IsPairFor (of_play (kind_at (stakes_of head) k) end) (source_in bytes) (noted_in bytes) pair → IsPairFor (of_play (kind_at (stakes_of head) k) end) (source_in bytes) (all_told u) pair
     play-over u have end pair legal is =
         let kind = kind_at (stakes_of head) k in
         let pages = pair-pages (of_play kind end) pair is in
@@ -137,15 +140,15 @@ module _ (bytes : List ℕ) (head : FileHead) (p : Placement) (k : ℕ) (valid :
     abbrev end_of : PlayRow → Placement
     end_of row = row.entry.end
 
-    module _ (ranking : Ranking) (is : IsRanking (stakes_of head) p k roll (source_in bytes) (told_in bytes) ranking) where
+    module _ (ranking : Ranking) (is : IsRanking (stakes_of head) p k roll (source_in bytes) (noted_in bytes) ranking) where
       pub ranking-pages : AreOnRightPages bytes (MayFollowRoll (stakes_of head) p k roll)
       ranking-pages q j may =
           let kind = kind_at (stakes_of head) k in
           let row = map-cases end_of may.end ranking.rows.items (Contains-Among may.end (map end_of ranking.rows.items) ((is.ends may.end).1 may.legal)) in
-          let pair = at_member (λ (r : PlayRow). IsPairFor (of_play kind r.entry.end) (source_in bytes) (told_in bytes) r.pair) ranking.rows.items is.pairs row.0 row.1 in
+          let pair = at_member (λ (r : PlayRow). IsPairFor (of_play kind r.entry.end) (source_in bytes) (noted_in bytes) r.pair) ranking.rows.items is.pairs row.0 row.1 in
           pair-pages (of_play kind row.0.entry.end) row.0.pair pair q j (subst (λ (e : Placement). IsLeft kind.next e q j) row.2 may.left)
 
-      pub ranking-over : (u : Words) → HavePairsOf bytes u → IsRanking (stakes_of head) p k roll (source_in bytes) u ranking
+      pub ranking-over : (u : Words) → HavePairsOf bytes u → IsRanking (stakes_of head) p k roll (source_in bytes) (all_told u) ranking
       ranking-over u have =
           let kind = kind_at (stakes_of head) k in
           record {
@@ -153,9 +156,9 @@ module _ (bytes : List ℕ) (head : FileHead) (p : Placement) (k : ℕ) (valid :
             ends = is.ends;
             distinct = is.distinct;
             first = is.first;
-            pairs = all-of (λ (r : PlayRow). IsPairFor (of_play kind r.entry.end) (source_in bytes) u r.pair) ranking.rows.items (λ row m.
+            pairs = all-of (λ (r : PlayRow). IsPairFor (of_play kind r.entry.end) (source_in bytes) (all_told u) r.pair) ranking.rows.items (λ row m.
                 play-over u have row.entry.end row.pair ((is.ends row.entry.end).0 (Among-Contains row.entry.end (map end_of ranking.rows.items) (Among-map end_of row ranking.rows.items m)))
-                (at_member (λ (r : PlayRow). IsPairFor (of_play kind r.entry.end) (source_in bytes) (told_in bytes) r.pair) ranking.rows.items is.pairs row m));
+                (at_member (λ (r : PlayRow). IsPairFor (of_play kind r.entry.end) (source_in bytes) (noted_in bytes) r.pair) ranking.rows.items is.pairs row m));
             in_order = is.in_order;
             bound = is.bound;
           }
@@ -166,7 +169,7 @@ module _ (bytes : List ℕ) (head : FileHead) (p : Placement) (k : ℕ) (valid :
   -- ---- the cube
 
   roll-over : (u : Words) → HavePairsOf bytes u → (j factor : ℕ) (pair : Bounds) → j < kinds_of (game_in head)
-      → IsRollPair (stakes_of head) p j factor (source_in bytes) (told_in bytes) pair → IsRollPair (stakes_of head) p j factor (source_in bytes) u pair
+      → IsRollPair (stakes_of head) p j factor (source_in bytes) (noted_in bytes) pair → IsRollPair (stakes_of head) p j factor (source_in bytes) (all_told u) pair
   roll-over u have j factor pair inside is =
       let stakes = stakes_of head in
       let pages = pair-pages (of_roll stakes p j factor) pair is in
@@ -175,14 +178,14 @@ module _ (bytes : List ℕ) (head : FileHead) (p : Placement) (k : ℕ) (valid :
       (λ e. roll-agree stakes (told_in bytes) u e p j factor (agrees u have (MayFollow stakes p j) (follow-state (game_in head) game.stakes p j there) pages (other e))) is
 
   answers-over : (u : Words) → HavePairsOf bytes u → (answers : List Taken) → ((taken : Taken) → Among taken answers → taken.kind < kinds_of (game_in head)) → (pairs : List Bounds)
-      → ArePairsFor (of_answer (stakes_of head) p) answers (source_in bytes) (told_in bytes) pairs → ArePairsFor (of_answer (stakes_of head) p) answers (source_in bytes) u pairs
+      → ArePairsFor (of_answer (stakes_of head) p) answers (source_in bytes) (noted_in bytes) pairs → ArePairsFor (of_answer (stakes_of head) p) answers (source_in bytes) (all_told u) pairs
   answers-over u have [] inside [] are = tt
   answers-over u have [] inside (pair ∷ pairs) are = absurd are
   answers-over u have (taken ∷ answers) inside [] are = absurd are
   answers-over u have (taken ∷ answers) inside (pair ∷ pairs) are =
       (roll-over u have taken.kind taken.factor pair (inside taken (inl refl)) are.0, answers-over u have answers (λ t m. inside t (inr m)) pairs are.1)
 
-  answers-pages : (answers : List Taken) (pairs : List Bounds) → ArePairsFor (of_answer (stakes_of head) p) answers (source_in bytes) (told_in bytes) pairs
+  answers-pages : (answers : List Taken) (pairs : List Bounds) → ArePairsFor (of_answer (stakes_of head) p) answers (source_in bytes) (noted_in bytes) pairs
       → (taken : Taken) → Among taken answers → AreOnRightPages bytes (MayFollow (stakes_of head) p taken.kind)
   answers-pages [] pairs are taken m = absurd m
   answers-pages (first ∷ answers) [] are taken m = absurd are
@@ -190,9 +193,9 @@ module _ (bytes : List ℕ) (head : FileHead) (p : Placement) (k : ℕ) (valid :
       pair-pages (of_roll (stakes_of head) p first.kind first.factor) pair are.0 q j (subst (λ (t : Taken). MayFollow (stakes_of head) p t.kind q j) e may)
   answers-pages (first ∷ answers) (pair ∷ pairs) are taken (inr m) = answers-pages answers pairs are.1 taken m
 
-  module _ (advice : CubeAdvice) (is : IsCubeAdvice (stakes_of head) p k (source_in bytes) (told_in bytes) advice) where
+  module _ (advice : CubeAdvice) (is : IsCubeAdvice (stakes_of head) p k (source_in bytes) (noted_in bytes) advice) where
     abbrev Taken_over : Words → List Taken → List Bounds → Type 0
-    Taken_over u answers pairs = ArePairsFor (of_answer (stakes_of head) p) answers (source_in bytes) u pairs
+    Taken_over u answers pairs = ArePairsFor (of_answer (stakes_of head) p) answers (source_in bytes) (all_told u) pairs
 
     pub advice-pages : AreOnRightPages bytes (MayFollowTurn (stakes_of head) p k)
     advice-pages q j (inl may) = pair-pages (of_roll (stakes_of head) p k 1) advice.no_double is.no_double q j may
@@ -203,7 +206,7 @@ module _ (bytes : List ℕ) (head : FileHead) (p : Placement) (k : ℕ) (valid :
           by_action (Some action) h =
               answers-pages may.double.answers.items (taken_of action) h.taken may.taken (Contains-Among may.taken may.double.answers.items may.answer) q j may.after
 
-    pub advice-over : (u : Words) → HavePairsOf bytes u → IsCubeAdvice (stakes_of head) p k (source_in bytes) u advice
+    pub advice-over : (u : Words) → HavePairsOf bytes u → IsCubeAdvice (stakes_of head) p k (source_in bytes) (all_told u) advice
     advice-over u have = record {
       no_double = roll-over u have k 1 advice.no_double state.kind is.no_double;
       action = by_both (kind_at (stakes_of head) k).double refl advice.action is.action;

@@ -2,7 +2,7 @@
 use Rattle.std.proofs.Common.{◌≡◌, ◌∙◌, List, ℕ, Bool, true, false, map, All, IsTrue, Option, Some, None, Result, Ok, Err, inl, inr, refl, sym, ap, subst}
 use Rattle.std.specs.Option.{option_map}
 use Rattle.std.proofs.lemmas.Bool.{false≢true}
-use Rattle.hyper_outside.specs.Files.{Contents}
+use Rattle.outside_log.specs.Files.{Contents}
 use Rattle.std.proofs.lemmas.List.Elements.{All-map}
 use Rattle.hyper_outside.specs.declared.outside.LookStop.{LookStop}
 use Rattle.hyper_outside.specs.declared.outside.LookStop.TheVariants as looks
@@ -24,7 +24,7 @@ use Rattle.database_file.specs.declared.stop.LoadStop.{LoadStop}
 use Rattle.database_file.specs.declared.stop.LoadStop.TheVariants as stops
 use Rattle.database_file.specs.Faults.{header_of_file, whole}
 use Rattle.database_file.specs.Opened.{AnswersPaged}
-use Rattle.database_file.specs.Paged.{paged_source, told_words}
+use Rattle.database_file.specs.Paged.{paged_source, told_notes}
 use Rattle.database_file.specs.PagedFiles.{PagedFile}
 use Rattle.database_file.specs.Texts.{game_in}
 use Rattle.database_file.proofs.Bases.{bound-named}
@@ -42,7 +42,7 @@ use Rattle.top_call.specs.Records.{HoldsRecord, IsRightReplayed, game_recorded}
 use Rattle.top_call.specs.Runs.{IsOfShowing}
 use Rattle.top_call.specs.Shows.{look_refusal}
 use Rattle.top_call.proofs.AdviseFiles.{same-kinds}
-use Rattle.top_call.proofs.AdviseLaws.{bad-page, source_in, told_in}
+use Rattle.top_call.proofs.AdviseLaws.{bad-page, noted_in, source_in}
 use Rattle.top_call.proofs.Loaded.{tells-missing}
 use Rattle.top_call.proofs.MatchLaws.{same-contents}
 
@@ -117,7 +117,7 @@ module _ (replayed : Replayed) (base : PagedFile) where
   abbrev Law : Type 0
   Law =
       (replayed : Replayed) (bytes : List ℕ) (head : FileHead) (list : List Judged) → IsRightReplayed replayed → IsOpenedFor replayed.rec bytes head
-      → JudgesAll None (stakes_of head) (source_in bytes) (told_in bytes) (map unjudged replayed.decisions) list → JudgesRecord replayed bytes head list
+      → JudgesAll None (stakes_of head) (source_in bytes) (noted_in bytes) (map unjudged replayed.decisions) list → JudgesRecord replayed bytes head list
 
   pub record-judged : Law → IsRightReplayed replayed → (held : Option (List ℕ)) (list : List Judged) → OpenedFor held
       → AnswersDecisions base.header held (stakes_of base.head) replayed.decisions (Ok list) → OfHeld held (λ bytes. JudgesPlain replayed bytes list)
@@ -126,7 +126,7 @@ module _ (replayed : Replayed) (base : PagedFile) where
       record {
         head = base.head;
         judges = law replayed bytes base.head list right opened.0
-            (subst (λ (h : Header). JudgesAll None (stakes_of base.head) (paged_source h true (Some bytes)) (told_words h (Some bytes)) (map unjudged replayed.decisions) list) opened.1 are);
+            (subst (λ (h : Header). JudgesAll None (stakes_of base.head) (paged_source h (Some bytes)) (told_notes h (Some bytes)) (map unjudged replayed.decisions) list) opened.1 are);
       }
 
   pub not-judged : (name : List ℕ) → is_match replayed.rec.stakes ≡ false → (held : Option (List ℕ)) (stop : LookStop) → OpenedFor held
@@ -136,7 +136,7 @@ module _ (replayed : Replayed) (base : PagedFile) where
   not-judged name plain None (looks.BadPage fault at) opened told = absurd opened
   not-judged name plain (Some bytes) (looks.BadPage fault at) opened told =
       let states = MayFollowDecisions (stakes_of base.head) replayed.decisions in
-      let damage = subst (λ (h : Header). HasDamage (paged_source h true (Some bytes)) states (record { fault = fault; at = at })) opened.1 told in
+      let damage = subst (λ (h : Header). HasDamage (paged_source h (Some bytes)) states (record { fault = fault; at = at })) opened.1 told in
       record { plain = plain; cause = inr (record { head = base.head; file = opened.0.file; page = bad-page bytes states (record { fault = fault; at = at }) damage }) }
 
 -- ---- a record outside a match, or of one

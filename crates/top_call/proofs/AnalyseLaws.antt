@@ -27,7 +27,7 @@ use Rattle.move_rules.specs.Listing.{Among}
 use Rattle.turn_rule.specs.declared.game.Game.{Game}
 use Rattle.turn_rule.specs.Following.{AgreeOn}
 use Rattle.turn_rule.specs.Games.{IsGame}
-use Rattle.turn_rule.specs.Looks.{AreStakesOf, IsPairFor, Source}
+use Rattle.turn_rule.specs.Looks.{all_told, AreStakesOf, IsPairFor, Notes, Source}
 use Rattle.turn_rule.specs.States.{AreNoLooser, IsState}
 use Rattle.turn_rule.specs.Turn.{Words}
 use Rattle.turn_rule.proofs.Monotone.{same-stakes}
@@ -48,7 +48,7 @@ use Rattle.database_file.specs.Texts.{game_in}
 use Rattle.top_call.specs.Advises.{AreOnRightPages, HavePairsOf}
 use Rattle.top_call.specs.Analyses.{IsGameOf, IsOpenedFor, MayFollowDecisions}
 use Rattle.top_call.specs.Records.{stakes_recorded}
-use Rattle.top_call.proofs.AdviseLaws.{flawless, pair-over, source_in, told-agrees, told_in}
+use Rattle.top_call.proofs.AdviseLaws.{flawless, pair-over, noted_in, source_in, told-agrees, told_in}
 
 -- ---- decisions of a record outside a match
 
@@ -106,9 +106,9 @@ hull-same : (u v : Words) (end : End) (p : Placement) (k : ℕ) → u end p k �
 hull-same u v Lower p k same = omega (arith, ints, clamps)
 hull-same u v Upper p k same = omega (arith, ints, clamps)
 
--- a source that tells these words
+-- a source of these words
 abbrev told_source : Words → ℤ → Source
-told_source floor bound = record { checkers = 0; kinds = 0; bound = bound; sure = false; tells = true; floor = floor; damage = λ _ _. None }
+told_source floor bound = record { checkers = 0; kinds = 0; bound = bound; sure = false; floor = floor; damage = λ _ _. None }
 
 -- how far a pair lies from 0 at most
 abbrev reach : Bounds → ℤ
@@ -129,8 +129,8 @@ upper-near lower upper in_order = near (int_max (neg_ℤ lower) upper) upper (so
 -- the law on one list of words
 abbrev pub LossLaw : Type 0
 LossLaw =
-    (source : Source) (u : Words) (stakes : Terms) (p : Placement) (k : ℕ) (choice : Choice) (pair : Bounds) → IsTrue source.tells → IsChoice stakes p k choice
-    → ((end : End) → AgreeOn (MayFollowChoice stakes p k choice) end source.floor u) → IsPairFor (of_loss stakes p k choice) source u pair → pair ≡ loss_of stakes u p k choice
+    (source : Source) (u : Notes) (stakes : Terms) (p : Placement) (k : ℕ) (choice : Choice) (pair : Bounds) → IsTrue u.told → IsChoice stakes p k choice
+    → ((end : End) → AgreeOn (MayFollowChoice stakes p k choice) end source.floor u.words) → IsPairFor (of_loss stakes p k choice) source u pair → pair ≡ loss_of stakes u.words p k choice
 
 module _ (law : LossLaw) (game : Game) (right : IsGame game) (p : Placement) (k : ℕ) (state : IsState game p k) (choice : Choice) (can : IsChoice game.stakes p k choice) where
   -- words as loose as others, which agree with them where it counts, give the same loss
@@ -139,7 +139,7 @@ module _ (law : LossLaw) (game : Game) (right : IsGame game) (p : Placement) (k 
   looser-same wide u tight agree in_order =
       let pair = loss_of game.stakes wide p k choice in
       let tighter : AreNoLooserPairs (loss_of game.stakes u p k choice) pair = loss-of-tighter game right game.stakes (same-stakes game.stakes) u wide tight p k state choice can in
-      law (told_source wide (reach pair)) u game.stakes p k choice pair refl can agree (record {
+      law (told_source wide (reach pair)) (all_told u) game.stakes p k choice pair refl can agree (record {
         in_order = in_order;
         lower = lower-near pair.lower pair.upper in_order;
         upper = upper-near pair.lower pair.upper in_order;
@@ -185,7 +185,7 @@ module _ (law : LossLaw) (rec : Record) (bytes : List ℕ) (head : FileHead) (op
   Can = CanBeJudged (source_in bytes) (stakes_of head)
 
   abbrev JudgedOver : Words → List Decision → List Judged → Type 0
-  JudgedOver u decisions list = JudgesAll None (stakes_of head) (source_in bytes) u (map unjudged decisions) list
+  JudgedOver u decisions list = JudgesAll None (stakes_of head) (source_in bytes) (all_told u) (map unjudged decisions) list
 
   pub in-game : (decision : Decision) → Can decision → IsDecisionOf (game_in head) decision
   in-game decision can = record {
@@ -205,7 +205,7 @@ module _ (law : LossLaw) (rec : Record) (bytes : List ℕ) (head : FileHead) (op
   pages-among (decision ∷ decisions) [] are judged m score q j may = absurd are
   pages-among (decision ∷ decisions) (first ∷ list) are judged (inl e) score q j may =
       let is = subst (λ (x : Judged). x.decision.score ≡ None) e score in
-      let pair = some-pair (IsPairFor (of_decision (stakes_of head) decision) (source_in bytes) (told_in bytes)) first.loss (are.0.judged is) in
+      let pair = some-pair (IsPairFor (of_decision (stakes_of head) decision) (source_in bytes) (noted_in bytes)) first.loss (are.0.judged is) in
       flawless (flaw_at (header_of_file bytes) (Some bytes) q)
       (pair.1.right refl q j (subst (λ (x : Judged). MayFollowChoice (stakes_of head) x.decision.position x.decision.kind x.decision.choice q j) e may))
   pages-among (decision ∷ decisions) (first ∷ list) are judged (inr m) score q j may = pages-among decisions list are.1 judged m score q j may
@@ -219,15 +219,15 @@ module _ (law : LossLaw) (rec : Record) (bytes : List ℕ) (head : FileHead) (op
     told-same = told-agrees bytes head opened.valid opened.source.checkers opened.source.stakes.kinds u have
 
     -- the pair of a decision is one over these words too
-    pair-of-decision : (decision : Decision) → Can decision → (pair : Bounds) → IsPairFor (of_decision (stakes_of head) decision) (source_in bytes) (told_in bytes) pair
-        → IsPairFor (of_decision (stakes_of head) decision) (source_in bytes) u pair
+    pair-of-decision : (decision : Decision) → Can decision → (pair : Bounds) → IsPairFor (of_decision (stakes_of head) decision) (source_in bytes) (noted_in bytes) pair
+        → IsPairFor (of_decision (stakes_of head) decision) (source_in bytes) (all_told u) pair
     pair-of-decision decision can pair is =
         let stakes = stakes_of head in
         let p = decision.position in
         let k = decision.kind in
         let choice = decision.choice in
         let of = in-game decision can in
-        let told : pair ≡ loss_of stakes (told_in bytes) p k choice = law (source_in bytes) (told_in bytes) stakes p k choice pair refl can.choice (λ end q j may. refl) is in
+        let told : pair ≡ loss_of stakes (told_in bytes) p k choice = law (source_in bytes) (noted_in bytes) stakes p k choice pair refl can.choice (λ end q j may. refl) is in
         let in_order = subst (λ (b : Bounds). b.lower ≤ℤ b.upper) told is.in_order in
         let agree = λ (end : End) (q : Placement) (j : ℕ) (may : MayFollowChoice stakes p k choice q j).
         told-same end q j (choice-state law (game_in head) opened.game p k of.state choice of.choice q j may) (flawless (flaw_at (header_of_file bytes) (Some bytes) q) (is.right refl q j may)) in
@@ -241,7 +241,7 @@ module _ (law : LossLaw) (rec : Record) (bytes : List ℕ) (head : FileHead) (op
     analysis-over (decision ∷ decisions) (first ∷ list) can are = (
       record {
         decision = are.0.decision;
-        judged = λ score. some-other (IsPairFor (of_decision (stakes_of head) decision) (source_in bytes) (told_in bytes)) (IsPairFor (of_decision (stakes_of head) decision) (source_in bytes) u)
+        judged = λ score. some-other (IsPairFor (of_decision (stakes_of head) decision) (source_in bytes) (noted_in bytes)) (IsPairFor (of_decision (stakes_of head) decision) (source_in bytes) (all_told u))
             (pair-of-decision decision (All-head Can decision decisions can)) first.loss (are.0.judged score);
         other = are.0.other;
       },

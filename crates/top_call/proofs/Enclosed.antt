@@ -9,7 +9,7 @@ use Rattle.turn_rule.specs.States.{IsState, pair_of}
 use Rattle.turn_rule.proofs.Cubeless.{cubeless-valid}
 use Rattle.turn_rule.proofs.Enclosing.{rounds-enclose}
 use Rattle.hyper_outside.specs.declared.outside.Failed.{Failed}
-use Rattle.hyper_outside.specs.Sink.{Output, Gains, Puts}
+use Rattle.outside_log.specs.Sink.{Output, Gains, Puts}
 use Rattle.equity_report.specs.Reports.{bound_text}
 use Rattle.top_call.specs.declared.task.BoundTask.{BoundTask}
 use Rattle.top_call.specs.Runs.{IsTold}

@@ -1,9 +1,8 @@
 -- What a keeper does with a score that it may keep.
-use Rattle.std.proofs.Common.{◌≡◌, ◌∙◌, ◌≤◌, ◌<◌, ◌⊎◌, ℕ, ℤ, true, false, IsTrue, [], length, Some, Err, sym, ap, subst}
+use Rattle.std.proofs.Common.{◌≡◌, ◌∙◌, ◌≤◌, ◌<◌, ◌⊎◌, ℕ, ℤ, List, true, false, length, sym, ap, subst}
 use Rattle.std.specs.List.{AllPairs}
-use Rattle.hyper_outside.specs.declared.outside.Failed.{Failed}
-use Rattle.hyper_outside.specs.Files.{Contents, KeepsOthers}
-use Rattle.hyper_outside.specs.Sink.{Output, Puts}
+use Rattle.outside_log.specs.Log.{Event, LeavesPlaces, WritesFile}
+use Rattle.outside_log.specs.Sink.{Output}
 use Rattle.directed_fixed.specs.Bounds.{Bounds}
 use Rattle.cube_actions.specs.Ladder.{ladder, ScoreComesBefore}
 use Rattle.cube_actions.specs.Scores.{MatchScore}
@@ -12,30 +11,28 @@ use Rattle.turn_rule.specs.declared.game.Game.{Game}
 use Rattle.interval_words.specs.WordLists.{WordList, AreRight, IsWidest, words_in_list}
 use Rattle.match_scores.specs.Ladders.{score_at, with_pair, AreWordsOf}
 use Rattle.match_scores.specs.Openings.{start_over}
-use Rattle.match_scores.proofs.WholeLadder.{AreScores}
-use Rattle.database_file.specs.Writing.{HoldsFront}
 use Rattle.command_line.specs.declared.command.Ladder.{Ladder}
 use Rattle.command_line.specs.Right.{IsRightLadder}
 use Rattle.equity_report.specs.Ladder.{ladder_score_text}
 use Rattle.top_call.specs.Ladders.{HasKeptSince, IsScoreSolved, LadderPast, SolvedScore, file_of, score_bytes, score_file, score_line, score_of, scores_in}
-use Rattle.top_call.specs.Runs.{IsPut}
+use Rattle.top_call.specs.Runs.{IsPut, WasPut}
 use Rattle.top_call.proofs.LadderSteps.{LadderLaw, head-valid, kept-next, not-kept, score-solved}
 
 -- the scores of each match stand in order
 abbrev pub AreInOrder : Type 0
 AreInOrder = (match_length : ℕ) → 1 ≤ match_length → match_length ≤ 5 → AllPairs ScoreComesBefore (ladder match_length)
 
-module _ (task : Ladder) (right : IsRightLadder task) (law : LadderLaw) (in_match : AreScores) (order : AreInOrder)
+module _ (task : Ladder) (right : IsRightLadder task) (law : LadderLaw) (order : AreInOrder)
     (past : LadderPast) (own given : StartPairs) (score : MatchScore) (words : WordList) (widest : ℤ) (pair : Bounds)
     (same : given ≡ own) (valid : AreStarts given) (more : length given.pairs < length (ladder given.match_length)) (is_next : score ≡ score_at given.match_length (length given.pairs))
     (closed : AreWordsOf task.checkers task.rounds score given words) (are_right : AreRight words) (is_widest : IsWidest words widest)
     (start : pair ≡ start_over words.game.checkers (words_in_list words) score)
-    (after : Contents) (middle : Output) (since : HasKeptSince past task own false after middle) where
+    (after : List Event) (middle : Output) (since : HasKeptSince past task own false after middle) where
   abbrev next : SolvedScore
   next = record { words = words; widest = widest }
 
   of_length : own.match_length ≡ task.match_length
-  of_length = since.0.solved.of_length
+  of_length = since.solved.of_length
 
   next-is : score ≡ score_of task (length own.pairs)
   next-is = is_next ∙ (ap (λ (s : StartPairs). score_at s.match_length (length s.pairs)) same ∙ ap (λ (n : ℕ). score_at n (length own.pairs)) of_length)
@@ -57,28 +54,22 @@ module _ (task : Ladder) (right : IsRightLadder task) (law : LadderLaw) (in_matc
   pair-is : pair ≡ start_over task.checkers (words_in_list words) score
   pair-is = start ∙ ap (λ (n : ℕ). start_over n (words_in_list words) score) (ap (λ (g : Game). g.checkers) closed.game)
 
-  module _ (later : Contents) (new : Output) (kept : IsTrue past.told → KeepsOthers (score_file task.prefix score) after later) where
-    kept-own : IsTrue past.told → KeepsOthers (file_of task (length own.pairs)) after later
-    kept-own told = at-own (λ s sc. KeepsOthers (score_file task.prefix sc) after later) (kept told)
-
+  module _ (later : List Event) (new : Output) where
     -- its file was written and its line was put
-    pub keeps : (IsTrue past.told → later (score_file task.prefix score) ≡ Some (score_bytes task score given words))
-        → IsPut middle new (ladder_score_text score pair widest) → (longer : StartPairs) → longer ≡ with_pair own pair → AreStarts longer → HasKeptSince past task longer false later new
+    pub keeps : WritesFile (score_file task.prefix score) (score_bytes task score given words) after later → IsPut middle new (ladder_score_text score pair widest) → (longer : StartPairs) → longer ≡ with_pair own pair → AreStarts longer → HasKeptSince past task longer false later new
     keeps written line longer added are_starts =
         let line' : IsPut middle new (score_line task (score_of task (length own.pairs)) words widest) =
         at-own (λ s sc. IsPut middle new (score_line task sc words widest)) (subst (λ (p : Bounds). IsPut middle new (ladder_score_text score p widest)) pair-is line) in
         let pair' : pair ≡ start_over task.checkers (words_in_list words) (score_of task (length own.pairs)) = at-own (λ s sc. pair ≡ start_over task.checkers (words_in_list words) sc) pair-is in
         let longer' : longer ≡ with_pair own (start_over task.checkers (words_in_list words) (score_of task (length own.pairs))) = added ∙ ap (with_pair own) pair' in
         subst (λ (s : StartPairs). HasKeptSince past task s false later new) (sym longer')
-        (kept-next task right law in_match (order task.match_length right.point right.points) past own after later middle new since more-own next solved-own kept-own
-        (λ told. at-own (λ s sc. later (score_file task.prefix sc) ≡ Some (score_bytes task sc s words)) (written told))
+        (kept-next task right law past own after later middle new since more-own next solved-own
+        (at-own (λ s sc. WritesFile (score_file task.prefix sc) (score_bytes task sc s words) after later) written)
         line' (subst AreStarts longer' are_starts))
 
     -- writing its file failed, or putting its line
-    pub fails : (IsTrue past.told → (later (score_file task.prefix score) ≡ after (score_file task.prefix score)) ⊎ HoldsFront [] (score_bytes task score given words) (later (score_file task.prefix score)))
-        → ((new ≡ middle) ⊎ ((failed : Failed) × Puts {T = Unit {0}} middle new (ladder_score_text score pair widest) (Err failed))) → HasKeptSince past task own true later new
-    fails writes line =
-        not-kept task right law in_match (order task.match_length right.point right.points) past own after later middle new since more-own next solved-own kept-own
-        (λ told. at-own (λ s sc. (later (score_file task.prefix sc) ≡ after (score_file task.prefix sc)) ⊎ HoldsFront [] (score_bytes task sc s words) (later (score_file task.prefix sc))) (writes told))
-        (at-own (λ s sc. (new ≡ middle) ⊎ ((failed : Failed) × Puts {T = Unit {0}} middle new (score_line task sc words widest) (Err failed)))
-        (subst (λ (p : Bounds). (new ≡ middle) ⊎ ((failed : Failed) × Puts {T = Unit {0}} middle new (ladder_score_text score p widest) (Err failed))) pair-is line))
+    pub fails : LeavesPlaces after later → (new ≡ middle) ⊎ WasPut middle new (ladder_score_text score pair widest) → HasKeptSince past task own true later new
+    fails leaves line =
+        not-kept task right law past own after later middle new since more-own next solved-own leaves
+        (at-own (λ s sc. (new ≡ middle) ⊎ WasPut middle new (score_line task sc words widest))
+        (subst (λ (p : Bounds). (new ≡ middle) ⊎ WasPut middle new (ladder_score_text score p widest)) pair-is line))

@@ -3,9 +3,9 @@ use Rattle.std.proofs.Common.{◌≡◌, ◌≢◌, ◌∙◌, ◌≤◌, ◌<�
 use Rattle.std.specs.List.{AllPairs}
 use Rattle.std.proofs.lemmas.Bool.{cases_lt}
 use Rattle.std.proofs.lemmas.List.{append-nil, append_assoc}
-use Rattle.hyper_outside.specs.declared.outside.Failed.{Failed}
-use Rattle.hyper_outside.specs.Files.{Contents, KeepsOthers}
-use Rattle.hyper_outside.specs.Sink.{Output, Puts}
+use Rattle.outside_log.specs.Log.{Event, LeavesPlaces, WritesFile}
+use Rattle.outside_log.specs.Sink.{Output}
+use Rattle.outside_log.proofs.Logs.{leaves-same}
 use Rattle.cube_actions.specs.Ladder.{ladder, ScoreComesBefore}
 use Rattle.cube_actions.specs.Scores.{MatchScore, last_game}
 use Rattle.cube_actions.specs.Starts.{StartPairs, AreStarts}
@@ -19,12 +19,10 @@ use Rattle.match_scores.proofs.Places.{place-of}
 use Rattle.command_line.specs.Right.{IsRightLadder}
 use Rattle.match_scores.specs.Ladders.{score_at, starts_till, with_pair, game_at, AreWordsOf, IsSolved, IsSolvedAt, IsLadder}
 use Rattle.match_scores.proofs.WholeLadder.{AreScores, and_then, and_then-before, and_then-last, till-same, all-taken, solved-next}
-use Rattle.database_file.specs.Writing.{HoldsFront}
 use Rattle.command_line.specs.declared.command.Ladder.{Ladder}
-use Rattle.top_call.specs.Ladders.{AreScoresSolved, HasKeptSince, HaveFiles, IsScoreSolved, KeepsAllBut, LadderPast, SolvedScore, file_of, lines_of, score_bytes, score_head, score_line, score_of, scores_in}
-use Rattle.top_call.specs.Runs.{IsPut, IsTold}
-use Rattle.top_call.proofs.ScoreFiles.{files-apart}
-use Rattle.top_call.proofs.SolvedFiles.{two-takes}
+use Rattle.top_call.specs.Ladders.{AreScoresSolved, HasKeptSince, IsScoreSolved, LadderPast, SolvedScore, WroteScores, file_of, lines_of, score_bytes, score_head, score_line, score_of, scores_in}
+use Rattle.top_call.specs.Runs.{IsPut, IsTold, WasPut}
+use Rattle.top_call.proofs.SolvedFiles.{three-takes}
 
 -- ---- what was put
 
@@ -91,7 +89,7 @@ pub score-solved : (task : Ladder) (score : MatchScore) (starts : StartPairs) (w
     → IsScoreSolved task score starts (record { words = words; widest = widest })
 score-solved task score starts words widest valid closed right is_widest = record {
   closed = closed;
-  text = record { valid = valid; takes = two-takes (Match score); fitting = file-words task score starts words closed; right = right; text = refl };
+  text = record { valid = valid; takes = three-takes (Match score); fitting = file-words task score starts words closed; right = right; text = refl };
   widest = is_widest;
 }
 
@@ -112,23 +110,34 @@ none-solved task = record {
   };
 }
 
-pub nothing-since : (past : LadderPast) (task : Ladder) (after : Contents) → ((name : List ℕ) → after name ≡ past.before name) → HasKeptSince past task (no_pairs task.match_length) false after past.old
-nothing-since past task after same = (
-  record {
-    scores = λ place. no_score task;
-    solved = none-solved task;
-    files = λ told place here. absurd (omega (arith, here));
-    lines = nothing-put past.old;
-  },
-  λ told name other. same name,
+pub nothing-since : (past : LadderPast) (task : Ladder) (after : List Event) → after ≡ past.before → HasKeptSince past task (no_pairs task.match_length) false after past.old
+nothing-since past task after same = record {
+  scores = λ place. no_score task;
+  solved = none-solved task;
+  files = leaves-same past.before after same;
+  lines = nothing-put past.old;
+}
+
+-- the file of the same score, for the same start pairs
+same-file : (task : Ladder) (place : ℕ) (given other : StartPairs) (score another : SolvedScore) (before after : List Event) → other ≡ given → another ≡ score
+    → WritesFile (file_of task place) (score_bytes task (score_of task place) given score.words) before after → WritesFile (file_of task place) (score_bytes task (score_of task place) other another.words) before after
+same-file task place given other score another before after same_starts same_score writes =
+    subst (λ (n : SolvedScore). WritesFile (file_of task place) (score_bytes task (score_of task place) other n.words) before after) (sym same_score)
+    (subst (λ (s : StartPairs). WritesFile (file_of task place) (score_bytes task (score_of task place) s score.words) before after) (sym same_starts) writes)
+
+-- the files of the same scores
+same-wrote : (task : Ladder) (starts longer : StartPairs) (scores others : ℕ → SolvedScore) (before : List Event) (many : ℕ) → ((place : ℕ) → place < many → starts_till longer place ≡ starts_till starts place) → ((place : ℕ) → place < many → others place ≡ scores place) → (after : List Event)
+    → WroteScores task starts scores many before after → WroteScores task longer others many before after
+same-wrote task starts longer scores others before zero till same after wrote = wrote
+same-wrote task starts longer scores others before (suc many) till same after (middle, earlier, writes) = (
+  middle,
+  same-wrote task starts longer scores others before many (λ place here. till place (omega (arith, here))) (λ place here. same place (omega (arith, here))) middle earlier,
+  same-file task many (starts_till starts many) (starts_till longer many) (scores many) (others many) middle after (till many (omega arith)) (same many (omega arith)) writes,
 )
 
 -- ---- one score more, or one that failed
 
-module _ (task : Ladder) (right : IsRightLadder task) (law : LadderLaw) (in_match : AreScores) (order : AllPairs ScoreComesBefore (ladder task.match_length)) where
-  apart : (i j : ℕ) → i < j → j < scores_in task → file_of task i ≢ file_of task j
-  apart = files-apart task right.point right.points in_match order
-
+module _ (task : Ladder) (right : IsRightLadder task) (law : LadderLaw) where
   module _ (starts : StartPairs) (scores : ℕ → SolvedScore) (solved : AreScoresSolved task starts scores) (next : SolvedScore) (more : length starts.pairs < scores_in task) (is : IsScoreSolved task (score_of task (length starts.pairs)) starts next) where
     abbrev longer : StartPairs
     longer = with_pair starts (start_over task.checkers (words_in_list next.words) (score_of task (length starts.pairs)))
@@ -185,78 +194,43 @@ module _ (task : Ladder) (right : IsRightLadder task) (law : LadderLaw) (in_matc
       solved = ladder-more valid;
     }
 
-    module _ (after later : Contents) (kept : KeepsOthers (file_of task (length starts.pairs)) after later) where
-      files-stay : HaveFiles task starts scores after → HaveFiles task starts scores later
-      files-stay files place here = kept (file_of task place) (apart place (length starts.pairs) here more) ∙ files place here
-
-      with-bytes : (place : ℕ) (given : StartPairs) (score : SolvedScore) → starts_till longer place ≡ given → with_next place ≡ score → later (file_of task place) ≡ Some (score_bytes task (score_of task place) given score.words)
-          → later (file_of task place) ≡ Some (score_bytes task (score_of task place) (starts_till longer place) (with_next place).words)
-      with-bytes place given score same_starts same_score there =
-          subst (λ (s : StartPairs). later (file_of task place) ≡ Some (score_bytes task (score_of task place) s (with_next place).words)) (sym same_starts)
-          (subst (λ (n : SolvedScore). later (file_of task place) ≡ Some (score_bytes task (score_of task place) given n.words)) (sym same_score) there)
-
-      files-more : HaveFiles task starts scores after → later (file_of task (length starts.pairs)) ≡ Some (score_bytes task (score_of task (length starts.pairs)) starts next.words) → HaveFiles task longer with_next later
-      files-more files written place here = elim (cases_lt place (length starts.pairs)) [
-        | inl earlier ↦ with-bytes place (starts_till starts place) (scores place) (same-till place (omega (arith, earlier))) (before-next place earlier) (files-stay files place earlier)
-        | inr last ↦ at-last (λ p. later (file_of task p) ≡ Some (score_bytes task (score_of task p) (starts_till longer p) (with_next p).words))
-            (with-bytes (length starts.pairs) starts next (same-till (length starts.pairs) (omega arith) ∙ all-taken starts) last-next written) place here last
-      ]
-
-      others-more : (many : ℕ) → many ≡ length starts.pairs + 1 → (before : Contents) → KeepsAllBut task (length starts.pairs) before after → KeepsAllBut task many before later
-      others-more many is_more before others name other =
-          kept name (λ same. other (length starts.pairs, omega (arith, is_more), more, same))
-          ∙ others name (λ first. other (first.0, (let earlier = first.1 in omega (arith, earlier, is_more)), first.2, first.3))
+    wrote-more : (before after later : List Event) → WroteScores task starts scores (length starts.pairs) before after → WritesFile (file_of task (length starts.pairs)) (score_bytes task (score_of task (length starts.pairs)) starts next.words) after later
+        → WroteScores task longer with_next (length longer.pairs) before later
+    wrote-more before after later wrote writes =
+        let last = same-file task (length starts.pairs) starts (starts_till longer (length starts.pairs)) next (with_next (length starts.pairs)) after later (same-till (length starts.pairs) (omega arith) ∙ all-taken starts) last-next writes in
+        subst (λ (many : ℕ). WroteScores task longer with_next many before later) (sym one_more)
+        (after, same-wrote task starts longer scores with_next before (length starts.pairs) (λ place here. same-till place (omega (arith, here))) before-next after wrote, last)
 
   -- the next score is kept too
-  pub kept-next : (past : LadderPast) (starts : StartPairs) (after later : Contents) (middle new : Output) → HasKeptSince past task starts false after middle
+  pub kept-next : (past : LadderPast) (starts : StartPairs) (after later : List Event) (middle new : Output) → HasKeptSince past task starts false after middle
       → length starts.pairs < scores_in task → (next : SolvedScore) → IsScoreSolved task (score_of task (length starts.pairs)) starts next
-      → (IsTrue past.told → KeepsOthers (file_of task (length starts.pairs)) after later)
-      → (IsTrue past.told → later (file_of task (length starts.pairs)) ≡ Some (score_bytes task (score_of task (length starts.pairs)) starts next.words))
+      → WritesFile (file_of task (length starts.pairs)) (score_bytes task (score_of task (length starts.pairs)) starts next.words) after later
       → IsPut middle new (score_line task (score_of task (length starts.pairs)) next.words next.widest)
       → AreStarts (with_pair starts (start_over task.checkers (words_in_list next.words) (score_of task (length starts.pairs))))
       → HasKeptSince past task (with_pair starts (start_over task.checkers (words_in_list next.words) (score_of task (length starts.pairs)))) false later new
-  kept-next past starts after later middle new since more next is kept written line valid =
-      let had = since.0 in
+  kept-next past starts after later middle new had more next is written line valid =
       let scores = had.scores in
-      let lines = put-both past.old middle new _ _ had.lines line in (
-        record {
-          scores = and_then scores (length starts.pairs) next;
-          solved = scores-more starts scores had.solved next more is valid;
-          files = λ told. files-more starts scores had.solved next more is after later (kept told) (had.files told) (written told);
-          lines = subst (IsPut past.old new) (sym (lines-more starts scores had.solved next more is)) lines;
-        },
-        λ told. others-more starts scores had.solved next more is after later (kept told) _ (many_more starts scores had.solved next more is) past.before (since.1 told),
-      )
+      let lines = put-both past.old middle new _ _ had.lines line in
+      record {
+        scores = and_then scores (length starts.pairs) next;
+        solved = scores-more starts scores had.solved next more is valid;
+        files = wrote-more starts scores had.solved next more is past.before after later had.files written;
+        lines = subst (IsPut past.old new) (sym (lines-more starts scores had.solved next more is)) lines;
+      }
 
   -- writing the file of the next score failed, or its line
-  pub not-kept : (past : LadderPast) (starts : StartPairs) (after later : Contents) (middle new : Output) → HasKeptSince past task starts false after middle
+  pub not-kept : (past : LadderPast) (starts : StartPairs) (after later : List Event) (middle new : Output) → HasKeptSince past task starts false after middle
       → length starts.pairs < scores_in task → (next : SolvedScore) → IsScoreSolved task (score_of task (length starts.pairs)) starts next
-      → (IsTrue past.told → KeepsOthers (file_of task (length starts.pairs)) after later)
-      → (IsTrue past.told → (later (file_of task (length starts.pairs)) ≡ after (file_of task (length starts.pairs)))
-      ⊎ HoldsFront [] (score_bytes task (score_of task (length starts.pairs)) starts next.words) (later (file_of task (length starts.pairs))))
-      → ((new ≡ middle) ⊎ ((failed : Failed) × Puts {T = Unit {0}} middle new (score_line task (score_of task (length starts.pairs)) next.words next.widest) (Err failed)))
+      → LeavesPlaces after later
+      → (new ≡ middle) ⊎ WasPut middle new (score_line task (score_of task (length starts.pairs)) next.words next.widest)
       → HasKeptSince past task starts true later new
-  not-kept past starts after later middle new since more next is kept writes line =
-      let had = since.0 in
-      let scores = had.scores in (
-        record {
-          scores = scores;
-          solved = had.solved;
-          files = λ told. files-stay starts scores had.solved next more is after later (kept told) (had.files told);
-          lines = (
-            middle,
-            had.lines,
-            record {
-              more = more;
-              score = next;
-              solved = is;
-              file = λ told. elim (writes told) [
-                | inl same ↦ inl (same ∙ since.1 told (file_of task (length starts.pairs)) (λ first. apart first.0 (length starts.pairs) first.1 more (sym first.3)))
-                | inr front ↦ inr front
-              ];
-              line = line;
-            },
-          );
-        },
-        λ told. others-more starts scores had.solved next more is after later (kept told) (length starts.pairs + 1) refl past.before (since.1 told),
-      )
+  not-kept past starts after later middle new had more next is leaves line = (
+    after,
+    record {
+      scores = had.scores;
+      solved = had.solved;
+      files = had.files;
+      lines = (middle, had.lines, elim line [ inl same ↦ inl same | inr put ↦ inr (record { more = more; score = next; solved = is; line = put }) ]);
+    },
+    leaves,
+  )

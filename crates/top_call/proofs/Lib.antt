@@ -15,8 +15,8 @@ mod AnalyseLaws
 mod MatchFiles
 mod MatchLaws
 mod AnalyseFiles
-mod Written
-mod ScoreFiles
+mod Completing
+mod Begun
 mod LadderSteps
 mod LadderEnds
 mod LadderKeeping
@@ -24,3 +24,4 @@ mod PlanLaws
 mod PlanFiles
 mod ScanFiles
 mod ReplyFiles
+mod Asked

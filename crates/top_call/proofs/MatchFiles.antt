@@ -1,10 +1,10 @@
 -- The files of the scores of a match, and what refuses them.
-use Rattle.std.proofs.Common.{◌≡◌, ◌∙◌, ◌<◌, ◌≤◌, ℕ, suc, Bool, true, List, length, get_or, All, Option, Some, None, Result, Ok, Err, inl, inr, refl, sym, ap, subst, arith}
+use Rattle.std.proofs.Common.{◌≡◌, ◌∙◌, ◌<◌, ◌≤◌, ℕ, suc, Bool, List, length, get_or, All, Option, Some, None, Result, Ok, Err, inl, inr, refl, sym, ap, subst, arith}
 use Rattle.std.specs.Prelude.{slice_get}
 use Rattle.std.specs.Option.{option_map}
 use Rattle.std.proofs.lemmas.Bool.{cases_lt}
 use Rattle.std.proofs.lemmas.Option.{get_or_from_slice_get}
-use Rattle.hyper_outside.specs.Files.{Contents}
+use Rattle.outside_log.specs.Files.{Contents}
 use Rattle.cube_actions.specs.Scores.{MatchScore}
 use Rattle.cube_actions.specs.Stakes.{bound_of}
 use Rattle.cube_actions.specs.declared.name.StakesName.{StakesName}
@@ -78,7 +78,7 @@ opened-at rec score (Some bytes) base a valid many name head game is =
         valid = subst IsHeader a.header valid;
         source = record {
           checkers = sym (ap (λ (h : FileHead). h.checkers) (sym same) ∙ many ∙ ap (λ (h : Header). h.checkers) a.header);
-          stakes = subst (λ (h : FileHead). AreStakesOf (paged_source (header_of_file bytes) true (Some bytes)) (stakes_of h)) same (record {
+          stakes = subst (λ (h : FileHead). AreStakesOf (paged_source (header_of_file bytes) (Some bytes)) (stakes_of h)) same (record {
             kinds = ap (λ (h : Header). h.kinds) (sym a.header) ∙ same-kinds base.header base.head valid name;
             bound = ap (λ (h : Header). bound_of h.name) (sym a.header) ∙ ap (λ (n : StakesName). bound_of n) (sym name) ∙ sym (bound-named base.head.name base.head.starts);
           });

@@ -10,7 +10,7 @@ use Rattle.std.proofs.lemmas.Option.{slice_get-get_or, slice_get_within}
 use Rattle.position_rank.specs.Placement.{Placement}
 use Rattle.directed_fixed.specs.declared.bounds.End.{End}
 use Rattle.directed_fixed.specs.Bounds.{Bounds}
-use Rattle.hyper_outside.specs.Files.{Contents}
+use Rattle.outside_log.specs.Files.{Contents}
 use Rattle.hyper_outside.specs.declared.outside.LookStop.{LookStop}
 use Rattle.hyper_outside.specs.declared.outside.LookStop.TheVariants as looks
 use Rattle.cube_actions.specs.Matches.{terms_of}
@@ -28,7 +28,7 @@ use Rattle.game_record.specs.declared.record.RecordStakes.{RecordStakes}
 use Rattle.game_record.specs.declared.record.RecordStakes.TheVariants.{Cubeless, Money, Jacoby, MoneyBeavers, JacobyBeavers, Match as OfMatch}
 use Rattle.turn_rule.specs.declared.game.Game.{Game}
 use Rattle.turn_rule.specs.Games.{IsGame, game_of}
-use Rattle.turn_rule.specs.Looks.{HasDamage, IsPairFor, Source}
+use Rattle.turn_rule.specs.Looks.{HasDamage, IsPairFor, Notes, Source}
 use Rattle.turn_rule.specs.Truth.{AreSoundFrom}
 use Rattle.turn_rule.specs.Turn.{Words}
 use Rattle.play_analyser.specs.Regrets.{loss_of}
@@ -46,7 +46,7 @@ use Rattle.record_study.proofs.Matches.{PayoffsLieWithin, if-given, loss-enclose
 use Rattle.base_head.specs.Heads.{AreStartsBefore, AreStartsOf, FileHead, IsHead, stakes_named, stakes_of}
 use Rattle.base_head.specs.declared.header.Header.{Header}
 use Rattle.database_file.specs.Faults.{header_of_file}
-use Rattle.database_file.specs.Paged.{IsSourceOfHead, flaw_at, paged_source, told_words}
+use Rattle.database_file.specs.Paged.{IsSourceOfHead, flaw_at, paged_source, told_notes}
 use Rattle.database_file.specs.PagedFiles.{PagedFile}
 use Rattle.database_file.specs.Texts.{game_in}
 use Rattle.equity_report.specs.declared.text.GameName.{GameName}
@@ -58,7 +58,7 @@ use Rattle.top_call.specs.Loads.{game_told}
 use Rattle.top_call.specs.MatchAnalyses.{AnswersJudgingAt, AnswersNext, AnswersScore, AreJudgedAt, AreJudgedLike, HasTrueFile, HoldsTruth, IsBaseOf, IsJudgedByFile, IsOpenedAt, JudgesOne, RefusesAt, RefusesMatch, RefusesOne, HasFile, StayJudged, game_at, head_of}
 use Rattle.top_call.specs.Records.{match_length}
 use Rattle.top_call.specs.Shows.{look_refusal}
-use Rattle.top_call.proofs.AdviseLaws.{bad-page, flawless, source_in, told-agrees, told_in}
+use Rattle.top_call.proofs.AdviseLaws.{bad-page, flawless, noted_in, source_in, told-agrees, told_in}
 use Rattle.top_call.proofs.AnalyseLaws.{LossLaw, choice-state, same-loss}
 
 -- ---- scores
@@ -155,7 +155,7 @@ module _ (law : LossLaw) (rec : RecordRead) (score : MatchScore) (bytes : List �
     choice = can.choice;
   }
 
-  by-loss : (decision : Decision) → Can decision → (loss : Option Bounds) → IsSomeAnd loss (IsPairFor (of_decision (stakes_of head) decision) (source_in bytes) (told_in bytes)) → JudgesOne rec score bytes (record { decision = decision; loss = loss })
+  by-loss : (decision : Decision) → Can decision → (loss : Option Bounds) → IsSomeAnd loss (IsPairFor (of_decision (stakes_of head) decision) (source_in bytes) (noted_in bytes)) → JudgesOne rec score bytes (record { decision = decision; loss = loss })
   by-loss decision can None h = absurd h
   by-loss decision can (Some pair) h = record { file = opened.file; pages = pages; over = λ u have. ap (λ (b : Bounds). Some b) (over u have) } where
     pages : (q : Placement) (j : ℕ) → MayFollowChoice (stakes_of head) decision.position decision.kind decision.choice q j → flaw_at (header_of_file bytes) (Some bytes) q ≡ None
@@ -165,13 +165,13 @@ module _ (law : LossLaw) (rec : RecordRead) (score : MatchScore) (bytes : List �
     over u have =
         let stakes = stakes_of head in
         let of = in-game decision can in
-        let told : pair ≡ loss_of stakes (told_in bytes) decision.position decision.kind decision.choice = law (source_in bytes) (told_in bytes) stakes decision.position decision.kind decision.choice pair refl can.choice (λ end q j may. refl) h in
+        let told : pair ≡ loss_of stakes (told_in bytes) decision.position decision.kind decision.choice = law (source_in bytes) (noted_in bytes) stakes decision.position decision.kind decision.choice pair refl can.choice (λ end q j may. refl) h in
         let in_order = subst (λ (b : Bounds). b.lower ≤ℤ b.upper) told h.in_order in
         let agree = λ (end : End) (q : Placement) (j : ℕ) (may : MayFollowChoice stakes decision.position decision.kind decision.choice q j).
         told-agrees bytes head opened.valid opened.source.checkers opened.source.stakes.kinds u have end q j (choice-state law (game_in head) opened.file.valid decision.position decision.kind of.state decision.choice of.choice q j may) (pages q j may) in
         told ∙ same-loss law (game_in head) opened.file.valid decision.position decision.kind of.state decision.choice of.choice (told_in bytes) u agree in_order
 
-  one-judged : (old new : Judged) → IsAt (Some score) old → Can old.decision → Judges (Some score) (stakes_of head) (source_in bytes) (told_in bytes) old new → JudgesOne rec score bytes new
+  one-judged : (old new : Judged) → IsAt (Some score) old → Can old.decision → Judges (Some score) (stakes_of head) (source_in bytes) (noted_in bytes) old new → JudgesOne rec score bytes new
   one-judged old new here can is =
       let both = by-loss old.decision can new.loss (is.judged here) in
       let same : new ≡ record { decision = old.decision; loss = new.loss } = λ i. record { decision = is.decision i; loss = new.loss } in
@@ -186,12 +186,12 @@ module _ (law : LossLaw) (rec : RecordRead) (score : MatchScore) (bytes : List �
         (subst (λ (f : Option (List ℕ)). OfHeld f (λ b. JudgesOne rec score b one)) (sym file) is)
 
     abbrev R : Judged → Judged → Type 0
-    R = Judges (Some score) (stakes_of head) (source_in bytes) (told_in bytes)
+    R = Judges (Some score) (stakes_of head) (source_in bytes) (noted_in bytes)
 
     new-at : (old new : Judged) → R old new → IsAt (Some score) new → IsAt (Some score) old
     new-at old new is here = ap (λ (d : Decision). d.score) (sym is.decision) ∙ here
 
-    at-score : (olds news : List Judged) → All (λ (one : Judged). IsAt (Some score) one → Can one.decision) olds → JudgesAll (Some score) (stakes_of head) (source_in bytes) (told_in bytes) olds news → AreJudgedAt prefix rec held (Some score) news
+    at-score : (olds news : List Judged) → All (λ (one : Judged). IsAt (Some score) one → Can one.decision) olds → JudgesAll (Some score) (stakes_of head) (source_in bytes) (noted_in bytes) olds news → AreJudgedAt prefix rec held (Some score) news
     at-score olds news can are =
         zipped-all R (λ (one : Judged). IsAt (Some score) one → Can one.decision) (λ (one : Judged). IsAt (Some score) one → IsJudgedByFile prefix rec held one)
         (λ old new is before here. by-file new here (one-judged old new (new-at old new is here) (before (new-at old new is here)) is)) olds news are can
@@ -207,7 +207,7 @@ module _ (law : LossLaw) (rec : RecordRead) (score : MatchScore) (bytes : List �
           subst (IsJudgedByFile prefix rec held) (sym same) (before.1 (ap (λ (d : Decision). d.score) (sym is.decision) ∙ here)))
     ]
 
-    stay-judged : (olds news : List Judged) → All (λ (one : Judged). IsAt (Some score) one → Can one.decision) olds → JudgesAll (Some score) (stakes_of head) (source_in bytes) (told_in bytes) olds news → StayJudged prefix rec held olds news
+    stay-judged : (olds news : List Judged) → All (λ (one : Judged). IsAt (Some score) one → Can one.decision) olds → JudgesAll (Some score) (stakes_of head) (source_in bytes) (noted_in bytes) olds news → StayJudged prefix rec held olds news
     stay-judged olds news can are other all =
         zipped-all R (Both other) (λ (one : Judged). IsAt other one → IsJudgedByFile prefix rec held one) (λ old new is before here. stay-one other old new is before here) olds news are (λ i d below. (can i d below, all i d below))
 
@@ -218,13 +218,13 @@ module _ (law : LossLaw) (rec : RecordRead) (points : ℕ) (score : MatchScore) 
   Opened file = OfHeld file (λ bytes. IsOpenedAt rec score bytes × IsBaseOf bytes base)
 
   pub score-judged : (file : Option (List ℕ)) → held (score_file prefix score) ≡ file → Opened file → (olds news : List Judged) → All (λ (one : Judged). IsDecisionInMatch rec.checkers points one.decision) olds
-      → JudgesAll (Some score) (stakes_of base.head) (paged_source base.header true file) (told_words base.header file) olds news → StayJudged prefix rec held olds news × AreJudgedAt prefix rec held (Some score) news
+      → JudgesAll (Some score) (stakes_of base.head) (paged_source base.header file) (told_notes base.header file) olds news → StayJudged prefix rec held olds news × AreJudgedAt prefix rec held (Some score) news
   score-judged None is opened olds news right are = absurd opened
   score-judged (Some bytes) is opened olds news right are =
       let can : All (λ (one : Judged). IsAt (Some score) one → CanBeJudged (source_in bytes) (stakes_of (head_of bytes)) one.decision) olds =
       λ i d below here. can-at rec score (head_of bytes) opened.0.file.game opened.0.file.valid (source_in bytes) opened.0.source points (get_or olds i d).decision (right i d below) here in
-      let one = subst (λ (h : Header). JudgesAll (Some score) (stakes_of base.head) (paged_source h true (Some bytes)) (told_words h (Some bytes)) olds news) opened.1.header are in
-      let two = subst (λ (h : FileHead). JudgesAll (Some score) (stakes_of h) (source_in bytes) (told_in bytes) olds news) opened.1.head one in
+      let one = subst (λ (h : Header). JudgesAll (Some score) (stakes_of base.head) (paged_source h (Some bytes)) (told_notes h (Some bytes)) olds news) opened.1.header are in
+      let two = subst (λ (h : FileHead). JudgesAll (Some score) (stakes_of h) (source_in bytes) (noted_in bytes) olds news) opened.1.head one in
       (stay-judged law rec score bytes opened.0 prefix held is olds news can two, at-score law rec score bytes opened.0 prefix held is olds news can two)
 
   pub score-not-judged : (stop : LookStop) (file : Option (List ℕ)) → held (score_file prefix score) ≡ file → Opened file → (olds news : List Judged)
@@ -233,7 +233,7 @@ module _ (law : LossLaw) (rec : RecordRead) (points : ℕ) (score : MatchScore) 
   score-not-judged looks.NoMemory file is opened olds news told = inl tt
   score-not-judged (looks.BadPage fault at) None is opened olds news told = absurd opened
   score-not-judged (looks.BadPage fault at) (Some bytes) is opened olds news told =
-      let damage = subst (λ (h : Header). HasDamage (paged_source h true (Some bytes)) (MayFollowSome (Some score) (stakes_of base.head) olds) (record { fault = fault; at = at })) opened.1.header told in
+      let damage = subst (λ (h : Header). HasDamage (paged_source h (Some bytes)) (MayFollowSome (Some score) (stakes_of base.head) olds) (record { fault = fault; at = at })) opened.1.header told in
       let may = damage.among in
       let decision = may.judged.decision in
       let own : HasDamage (source_in bytes) (MayFollowChoice (stakes_of base.head) decision.position decision.kind decision.choice) (record { fault = fault; at = at }) = record { position = damage.position; kind = damage.kind; among = may.one.follows; damaged = damage.damaged } in
@@ -288,7 +288,7 @@ kept-up-to R keeps (suc place) (old ∷ olds) [] zip rest = absurd zip
 kept-up-to R keeps (suc place) (old ∷ olds) (new ∷ news) zip rest =
     ap (λ (d : Decision). d ∷ decisions_in news) (keeps old new zip.0) ∙ ap (λ (ds : List Decision). old.decision ∷ ds) (kept-up-to R keeps place olds news zip.1 rest)
 
-pub judging-keeps : (score : Option MatchScore) (stakes : Terms) (source : Source) (noted : Words) (olds news : List Judged) (result : Result (Unit {0}) LookStop)
+pub judging-keeps : (score : Option MatchScore) (stakes : Terms) (source : Source) (noted : Notes) (olds news : List Judged) (result : Result (Unit {0}) LookStop)
     → IfOk result (λ _. JudgesAll score stakes source noted olds news) → OnErr result (JudgesSome score stakes source noted olds news) → decisions_in news ≡ decisions_in olds
 judging-keeps score stakes source noted olds news (Ok done) ok err = zipped-decisions (Judges score stakes source noted) (λ old new is. is.decision) olds news ok
 judging-keeps score stakes source noted olds news (Err stop) ok err = kept-up-to (Judges score stakes source noted) (λ old new is. is.decision) err.0 olds news err.1.judged err.1.rest

@@ -12,7 +12,7 @@ use Rattle.database_file.specs.FileBases.{FileBase}
 use Rattle.database_file.specs.Faults.{Read as FileRead}
 use Rattle.command_line.specs.declared.command.Plan.{Plan}
 use Rattle.equity_report.specs.declared.refusal.Refusal.{Refusal}
-use Rattle.equity_report.specs.declared.refusal.Refusal.TheVariants.{Words, Position, Missing, File, Read, Write, Memory, Base, Roll, Inconsistent, Record, Contact, Condition}
+use Rattle.equity_report.specs.declared.refusal.Refusal.TheVariants.{Words, Position, Missing, File, Read, Write, Memory, Base, Roll, Inconsistent, Record, Contact, Condition, Other}
 use Rattle.equity_report.specs.declared.refusal.Wanted.TheVariants.{Scored}
 use Rattle.equity_report.specs.declared.text.GameName.{GameName}
 use Rattle.top_call.specs.Loads.{RefusesLoading, game_told}
@@ -56,6 +56,7 @@ refuses-planning task (Roll bad) file r = r
 refuses-planning task (Inconsistent unheld) file r = r
 refuses-planning task (Record bad) file r = r
 refuses-planning task Contact file r = r
+refuses-planning task (Other another) file r = r
 refuses-planning task (Condition word) file r = r
 
 -- nor can one of another game

@@ -1,11 +1,11 @@
 -- What a refusal that is put says of the one that is due.
 use Rattle.std.proofs.Common.{◌≡◌, inl, inr, ℕ, List, Ok, Err, Result, arith}
 use Rattle.equity_report.specs.declared.refusal.Refusal.{Refusal}
-use Rattle.equity_report.specs.declared.refusal.Refusal.TheVariants.{Words, Position, Missing, File, Read, Write, Memory, Base, Roll, Inconsistent, Record, Contact, Condition}
+use Rattle.equity_report.specs.declared.refusal.Refusal.TheVariants.{Words, Position, Missing, File, Read, Write, Memory, Base, Roll, Inconsistent, Record, Contact, Condition, Other}
 use Rattle.equity_report.specs.Refusals.{status_of, refusal_text}
 use Rattle.top_call.specs.declared.task.Task.{Task}
 use Rattle.top_call.specs.declared.task.Task.TheVariants.{Bound, Race, Solve, Show, Migrate, Advise, Verify, Ladder, Analyse, Study, Make, Plan, Scan, Reply}
-use Rattle.top_call.specs.Runs.{Ends, EndsBy, EndsTask, EndsWriting, IsOfLoading, IsOfShowing, IsOfScanning, IsOfVerifying, IsStatus, IsOfAnalysing, IsOfReplaying}
+use Rattle.top_call.specs.Runs.{Ends, EndsBy, EndsTask, EndsWriting, IsOfLoading, IsOfShowing, IsOfScanning, IsOfMigrating, IsOfVerifying, IsOfWriting, IsStatus, IsOfAnalysing, IsOfReplaying}
 
 -- status 8 is that of want of memory alone
 pub memory-text : (W : List ℕ → Type 0) (refusal : Refusal) → status_of refusal ≡ 8 → W (refusal_text refusal) → W (refusal_text Memory)
@@ -20,6 +20,7 @@ memory-text W (Base wanted found) e w = absurd (omega arith)
 memory-text W (Roll bad) e w = absurd (omega arith)
 memory-text W (Inconsistent unheld) e w = absurd (omega arith)
 memory-text W Contact e w = absurd (omega arith)
+memory-text W (Other another) e w = absurd (omega arith)
 memory-text W (Condition word) e w = absurd (omega arith)
 memory-text W (Record bad) e w = absurd (omega arith)
 
@@ -36,12 +37,12 @@ by-status IsOne status (inr (inr (refusal, of, is))) = inr (refusal, is)
 task-status : (task : Task) (status : ℕ) → EndsTask task status → IsStatus status
 task-status (Bound task) status ends = writing-status status ends
 task-status (Race task) status ends = writing-status status ends
-task-status (Solve task) status ends = writing-status status ends
+task-status (Solve task) status ends = by-status IsOfWriting status ends
 task-status (Show task) status ends = by-status IsOfShowing status ends
-task-status (Migrate task) status ends = by-status IsOfLoading status ends
+task-status (Migrate task) status ends = by-status IsOfMigrating status ends
 task-status (Advise task) status ends = by-status IsOfShowing status ends
 task-status (Study task) status ends = by-status IsOfReplaying status ends
-task-status (Make task) status ends = writing-status status ends
+task-status (Make task) status ends = by-status IsOfWriting status ends
 task-status (Ladder task) status ends = writing-status status ends
 task-status (Verify task) status ends = by-status IsOfVerifying status ends
 task-status (Analyse task) status ends = by-status IsOfAnalysing status ends

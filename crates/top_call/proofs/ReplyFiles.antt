@@ -2,7 +2,7 @@
 use Rattle.std.proofs.Common.{◌≡◌, ◌⊎◌, ◌∙◌, ◌<◌, inl, inr, ℕ, Bool, true, List, Option, Some, Ok, refl, sym, subst}
 use Rattle.std.specs.Prelude.{IfSome, Contains}
 use Rattle.std.proofs.lemmas.Option.{none-some}
-use Rattle.hyper_outside.specs.Sink.{Output}
+use Rattle.outside_log.specs.Sink.{Output}
 use Rattle.position_rank.specs.Placement.{Placement}
 use Rattle.cube_actions.specs.declared.name.KindName.{KindName}
 use Rattle.cube_actions.specs.Names.{names_of}
@@ -16,7 +16,7 @@ use Rattle.database_file.specs.FileBases.{FileBase}
 use Rattle.database_file.specs.Faults.{Read as FileRead, whole}
 use Rattle.database_file.specs.Texts.{AreWordsOf, game_in}
 use Rattle.equity_report.specs.declared.refusal.Refusal.{Refusal}
-use Rattle.equity_report.specs.declared.refusal.Refusal.TheVariants.{Words, Position, Missing, File, Read, Write, Memory, Base, Roll, Inconsistent, Record, Contact, Condition}
+use Rattle.equity_report.specs.declared.refusal.Refusal.TheVariants.{Words, Position, Missing, File, Read, Write, Memory, Base, Roll, Inconsistent, Record, Contact, Condition, Other}
 use Rattle.equity_report.specs.declared.refusal.Wanted.{Wanted}
 use Rattle.equity_report.specs.declared.refusal.Wanted.TheVariants.{Checkers, Kind, Fits, Scored}
 use Rattle.equity_report.specs.declared.text.GameName.{GameName}
@@ -46,6 +46,7 @@ refuses-replying task (Roll bad) file r = r
 refuses-replying task (Inconsistent unheld) file r = r
 refuses-replying task (Record bad) file r = r
 refuses-replying task Contact file r = r
+refuses-replying task (Other another) file r = r
 refuses-replying task (Condition word) file r = r
 
 -- nor can one of another game
@@ -62,6 +63,7 @@ unfit task base file read (Roll bad) w = absurd w
 unfit task base file read (Inconsistent unheld) w = absurd w
 unfit task base file read (Record bad) w = absurd w
 unfit task base file read Contact w = absurd w
+unfit task base file read (Other another) w = absurd w
 unfit task base file read (Condition word) w = absurd w
 
 -- the state that is asked for is one of the words' game
@@ -120,6 +122,7 @@ refused-by task read base is fit (Roll bad) r = absurd r
 refused-by task read base is fit (Inconsistent unheld) r = absurd r
 refused-by task read base is fit (Record bad) r = absurd r
 refused-by task read base is fit Contact r = absurd r
+refused-by task read base is fit (Other another) r = absurd r
 refused-by task read base is fit (Condition word) r = absurd r
 
 pub right-replied : (task : ReplyTask) (bytes : List ℕ) (base : FileBase) (old new : Output) (status : ℕ) → IsBaseOf (whole bytes) base → IsFitting task base.head

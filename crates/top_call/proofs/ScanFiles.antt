@@ -3,7 +3,7 @@ use Rattle.std.proofs.Common.{◌≡◌, ◌⊎◌, ◌∙◌, ◌+◌, ◌-◌,
 use Rattle.std.specs.List.{All}
 use Rattle.std.proofs.lemmas.List.{take-append-drop}
 use Rattle.std.proofs.lemmas.Option.{none-some}
-use Rattle.hyper_outside.specs.Sink.{Output}
+use Rattle.outside_log.specs.Sink.{Output}
 use Rattle.position_rank.specs.Text.{words}
 use Rattle.base_scan.specs.declared.condition.Test.{Test}
 use Rattle.base_scan.specs.declared.found.State.{State}
@@ -17,7 +17,7 @@ use Rattle.database_file.specs.declared.stop.LoadStop.TheVariants as stops
 use Rattle.database_file.specs.Faults.{Read as FileRead, whole}
 use Rattle.command_line.specs.declared.command.Scan.{Scan}
 use Rattle.equity_report.specs.declared.refusal.Refusal.{Refusal}
-use Rattle.equity_report.specs.declared.refusal.Refusal.TheVariants.{Words, Position, Missing, File, Read, Write, Memory, Base, Roll, Inconsistent, Record, Contact, Condition}
+use Rattle.equity_report.specs.declared.refusal.Refusal.TheVariants.{Words, Position, Missing, File, Read, Write, Memory, Base, Roll, Inconsistent, Record, Contact, Condition, Other}
 use Rattle.equity_report.specs.Scans.{scan_text}
 use Rattle.top_call.specs.Loads.{OfFile, RefusesLoading, TellsStop}
 use Rattle.equity_report.specs.Refusals.{status_of}
@@ -39,6 +39,7 @@ refuses-scanning task (Roll bad) file text r = (text, r)
 refuses-scanning task (Inconsistent unheld) file text r = (text, r)
 refuses-scanning task (Record bad) file text r = (text, r)
 refuses-scanning task Contact file text r = (text, r)
+refuses-scanning task (Other another) file text r = (text, r)
 refuses-scanning task (Condition word) file text r = absurd r
 
 -- its refusal is one of a search
@@ -88,6 +89,7 @@ refused-by task groups read base text is (Roll bad) r = absurd r.1
 refused-by task groups read base text is (Inconsistent unheld) r = absurd r.1
 refused-by task groups read base text is (Record bad) r = absurd r.1
 refused-by task groups read base text is Contact r = absurd r.1
+refused-by task groups read base text is (Other another) r = absurd r.1
 refused-by task groups read base text is (Condition word) r = absurd (no-bad groups (words task.condition) word text r)
 
 pub right-searched : (task : Scan) (groups : List (List Test)) (bytes : List ℕ) (base : FileBase) (old new : Output) (status : ℕ)

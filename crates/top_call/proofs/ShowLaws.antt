@@ -7,12 +7,12 @@ use Rattle.directed_fixed.specs.declared.bounds.End.TheVariants.{Lower, Upper}
 use Rattle.cube_actions.specs.declared.name.KindName.{KindName}
 use Rattle.cube_actions.specs.declared.name.StakesName.{StakesName}
 use Rattle.cube_actions.specs.Names.{names_of}
-use Rattle.hyper_outside.specs.Files.{Contents}
+use Rattle.outside_log.specs.Files.{Contents}
 use Rattle.hyper_outside.specs.declared.outside.LookStop.{LookStop}
 use Rattle.hyper_outside.specs.declared.outside.LookStop.TheVariants as looks
 use Rattle.turn_rule.specs.Turn.{Words}
 use Rattle.word_pages.specs.declared.flaws.Flaw.{Flaw}
-use Rattle.base_head.specs.Fronts.{bad_of}
+use Rattle.base_head.specs.Fronts.{bad_of, digest_in}
 use Rattle.base_head.specs.Headers.{IsHeader, front_length}
 use Rattle.base_head.specs.declared.header.Header.{Header}
 use Rattle.database_file.specs.declared.stop.LoadStop.{LoadStop}
@@ -77,7 +77,7 @@ shown-told task (Some bytes) base rows a valid many name position live fits told
     let header = a.header in
     let p = task.position in
     let among : (end : End) (j : ℕ) → j < length (names_of base.header.name) + 0 → word_at base.header (Some bytes) end p j ≡ words_in_file bytes end p j =
-    λ end j inside. word-among base.header bytes end p j valid (record { position = position; many = fits ∙ many; live = live; kind = omega (arith, inside, valid.kinds) }) ∙ ap (λ (h : Header). words_of h.kinds (words_in (pages_behind h) (drop (front_length h) bytes)) end p j) header in
+    λ end j inside. word-among base.header bytes end p j valid (record { position = position; many = fits ∙ many; live = live; kind = omega (arith, inside, valid.kinds) }) ∙ ap (λ (h : Header). words_of h.kinds (words_in (pages_behind h (digest_in h bytes)) (drop (front_length h) bytes)) end p j) header in
     record {
       right = record { front = a.right; page = subst (λ (h : Header). flaw_at h (Some bytes) p ≡ None) header told.0 };
       head_is = a.head;

@@ -1,10 +1,10 @@
 -- How a command ends that only reads, by what was found and what was put.
 use Rattle.std.proofs.Common.{◌≡◌, ◌≢◌, ◌∙◌, ℕ, List, Option, Some, None, Ok, Err, inr, refl, sym, arith, rules}
 use Rattle.hyper_outside.specs.Causes.{Rose}
-use Rattle.hyper_outside.specs.Sink.{Gains, Output, Puts}
+use Rattle.outside_log.specs.Sink.{Gains, Output, Puts}
 use Rattle.hyper_outside.specs.declared.outside.Failed.{Failed}
 use Rattle.equity_report.specs.declared.refusal.Refusal.{Refusal}
-use Rattle.equity_report.specs.declared.refusal.Refusal.TheVariants.{Words, Position, Missing, File, Read, Write, Memory, Base, Roll, Inconsistent, Record, Contact, Condition}
+use Rattle.equity_report.specs.declared.refusal.Refusal.TheVariants.{Words, Position, Missing, File, Read, Write, Memory, Base, Roll, Inconsistent, Record, Contact, Condition, Other}
 use Rattle.equity_report.specs.Refusals.{status_of, refusal_text}
 use Rattle.top_call.specs.Runs.{EndsReport, IsTold, IsPut, FailedThenPut, Tells, WasPut}
 
@@ -26,6 +26,7 @@ some-status (Base wanted found) = λ e. absurd (omega (arith, e))
 some-status (Roll bad) = λ e. absurd (omega (arith, e))
 some-status (Inconsistent unheld) = λ e. absurd (omega (arith, e))
 some-status Contact = λ e. absurd (omega (arith, e))
+some-status (Other another) = λ e. absurd (omega (arith, e))
 some-status (Condition word) = λ e. absurd (omega (arith, e))
 some-status (Record bad) = λ e. absurd (omega (arith, e))
 
@@ -42,6 +43,7 @@ not-write IsOne other (Base wanted found) is = λ e. absurd (omega (arith, e))
 not-write IsOne other (Roll bad) is = λ e. absurd (omega (arith, e))
 not-write IsOne other (Inconsistent unheld) is = λ e. absurd (omega (arith, e))
 not-write IsOne other Contact is = λ e. absurd (omega (arith, e))
+not-write IsOne other (Other another) is = λ e. absurd (omega (arith, e))
 not-write IsOne other (Condition word) is = λ e. absurd (omega (arith, e))
 not-write IsOne other (Record bad) is = λ e. absurd (omega (arith, e))
 

@@ -5,18 +5,20 @@ use Rattle.cube_actions.specs.Scores.{MatchScore}
 use Rattle.cube_actions.specs.Starts.{AreStarts}
 use Rattle.cube_actions.specs.declared.name.StakesName.{StakesName}
 use Rattle.cube_actions.specs.declared.name.StakesName.TheVariants.{Cubeless, Money, Jacoby, MoneyBeavers, JacobyBeavers, Match}
-use Rattle.hyper_outside.specs.Sink.{Output}
+use Rattle.outside_log.specs.Log.{Event, standing}
+use Rattle.outside_log.specs.Sink.{Output}
+use Rattle.outside_log.proofs.Logs.{stands}
 use Rattle.turn_rule.specs.Games.{kinds_of}
 use Rattle.turn_rule.specs.Truth.{AreSound}
 use Rattle.turn_rule.specs.declared.game.Game.{Game}
 use Rattle.interval_words.specs.WordLists.{WordList, words_in_list}
 use Rattle.play_analyser.specs.Advised.{ActionLosesAtMost, FirstLosesAtMost}
-use Rattle.word_pages.specs.declared.version.Version.{Version}
-use Rattle.word_pages.specs.declared.version.Version.TheVariants.{Two}
+use Rattle.word_pages.specs.declared.version.Version.TheVariants.{Three}
 use Rattle.base_head.specs.Heads.{AreStartsOf, FileHead, IsHead, no_starts}
 use Rattle.database_file.specs.Bases.{IsBaseOf, words_of_file}
 use Rattle.database_file.specs.Faults.{header_of_file, whole}
 use Rattle.database_file.specs.FileBases.{FileBase}
+use Rattle.top_call.proofs.SolvedFiles.{Law, three-takes}
 use Rattle.database_file.specs.Texts.{IsText, game_in}
 use Rattle.command_line.specs.declared.command.Solve.{Solve as SolveTask}
 use Rattle.command_line.specs.Right.{IsRightSolve}
@@ -48,17 +50,10 @@ solved-head solve right = record {
   starts = no-starts-of solve.stakes right.no_match;
 }
 
-version-one : Two ≡ Rattle.word_pages.specs.declared.version.Version.TheVariants.One → ⊥
-version-one is = absurd (omega (arith, ap (λ (v : Version). code v) is))
-  where
-    code : Version → ℕ
-    code Rattle.word_pages.specs.declared.version.Version.TheVariants.One = 1
-    code Two = 2
-
-solved-text : (solve : SolveTask) (words : WordList) → IsRightSolve solve → AreSolved solve words → IsText Two (head_of solve) words (solved_file solve words)
+solved-text : (solve : SolveTask) (words : WordList) → IsRightSolve solve → AreSolved solve words → IsText Three (head_of solve) words (solved_file solve words)
 solved-text solve words right solved = record {
   valid = solved-head solve right;
-  takes = λ one. absurd (version-one one);
+  takes = three-takes solve.stakes;
   fitting = solved.fitting;
   right = solved.right;
   text = refl;
@@ -111,12 +106,12 @@ module _ (solve : SolveTask) (words : WordList) (solved : AreSolved solve words)
             (advises.losses u (have-pairs solve words bytes solved base advise has.head has.kind advises.state) (sound solve words bytes solved base advise has.head has.kind advises.state));
       }
 
-pub good-advice : ((version : Version) (head : FileHead) (words : WordList) (bytes : List ℕ) → IsText version head words bytes → IsBaseOf (whole bytes) (record { head = head; words = words }))
-    → (solve : SolveTask) (advise : AdviseTask) (file : Option (List ℕ)) (before after old new : Output) → IsRightSolve solve → HasSolved solve true file before after
-    → HasAdvised advise true file (λ text. IsPut old new text) → PrintsGoodAdvice solve advise (λ text. IsPut old new text)
-good-advice law solve advise file before after old new right solved advised =
+pub good-advice : Law
+    → (solve : SolveTask) (advise : AdviseTask) (before after : List Event) (put_before put_after old new : Output) → IsRightSolve solve → HasSolved solve before after put_before put_after
+    → HasAdvised advise true (standing after solve.file) (λ text. IsPut old new text) → PrintsGoodAdvice solve advise (λ text. IsPut old new text)
+good-advice law solve advise before after put_before put_after old new right solved advised =
     let words = solved.words in
     let bytes = solved_file solve words in
-    let base = law Two (head_of solve) words bytes (solved-text solve words right solved.solved) in
+    let base = law Three Three (head_of solve) words bytes (omega arith) (solved-text solve words right solved.solved) in
     good-for solve words solved.solved base advise (λ text. IsPut old new text) advise.roll
-    (subst (λ (held : Option (List ℕ)). HasAdvised advise true held (λ text. IsPut old new text)) (solved.file refl) advised)
+    (subst (λ (held : Option (List ℕ)). HasAdvised advise true held (λ text. IsPut old new text)) (stands solve.file bytes before after solved.file) advised)

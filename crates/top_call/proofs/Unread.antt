@@ -1,22 +1,24 @@
 -- What is known where the program's words are refused, or there was no memory for them.
-use Rattle.std.proofs.Common.{◌≡◌, ◌∙◌, ℕ, List, Bool, IsTrue, None, Result, Ok, Err, inl, sym, subst, arith}
-use Rattle.hyper_outside.specs.Files.{Contents, SameFiles}
-use Rattle.hyper_outside.specs.Sink.{Output}
+use Rattle.std.proofs.Common.{◌≡◌, ◌∙◌, ℕ, List, Bool, IsTrue, None, Result, Ok, Err, inl, refl, sym, subst, arith}
+use Rattle.outside_log.specs.Files.{Contents}
+use Rattle.outside_log.specs.Log.{Event}
+use Rattle.outside_log.proofs.Logs.{leaves-none}
+use Rattle.outside_log.specs.Sink.{Output}
 use Rattle.equity_report.specs.declared.refusal.Refusal.{Refusal}
-use Rattle.equity_report.specs.declared.refusal.Refusal.TheVariants.{Words, Position, Missing, File, Read, Write, Memory, Base, Roll, Inconsistent, Record, Contact, Condition}
+use Rattle.equity_report.specs.declared.refusal.Refusal.TheVariants.{Words, Position, Missing, File, Read, Write, Memory, Base, Roll, Inconsistent, Record, Contact, Condition, Other}
 use Rattle.equity_report.specs.Refusals.{status_of, refusal_text}
 use Rattle.top_call.specs.declared.task.Task.{Task}
 use Rattle.top_call.specs.declared.task.Task.TheVariants.{Bound, Race, Solve, Show, Migrate, Advise, Verify, Ladder, Analyse, Study, Make, Plan, Scan, Reply}
 use Rattle.top_call.specs.Advises.{HasAdvised, MayRefuseAdvice}
 use Rattle.top_call.specs.Analyses.{HasAnalysed, MayRefuseAnalysis}
-use Rattle.top_call.specs.Loads.{RefusesLoading}
-use Rattle.top_call.specs.Outcomes.{HasRun, TellsMemory}
+use Rattle.top_call.specs.Outcomes.{HasRun, KeepsFiles, TellsMemory}
 use Rattle.top_call.specs.Plans.{HasPlanned, MayRefusePlanning, RefusesPlanning, first_file}
 use Rattle.top_call.specs.Replies.{HasReplied, MayRefuseReplying, RefusesReplying}
 use Rattle.top_call.specs.Runs.{IsDue, WasPut}
 use Rattle.top_call.specs.Scans.{HasScanned, MayRefuseScanning, RefusesScanning}
 use Rattle.top_call.specs.Studies.{HasStudied, MayRefuseStudy}
 use Rattle.top_call.specs.Shows.{HasShown, RefusesShowing}
+use Rattle.word_pages.specs.declared.version.Version.TheVariants.{One, Three}
 use Rattle.top_call.specs.Verifies.{HasVerified, MayRefuseVerifying, RefusesVerifying}
 use Rattle.match_scores.specs.Keepers.{no_pairs}
 use Rattle.top_call.proofs.LadderEnds.{run-out}
@@ -36,6 +38,7 @@ of_memory W (Base wanted found) e w = absurd (omega arith)
 of_memory W (Roll bad) e w = absurd (omega arith)
 of_memory W (Inconsistent unheld) e w = absurd (omega arith)
 of_memory W Contact e w = absurd (omega arith)
+of_memory W (Other another) e w = absurd (omega arith)
 of_memory W (Condition word) e w = absurd (omega arith)
 of_memory W (Record bad) e w = absurd (omega arith)
 
@@ -57,10 +60,28 @@ memory-told (Ok (Scan task)) old new put = put
 memory-told (Ok (Reply task)) old new put = put
 memory-told (Err refusal) old new put = put
 
+-- where no call was made that writes, no file took a place
+pub nothing-written : (expected : Result Task Refusal) (log : List Event) (status : ℕ) → KeepsFiles expected log log status
+nothing-written (Ok (Bound task)) log status = refl
+nothing-written (Ok (Race task)) log status = refl
+nothing-written (Ok (Solve task)) log status = λ other. leaves-none log
+nothing-written (Ok (Show task)) log status = refl
+nothing-written (Ok (Migrate task)) log status = λ other. leaves-none log
+nothing-written (Ok (Advise task)) log status = refl
+nothing-written (Ok (Verify task)) log status = refl
+nothing-written (Ok (Ladder task)) log status = tt
+nothing-written (Ok (Analyse task)) log status = refl
+nothing-written (Ok (Study task)) log status = refl
+nothing-written (Ok (Make task)) log status = λ other. leaves-none log
+nothing-written (Ok (Plan task)) log status = refl
+nothing-written (Ok (Scan task)) log status = refl
+nothing-written (Ok (Reply task)) log status = refl
+nothing-written (Err refusal) log status = refl
+
 -- where there was no memory for the words, nothing is known of what they ask for
-module _ (told : Bool) (before after : Contents) (same : SameFiles before after) (old new : Output) (status : ℕ) where
+module _ (told : Bool) (held : Contents) (before after : List Event) (same : after ≡ before) (old new : Output) (status : ℕ) where
   abbrev Run : Result Task Refusal → Type 0
-  Run expected = HasRun expected told before after old new status
+  Run expected = HasRun expected told held before after old new status
 
   unheld : status ≡ status_of Memory → WasPut old new (refusal_text Memory) → (expected : Result Task Refusal) → Run expected
   unheld is put (Err refusal) = λ e. of_memory (WasPut old new) refusal (sym is ∙ e) put
@@ -79,46 +100,48 @@ module _ (told : Bool) (before after : Contents) (same : SameFiles before after)
   unheld is put (Ok (Solve task)) = record {
     solved = λ done. absurd (omega (arith, done, is));
     stopped = λ write. absurd (omega (arith, write, is));
+    refused = λ done write. record { refusal = Memory; cause = λ told. tt; line = put; is_status = is };
   }
   unheld is put (Ok (Show task)) =
-      no-memory (HasShown task told (before task.file)) (λ refusal. IsTrue told → RefusesShowing task refusal (before task.file)) old new (λ _. tt) status is put
+      no-memory (HasShown task told (held task.file)) (λ refusal. IsTrue told → RefusesShowing task refusal (held task.file)) old new (λ _. tt) status is put
   unheld is put (Ok (Migrate task)) = record {
     migrated = λ done. absurd (omega (arith, done, is));
     stopped = λ write. absurd (omega (arith, write, is));
     refused = λ done write. record {
       refusal = Memory;
-      cause = of-file told (before task.old) (RefusesLoading task.old Memory) (λ _. tt) (None, tt);
+      cause = inl (λ told. tt);
       line = put;
       is_status = is;
     };
   }
   unheld is put (Ok (Advise task)) =
-      no-memory (HasAdvised task told (before task.file)) (MayRefuseAdvice task told (before task.file)) old new (λ _. tt) status is put
+      no-memory (HasAdvised task told (held task.file)) (MayRefuseAdvice task told (held task.file)) old new (λ _. tt) status is put
   unheld is put (Ok (Verify task)) =
-      no-memory (HasVerified task told (before task.file)) (MayRefuseVerifying task.file told (before task.file)) old new
-      (of-file told (before task.file) (RefusesVerifying task.file Memory) (λ _. tt) (None, tt)) status is put
+      no-memory (HasVerified task told (held task.file)) (MayRefuseVerifying Three task.file told (held task.file)) old new
+      (of-file told (held task.file) (RefusesVerifying Three task.file Memory) (λ _. tt) (None, tt)) status is put
   unheld is put (Ok (Study task)) =
-      no-memory (HasStudied task told (before task.rec)) (MayRefuseStudy task told (before task.rec)) old new (λ _. inl tt) status is put
+      no-memory (HasStudied task told (held task.rec)) (MayRefuseStudy task told (held task.rec)) old new (λ _. inl tt) status is put
   unheld is put (Ok (Make task)) = record {
     done = λ done. absurd (omega (arith, done, is));
     stopped = λ write. absurd (omega (arith, write, is));
+    refused = λ done write. record { refusal = Memory; cause = λ told. tt; line = put; is_status = is };
   }
   unheld is put (Ok (Ladder task)) = record {
     solved = λ done. absurd (omega (arith, done, is));
     stopped = λ write. absurd (omega (arith, write, is));
-    out_of_memory = λ memory. run-out task told before after old old new (no_pairs task.match_length)
-        (nothing-since (record { told = told; before = before; old = old }) task after same) put;
+    out_of_memory = λ memory. run-out task before after old old new (no_pairs task.match_length)
+        (nothing-since (record { before = before; old = old }) task after same) put;
   }
-  unheld is put (Ok (Analyse task)) = no-memory (HasAnalysed task told before) (MayRefuseAnalysis task told before) old new (λ _. inl tt) status is put
+  unheld is put (Ok (Analyse task)) = no-memory (HasAnalysed task told held) (MayRefuseAnalysis task told held) old new (λ _. inl tt) status is put
   unheld is put (Ok (Plan task)) =
-      no-memory (HasPlanned task told (before (first_file task))) (MayRefusePlanning task told (before (first_file task))) old new
-      (of-file told (before (first_file task)) (RefusesPlanning task Memory) (λ _. tt) (None, tt)) status is put
+      no-memory (HasPlanned task told (held (first_file task))) (MayRefusePlanning task told (held (first_file task))) old new
+      (of-file told (held (first_file task)) (RefusesPlanning task Memory) (λ _. tt) (None, tt)) status is put
   unheld is put (Ok (Scan task)) =
-      no-memory (HasScanned task told (before task.file)) (MayRefuseScanning task told (before task.file)) old new
-      (of-file told (before task.file) (RefusesScanning task Memory) (λ _. tt) (None, tt)) status is put
+      no-memory (HasScanned task told (held task.file)) (MayRefuseScanning task told (held task.file)) old new
+      (of-file told (held task.file) (RefusesScanning task Memory) (λ _. tt) (None, tt)) status is put
   unheld is put (Ok (Reply task)) =
-      no-memory (HasReplied task told (before task.file)) (MayRefuseReplying task told (before task.file)) old new
-      (of-file told (before task.file) (RefusesReplying task Memory) (λ _. tt) (None, tt)) status is put
+      no-memory (HasReplied task told (held task.file)) (MayRefuseReplying task told (held task.file)) old new
+      (of-file told (held task.file) (RefusesReplying task Memory) (λ _. tt) (None, tt)) status is put
 
   refused : (expected : Result Task Refusal) (refusal : Refusal) → expected ≡ Err refusal → WasPut old new (refusal_text refusal) → Run expected
   refused expected refusal due put = subst Run (sym due) (λ _. put)
@@ -135,5 +158,6 @@ module _ (told : Bool) (before after : Contents) (same : SameFiles before after)
   unread expected (Roll bad) due is put = refused expected (Roll bad) due put
   unread expected (Inconsistent unheld) due is put = refused expected (Inconsistent unheld) due put
   unread expected Contact due is put = refused expected Contact due put
+  unread expected (Other another) due is put = refused expected (Other another) due put
   unread expected (Condition word) due is put = refused expected (Condition word) due put
   unread expected (Record bad) due is put = refused expected (Record bad) due put

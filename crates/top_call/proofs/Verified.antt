@@ -15,14 +15,15 @@ use Rattle.play_analyser.specs.Regrets.{counted_over, loss_of, regret_of}
 use Rattle.interval_words.specs.Numbers.{state_of}
 use Rattle.interval_words.specs.WordLists.{WordList, AreRight, words_in_list}
 use Rattle.interval_words.proofs.Places.{state-in}
-use Rattle.database_file.specs.Bases.{AnswersBase}
+use Rattle.word_pages.specs.declared.version.Version.{Version}
+use Rattle.database_file.specs.Bases.{AnswersFrom}
 use Rattle.database_file.specs.FileBases.{FileBase}
 use Rattle.database_file.specs.Faults.{Read as FileRead}
 use Rattle.base_verify.specs.Findings.{AlwaysEnclose}
 use Rattle.equity_report.specs.declared.refusal.Refusal.{Refusal}
-use Rattle.equity_report.specs.declared.refusal.Refusal.TheVariants.{Words as BadWords, Position, Missing, File, Read, Write, Memory, Base, Roll, Inconsistent, Record, Contact, Condition}
+use Rattle.equity_report.specs.declared.refusal.Refusal.TheVariants.{Words as BadWords, Position, Missing, File, Read, Write, Memory, Base, Roll, Inconsistent, Record, Contact, Condition, Other}
 use Rattle.equity_report.specs.Refusals.{status_of}
-use Rattle.top_call.specs.Loads.{RefusesLoading}
+use Rattle.top_call.specs.Loads.{RefusesFrom}
 use Rattle.top_call.specs.Verifies.{AnswersCheck, AreVerified, LossesEnclose, RefusesVerifying}
 
 -- an unfinished end that lies in the pair of its own state lies within the bound
@@ -57,33 +58,35 @@ pub verified : (words : WordList) → AreRight words → Law words.game → AreC
 verified words right law consistent enclosing = record { consistent = consistent; enclosing = enclosing; losses = losses words right law enclosing }
 
 -- a file that can't be loaded can't be found to be consistent
-pub refuses-verifying : (name : List ℕ) (refusal : Refusal) (file : Option FileRead) → RefusesLoading name refusal file → RefusesVerifying name refusal file
-refuses-verifying name (BadWords bad) file r = r
-refuses-verifying name (Position bad) file r = r
-refuses-verifying name (Missing missing) file r = r
-refuses-verifying name (File bad) file r = r
-refuses-verifying name Read file r = r
-refuses-verifying name Write file r = r
-refuses-verifying name Memory file r = r
-refuses-verifying name (Base wanted found) file r = r
-refuses-verifying name (Roll bad) file r = r
-refuses-verifying name (Inconsistent unheld) file r = absurd r
-refuses-verifying name Contact file r = r
-refuses-verifying name (Condition word) file r = r
-refuses-verifying name (Record bad) file r = absurd r
+pub refuses-verifying : (oldest : Version) (name : List ℕ) (refusal : Refusal) (file : Option FileRead) → RefusesFrom oldest name refusal file → RefusesVerifying oldest name refusal file
+refuses-verifying oldest name (BadWords bad) file r = r
+refuses-verifying oldest name (Position bad) file r = r
+refuses-verifying oldest name (Missing missing) file r = r
+refuses-verifying oldest name (File bad) file r = r
+refuses-verifying oldest name Read file r = r
+refuses-verifying oldest name Write file r = r
+refuses-verifying oldest name Memory file r = r
+refuses-verifying oldest name (Base wanted found) file r = r
+refuses-verifying oldest name (Roll bad) file r = r
+refuses-verifying oldest name (Inconsistent unheld) file r = absurd r
+refuses-verifying oldest name Contact file r = r
+refuses-verifying oldest name (Other another) file r = r
+refuses-verifying oldest name (Condition word) file r = r
+refuses-verifying oldest name (Record bad) file r = absurd r
 
 -- what checking refuses of a base that was read from a file
-pub check-refuses : (name : List ℕ) (base : FileBase) (file : Option FileRead) → AnswersBase file (Ok base) → (refusal : Refusal) → AnswersCheck base (Err refusal) → RefusesVerifying name refusal file
-check-refuses name base file read (BadWords bad) is = absurd (omega (arith, ap status_of is))
-check-refuses name base file read (Position bad) is = absurd (omega (arith, ap status_of is))
-check-refuses name base file read (Missing missing) is = absurd (omega (arith, ap status_of is))
-check-refuses name base file read (File bad) is = absurd (omega (arith, ap status_of is))
-check-refuses name base file read Read is = absurd (omega (arith, ap status_of is))
-check-refuses name base file read Write is = absurd (omega (arith, ap status_of is))
-check-refuses name base file read Memory is = tt
-check-refuses name base file read (Base wanted found) is = absurd (omega (arith, ap status_of is))
-check-refuses name base file read (Roll bad) is = absurd (omega (arith, ap status_of is))
-check-refuses name base file read Contact is = absurd (omega (arith, ap status_of is))
-check-refuses name base file read (Condition word) is = absurd (omega (arith, ap status_of is))
-check-refuses name base file read (Record bad) is = absurd (omega (arith, ap status_of is))
-check-refuses name base file read (Inconsistent unheld) is = record { base = base; read = read; is = is }
+pub check-refuses : (oldest : Version) (name : List ℕ) (base : FileBase) (file : Option FileRead) → AnswersFrom oldest file (Ok base) → (refusal : Refusal) → AnswersCheck base (Err refusal) → RefusesVerifying oldest name refusal file
+check-refuses oldest name base file read (BadWords bad) is = absurd (omega (arith, ap status_of is))
+check-refuses oldest name base file read (Position bad) is = absurd (omega (arith, ap status_of is))
+check-refuses oldest name base file read (Missing missing) is = absurd (omega (arith, ap status_of is))
+check-refuses oldest name base file read (File bad) is = absurd (omega (arith, ap status_of is))
+check-refuses oldest name base file read Read is = absurd (omega (arith, ap status_of is))
+check-refuses oldest name base file read Write is = absurd (omega (arith, ap status_of is))
+check-refuses oldest name base file read Memory is = tt
+check-refuses oldest name base file read (Base wanted found) is = absurd (omega (arith, ap status_of is))
+check-refuses oldest name base file read (Roll bad) is = absurd (omega (arith, ap status_of is))
+check-refuses oldest name base file read Contact is = absurd (omega (arith, ap status_of is))
+check-refuses oldest name base file read (Other another) is = absurd (omega (arith, ap status_of is))
+check-refuses oldest name base file read (Condition word) is = absurd (omega (arith, ap status_of is))
+check-refuses oldest name base file read (Record bad) is = absurd (omega (arith, ap status_of is))
+check-refuses oldest name base file read (Inconsistent unheld) is = record { base = base; read = read; is = is }

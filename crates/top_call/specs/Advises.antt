@@ -1,9 +1,9 @@
 -- What is advised from a file.
-use Rattle.std.specs.Prelude.{◌≡◌, ◌≢◌, ◌⊎◌, ℕ, ◌≤◌, List, Contains, Bool, true, IsTrue, sum, slice_get, All, Option, Some, None, Result, Ok, Err, ⊤}
+use Rattle.std.specs.Prelude.{◌≡◌, ◌≢◌, ◌⊎◌, ℕ, ◌≤◌, List, Contains, Bool, IsTrue, sum, slice_get, All, Option, Some, None, Result, Ok, Err, ⊤}
 use Rattle.std.specs.Option.{option_map}
 use Rattle.position_rank.specs.Placement.{Placement}
 use Rattle.roll_table.specs.Rolls.{Dice}
-use Rattle.hyper_outside.specs.Sink.{Output}
+use Rattle.outside_log.specs.Sink.{Output}
 use Rattle.hyper_outside.specs.declared.outside.LookStop.{LookStop}
 use Rattle.hyper_outside.specs.declared.outside.LookStop.TheVariants as looks
 use Rattle.directed_fixed.specs.declared.bounds.End.{End}
@@ -29,7 +29,7 @@ use Rattle.base_head.specs.Heads.{FileHead, stakes_of}
 use Rattle.base_head.specs.Headers.{IsHeader}
 use Rattle.base_head.specs.declared.header.Header.{Header}
 use Rattle.database_file.specs.Faults.{fault_before_pages, header_of_file, whole}
-use Rattle.database_file.specs.Paged.{flaw_at, paged_source, told_words}
+use Rattle.database_file.specs.Paged.{flaw_at, paged_source, told_notes}
 use Rattle.database_file.specs.Texts.{game_in}
 use Rattle.equity_report.specs.declared.text.GameName.{GameName}
 use Rattle.equity_report.specs.declared.refusal.Refusal.{Refusal}
@@ -251,7 +251,7 @@ abbrev pub AnswersSought : {A : Type 0} → Header → Option (List ℕ) → Sta
     → Result A LookStop → Type 0
 AnswersSought header file states right (Ok found) = right found
 AnswersSought header file states right (Err (looks.BadPage fault at)) =
-    HasDamage (paged_source header true file) states (record { fault = fault; at = at })
+    HasDamage (paged_source header file) states (record { fault = fault; at = at })
 AnswersSought header file states right (Err _) = ⊤
 
 -- the plays of a roll, as they are looked up in a file
@@ -259,14 +259,14 @@ abbrev pub AnswersRanking : Header → Option (List ℕ) → Terms → Placement
     → Result Ranking LookStop → Type 0
 AnswersRanking header file stakes p k roll =
     AnswersSought header file (MayFollowRoll stakes p k roll)
-    (IsRanking stakes p k roll (paged_source header true file) (told_words header file))
+    (IsRanking stakes p k roll (paged_source header file) (told_notes header file))
 
 -- what to do with the cube, as it is looked up in a file
 abbrev pub AnswersAdvice : Header → Option (List ℕ) → Terms → Placement → ℕ
     → Result CubeAdvice LookStop → Type 0
 AnswersAdvice header file stakes p k =
     AnswersSought header file (MayFollowTurn stakes p k)
-    (IsCubeAdvice stakes p k (paged_source header true file) (told_words header file))
+    (IsCubeAdvice stakes p k (paged_source header file) (told_notes header file))
 
 -- each play can be made from the position in turn
 abbrev pub CanBePlayed : Placement → List PlayRow → Type 0

@@ -1,7 +1,7 @@
 -- What the decisions of a recorded game lose, by a file of bounds.
 use Rattle.std.specs.Prelude.{◌≡◌, ◌⊎◌, ℕ, List, map, Bool, true, false, IsTrue, Option, Some, None, Result, Ok, Err, ⊤}
-use Rattle.hyper_outside.specs.Files.{Contents}
-use Rattle.hyper_outside.specs.Sink.{Output}
+use Rattle.outside_log.specs.Files.{Contents}
+use Rattle.outside_log.specs.Sink.{Output}
 use Rattle.hyper_outside.specs.declared.outside.LookStop.{LookStop}
 use Rattle.cube_actions.specs.Stakes.{Terms}
 use Rattle.game_record.specs.Turns.{is_match}
@@ -20,7 +20,7 @@ use Rattle.base_head.specs.Heads.{FileHead, stakes_of}
 use Rattle.base_head.specs.Headers.{IsHeader}
 use Rattle.base_head.specs.declared.header.Header.{Header}
 use Rattle.database_file.specs.Faults.{fault_before_pages, header_of_file, whole}
-use Rattle.database_file.specs.Paged.{IsSourceOfHead, paged_source, told_words}
+use Rattle.database_file.specs.Paged.{IsSourceOfHead, paged_source, told_notes}
 use Rattle.database_file.specs.PagedFiles.{PagedFile}
 use Rattle.database_file.specs.Texts.{game_in}
 use Rattle.command_line.specs.declared.command.Analyse.{Analyse}
@@ -164,7 +164,7 @@ pub record IsOpenedFor (rec : RecordRead) (bytes : List ℕ) (head : FileHead) :
   pub file : IsFileOf rec bytes head
   pub valid : IsHeader (header_of_file bytes)
   pub game : IsGame (game_in head)
-  pub source : IsSourceOfHead (paged_source (header_of_file bytes) true (Some bytes)) head
+  pub source : IsSourceOfHead (paged_source (header_of_file bytes) (Some bytes)) head
 
 -- a file of the record's game was opened, or this refuses that
 abbrev pub AnswersOpening : List ℕ → RecordRead → Bool → Option (List ℕ) → Result PagedFile Refusal
@@ -179,7 +179,7 @@ abbrev pub AnswersDecisions : Header → Option (List ℕ) → Terms → List De
     → Result (List Judged) LookStop → Type 0
 AnswersDecisions header file stakes decisions =
     AnswersSought header file (MayFollowDecisions stakes decisions)
-    (JudgesAll None stakes (paged_source header true file) (told_words header file)
+    (JudgesAll None stakes (paged_source header file) (told_notes header file)
     (map unjudged decisions))
 
 -- the decisions of a record outside a match are judged by a file of this name, or this refuses that

@@ -1,9 +1,8 @@
 -- What solving a match leaves, score by score in the order of its ladder.
-use Rattle.std.specs.Prelude.{◌≡◌, ◌≤◌, ◌<◌, ◌+◌, ◌⊎◌, ℕ, zero, suc, ℤ, List, [], ◌++◌, length, codes, Bool, true, false, IsTrue, Some, Result, Ok, Err}
+use Rattle.std.specs.Prelude.{◌≡◌, ◌≤◌, ◌<◌, ◌⊎◌, ℕ, zero, suc, ℤ, List, [], ◌++◌, length, codes, Bool, true, false, Result, Ok, Err}
 use Rattle.std.specs.Borrow.{GName}
-use Rattle.hyper_outside.specs.declared.outside.Failed.{Failed}
-use Rattle.hyper_outside.specs.Files.{Contents}
-use Rattle.hyper_outside.specs.Sink.{Output, Puts}
+use Rattle.outside_log.specs.Log.{Event, LeavesPlaces, WritesFile}
+use Rattle.outside_log.specs.Sink.{Output}
 use Rattle.cube_actions.specs.declared.name.StakesName.TheVariants.{Match}
 use Rattle.cube_actions.specs.Ladder.{ladder}
 use Rattle.cube_actions.specs.Names.{score_text}
@@ -14,10 +13,9 @@ use Rattle.match_scores.specs.declared.ladder.LadderStop.{LadderStop}
 use Rattle.match_scores.specs.declared.ladder.LadderStop.TheVariants.{Keep, NoMemory}
 use Rattle.match_scores.specs.Ladders.{score_at, starts_till, AreWordsOf, IsLadder}
 use Rattle.match_scores.specs.Openings.{start_over}
-use Rattle.word_pages.specs.declared.version.Version.TheVariants.{Two}
+use Rattle.word_pages.specs.declared.version.Version.TheVariants.{Three}
 use Rattle.base_head.specs.Heads.{FileHead}
 use Rattle.database_file.specs.Texts.{IsText, file_text}
-use Rattle.database_file.specs.Writing.{HoldsFront}
 use Rattle.command_line.specs.declared.command.Ladder.{Ladder}
 use Rattle.equity_report.specs.declared.refusal.Refusal.TheVariants.{Memory, Write}
 use Rattle.equity_report.specs.Ladder.{ladder_end_text, ladder_score_text}
@@ -39,9 +37,9 @@ score_head task score starts = record {
   starts = starts;
 }
 
--- the file of version 2 of a score, with these words
+-- the file of version 3 of a score, with these words
 abbrev pub score_bytes : Ladder → MatchScore → StartPairs → WordList → List ℕ
-score_bytes task score starts words = file_text Two (score_head task score starts) words.list
+score_bytes task score starts words = file_text Three (score_head task score starts) words.list
 
 -- the line of a score: what its words say that the near side has of its game, and how wide their widest pair is
 abbrev pub score_line : Ladder → MatchScore → WordList → ℤ → List ℕ
@@ -60,16 +58,6 @@ score_of task place = score_at task.match_length place
 abbrev pub file_of : Ladder → ℕ → List ℕ
 file_of task place = score_file task.prefix (score_of task place)
 
--- this is the name of the file of one of the first so many scores
-abbrev pub IsFileOfFirst : Ladder → ℕ → List ℕ → Type 0
-IsFileOfFirst task many name =
-    (place : ℕ) × (place < many) × (place < scores_in task) × (name ≡ file_of task place)
-
--- no file changed but those of the first so many scores
-abbrev pub KeepsAllBut : Ladder → ℕ → Contents → Contents → Type 0
-KeepsAllBut task many before after =
-    (name : List ℕ) → (IsFileOfFirst task many name → ⊥) → after name ≡ before name
-
 -- the words of a score that was solved, and how wide their widest pair is
 pub record SolvedScore : Type 0 where
   pub words : WordList
@@ -80,7 +68,7 @@ pub record SolvedScore : Type 0 where
 pub record IsScoreSolved (task : Ladder) (score : MatchScore) (starts : StartPairs)
     (solved : SolvedScore) : Type 0 where
   pub closed : AreWordsOf task.checkers task.rounds score starts solved.words
-  pub text : IsText Two (score_head task score starts) solved.words
+  pub text : IsText Three (score_head task score starts) solved.words
       (score_bytes task score starts solved.words)
   pub widest : IsWidest solved.words solved.widest
 
@@ -95,12 +83,15 @@ pub record AreScoresSolved (task : Ladder) (starts : StartPairs)
       → IsScoreSolved task (score_of task place) (starts_till starts place) (scores place)
   pub solved : IsLadder task.checkers task.rounds starts (λ place. (scores place).words)
 
--- the file of each of these scores is there
-abbrev pub HaveFiles : Ladder → StartPairs → (ℕ → SolvedScore) → Contents → Type 0
-HaveFiles task starts scores after =
-    (place : ℕ) → place < length starts.pairs
-    → after (file_of task place)
-    ≡ Some (score_bytes task (score_of task place) (starts_till starts place) (scores place).words)
+-- the files of the first so many scores were written, one after another
+abbrev pub WroteScores : Ladder → StartPairs → (ℕ → SolvedScore) → ℕ → List Event → List Event
+    → Type 0
+WroteScores task starts scores zero before after = LeavesPlaces before after
+WroteScores task starts scores (suc place) before after =
+    (middle : List Event) × WroteScores task starts scores place before middle
+    × WritesFile (file_of task place)
+    (score_bytes task (score_of task place) (starts_till starts place) (scores place).words)
+    middle after
 
 -- the lines of the first so many scores
 abbrev pub lines_of : Ladder → (ℕ → SolvedScore) → ℕ → List ℕ
@@ -109,110 +100,96 @@ lines_of task scores (suc place) =
     lines_of task scores place
     ++ score_line task (score_of task place) (scores place).words (scores place).widest
 
--- The first scores are solved and have their files, where files tell what they hold, and their lines were put, in this way.
-pub record HasSolvedScores (task : Ladder) (starts : StartPairs) (told : Bool) (after : Contents)
+-- The first scores are solved, their files were written, and their lines were put, in this way.
+pub record HasSolvedScores (task : Ladder) (starts : StartPairs) (before after : List Event)
     (ArePut : List ℕ → Type 0) : Type 0 where
   pub scores : ℕ → SolvedScore
   pub solved : AreScoresSolved task starts scores
-  pub files : IsTrue told → HaveFiles task starts scores after
+  pub files : WroteScores task starts scores (length starts.pairs) before after
   pub lines : ArePut (lines_of task scores (length starts.pairs))
 
--- The next score is solved too, but writing its file or its line failed: the file, where files tell what they hold, has what it had or a front of
--- its text; nothing was put, or a front of its line.
-pub record IsInWork (task : Ladder) (starts : StartPairs) (told : Bool) (before after : Contents)
-    (old new : Output) : Type 0 where
+-- the next score is solved too, and its line was put, or a front of it
+pub record IsInWork (task : Ladder) (starts : StartPairs) (old new : Output) : Type 0 where
   pub more : length starts.pairs < scores_in task
   pub score : SolvedScore
   pub solved : IsScoreSolved task (score_of task (length starts.pairs)) starts score
-  pub file :
-      IsTrue told
-      → (after (file_of task (length starts.pairs)) ≡ before (file_of task (length starts.pairs)))
-      ⊎ HoldsFront [] (score_bytes task (score_of task (length starts.pairs)) starts score.words)
-      (after (file_of task (length starts.pairs)))
-  pub line :
-      (new ≡ old)
-      ⊎ ((failed : Failed)
-      × Puts {T = Unit {0}} old new
+  pub line : WasPut old new
       (score_line task (score_of task (length starts.pairs)) score.words score.widest)
-      (Err failed))
 
 -- ---- the whole ladder
 
 abbrev pub end_line : Ladder → List ℕ
 end_line task = ladder_end_text task.checkers task.match_length task.rounds task.workers
 
--- All scores were solved: their lines were put, and then the last one.
-pub record HasSolvedLadder (task : Ladder) (told : Bool) (before after : Contents)
+-- All scores were solved: their files were written, and their lines were put, and then the last one.
+pub record HasSolvedLadder (task : Ladder) (before after : List Event)
     (old new : Output) : Type 0 where
   pub starts : StartPairs
-  pub scores : HasSolvedScores task starts told after
+  pub scores : HasSolvedScores task starts before after
       (λ lines. IsPut old new (lines ++ end_line task))
   pub whole : length starts.pairs ≡ scores_in task
-  pub others : IsTrue told → KeepsAllBut task (scores_in task) before after
 
--- behind the lines of the scores, writing the next score failed, or, where there is none, putting the last line, and then the line of the refusal
--- was put
-abbrev pub StopsBehind : Ladder → StartPairs → Bool → Contents → Contents → Output → Output → Type 0
-StopsBehind task starts told before after old new =
-    ((stopped : Output) × IsInWork task starts told before after old stopped
+-- behind the lines of the scores the line of a failed write was put, alone, behind that of the next score, or, where there is none, behind a front
+-- of the last line
+abbrev pub StopsBehind : Ladder → StartPairs → Output → Output → Type 0
+StopsBehind task starts old new =
+    WasPut old new (refusal_text Write)
+    ⊎ ((stopped : Output) × IsInWork task starts old stopped
     × WasPut stopped new (refusal_text Write))
     ⊎ ((length starts.pairs ≡ scores_in task)
     × FailedThenPut old new (end_line task) (refusal_text Write))
 
--- Writing failed: the first scores were solved, no file changed but theirs and that of the next one, and their lines were put.
-pub record HasStoppedLadder (task : Ladder) (told : Bool) (before after : Contents)
+-- Writing failed: the first scores were solved, their files were written and no other took its name's place, and their lines were put.
+pub record HasStoppedLadder (task : Ladder) (before after : List Event)
     (old new : Output) : Type 0 where
   pub starts : StartPairs
+  pub behind : List Event
   pub scores :
-      HasSolvedScores task starts told after (λ lines.
-      (middle : Output) × IsPut old middle lines
-      × StopsBehind task starts told before after middle new)
-  pub others : IsTrue told → KeepsAllBut task (length starts.pairs + 1) before after
+      HasSolvedScores task starts before behind (λ lines.
+      (middle : Output) × IsPut old middle lines × StopsBehind task starts middle new)
+  pub leaves : LeavesPlaces behind after
 
--- There was no memory: the first scores were solved, no file changed but theirs, and behind their lines that of the refusal was put.
-pub record HasRunOut (task : Ladder) (told : Bool) (before after : Contents)
-    (old new : Output) : Type 0 where
+-- There was no memory: the first scores were solved, their files were written and no other took its name's place, and behind their lines that of
+-- the refusal was put.
+pub record HasRunOut (task : Ladder) (before after : List Event) (old new : Output) : Type 0 where
   pub starts : StartPairs
   pub scores :
-      HasSolvedScores task starts told after (λ lines.
+      HasSolvedScores task starts before after (λ lines.
       (middle : Output) × IsPut old middle lines × WasPut middle new (refusal_text Memory))
-  pub others : IsTrue told → KeepsAllBut task (length starts.pairs) before after
 
 -- How solving a ladder ends: all scores were solved, or writing failed, or there was no memory.
-pub record SolvesLadder (task : Ladder) (told : Bool) (before after : Contents) (old new : Output)
+pub record SolvesLadder (task : Ladder) (before after : List Event) (old new : Output)
     (status : ℕ) : Type 0 where
-  pub solved : status ≡ 0 → HasSolvedLadder task told before after old new
-  pub stopped : status ≡ status_of Write → HasStoppedLadder task told before after old new
-  pub out_of_memory : status ≡ status_of Memory → HasRunOut task told before after old new
+  pub solved : status ≡ 0 → HasSolvedLadder task before after old new
+  pub stopped : status ≡ status_of Write → HasStoppedLadder task before after old new
+  pub out_of_memory : status ≡ status_of Memory → HasRunOut task before after old new
 
 -- ---- while it is solved
 
--- what no call of a keeper changes: its task, whether its files tell what they hold, and which files and which output are lent
+-- what no call of a keeper changes: its task, and which files and which output are lent
 pub record LadderStays : Type 0 where
   pub task : Ladder
-  pub told : Bool
   pub files_lent : GName
   pub out_lent : GName
 
--- what a keeper was made with: whether the files tell what they hold, what they held, and what was put
+-- what a keeper was made with: what had been written, and what was put
 pub record LadderPast : Type 0 where
-  pub told : Bool
-  pub before : Contents
+  pub before : List Event
   pub old : Output
 
 -- what a keeper has done since then, by the start pairs of the scores that it has kept and by whether it has failed
-abbrev pub HasKeptSince : LadderPast → Ladder → StartPairs → Bool → Contents → Output → Type 0
+abbrev pub HasKeptSince : LadderPast → Ladder → StartPairs → Bool → List Event → Output → Type 0
 HasKeptSince past task starts false after new =
-    HasSolvedScores task starts past.told after (IsPut past.old new)
-    × (IsTrue past.told → KeepsAllBut task (length starts.pairs) past.before after)
+    HasSolvedScores task starts past.before after (IsPut past.old new)
 HasKeptSince past task starts true after new =
-    HasSolvedScores task starts past.told after (λ lines.
+    (behind : List Event)
+    × HasSolvedScores task starts past.before behind (λ lines.
     (middle : Output) × IsPut past.old middle lines
-    × IsInWork task starts past.told past.before after middle new)
-    × (IsTrue past.told → KeepsAllBut task (length starts.pairs + 1) past.before after)
+    × ((new ≡ middle) ⊎ IsInWork task starts middle new))
+    × LeavesPlaces behind after
 
 -- What was done since when solving the scores ended: all were kept, or the keeper failed, or there was no memory.
-abbrev pub SolvesScores : {T : Type 0} → LadderPast → Ladder → Contents → Output
+abbrev pub SolvesScores : {T : Type 0} → LadderPast → Ladder → List Event → Output
     → Result T LadderStop → Type 0
 SolvesScores past task after new (Ok x) =
     (starts : StartPairs) × HasKeptSince past task starts false after new

@@ -4,6 +4,7 @@ pub mod Truth
 pub mod Races
 pub mod Solves
 pub mod Ladders
+pub mod Beginnings
 pub mod Loads
 pub mod Migrates
 pub mod Shows

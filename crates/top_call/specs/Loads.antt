@@ -1,10 +1,12 @@
 -- What is known of a file of bounds that a command reads.
 use Rattle.std.specs.Prelude.{◌≡◌, ℕ, List, Bool, IsTrue, Option, Some, None, ⊤}
 use Rattle.std.specs.Option.{option_map}
+use Rattle.word_pages.specs.declared.version.Version.{Version}
+use Rattle.word_pages.specs.declared.version.Version.TheVariants.{Three}
 use Rattle.base_head.specs.Heads.{FileHead}
 use Rattle.database_file.specs.declared.stop.LoadStop.{LoadStop}
 use Rattle.database_file.specs.declared.stop.LoadStop.TheVariants as stops
-use Rattle.database_file.specs.Faults.{Read as FileRead, file_fault, whole}
+use Rattle.database_file.specs.Faults.{Read as FileRead, fault_from, whole}
 use Rattle.equity_report.specs.declared.text.GameName.{GameName}
 use Rattle.equity_report.specs.declared.refusal.Refusal.{Refusal}
 use Rattle.equity_report.specs.declared.refusal.Refusal.TheVariants.{Missing, File, Read, Memory}
@@ -30,14 +32,15 @@ TellsStop name (stops.BadFile bad) refusal = refusal ≡ File bad
 TellsStop name stops.ReadFault refusal = refusal ≡ Read
 TellsStop name stops.NoMemory refusal = refusal ≡ Memory
 
--- a file of this name is refused: there is none, or this is wrong with it first; a fault of the files or of memory says nothing of it
-abbrev pub RefusesLoading : List ℕ → Refusal → Option FileRead → Type 0
-RefusesLoading name (Missing missing) file = (missing.bytes ≡ name) × (file ≡ None)
-RefusesLoading name (File bad) (Some file) = file_fault file ≡ Some bad
-RefusesLoading name Read file = ⊤
-RefusesLoading name Memory file = ⊤
-RefusesLoading name _ _ = ⊥
+-- a file of this name is refused, where the versions from `oldest` on are read: there is none, or this
+-- is wrong with it first; a fault of the files or of memory says nothing of it
+abbrev pub RefusesFrom : Version → List ℕ → Refusal → Option FileRead → Type 0
+RefusesFrom oldest name (Missing missing) file = (missing.bytes ≡ name) × (file ≡ None)
+RefusesFrom oldest name (File bad) (Some file) = fault_from oldest file ≡ Some bad
+RefusesFrom oldest name Read file = ⊤
+RefusesFrom oldest name Memory file = ⊤
+RefusesFrom oldest name _ _ = ⊥
 
--- a file of this name may be refused so, of the one that is held where files tell what they hold
-abbrev pub MayRefuseLoading : List ℕ → Bool → Option (List ℕ) → Refusal → Type 0
-MayRefuseLoading name told held refusal = OfFile told held (RefusesLoading name refusal)
+-- the same of all commands but `migrate`
+abbrev pub RefusesLoading : List ℕ → Refusal → Option FileRead → Type 0
+RefusesLoading name refusal file = RefusesFrom Three name refusal file

@@ -1,19 +1,20 @@
 -- What making a record leaves.
-use Rattle.std.specs.Prelude.{◌≡◌, ◌⊎◌, ℕ, List, [], length, count_by, Bool, IsTrue, Option, Some}
-use Rattle.hyper_outside.specs.Files.{Contents}
-use Rattle.hyper_outside.specs.Sink.{Output}
+use Rattle.std.specs.Prelude.{◌≡◌, ◌≢◌, ◌⊎◌, ℕ, List, length, count_by, Bool, Option}
+use Rattle.outside_log.specs.Log.{Event, WritesFile}
+use Rattle.outside_log.specs.Sink.{Output}
 use Rattle.game_record.specs.Lines.{is_line_end, record_text}
+use Rattle.game_record.specs.declared.print.TheConstants.{RECORD_START}
 use Rattle.game_record.specs.Replay.{IsReplay}
 use Rattle.game_record.specs.declared.decision.Decision.{Decision}
 use Rattle.game_record.specs.declared.record.Record.{Record}
 use Rattle.record_maker.specs.Making.{IsMade}
 use Rattle.record_study.specs.Studies.{AreStudied, game_of_record}
-use Rattle.database_file.specs.Writing.{HoldsFront}
 use Rattle.command_line.specs.declared.command.Make.{Make}
 use Rattle.equity_report.specs.declared.refusal.Refusal.TheVariants.{Write}
 use Rattle.equity_report.specs.Refusals.{status_of, refusal_text}
 use Rattle.equity_report.specs.Analyses.{made_text}
-use Rattle.top_call.specs.Runs.{FailedThenPut, IsPut, WasPut}
+use Rattle.top_call.specs.Beginnings.{MayRefuseBeginning}
+use Rattle.top_call.specs.Runs.{IsPut, PutBefore, WasPut, WasRefused}
 use Rattle.top_call.specs.declared.make.MadeRecord.{MadeRecord}
 
 -- The record of a task was made: it is that of the number and the count of games, this is its text, and its decisions were studied by eight rounds.
@@ -30,27 +31,25 @@ abbrev pub made_report : MadeRecord → List ℕ
 made_report made =
     made_text (count_by is_line_end made.text.items) (length made.text.items) made.analysis
 
--- The record was made: the file, where files tell what they hold, has its text, and the report on it was put.
-pub record HasMade (task : Make) (told : Bool) (held : Option (List ℕ))
-    (old new : Output) : Type 0 where
+-- The record was made: a file with its text was written, and the report on it was put.
+pub record HasMade (task : Make) (before after : List Event) (old new : Output) : Type 0 where
   pub made : MadeRecord
   pub is_made : IsMadeFor task made
-  pub file : IsTrue told → held ≡ Some made.text.items
+  pub file : WritesFile task.file made.text.items before after
   pub report : IsPut old new (made_report made)
 
--- Writing failed: where files tell what they hold, the file has what it had or a front of the text of the record that was made, and behind a front
--- of the report, or of none, the line of the refusal was put.
-pub record HasStoppedMaking (task : Make) (told : Bool) (was held : Option (List ℕ))
-    (old new : Output) : Type 0 where
+-- the report on the record that was made was put, or a front of it, and then the line of the refusal
+pub record HasToldMaking (task : Make) (old new : Output) : Type 0 where
   pub made : MadeRecord
   pub is_made : IsMadeFor task made
-  pub file : IsTrue told → (held ≡ was) ⊎ HoldsFront [] made.text.items held
-  pub line : WasPut old new (refusal_text Write)
-      ⊎ FailedThenPut old new (made_report made) (refusal_text Write)
+  pub lines : PutBefore old new (made_report made) (refusal_text Write)
 
--- How making a record ends: it was made, or writing failed, or there was no memory.
-pub record Makes (task : Make) (told : Bool) (before after : Contents) (old new : Output)
-    (status : ℕ) : Type 0 where
-  pub done : status ≡ 0 → HasMade task told (after task.file) old new
+-- How making a record ends: it was made; or writing failed, and the line of the refusal was put, alone or behind the report; or it was refused,
+-- for what stands where the file is to be written, or for want of memory.
+pub record Makes (task : Make) (told : Bool) (held : Option (List ℕ))
+    (before after : List Event) (old new : Output) (status : ℕ) : Type 0 where
+  pub done : status ≡ 0 → HasMade task before after old new
   pub stopped : status ≡ status_of Write
-      → HasStoppedMaking task told (before task.file) (after task.file) old new
+      → WasPut old new (refusal_text Write) ⊎ HasToldMaking task old new
+  pub refused : status ≢ 0 → status ≢ status_of Write
+      → WasRefused (MayRefuseBeginning RECORD_START task.file told held) old new status

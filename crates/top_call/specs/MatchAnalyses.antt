@@ -1,6 +1,6 @@
 -- What the decisions of a recorded match lose, by the files of the scores of its games.
 use Rattle.std.specs.Prelude.{◌≡◌, ◌⊎◌, ◌<◌, ℕ, List, slice_index_or, slice_get, Contains, All, Bool, true, IsTrue, IfSome, IsSomeAnd, Option, Some, None, Result, Ok, Err, ⊤}
-use Rattle.hyper_outside.specs.Files.{Contents}
+use Rattle.outside_log.specs.Files.{Contents}
 use Rattle.hyper_outside.specs.declared.outside.LookStop.{LookStop}
 use Rattle.cube_actions.specs.Scores.{MatchScore}
 use Rattle.cube_actions.specs.declared.name.StakesName.TheVariants.{Match}
@@ -20,7 +20,7 @@ use Rattle.base_head.specs.Heads.{FileHead, IsHead, stakes_of}
 use Rattle.base_head.specs.Headers.{IsHeader}
 use Rattle.base_head.specs.declared.header.Header.{Header}
 use Rattle.database_file.specs.Faults.{fault_before_pages, header_of_file, whole}
-use Rattle.database_file.specs.Paged.{IsSourceOfHead, paged_source, told_words}
+use Rattle.database_file.specs.Paged.{IsSourceOfHead, paged_source, told_notes}
 use Rattle.database_file.specs.PagedFiles.{PagedFile}
 use Rattle.database_file.specs.Texts.{game_in}
 use Rattle.equity_report.specs.declared.text.GameName.{GameName}
@@ -171,7 +171,7 @@ RefusesMatch prefix replayed refusal held =
 pub record IsOpenedAt (rec : RecordRead) (score : MatchScore) (bytes : List ℕ) : Type 0 where
   pub file : IsFileAt rec score bytes
   pub valid : IsHeader (header_of_file bytes)
-  pub source : IsSourceOfHead (paged_source (header_of_file bytes) true (Some bytes))
+  pub source : IsSourceOfHead (paged_source (header_of_file bytes) (Some bytes))
       (head_of bytes)
 
 -- the base is what stands in these bytes before the pages
@@ -220,8 +220,8 @@ abbrev pub AnswersJudgingAt : Header → Option (List ℕ) → FileHead → Matc
     → List Judged → Result (Unit {0}) LookStop → Type 0
 AnswersJudgingAt header file head score old new result =
     AnswersSought header file (MayFollowSome (Some score) (stakes_of head) old)
-    (λ (done : Unit {0}). JudgesAll (Some score) (stakes_of head) (paged_source header true file)
-    (told_words header file) old new) result
+    (λ (done : Unit {0}). JudgesAll (Some score) (stakes_of head) (paged_source header file)
+    (told_notes header file) old new) result
 
 -- each decision at a score is judged by its file
 abbrev pub AreJudgedAt : List ℕ → RecordRead → Contents → Option MatchScore → List Judged → Type 0

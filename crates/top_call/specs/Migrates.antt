@@ -1,55 +1,64 @@
 -- What a file that is written anew leaves.
-use Rattle.std.specs.Prelude.{◌≡◌, ◌≢◌, ◌⊎◌, ℕ, List, [], Option, Some, Ok, IsTrue, Bool}
-use Rattle.hyper_outside.specs.Files.{Contents}
-use Rattle.hyper_outside.specs.Sink.{Output}
-use Rattle.word_pages.specs.declared.version.Version.TheVariants.{Two}
+use Rattle.std.specs.Prelude.{◌≡◌, ◌≢◌, ◌⊎◌, ℕ, List, Option, Ok, Bool}
+use Rattle.outside_log.specs.Files.{Contents}
+use Rattle.outside_log.specs.Log.{Event, WritesFile}
+use Rattle.outside_log.specs.Sink.{Output}
+use Rattle.word_pages.specs.declared.version.Version.TheVariants.{One, Three}
 use Rattle.base_head.specs.Heads.{FileHead}
 use Rattle.base_head.specs.Headers.{text_length}
-use Rattle.database_file.specs.Bases.{AnswersBase}
+use Rattle.database_file.specs.Bases.{AnswersFrom}
 use Rattle.database_file.specs.FileBases.{FileBase}
 use Rattle.database_file.specs.Texts.{file_text}
-use Rattle.database_file.specs.Writing.{HoldsFront}
 use Rattle.command_line.specs.declared.command.Migrate.{Migrate}
+use Rattle.base_head.specs.declared.header.TheConstants.{BASE_START}
+use Rattle.equity_report.specs.declared.refusal.Refusal.{Refusal}
 use Rattle.equity_report.specs.declared.refusal.Refusal.TheVariants.{Write}
 use Rattle.equity_report.specs.Refusals.{status_of, refusal_text}
 use Rattle.equity_report.specs.Files.{migrated_text}
-use Rattle.top_call.specs.Loads.{MayRefuseLoading, OfFile, game_told}
-use Rattle.top_call.specs.Runs.{IsPut, WasPut, FailedThenPut, WasRefused}
+use Rattle.top_call.specs.Beginnings.{MayRefuseBeginning}
+use Rattle.top_call.specs.Loads.{OfFile, game_told}
+use Rattle.top_call.specs.Verifies.{AreVerified, MayRefuseVerifying}
+use Rattle.top_call.specs.Runs.{IsPut, PutBefore, WasPut, WasRefused}
 
--- a head and words in version 2
+-- a head and words in version 3
 abbrev pub latest_file : FileBase → List ℕ
-latest_file base = file_text Two base.head base.words.list
+latest_file base = file_text Three base.head base.words.list
 
 -- the report on a file with this head
 abbrev pub migrated_report : Migrate → FileHead → List ℕ
 migrated_report task head =
-    migrated_text (game_told head) head.rounds task.new (text_length Two head)
+    migrated_text (game_told head) head.rounds task.new (text_length Three head)
 
--- The file was written anew: a head and words were read from the old one, the new one has them in version 2, where files tell what they hold,
--- and the report on them was put.
-pub record HasMigrated (task : Migrate) (told : Bool) (before held : Option (List ℕ))
-    (old new : Output) : Type 0 where
+-- The file was written anew: a head and consistent words were read from the old one, of any version, a file with both in version 3 was written, and the report on them was
+-- put.
+pub record HasMigrated (task : Migrate) (told : Bool) (held : Option (List ℕ))
+    (before after : List Event) (old new : Output) : Type 0 where
   pub base : FileBase
-  pub read : OfFile told before (λ file. AnswersBase file (Ok base))
-  pub file : IsTrue told → held ≡ Some (latest_file base)
+  pub read : OfFile told held (λ file. AnswersFrom One file (Ok base))
+  pub verified : AreVerified base.words
+  pub file : WritesFile task.new (latest_file base) before after
   pub report : IsPut old new (migrated_report task base.head)
 
--- Writing failed: a head and words were read from the old file; the new one, where files tell what they hold, has what it had or a front of
--- their text in version 2; and behind a front of the report, or of none, the line of the refusal was put.
-pub record HasStoppedMigrating (task : Migrate) (told : Bool) (before was held : Option (List ℕ))
+-- a head and consistent words were read from the old file, and the report on them was put, or a front of it, and then the line of the refusal
+pub record HasToldMigrating (task : Migrate) (told : Bool) (held : Option (List ℕ))
     (old new : Output) : Type 0 where
   pub base : FileBase
-  pub read : OfFile told before (λ file. AnswersBase file (Ok base))
-  pub file : IsTrue told → (held ≡ was) ⊎ HoldsFront [] (latest_file base) held
-  pub line :
-      WasPut old new (refusal_text Write)
-      ⊎ FailedThenPut old new (migrated_report task base.head) (refusal_text Write)
+  pub read : OfFile told held (λ file. AnswersFrom One file (Ok base))
+  pub verified : AreVerified base.words
+  pub lines : PutBefore old new (migrated_report task base.head) (refusal_text Write)
 
--- How writing a file anew ends: it was written anew, or writing failed, or the old one was refused; no file but the new one changed.
-pub record Migrates (task : Migrate) (told : Bool) (before after : Contents) (old new : Output)
-    (status : ℕ) : Type 0 where
-  pub migrated : status ≡ 0 → HasMigrated task told (before task.old) (after task.new) old new
+-- writing a file anew is refused: nothing is written under the new name, or the old file can't be loaded or its words aren't consistent
+abbrev pub MayRefuseMigrating : Migrate → Bool → Contents → Refusal → Type 0
+MayRefuseMigrating task told held refusal =
+    MayRefuseBeginning BASE_START task.new told (held task.new) refusal
+    ⊎ MayRefuseVerifying One task.old told (held task.old) refusal
+
+-- How writing a file anew ends: it was written anew, or writing failed, or it was refused.
+pub record Migrates (task : Migrate) (told : Bool) (held : Contents)
+    (before after : List Event) (old new : Output) (status : ℕ) : Type 0 where
+  pub migrated : status ≡ 0 → HasMigrated task told (held task.old) before after old new
   pub stopped : status ≡ status_of Write
-      → HasStoppedMigrating task told (before task.old) (before task.new) (after task.new) old new
+      → WasPut old new (refusal_text Write)
+      ⊎ HasToldMigrating task told (held task.old) old new
   pub refused : status ≢ 0 → status ≢ status_of Write
-      → WasRefused (MayRefuseLoading task.old told (before task.old)) old new status
+      → WasRefused (MayRefuseMigrating task told held) old new status

@@ -1,6 +1,6 @@
 -- What a match's plan rests on, and what is true of it.
 use Rattle.std.specs.Prelude.{◌≡◌, ◌≤◌, ◌<◌, ◌-◌, ◌==◌, ℕ, ℤ, neg_ℤ, ◌-ℤ◌, List, Bool, Option, IfSome, Result, Ok, Err, length, if◌then◌else◌}
-use Rattle.hyper_outside.specs.Sink.{Output}
+use Rattle.outside_log.specs.Sink.{Output}
 use Rattle.cube_actions.specs.declared.name.StakesName.TheVariants.{Match}
 use Rattle.cube_actions.specs.declared.phase.Phase.TheVariants.{Normal, Post}
 use Rattle.cube_actions.specs.declared.side.Side.{Side}

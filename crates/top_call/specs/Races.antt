@@ -1,7 +1,7 @@
 -- What is true of a race that is reported.
 use Rattle.std.specs.Prelude.{◌≡◌, ℕ}
 use Rattle.hyper_outside.specs.Causes.{Rose}
-use Rattle.hyper_outside.specs.Sink.{Output}
+use Rattle.outside_log.specs.Sink.{Output}
 use Rattle.directed_fixed.specs.Bounds.{Bounds}
 use Rattle.race_table.specs.RacePairs.{IsTrueOfRace}
 use Rattle.race_table.specs.TurnsLeft.{turns_left}

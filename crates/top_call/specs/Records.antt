@@ -14,8 +14,8 @@ use Rattle.game_record.specs.declared.fault.RecordStop.TheVariants as stops
 use Rattle.game_record.specs.declared.record.Record.{Record as RecordRead}
 use Rattle.game_record.specs.declared.record.RecordStakes.{RecordStakes}
 use Rattle.game_record.specs.declared.record.RecordStakes.TheVariants.{Match}
-use Rattle.hyper_outside.specs.declared.reading.WholeStop.{WholeStop}
-use Rattle.hyper_outside.specs.declared.reading.WholeStop.TheVariants as whole
+use Rattle.outside_log.specs.declared.reading.WholeStop.{WholeStop}
+use Rattle.outside_log.specs.declared.reading.WholeStop.TheVariants as whole
 use Rattle.equity_report.specs.declared.text.GameName.{GameName}
 use Rattle.equity_report.specs.declared.refusal.Refusal.{Refusal}
 use Rattle.equity_report.specs.declared.refusal.Refusal.TheVariants.{Missing, Read, Memory, Record}

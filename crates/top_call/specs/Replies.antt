@@ -1,7 +1,7 @@
 -- What following the advice of a file's words is worth, and what is told of it.
 use Rattle.std.specs.Prelude.{◌≡◌, ◌≤◌, ℕ, List, Contains, sum, Bool, Option, IfSome, Result, Ok, Err}
 use Rattle.position_rank.specs.Placement.{Placement}
-use Rattle.hyper_outside.specs.Sink.{Output}
+use Rattle.outside_log.specs.Sink.{Output}
 use Rattle.cube_actions.specs.Names.{names_of}
 use Rattle.turn_rule.specs.Exact.{Scoring, exact}
 use Rattle.turn_rule.specs.States.{pair_of}

@@ -1,11 +1,12 @@
 -- How a run may end.
-use Rattle.std.specs.Prelude.{◌≡◌, ◌≢◌, ℕ, List, ◌++◌, Option, Some, None, Result, Ok, Err, ◌⊎◌, IsErr, ⊤}
+use Rattle.std.specs.Prelude.{◌≡◌, ◌≢◌, ℕ, ◌≤◌, List, ◌++◌, Option, Some, None, Result, Ok, Err, ◌⊎◌, IsErr, OnOk, OnErr, ⊤}
 use Rattle.hyper_outside.specs.Causes.{Rose}
 use Rattle.hyper_outside.specs.declared.outside.Failed.{Failed}
 use Rattle.hyper_outside.specs.declared.outside.WordsKind.TheVariants.{Word}
-use Rattle.hyper_outside.specs.Sink.{Output, Puts}
+use Rattle.outside_log.specs.Log.{Event, CompletesFile, LeavesPlaces, failures}
+use Rattle.outside_log.specs.Sink.{Output, Puts}
 use Rattle.equity_report.specs.declared.refusal.Refusal.{Refusal}
-use Rattle.equity_report.specs.declared.refusal.Refusal.TheVariants.{Words, Missing, File, Record, Read, Write, Memory, Base, Inconsistent, Condition}
+use Rattle.equity_report.specs.declared.refusal.Refusal.TheVariants.{Words, Missing, File, Record, Read, Write, Memory, Base, Inconsistent, Condition, Other}
 use Rattle.equity_report.specs.Refusals.{status_of, refusal_text}
 use Rattle.top_call.specs.declared.task.Task.{Task}
 use Rattle.top_call.specs.declared.task.Task.TheVariants.{Bound, Race, Solve, Show, Migrate, Advise, Verify, Ladder, Analyse, Study, Make, Plan, Scan, Reply}
@@ -61,6 +62,25 @@ abbrev pub IsOfAnalysing : Refusal → Type 0
 IsOfAnalysing (Record bad) = ⊤
 IsOfAnalysing refusal = IsOfShowing refusal
 
+-- a refusal of a name under which a file is to be written: it can't be begun or looked at, or a file of another kind stands there
+abbrev pub IsOfBeginning : Refusal → Type 0
+IsOfBeginning Write = ⊤
+IsOfBeginning Read = ⊤
+IsOfBeginning (Other name) = ⊤
+IsOfBeginning _ = ⊥
+
+-- a refusal of a run that writes a file: the name can't be looked at, a file of another kind stands there, or there was no memory
+abbrev pub IsOfWriting : Refusal → Type 0
+IsOfWriting Read = ⊤
+IsOfWriting (Other name) = ⊤
+IsOfWriting Memory = ⊤
+IsOfWriting _ = ⊥
+
+-- a refusal of a file that is to be written anew: of either name, or its words aren't consistent
+abbrev pub IsOfMigrating : Refusal → Type 0
+IsOfMigrating (Other name) = ⊤
+IsOfMigrating refusal = IsOfVerifying refusal
+
 -- a fault of the files or of memory, which says nothing of what files hold
 abbrev pub IsOutside : Refusal → Type 0
 IsOutside Read = ⊤
@@ -71,15 +91,15 @@ IsOutside refusal = ⊥
 abbrev pub EndsTask : Task → ℕ → Type 0
 EndsTask (Bound task) status = EndsWriting status
 EndsTask (Race task) status = EndsWriting status
-EndsTask (Solve task) status = EndsWriting status
+EndsTask (Solve task) status = EndsBy IsOfWriting status
 EndsTask (Show task) status = EndsBy IsOfShowing status
-EndsTask (Migrate task) status = EndsBy IsOfLoading status
+EndsTask (Migrate task) status = EndsBy IsOfMigrating status
 EndsTask (Advise task) status = EndsBy IsOfShowing status
 EndsTask (Verify task) status = EndsBy IsOfVerifying status
 EndsTask (Ladder task) status = EndsWriting status
 EndsTask (Analyse task) status = EndsBy IsOfAnalysing status
 EndsTask (Study task) status = EndsBy IsOfReplaying status
-EndsTask (Make task) status = EndsWriting status
+EndsTask (Make task) status = EndsBy IsOfWriting status
 EndsTask (Plan task) status = EndsBy IsOfShowing status
 EndsTask (Scan task) status = EndsBy IsOfScanning status
 EndsTask (Reply task) status = EndsBy IsOfShowing status
@@ -110,6 +130,28 @@ abbrev pub FailedThenPut : Output → Output → List ℕ → List ℕ → Type 
 FailedThenPut old new first second =
     (middle : Output) × (answer : Result (Unit {0}) Failed) × IsErr answer
     × Puts old middle first answer × WasPut middle new second
+
+-- the first text was put, or a front of it where that failed, and then the second
+abbrev pub PutBefore : Output → Output → List ℕ → List ℕ → Type 0
+PutBefore old new first second =
+    (middle : Output) × WasPut old middle first × WasPut middle new second
+
+-- neither of two counts of faults falls, and a failure is told only where one of them rose
+pub record HasEitherCause {T E : Type 0} (files_before files_now puts_before puts_now : ℕ)
+    (result : Result T E) : Type 0 where
+  pub files_later : files_before ≤ files_now
+  pub puts_later : puts_before ≤ puts_now
+  pub failed : OnErr result (Rose files_before files_now ⊎ Rose puts_before puts_now)
+
+-- How a text is added to the file that was begun for a name, a report on it put, and the name's place taken: all is done, or no file took a
+-- place, and nothing or a front of the report was put, or all of it.
+pub record Completes {T E : Type 0} (name text report : List ℕ) (before after : List Event)
+    (old new : Output) (result : Result T E) : Type 0 where
+  pub file : OnOk result (CompletesFile name text before after)
+  pub told : OnOk result (IsPut old new report)
+  pub leaves : OnErr result (LeavesPlaces before after)
+  pub front : OnErr result ((new ≡ old) ⊎ WasPut old new report)
+  pub cause : HasEitherCause (failures before) (failures after) old.faults new.faults result
 
 -- How a report ends that is put last: at 0 it was put; at 7 putting it failed, where the output's count of faults rose, and then the line of
 -- that refusal was put.

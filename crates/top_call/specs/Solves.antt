@@ -1,23 +1,24 @@
 -- What a game that is solved leaves.
-use Rattle.std.specs.Prelude.{◌≡◌, ◌⊎◌, ℕ, ℤ, List, [], Option, Some, IsTrue, Bool, length}
+use Rattle.std.specs.Prelude.{◌≡◌, ◌≢◌, ◌⊎◌, ℕ, ℤ, List, length, Bool, Option}
 use Rattle.position_rank.specs.LiveRanks.{live_positions}
-use Rattle.hyper_outside.specs.Files.{Contents}
-use Rattle.hyper_outside.specs.Sink.{Output}
+use Rattle.outside_log.specs.Log.{Event, WritesFile}
+use Rattle.outside_log.specs.Sink.{Output}
 use Rattle.cube_actions.specs.Names.{names_of}
 use Rattle.turn_rule.specs.Turn.{rounds}
 use Rattle.turn_rule.specs.States.{AreNoLooser}
 use Rattle.turn_rule.specs.Truth.{AreSound, AreConsistent}
 use Rattle.interval_words.specs.WordLists.{WordList, AreRight, IsWidest, words_in_list}
-use Rattle.word_pages.specs.declared.version.Version.TheVariants.{Two}
+use Rattle.word_pages.specs.declared.version.Version.TheVariants.{Three}
 use Rattle.base_head.specs.Heads.{FileHead, no_starts}
 use Rattle.base_head.specs.Headers.{text_length}
+use Rattle.base_head.specs.declared.header.TheConstants.{BASE_START}
 use Rattle.database_file.specs.Texts.{AreWordsOf, file_text}
-use Rattle.database_file.specs.Writing.{HoldsFront}
 use Rattle.command_line.specs.declared.command.Solve.{Solve}
 use Rattle.equity_report.specs.declared.refusal.Refusal.TheVariants.{Write}
 use Rattle.equity_report.specs.Refusals.{status_of, refusal_text}
 use Rattle.equity_report.specs.Files.{solved_text}
-use Rattle.top_call.specs.Runs.{IsPut, WasPut, FailedThenPut}
+use Rattle.top_call.specs.Beginnings.{MayRefuseBeginning}
+use Rattle.top_call.specs.Runs.{IsPut, PutBefore, WasPut, WasRefused}
 
 -- the head of the file that is asked for
 abbrev pub head_of : Solve → FileHead
@@ -37,9 +38,9 @@ pub record AreSolved (task : Solve) (words : WordList) : Type 0 where
   pub consistent : AreConsistent words.game (words_in_list words)
   pub tight : AreNoLooser words.game (words_in_list words) (rounds words.game.stakes task.rounds)
 
--- the file of version 2 that is asked for, with these words
+-- the file of version 3 that is asked for, with these words
 abbrev pub solved_file : Solve → WordList → List ℕ
-solved_file task words = file_text Two (head_of task) words.list
+solved_file task words = file_text Three (head_of task) words.list
 
 -- the report on words whose widest pair is so wide
 abbrev pub solved_report : Solve → ℤ → List ℕ
@@ -51,34 +52,32 @@ solved_report task widest =
       positions = live_positions task.checkers;
       kinds = length (names_of task.stakes);
       widest = widest;
-      bytes = text_length Two (head_of task);
+      bytes = text_length Three (head_of task);
     }) task.file
 
--- The game was solved: the file, where files tell what they hold, has words that solve it, and the report on them was put.
-pub record HasSolved (task : Solve) (told : Bool) (held : Option (List ℕ))
-    (old new : Output) : Type 0 where
+-- The game was solved: a file with words that solve it was written, and the report on them was put.
+pub record HasSolved (task : Solve) (before after : List Event) (old new : Output) : Type 0 where
   pub words : WordList
   pub solved : AreSolved task words
-  pub file : IsTrue told → held ≡ Some (solved_file task words)
+  pub file : WritesFile task.file (solved_file task words) before after
   pub widest : ℤ
   pub is_widest : IsWidest words widest
   pub report : IsPut old new (solved_report task widest)
 
--- Writing failed: where files tell what they hold, the file has what it had or a front of the text of words that solve the game, and behind a
--- front of the report, or of none, the line of the refusal was put.
-pub record HasStopped (task : Solve) (told : Bool) (before held : Option (List ℕ))
-    (old new : Output) : Type 0 where
+-- the report on words that solve the game was put, or a front of it, and then the line of the refusal
+pub record HasToldBefore (task : Solve) (old new : Output) : Type 0 where
   pub words : WordList
   pub solved : AreSolved task words
-  pub file : IsTrue told → (held ≡ before) ⊎ HoldsFront [] (solved_file task words) held
-  pub line :
-      WasPut old new (refusal_text Write)
-      ⊎ ((widest : ℤ) × IsWidest words widest
-      × FailedThenPut old new (solved_report task widest) (refusal_text Write))
+  pub widest : ℤ
+  pub is_widest : IsWidest words widest
+  pub lines : PutBefore old new (solved_report task widest) (refusal_text Write)
 
--- How solving a game ends: it was solved, or writing failed, or there was no memory.
-pub record Solves (task : Solve) (told : Bool) (before after : Contents) (old new : Output)
-    (status : ℕ) : Type 0 where
-  pub solved : status ≡ 0 → HasSolved task told (after task.file) old new
+-- How solving a game ends: it was solved; or writing failed, and the line of the refusal was put, alone or behind the report; or it was refused,
+-- for what stands where the file is to be written, or for want of memory.
+pub record Solves (task : Solve) (told : Bool) (held : Option (List ℕ))
+    (before after : List Event) (old new : Output) (status : ℕ) : Type 0 where
+  pub solved : status ≡ 0 → HasSolved task before after old new
   pub stopped : status ≡ status_of Write
-      → HasStopped task told (before task.file) (after task.file) old new
+      → WasPut old new (refusal_text Write) ⊎ HasToldBefore task old new
+  pub refused : status ≢ 0 → status ≢ status_of Write
+      → WasRefused (MayRefuseBeginning BASE_START task.file told held) old new status

@@ -1,6 +1,6 @@
 -- What the decisions of a recorded game lose, by what is solved for it.
 use Rattle.std.specs.Prelude.{◌≡◌, ◌⊎◌, ℕ, List, Bool, false, true, IsTrue, Option, Result, Ok, Err}
-use Rattle.hyper_outside.specs.Sink.{Output}
+use Rattle.outside_log.specs.Sink.{Output}
 use Rattle.game_record.specs.Turns.{is_match}
 use Rattle.record_analysis.specs.declared.analysis.Judged.{Judged}
 use Rattle.record_study.specs.Matches.{AreStudiedInMatch}

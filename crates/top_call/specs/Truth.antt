@@ -1,7 +1,7 @@
 -- What is true of a pair that is reported.
 use Rattle.std.specs.Prelude.{◌≡◌, ℕ, ◌≤◌, sum}
 use Rattle.hyper_outside.specs.Causes.{Rose}
-use Rattle.hyper_outside.specs.Sink.{Output}
+use Rattle.outside_log.specs.Sink.{Output}
 use Rattle.directed_fixed.specs.Bounds.{Bounds}
 use Rattle.cube_actions.specs.Stakes.{cubeless}
 use Rattle.turn_rule.specs.Games.{game_of}

@@ -10,19 +10,21 @@ use Rattle.game_record.specs.declared.decision.Choice.{Choice}
 use Rattle.play_analyser.specs.Choices.{IsChoice}
 use Rattle.play_analyser.specs.Regrets.{counted_over, loss_of, regret_of}
 use Rattle.interval_words.specs.WordLists.{WordList, words_in_list}
+use Rattle.word_pages.specs.declared.version.Version.{Version}
+use Rattle.word_pages.specs.declared.version.Version.TheVariants.{Three}
 use Rattle.base_head.specs.Heads.{FileHead}
-use Rattle.database_file.specs.Bases.{AnswersBase}
+use Rattle.database_file.specs.Bases.{AnswersBase, AnswersFrom}
 use Rattle.database_file.specs.Faults.{Read as FileRead}
 use Rattle.database_file.specs.FileBases.{FileBase}
 use Rattle.base_verify.specs.declared.finding.Finding.{Finding}
 use Rattle.base_verify.specs.Findings.{AlwaysEnclose, IsFirstFinding}
-use Rattle.hyper_outside.specs.Sink.{Output}
+use Rattle.outside_log.specs.Sink.{Output}
 use Rattle.command_line.specs.declared.command.Verify.{Verify}
 use Rattle.equity_report.specs.declared.verify.Unheld.{Unheld}
 use Rattle.equity_report.specs.declared.refusal.Refusal.{Refusal}
 use Rattle.equity_report.specs.declared.refusal.Refusal.TheVariants.{Inconsistent, Memory}
 use Rattle.equity_report.specs.Verify.{verified_text}
-use Rattle.top_call.specs.Loads.{OfFile, RefusesLoading, game_told}
+use Rattle.top_call.specs.Loads.{OfFile, RefusesFrom, game_told}
 use Rattle.top_call.specs.Runs.{Tells}
 
 -- the report on a file with this head
@@ -71,25 +73,26 @@ pub record IsUnheld (base : FileBase) (unheld : Unheld) : Type 0 where
   pub inconsistent : ¬ AreConsistent base.words.game (words_in_list base.words)
   pub told : TellsFinding base.head finding unheld
 
--- a head and words were read from a file, and the words aren't consistent
-pub record HoldsUnheld (unheld : Unheld) (file : Option FileRead) : Type 0 where
+-- a head and words were read from a file of a version from `oldest` on, and the words aren't consistent
+pub record HoldsUnheld (oldest : Version) (unheld : Unheld) (file : Option FileRead) : Type 0 where
   pub base : FileBase
-  pub read : AnswersBase file (Ok base)
+  pub read : AnswersFrom oldest file (Ok base)
   pub is : IsUnheld base unheld
 
 -- a file of this name is refused: it can't be loaded, or its words aren't consistent
-abbrev pub RefusesVerifying : List ℕ → Refusal → Option FileRead → Type 0
-RefusesVerifying name (Inconsistent unheld) file = HoldsUnheld unheld file
-RefusesVerifying name refusal file = RefusesLoading name refusal file
+abbrev pub RefusesVerifying : Version → List ℕ → Refusal → Option FileRead → Type 0
+RefusesVerifying oldest name (Inconsistent unheld) file = HoldsUnheld oldest unheld file
+RefusesVerifying oldest name refusal file = RefusesFrom oldest name refusal file
 
 -- this refuses a file of this name, of the one that is held where files tell what they hold
-abbrev pub MayRefuseVerifying : List ℕ → Bool → Option (List ℕ) → Refusal → Type 0
-MayRefuseVerifying name told held refusal = OfFile told held (RefusesVerifying name refusal)
+abbrev pub MayRefuseVerifying : Version → List ℕ → Bool → Option (List ℕ) → Refusal → Type 0
+MayRefuseVerifying oldest name told held refusal =
+    OfFile told held (RefusesVerifying oldest name refusal)
 
 -- how checking a file ends
 abbrev pub TellsVerified : Verify → Bool → Option (List ℕ) → Output → Output → ℕ → Type 0
 TellsVerified task told held =
-    Tells (HasVerified task told held) (MayRefuseVerifying task.file told held)
+    Tells (HasVerified task told held) (MayRefuseVerifying Three task.file told held)
 
 -- ---- what checking may answer
 
@@ -100,7 +103,9 @@ AnswersCheck base (Err (Inconsistent unheld)) = IsUnheld base unheld
 AnswersCheck base (Err refusal) = refusal ≡ Memory
 
 -- a base whose words are consistent was read from a file of this name, or the file is refused
-abbrev pub AnswersVerify : List ℕ → Bool → Option (List ℕ) → Result FileBase Refusal → Type 0
-AnswersVerify name told held (Ok base) =
-    OfFile told held (λ file. AnswersBase file (Ok base)) × AreVerified base.words
-AnswersVerify name told held (Err refusal) = OfFile told held (RefusesVerifying name refusal)
+abbrev pub AnswersVerify : Version → List ℕ → Bool → Option (List ℕ) → Result FileBase Refusal
+    → Type 0
+AnswersVerify oldest name told held (Ok base) =
+    OfFile told held (λ file. AnswersFrom oldest file (Ok base)) × AreVerified base.words
+AnswersVerify oldest name told held (Err refusal) =
+    OfFile told held (RefusesVerifying oldest name refusal)

@@ -2,7 +2,7 @@ ghost use Rattle.std.specs.Prelude.{◌≡◌, ◌≤◌, ◌<◌, IsTrue, IfErr
 ghost use Rattle.position_rank.specs.Placement.{IsPosition, IsLive};
 ghost use Rattle.roll_table.specs.Rolls.{IsRoll};
 ghost use Rattle.hyper_outside.specs.Causes.{Rose};
-ghost use Rattle.hyper_outside.specs.Files.{SameFiles};
+ghost use Rattle.outside_log.specs.Files.{SameFiles};
 ghost use Rattle.hyper_outside.specs.declared.outside.LookStop.TheVariants.{ReadFault};
 ghost use Rattle.turn_rule.specs.Games.{IsGame, kinds_of};
 ghost use Rattle.turn_rule.specs.States.{IsStateOf};
@@ -24,11 +24,13 @@ use base_head::Head;
 use cube_actions::KindName;
 use database_file::{PagedBase, open_paged};
 use equity_report::{Refusal, Wanted, write_cube, write_ranking};
-use hyper_outside::{Failed, Files, LookStop, Sink};
+use hyper_outside::{Failed, LookStop};
+use outside_log::{Files, Sink};
 use play_analyser::{CubeAdvice, Ranking, cube_advice, rank_plays};
 use position_rank::Position;
 use roll_table::Roll;
 use std::alloc::Global;
+use word_pages::Version;
 
 /// A kind of state of a game.
 #[derive(Clone, Copy, Debug, PartialEq, Eq)]
@@ -112,6 +114,7 @@ fn open_asked<F: Files>(
         KeepsPagesOf opened.base (F.tells files.new) (F.held files.new)) }
     ensures same { IsTrue (F.tells files.old)
         → SameFiles (F.held files.old) (F.held files.new) }
+    ensures log { F.log files.new ≡ F.log files.old }
     ensures tells { F.tells files.new ≡ F.tells files.old }
     ensures later { F.read_faults files.old ≤ F.read_faults files.new }
     ensures cause { result ≡ Err Read
@@ -119,7 +122,7 @@ fn open_asked<F: Files>(
     ensures kinds { IfErr result IsOfShowing }
 {
     let name = task.file.as_str();
-    let base = match open_paged(alloc, files, name, PAGES_KEPT) {
+    let base = match open_paged(alloc, files, name, Version::Three, PAGES_KEPT) {
         Ok(base) => base,
         Err(stop) => return Err(refusal_of(stop, name)),
     };
@@ -146,6 +149,7 @@ fn ranking_of<F: Files>(
     ensures plays { IfOk result (λ ranking. CanBePlayed position.now ranking.rows.items) }
     ensures same { IsTrue (F.tells files.old)
         → SameFiles (F.held files.old) (F.held files.new) }
+    ensures log { F.log files.new ≡ F.log files.old }
     ensures later { F.read_faults files.old ≤ F.read_faults files.new }
     ensures cause { result ≡ Err ReadFault
         → Rose (F.read_faults files.old) (F.read_faults files.new) }
@@ -172,6 +176,7 @@ fn advice_of<F: Files>(
         (stakes_of base.old.head) position.now kind result }
     ensures same { IsTrue (F.tells files.old)
         → SameFiles (F.held files.old) (F.held files.new) }
+    ensures log { F.log files.new ≡ F.log files.old }
     ensures later { F.read_faults files.old ≤ F.read_faults files.new }
     ensures cause { result ≡ Err ReadFault
         → Rose (F.read_faults files.old) (F.read_faults files.new) }
@@ -196,6 +201,7 @@ fn find_ranking<F: Files>(
         CanBePlayed task.now.position found.ranking.rows.items) }
     ensures same { IsTrue (F.tells files.old)
         → SameFiles (F.held files.old) (F.held files.new) }
+    ensures log { F.log files.new ≡ F.log files.old }
     ensures later { F.read_faults files.old ≤ F.read_faults files.new }
     ensures cause { result ≡ Err Read
         → Rose (F.read_faults files.old) (F.read_faults files.new) }
@@ -224,6 +230,7 @@ fn find_advice<F: Files>(
         (F.held files.old task.now.file) result }
     ensures same { IsTrue (F.tells files.old)
         → SameFiles (F.held files.old) (F.held files.new) }
+    ensures log { F.log files.new ≡ F.log files.old }
     ensures later { F.read_faults files.old ≤ F.read_faults files.new }
     ensures cause { result ≡ Err Read
         → Rose (F.read_faults files.old) (F.read_faults files.new) }
@@ -258,6 +265,7 @@ fn run_ranking<F: Files, O: Sink>(
         → Rose (F.read_faults files.old) (F.read_faults files.new) }
     ensures same { IsTrue (F.tells files.old)
         → SameFiles (F.held files.old) (F.held files.new) }
+    ensures log { F.log files.new ≡ F.log files.old }
 {
     let found = match find_ranking(alloc, task, roll, files) {
         Ok(found) => found,
@@ -280,6 +288,7 @@ fn run_cube<F: Files, O: Sink>(alloc: Global, task: &AdviseTask, files: &mut F, 
         → Rose (F.read_faults files.old) (F.read_faults files.new) }
     ensures same { IsTrue (F.tells files.old)
         → SameFiles (F.held files.old) (F.held files.new) }
+    ensures log { F.log files.new ≡ F.log files.old }
 {
     let found = match find_advice(alloc, task, files) {
         Ok(found) => found,
@@ -307,6 +316,7 @@ pub(crate) fn run_advise<F: Files, O: Sink>(
         → Rose (F.read_faults files.old) (F.read_faults files.new) }
     ensures same { IsTrue (F.tells files.old)
         → SameFiles (F.held files.old) (F.held files.new) }
+    ensures log { F.log files.new ≡ F.log files.old }
 {
     match task.roll {
         Some(roll) => run_ranking(alloc, task, roll, files, out),

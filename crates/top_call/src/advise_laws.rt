@@ -6,10 +6,11 @@ ghost use Rattle.play_analyser.specs.Advice.{IsCubeAdvice};
 ghost use Rattle.play_analyser.specs.Rankings.{IsRanking};
 ghost use Rattle.base_head.specs.Heads.{FileHead, stakes_of};
 ghost use Rattle.database_file.specs.Faults.{header_of_file};
-ghost use Rattle.database_file.specs.Paged.{paged_source, told_words};
+ghost use Rattle.database_file.specs.Paged.{paged_source, told_notes};
 ghost use Rattle.top_call.specs.declared.advise.AskedKind.{AskedKind};
 ghost use Rattle.top_call.specs.declared.task.AdviseTask.{AdviseTask};
-ghost use Rattle.hyper_outside.specs.Sink.{Output};
+ghost use Rattle.outside_log.specs.Log.{Event, standing};
+ghost use Rattle.outside_log.specs.Sink.{Output};
 ghost use Rattle.command_line.specs.declared.command.Solve.{Solve as SolveTask};
 ghost use Rattle.command_line.specs.Right.{IsRightSolve};
 ghost use Rattle.top_call.specs.Advises.{Advises, HasAdvised, IsStateIn, Ranks};
@@ -30,8 +31,8 @@ pub fn looked_up_rankings_are_of_the_file()
         (kind : AskedKind) (ranking : Ranking)
         → IsStateIn task bytes head kind → IsRoll roll
         → IsRanking (stakes_of head) task.position kind.number roll
-        (paged_source (header_of_file bytes) true (Some bytes))
-        (told_words (header_of_file bytes) (Some bytes)) ranking
+        (paged_source (header_of_file bytes) (Some bytes))
+        (told_notes (header_of_file bytes) (Some bytes)) ranking
         → Ranks task roll bytes head kind ranking }
 {
     one_list_gives_the_ranking();
@@ -44,8 +45,8 @@ pub fn looked_up_advice_is_of_the_file()
         (advice : CubeAdvice)
         → IsStateIn task bytes head kind
         → IsCubeAdvice (stakes_of head) task.position kind.number
-        (paged_source (header_of_file bytes) true (Some bytes))
-        (told_words (header_of_file bytes) (Some bytes)) advice
+        (paged_source (header_of_file bytes) (Some bytes))
+        (told_notes (header_of_file bytes) (Some bytes)) advice
         → Advises task bytes head kind advice }
 {
     one_list_gives_the_advice();
@@ -54,14 +55,14 @@ pub fn looked_up_advice_is_of_the_file()
 
 /// Every play or cube action advised from the file that solve wrote loses at most its printed bound.
 ///
-/// One run solved a game and ended with 0; another was asked for advice, ended with 0, and found under its file's name what the first left under
-/// its own. The files of both tell what they hold. What `run` ensures of either is what stands before the last arrow.
+/// One run solved a game and ended with 0; another was asked for advice, ended with 0, and found under the file's name what the log of the
+/// first tells. What `run` ensures of either is what stands before the last arrow.
 pub fn advice_from_a_solved_file_loses_at_most_its_printed_bounds()
-    ensures { (solve : SolveTask) (advise : AdviseTask) (file : Option (List ℕ))
-        (before after old new : Output)
+    ensures { (solve : SolveTask) (advise : AdviseTask) (before after : List Event)
+        (put_before put_after old new : Output)
         → IsRightSolve solve
-        → HasSolved solve true file before after
-        → HasAdvised advise true file (λ text. IsPut old new text)
+        → HasSolved solve before after put_before put_after
+        → HasAdvised advise true (standing after solve.file) (λ text. IsPut old new text)
         → PrintsGoodAdvice solve advise (λ text. IsPut old new text) }
 {
     texts_are_read_back();

@@ -1,6 +1,6 @@
 ghost use Rattle.std.specs.Prelude.{◌≡◌, ◌≤◌, ◌↔◌, IsTrue, false, IfErr, IfOk, Err, length};
 ghost use Rattle.hyper_outside.specs.Causes.{Rose};
-ghost use Rattle.hyper_outside.specs.Files.{SameFiles};
+ghost use Rattle.outside_log.specs.Files.{SameFiles};
 ghost use Rattle.hyper_outside.specs.declared.outside.LookStop.TheVariants.{ReadFault};
 ghost use Rattle.game_record.specs.Lines.{IsRecord};
 ghost use Rattle.game_record.specs.Turns.{is_match};
@@ -26,9 +26,11 @@ use command_line::Analyse;
 use database_file::{PagedBase, open_paged};
 use equity_report::{GameName, Refusal, Wanted, write_analysis};
 use game_record::Record;
-use hyper_outside::{Failed, Files, LookStop, Sink};
+use hyper_outside::{Failed, LookStop};
+use outside_log::{Files, Sink};
 use record_analysis::{Analysis, right_decisions_can_be_judged};
 use std::alloc::Global;
+use word_pages::Version;
 
 /// Whether a head is of these checkers and these stakes.
 fn is_of(head: &Head, game: &GameName) -> bool
@@ -60,13 +62,14 @@ fn open_for<F: Files>(
         KeepsPagesOf base (F.tells files.new) (F.held files.new)) }
     ensures same { IsTrue (F.tells files.old)
         → SameFiles (F.held files.old) (F.held files.new) }
+    ensures log { F.log files.new ≡ F.log files.old }
     ensures tells { F.tells files.new ≡ F.tells files.old }
     ensures later { F.read_faults files.old ≤ F.read_faults files.new }
     ensures cause { result ≡ Err Read
         → Rose (F.read_faults files.old) (F.read_faults files.new) }
     ensures kinds { IfErr result IsOfShowing }
 {
-    let base = match open_paged(alloc, files, name, PAGES_KEPT) {
+    let base = match open_paged(alloc, files, name, Version::Three, PAGES_KEPT) {
         Ok(base) => base,
         Err(stop) => return Err(refusal_of(stop, name)),
     };
@@ -96,6 +99,7 @@ fn judge<F: Files>(
         (stakes_of base.old.head) replayed.decisions result }
     ensures same { IsTrue (F.tells files.old)
         → SameFiles (F.held files.old) (F.held files.new) }
+    ensures log { F.log files.new ≡ F.log files.old }
     ensures later { F.read_faults files.old ≤ F.read_faults files.new }
     ensures cause { result ≡ Err ReadFault
         → Rose (F.read_faults files.old) (F.read_faults files.new) }
@@ -128,6 +132,7 @@ fn judge_plain<F: Files>(
         (F.held files.old name.now) result }
     ensures same { IsTrue (F.tells files.old)
         → SameFiles (F.held files.old) (F.held files.new) }
+    ensures log { F.log files.new ≡ F.log files.old }
     ensures cause { result ≡ Err Read
         → Rose (F.read_faults files.old) (F.read_faults files.new) }
     ensures kinds { IfErr result IsOfShowing }
@@ -156,6 +161,7 @@ fn judge_by<F: Files>(
         (F.held files.old) result }
     ensures same { IsTrue (F.tells files.old)
         → SameFiles (F.held files.old) (F.held files.new) }
+    ensures log { F.log files.new ≡ F.log files.old }
     ensures cause { result ≡ Err Read
         → Rose (F.read_faults files.old) (F.read_faults files.new) }
     ensures kinds { IfErr result IsOfShowing }
@@ -173,6 +179,7 @@ fn analyse<F: Files>(alloc: Global, task: &Analyse, files: &mut F) -> Result<Ana
     ensures told { AnswersAnalysis task.now (F.tells files.old) (F.held files.old) result }
     ensures same { IsTrue (F.tells files.old)
         → SameFiles (F.held files.old) (F.held files.new) }
+    ensures log { F.log files.new ≡ F.log files.old }
     ensures cause { result ≡ Err Read
         → Rose (F.read_faults files.old) (F.read_faults files.new) }
     ensures kinds { IfErr result IsOfAnalysing }
@@ -198,6 +205,7 @@ pub(crate) fn run_analyse<F: Files, O: Sink>(
         → Rose (F.read_faults files.old) (F.read_faults files.new) }
     ensures same { IsTrue (F.tells files.old)
         → SameFiles (F.held files.old) (F.held files.new) }
+    ensures log { F.log files.new ≡ F.log files.old }
 {
     let analysis = match analyse(alloc, task, files) {
         Ok(analysis) => analysis,

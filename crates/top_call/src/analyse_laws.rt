@@ -1,10 +1,10 @@
-ghost use Rattle.std.specs.Prelude.{ℕ, List, None, Some, map, true};
+ghost use Rattle.std.specs.Prelude.{ℕ, List, None, Some, map};
 ghost use Rattle.record_analysis.specs.Analyses.{unjudged};
 ghost use Rattle.record_analysis.specs.Judging.{JudgesAll};
 ghost use Rattle.record_analysis.specs.declared.analysis.Judged.{Judged};
 ghost use Rattle.base_head.specs.Heads.{FileHead, stakes_of};
 ghost use Rattle.database_file.specs.Faults.{header_of_file};
-ghost use Rattle.database_file.specs.Paged.{paged_source, told_words};
+ghost use Rattle.database_file.specs.Paged.{paged_source, told_notes};
 ghost use Rattle.top_call.specs.Analyses.{IsOpenedFor, JudgesRecord};
 ghost use Rattle.top_call.specs.Records.{IsRightReplayed};
 ghost use Rattle.top_call.specs.declared.record.Replayed.{Replayed};
@@ -19,8 +19,8 @@ use record_analysis::{
 pub fn looked_up_analyses_are_of_the_file()
     ensures { (replayed : Replayed) (bytes : List ℕ) (head : FileHead) (list : List Judged)
         → IsRightReplayed replayed → IsOpenedFor replayed.rec bytes head
-        → JudgesAll None (stakes_of head) (paged_source (header_of_file bytes) true (Some bytes))
-        (told_words (header_of_file bytes) (Some bytes)) (map unjudged replayed.decisions) list
+        → JudgesAll None (stakes_of head) (paged_source (header_of_file bytes) (Some bytes))
+        (told_notes (header_of_file bytes) (Some bytes)) (map unjudged replayed.decisions) list
         → JudgesRecord replayed bytes head list }
 {
     one_list_gives_the_loss();

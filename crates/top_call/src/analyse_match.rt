@@ -1,6 +1,6 @@
 ghost use Rattle.std.specs.Prelude.{◌≡◌, ◌≤◌, ◌<◌, ◌↔◌, All, IfErr, IfOk, IsTrue, Err, length, true};
 ghost use Rattle.hyper_outside.specs.Causes.{Rose};
-ghost use Rattle.hyper_outside.specs.Files.{SameFiles};
+ghost use Rattle.outside_log.specs.Files.{SameFiles};
 ghost use Rattle.hyper_outside.specs.declared.outside.LookStop.TheVariants.{ReadFault};
 ghost use Rattle.database_file.specs.Paged.{KeepsPagesOf};
 ghost use Rattle.database_file.specs.Texts.{game_in};
@@ -22,11 +22,13 @@ use cube_actions::{Score, StakesName};
 use database_file::{PagedBase, open_paged};
 use equity_report::{GameName, Refusal, Wanted};
 use game_record::{Decision, Record};
-use hyper_outside::{Files, LookStop};
+use hyper_outside::LookStop;
 use match_scores::enclosing_starts_bound_the_payoffs;
+use outside_log::Files;
 use play_analyser::one_list_gives_the_loss;
 use record_analysis::{Analysis, right_decisions_can_be_judged};
 use std::alloc::Global;
+use word_pages::Version;
 
 /// The game of a record's match at a score.
 fn game_at(rec: &Record, score: Score) -> GameName
@@ -71,6 +73,7 @@ fn open_at<F: Files>(
         KeepsPagesOf base (F.tells files.new) (F.held files.new)) }
     ensures same { IsTrue (F.tells files.old)
         → SameFiles (F.held files.old) (F.held files.new) }
+    ensures log { F.log files.new ≡ F.log files.old }
     ensures tells { F.tells files.new ≡ F.tells files.old }
     ensures later { F.read_faults files.old ≤ F.read_faults files.new }
     ensures cause { result ≡ Err Read
@@ -78,7 +81,7 @@ fn open_at<F: Files>(
     ensures kinds { IfErr result IsOfShowing }
 {
     let name = score_file(prefix, score);
-    let base = match open_paged(alloc, files, name.as_str(), PAGES_KEPT) {
+    let base = match open_paged(alloc, files, name.as_str(), Version::Three, PAGES_KEPT) {
         Ok(base) => base,
         Err(stop) => return Err(refusal_of(stop, name.as_str())),
     };
@@ -109,6 +112,7 @@ fn check_file<F: Files>(
         (F.held files.old) result }
     ensures same { IsTrue (F.tells files.old)
         → SameFiles (F.held files.old) (F.held files.new) }
+    ensures log { F.log files.new ≡ F.log files.old }
     ensures tells { F.tells files.new ≡ F.tells files.old }
     ensures later { F.read_faults files.old ≤ F.read_faults files.new }
     ensures cause { result ≡ Err Read
@@ -137,6 +141,7 @@ fn check_next<F: Files>(
         (F.held files.old) result }
     ensures same { IsTrue (F.tells files.old)
         → SameFiles (F.held files.old) (F.held files.new) }
+    ensures log { F.log files.new ≡ F.log files.old }
     ensures tells { F.tells files.new ≡ F.tells files.old }
     ensures later { F.read_faults files.old ≤ F.read_faults files.new }
     ensures cause { result ≡ Err Read
@@ -165,6 +170,7 @@ fn check_files<F: Files>(
         (F.held files.old) result }
     ensures same { IsTrue (F.tells files.old)
         → SameFiles (F.held files.old) (F.held files.new) }
+    ensures log { F.log files.new ≡ F.log files.old }
     ensures tells { F.tells files.new ≡ F.tells files.old }
     ensures later { F.read_faults files.old ≤ F.read_faults files.new }
     ensures cause { result ≡ Err Read
@@ -200,6 +206,7 @@ fn judge_at<F: Files>(
     ensures decisions { decisions_in analysis.new ≡ decisions_in analysis.old }
     ensures same { IsTrue (F.tells files.old)
         → SameFiles (F.held files.old) (F.held files.new) }
+    ensures log { F.log files.new ≡ F.log files.old }
     ensures tells { F.tells files.new ≡ F.tells files.old }
     ensures later { F.read_faults files.old ≤ F.read_faults files.new }
     ensures cause { result ≡ Err ReadFault
@@ -230,6 +237,7 @@ fn judge_score<F: Files>(
     ensures decisions { decisions_in analysis.new ≡ decisions_in analysis.old }
     ensures same { IsTrue (F.tells files.old)
         → SameFiles (F.held files.old) (F.held files.new) }
+    ensures log { F.log files.new ≡ F.log files.old }
     ensures tells { F.tells files.new ≡ F.tells files.old }
     ensures later { F.read_faults files.old ≤ F.read_faults files.new }
     ensures cause { result ≡ Err Read
@@ -266,6 +274,7 @@ fn judge_next<F: Files>(
     ensures decisions { decisions_in analysis.new ≡ decisions_in analysis.old }
     ensures same { IsTrue (F.tells files.old)
         → SameFiles (F.held files.old) (F.held files.new) }
+    ensures log { F.log files.new ≡ F.log files.old }
     ensures tells { F.tells files.new ≡ F.tells files.old }
     ensures later { F.read_faults files.old ≤ F.read_faults files.new }
     ensures cause { result ≡ Err Read
@@ -298,6 +307,7 @@ fn judge_scores<F: Files>(
     ensures decisions { decisions_in analysis.new ≡ decisions_in analysis.old }
     ensures same { IsTrue (F.tells files.old)
         → SameFiles (F.held files.old) (F.held files.new) }
+    ensures log { F.log files.new ≡ F.log files.old }
     ensures later { F.read_faults files.old ≤ F.read_faults files.new }
     ensures cause { result ≡ Err Read
         → Rose (F.read_faults files.old) (F.read_faults files.new) }
@@ -326,6 +336,7 @@ pub(crate) fn judge_match<F: Files>(
         (F.held files.old) result }
     ensures same { IsTrue (F.tells files.old)
         → SameFiles (F.held files.old) (F.held files.new) }
+    ensures log { F.log files.new ≡ F.log files.old }
     ensures cause { result ≡ Err Read
         → Rose (F.read_faults files.old) (F.read_faults files.new) }
     ensures kinds { IfErr result IsOfShowing }

@@ -13,7 +13,8 @@ use crate::task::BoundTask;
 use cube_actions::Stakes;
 use directed_fixed::Pair;
 use equity_report::{Refusal, write_bound};
-use hyper_outside::{Failed, NoMemory, Sink};
+use hyper_outside::{Failed, NoMemory};
+use outside_log::Sink;
 use plain_table::PlainTable;
 use std::alloc::Global;
 

@@ -1,21 +1,35 @@
-ghost use Rattle.std.specs.Prelude.{◌≡◌, ◌≤◌, ◌⊎◌, Err, IsTrue};
+ghost use Rattle.std.specs.Prelude.{◌≡◌, ◌≤◌, ◌*◌, ◌⊎◌, Err, length};
 ghost use Rattle.hyper_outside.specs.Causes.{Rose};
+ghost use Rattle.outside_log.specs.Log.{failures};
 ghost use Rattle.match_scores.specs.declared.ladder.LadderStop.TheVariants.{Keep};
 ghost use Rattle.equity_report.specs.declared.refusal.Refusal.TheVariants.{Write};
 ghost use Rattle.equity_report.specs.Refusals.{status_of};
 ghost use Rattle.command_line.specs.Right.{IsRightLadder};
-ghost use Rattle.top_call.specs.Ladders.{KeepsAllBut, SolvesLadder, SolvesScores, end_line, scores_in};
+ghost use Rattle.cube_actions.specs.Ladder.{ladder};
+ghost use Rattle.top_call.specs.Ladders.{SolvesLadder, SolvesScores, end_line, scores_in};
 ghost use Rattle.top_call.specs.Runs.{EndsReport, EndsWriting};
 
 use crate::ladder_keep::LadderKeep;
 use crate::put::{DONE, refuse};
 use command_line::Ladder;
-use cube_actions::Starts;
+use cube_actions::{Starts, ladder};
 use equity_report::{Refusal, write_ladder_end};
-use hyper_outside::{Failed, Files, Gate, Sink};
+use hyper_outside::{Failed, Gate};
 use match_scores::{LadderStop, solve_ladder, solved_ladders_are_true_and_tight};
+use outside_log::{Files, Sink};
+use position_rank::layout_count;
 use std::alloc::Global;
 use std::thread::Threads;
+
+/// How many rounds all scores of a match take together, with so many each.
+pub(crate) fn ladder_rounds(match_length: u8, rounds: u32) -> u32
+    requires from { 1 ≤ match_length }
+    requires to { match_length ≤ 5 }
+    requires few { rounds ≤ 4096 }
+    ensures { result ≡ length (ladder match_length) * rounds }
+{
+    ladder(match_length).len() as u32 * rounds
+}
 
 /// Solves the scores of a ladder in order. The file of each is written, and then its line is put, before the next one is begun.
 fn solve_scores<R: Threads + Sync, F: Files, O: Sink, G: Gate + Sync>(
@@ -28,17 +42,20 @@ fn solve_scores<R: Threads + Sync, F: Files, O: Sink, G: Gate + Sync>(
 ) -> Result<Starts, LadderStop>
     requires { IsRightLadder task.now }
     ensures solves { SolvesScores (record {
-      told = F.tells files.old;
-      before = F.held files.old;
+      before = F.log files.old;
       old = O.output out.old;
-    }) task.now (F.held files.new) (O.output out.new) result }
+    }) task.now (F.log files.new) (O.output out.new) result }
     ensures cause { result ≡ Err Keep
-        → Rose (F.write_faults files.old) (F.write_faults files.new)
+        → Rose (failures (F.log files.old)) (failures (F.log files.new))
         ⊎ Rose (O.output out.old).faults (O.output out.new).faults }
-    ensures files_later { F.write_faults files.old ≤ F.write_faults files.new }
+    ensures files_later { failures (F.log files.old) ≤ failures (F.log files.new) }
     ensures later { (O.output out.old).faults ≤ (O.output out.new).faults }
 {
     solved_ladders_are_true_and_tight();
+    gate.expect(
+        ladder_rounds(task.match_length, task.rounds),
+        layout_count(task.checkers),
+    );
     let mut keep = LadderKeep::new(task, files, out);
     solve_ladder(
         rt,
@@ -80,13 +97,11 @@ pub(crate) fn run_ladder<R: Threads + Sync, F: Files, O: Sink, G: Gate + Sync>(
 ) -> u8
     requires { IsRightLadder task.now }
     ensures ends { EndsWriting result }
-    ensures solves { SolvesLadder task.now (F.tells files.old) (F.held files.old)
-        (F.held files.new) (O.output out.old) (O.output out.new) result }
+    ensures solves { SolvesLadder task.now (F.log files.old) (F.log files.new)
+        (O.output out.old) (O.output out.new) result }
     ensures cause { result ≡ status_of Write
-        → Rose (F.write_faults files.old) (F.write_faults files.new)
+        → Rose (failures (F.log files.old)) (failures (F.log files.new))
         ⊎ Rose (O.output out.old).faults (O.output out.new).faults }
-    ensures others { IsTrue (F.tells files.old)
-        → KeepsAllBut task.now (scores_in task.now) (F.held files.old) (F.held files.new) }
 {
     match solve_scores(rt, alloc, task, files, out, gate) {
         Ok(_) => tell_end(task, out),

@@ -1,21 +1,24 @@
-ghost use Rattle.std.specs.Prelude.{◌≡◌, ◌≤◌, false, IsTrue, length};
-ghost use Rattle.hyper_outside.specs.Causes.{HasCause};
-ghost use Rattle.hyper_outside.specs.Files.{KeepsOthers};
-ghost use Rattle.base_head.specs.Heads.{IsHead};
+ghost use Rattle.std.specs.Prelude.{◌≡◌, ◌⊎◌, ◌≤◌, false, OnOk, OnErr, length};
+ghost use Rattle.outside_log.specs.Log.{LeavesPlaces, WritesFile, failures};
+ghost use Rattle.word_pages.specs.declared.version.Version.TheVariants.{Three};
+ghost use Rattle.base_head.specs.Heads.{HasText, IsHead};
 ghost use Rattle.command_line.specs.Right.{IsRightLadder};
-ghost use Rattle.database_file.specs.Texts.{AreWordsOf};
-ghost use Rattle.database_file.specs.Writing.{Writes};
+ghost use Rattle.database_file.specs.Texts.{AreWordsOf, file_text};
+ghost use Rattle.equity_report.specs.Ladder.{ladder_score_text};
 ghost use Rattle.match_scores.specs.Keepers.{no_pairs};
 ghost use Rattle.top_call.specs.Ladders.{HasKeptSince, LadderPast, LadderStays, score_bytes, score_file, score_head};
+ghost use Rattle.top_call.specs.Runs.{Completes, HasEitherCause, IsPut, WasPut};
 
 use base_head::Head;
 use command_line::Ladder;
 use cube_actions::{Score, Starts, ladders_are_exact};
-use database_file::write_base;
+use database_file::append_base;
+use directed_fixed::{Fixed, Pair};
 use equity_report::{FileName, write_ladder_score};
-use hyper_outside::{Failed, Files, Sink};
+use hyper_outside::Failed;
 use interval_words::{Closed, Words};
 use match_scores::{Keep, solved_ladders_are_true_and_tight, start_pair};
+use outside_log::{Files, Sink};
 use word_pages::Version;
 
 /// The name of a score's file: the prefix, a point, and the score's text, as `L.1.3.c`.
@@ -30,29 +33,79 @@ pub(crate) fn score_file(prefix: &str, score: Score) -> FileName
     name
 }
 
-/// Writes the file of a score. After `Failed` it holds what it held or a front of its text.
-fn write_score<F: Files>(
-    files: &mut F,
-    task: &Ladder,
-    score: Score,
-    starts: &Starts,
+/// What the line of a score tells.
+#[derive(Clone, Copy, Debug, PartialEq, Eq)]
+pub struct ScoreLine {
+    pub score: Score,
+    /// What the near side has of the score's game at its start.
+    pub start: Pair,
+    /// How wide the widest pair of its words is.
+    pub widest: Fixed,
+}
+
+/// Adds the text of a score's file to what was begun for it, puts the score's line, and has the file take its place.
+fn complete<F: Files, O: Sink>(
+    name: &str,
+    head: &Head,
     words: &Words,
+    line: &ScoreLine,
+    files: &mut F,
+    out: &mut O,
 ) -> Result<(), Failed>
+    requires head { IsHead head.now }
+    requires takes { HasText Three head.now }
+    requires words { AreWordsOf head.now words.now }
+    ensures { Completes name.now (file_text Three head.now words.now.list)
+        (ladder_score_text line.now.score line.now.start line.now.widest)
+        (F.log files.old) (F.log files.new) (O.output out.old) (O.output out.new) result }
+{
+    append_base(files, name, head, words, Version::Three)?;
+    match write_ladder_score(out, line.score, line.start, line.widest) {
+        Ok(()) => files.finish(name),
+        Err(failed) => {
+            files.give_up(name);
+            Err(failed)
+        }
+    }
+}
+
+/// The head of a score's file.
+fn head_for(task: &Ladder, score: Score, starts: &Starts) -> Head
     requires right { IsRightLadder task.now }
     requires head { IsHead (score_head task.now score starts.now) }
-    requires words { AreWordsOf (score_head task.now score starts.now) words.now }
-    ensures writes { IsTrue (F.tells files.old)
-        → Writes (F.held files.old (score_file task.now.prefix score))
-        (score_bytes task.now score starts.now words.now)
-        (F.held files.new (score_file task.now.prefix score)) result }
-    ensures others { IsTrue (F.tells files.old)
-        → KeepsOthers (score_file task.now.prefix score) (F.held files.old) (F.held files.new) }
-    ensures tells { F.tells files.new ≡ F.tells files.old }
-    ensures cause { HasCause (F.write_faults files.old) (F.write_faults files.new) result }
+    ensures { result ≡ score_head task.now score starts.now }
 {
-    let name = score_file(task.prefix.as_str(), score);
-    let head = Head::of_score(task.checkers, score, task.rounds, starts.copied()).unwrap();
-    write_base(files, name.as_str(), &head, words, Version::Two)
+    Head::of_score(task.checkers, score, task.rounds, starts.copied()).unwrap()
+}
+
+/// Writes the file of a score, and puts its line before the file takes its place. After `Failed` no file has changed.
+fn write_score<F: Files, O: Sink>(
+    task: &Ladder,
+    starts: &Starts,
+    words: &Words,
+    line: &ScoreLine,
+    files: &mut F,
+    out: &mut O,
+) -> Result<(), Failed>
+    requires right { IsRightLadder task.now }
+    requires head { IsHead (score_head task.now line.now.score starts.now) }
+    requires words { AreWordsOf (score_head task.now line.now.score starts.now) words.now }
+    ensures file { OnOk result (WritesFile (score_file task.now.prefix line.now.score)
+        (score_bytes task.now line.now.score starts.now words.now)
+        (F.log files.old) (F.log files.new)) }
+    ensures told { OnOk result (IsPut (O.output out.old) (O.output out.new)
+        (ladder_score_text line.now.score line.now.start line.now.widest)) }
+    ensures leaves { OnErr result (LeavesPlaces (F.log files.old) (F.log files.new)) }
+    ensures front { OnErr result ((O.output out.new ≡ O.output out.old)
+        ⊎ WasPut (O.output out.old) (O.output out.new)
+        (ladder_score_text line.now.score line.now.start line.now.widest)) }
+    ensures cause { HasEitherCause (failures (F.log files.old)) (failures (F.log files.new))
+        (O.output out.old).faults (O.output out.new).faults result }
+{
+    let name = score_file(task.prefix.as_str(), line.score);
+    let head = head_for(task, line.score, starts);
+    files.start(name.as_str())?;
+    complete(name.as_str(), &head, words, line, files, out)
 }
 
 /// Keeps the scores of a ladder: writes the file of each, and then puts its line.
@@ -94,23 +147,21 @@ impl<'a, F: Files, O: Sink> Keep for LadderKeep<'a, F, O> {
 
     ghost stays = { λ k. record {
       task = k.task.now;
-      told = F.tells k.files.now;
       files_lent = k.files.ghost_name;
       out_lent = k.out.ghost_name;
     } };
 
     ghost Past = { LadderPast };
 
-    ghost since = { λ past k. (F.tells k.files.now ≡ past.told)
-        × HasKeptSince past k.task.now k.starts k.failed
-        (F.held k.files.now) (O.output k.out.now) };
+    ghost since = { λ past k. HasKeptSince past k.task.now k.starts k.failed
+        (F.log k.files.now) (O.output k.out.now) };
 
     ghost keeper = { λ k. record {
       checkers = k.task.now.checkers;
       rounds = k.task.now.rounds;
       starts = k.starts;
       failed = k.failed;
-      write_faults = F.write_faults k.files.now;
+      write_faults = failures (F.log k.files.now);
       put_faults = (O.output k.out.now).faults;
     } };
 
@@ -121,13 +172,15 @@ impl<'a, F: Files, O: Sink> Keep for LadderKeep<'a, F, O> {
         words.right();
         // What `match_length` ensures says that the start pairs are those of a match.
         let _length = starts.match_length();
-        let start = start_pair(score, words);
-        let widest = words.widest();
-        // It has failed until the line is put.
+        let line = ScoreLine {
+            score,
+            start: start_pair(score, words),
+            widest: words.widest(),
+        };
+        // It has failed until the file has taken its place.
         self.failed = true;
-        write_score(self.files, self.task, score, starts, words)?;
-        write_ladder_score(self.out, score, start, widest)?;
-        self.starts.add(start);
+        write_score(self.task, starts, words, &line, self.files, self.out)?;
+        self.starts.add(line.start);
         // They still are.
         let _added = self.starts.match_length();
         self.failed = false;

@@ -1,20 +1,21 @@
-ghost use Rattle.std.specs.Prelude.{◌≡◌, ◌⊎◌, ◌≤◌, IsTrue, IfOk, count_by, length};
-ghost use Rattle.hyper_outside.specs.Causes.{HasCause, Rose};
-ghost use Rattle.hyper_outside.specs.Files.{KeepsOthers};
-ghost use Rattle.hyper_outside.specs.Sink.{Puts};
-ghost use Rattle.database_file.specs.Writing.{Writes};
+ghost use Rattle.std.specs.Prelude.{◌≡◌, ◌≢◌, ◌⊎◌, ◌≤◌, IfOk, count_by, length};
+ghost use Rattle.hyper_outside.specs.Causes.{Rose};
+ghost use Rattle.outside_log.specs.Log.{LeavesPlaces, failures};
+ghost use Rattle.outside_log.specs.Sink.{Puts};
 ghost use Rattle.game_record.specs.Lines.{is_line_end};
-ghost use Rattle.equity_report.specs.declared.refusal.Refusal.TheVariants.{Memory, Write};
+ghost use Rattle.equity_report.specs.declared.refusal.Refusal.TheVariants.{Memory, Read, Write};
 ghost use Rattle.equity_report.specs.Refusals.{status_of, refusal_text};
 ghost use Rattle.command_line.specs.Right.{IsRightMake};
 ghost use Rattle.top_call.specs.Makes.{IsMadeFor, Makes, made_report};
-ghost use Rattle.top_call.specs.Runs.{EndsReport, EndsWriting, WasPut};
+ghost use Rattle.top_call.specs.Runs.{Completes, EndsBy, IsOfWriting, WasPut};
 
+use crate::begin::begin;
 use crate::put::{DONE, refuse};
 use command_line::Make;
 use equity_report::{Refusal, write_made};
-use game_record::{print_record, replay};
-use hyper_outside::{Failed, Files, Gate, NoMemory, Sink};
+use game_record::{RECORD_START, print_record, replay};
+use hyper_outside::{Failed, Gate, NoMemory};
+use outside_log::{Files, Sink};
 use record_analysis::Analysis;
 use record_maker::make_record;
 use record_study::study;
@@ -52,19 +53,6 @@ fn make_and_study<R: Threads + Sync, G: Gate + Sync>(
     Ok(MadeRecord { text, analysis })
 }
 
-/// Writes a text under a name. After `Failed` the file holds what it held or a front of the text.
-fn write_text<F: Files>(files: &mut F, name: &str, text: &[u8]) -> Result<(), Failed>
-    ensures writes { IsTrue (F.tells files.old)
-        → Writes (F.held files.old name.now) text.now (F.held files.new name.now) result }
-    ensures others { IsTrue (F.tells files.old)
-        → KeepsOthers name.now (F.held files.old) (F.held files.new) }
-    ensures cause { HasCause (F.write_faults files.old) (F.write_faults files.new) result }
-{
-    files.start(name)?;
-    files.append(name, text)?;
-    files.finish(name)
-}
-
 /// How many lines a text has.
 fn lines(text: &[u8]) -> u32
     requires { length text.now ≤ 1048576 }
@@ -88,19 +76,29 @@ fn report<O: Sink>(made: &MadeRecord, out: &mut O) -> Result<(), Failed>
     write_made(out, lines(text), text.len() as u32, &made.analysis)
 }
 
-/// Puts the report, or a refusal where that fails.
-fn tell<O: Sink>(made: &MadeRecord, out: &mut O) -> u8
+/// Adds the record's text to the file that was begun for it, puts the report, and has the file take its place.
+fn complete<F: Files, O: Sink>(
+    name: &str,
+    made: &MadeRecord,
+    files: &mut F,
+    out: &mut O,
+) -> Result<(), Failed>
     requires { length made.now.text.items ≤ 1048576 }
-    ensures { EndsReport (made_report made.now)
-        (O.output out.old) (O.output out.new) result }
+    ensures { Completes name.now made.now.text.items (made_report made.now)
+        (F.log files.old) (F.log files.new) (O.output out.old) (O.output out.new) result }
 {
+    files.append(name, made.text.as_slice())?;
     match report(made, out) {
-        Ok(()) => DONE,
-        Err(Failed) => refuse(out, &Refusal::Write),
+        Ok(()) => files.finish(name),
+        Err(failed) => {
+            files.give_up(name);
+            Err(failed)
+        }
     }
 }
 
-/// Makes a record, studies its decisions, writes its file and puts the report, or a refusal where one of these fails or there is no memory.
+/// Begins the file, makes a record, studies its decisions, writes the file and puts the report, or a refusal where one of these fails or
+/// there is no memory. The file takes its name's place only at 0.
 pub(crate) fn run_make<R: Threads + Sync, F: Files, O: Sink, G: Gate + Sync>(
     rt: &R,
     alloc: Global,
@@ -110,23 +108,29 @@ pub(crate) fn run_make<R: Threads + Sync, F: Files, O: Sink, G: Gate + Sync>(
     gate: &G,
 ) -> u8
     requires { IsRightMake task.now }
-    ensures ends { EndsWriting result }
-    ensures makes { Makes task.now (F.tells files.old) (F.held files.old) (F.held files.new)
+    ensures ends { EndsBy IsOfWriting result }
+    ensures makes { Makes task.now (F.tells files.old)
+        (F.held files.old task.now.file) (F.log files.old) (F.log files.new)
         (O.output out.old) (O.output out.new) result }
     ensures cause { result ≡ status_of Write
-        → Rose (F.write_faults files.old) (F.write_faults files.new)
+        → Rose (failures (F.log files.old)) (failures (F.log files.new))
         ⊎ Rose (O.output out.old).faults (O.output out.new).faults }
+    ensures read_cause { result ≡ status_of Read
+        → Rose (F.read_faults files.old) (F.read_faults files.new) }
     ensures memory { result ≡ status_of Memory
         → WasPut (O.output out.old) (O.output out.new) (refusal_text Memory) }
-    ensures untouched { result ≡ status_of Memory → files.new ≡ files.old }
-    ensures others { IsTrue (F.tells files.old)
-        → KeepsOthers task.now.file (F.held files.old) (F.held files.new) }
+    ensures leaves { result ≢ 0 → LeavesPlaces (F.log files.old) (F.log files.new) }
 {
+    let name = task.file.as_str();
+    if let Err(refusal) = begin(files, name, &RECORD_START) {
+        return refuse(out, &refusal);
+    }
     let Ok(made) = make_and_study(rt, alloc, task, gate) else {
+        files.give_up(name);
         return refuse(out, &Refusal::Memory);
     };
-    match write_text(files, task.file.as_str(), made.text.as_slice()) {
-        Ok(()) => tell(&made, out),
+    match complete(name, &made, files, out) {
+        Ok(()) => DONE,
         Err(Failed) => refuse(out, &Refusal::Write),
     }
 }

@@ -1,20 +1,23 @@
-ghost use Rattle.std.specs.Prelude.{◌≡◌, ◌≢◌, ◌⊎◌, IsTrue};
+ghost use Rattle.std.specs.Prelude.{◌≡◌, ◌≢◌, ◌⊎◌};
 ghost use Rattle.hyper_outside.specs.Causes.{Rose};
-ghost use Rattle.hyper_outside.specs.Files.{KeepsOthers, SameFiles};
-ghost use Rattle.hyper_outside.specs.Sink.{Puts};
+ghost use Rattle.outside_log.specs.Log.{LeavesPlaces, failures};
+ghost use Rattle.outside_log.specs.Sink.{Puts};
 ghost use Rattle.equity_report.specs.declared.refusal.Refusal.TheVariants.{Read, Write};
 ghost use Rattle.equity_report.specs.Refusals.{status_of};
 ghost use Rattle.command_line.specs.Right.{IsRightMigrate};
-ghost use Rattle.top_call.specs.Migrates.{Migrates, migrated_report};
-ghost use Rattle.top_call.specs.Runs.{EndsBy, EndsReport, IsOfLoading};
+ghost use Rattle.top_call.specs.Migrates.{Migrates, latest_file, migrated_report};
+ghost use Rattle.top_call.specs.Runs.{Completes, EndsBy, IsOfMigrating};
 
-use crate::load::{game_told, refusal_of};
+use crate::begin::begin;
+use crate::load::game_told;
 use crate::put::{DONE, refuse};
-use base_head::{Head, Header};
+use crate::verify::load_verified;
+use base_head::{BASE_START, Head, Header};
 use command_line::Migrate;
-use database_file::{load_base, write_base};
+use database_file::{Base, append_base};
 use equity_report::{Refusal, write_migrated};
-use hyper_outside::{Failed, Files, Sink};
+use hyper_outside::{Failed, Gate};
+use outside_log::{Files, Sink};
 use std::alloc::Global;
 use std::thread::Threads;
 use word_pages::Version;
@@ -25,7 +28,7 @@ fn report<O: Sink>(task: &Migrate, head: &Head, out: &mut O) -> Result<(), Faile
     ensures { Puts (O.output out.old) (O.output out.new)
         (migrated_report task.now head.now) result }
 {
-    let bytes = Header::of(head, Version::Two).file_length();
+    let bytes = Header::of(head, Version::Three).file_length();
     write_migrated(
         out,
         game_told(head),
@@ -35,48 +38,64 @@ fn report<O: Sink>(task: &Migrate, head: &Head, out: &mut O) -> Result<(), Faile
     )
 }
 
-/// Puts the report, or a refusal where that fails.
-fn tell<O: Sink>(task: &Migrate, head: &Head, out: &mut O) -> u8
+/// Adds the file's text to what was begun for the new name, puts the report, and has the file take its place.
+fn complete<F: Files, O: Sink>(
+    task: &Migrate,
+    base: &Base,
+    files: &mut F,
+    out: &mut O,
+) -> Result<(), Failed>
     requires { IsRightMigrate task.now }
-    ensures { EndsReport (migrated_report task.now head.now)
-        (O.output out.old) (O.output out.new) result }
+    ensures { Completes task.now.new (latest_file base.now) (migrated_report task.now base.now.head)
+        (F.log files.old) (F.log files.new) (O.output out.old) (O.output out.new) result }
 {
-    match report(task, head, out) {
-        Ok(()) => DONE,
-        Err(Failed) => refuse(out, &Refusal::Write),
+    let name = task.new.as_str();
+    append_base(files, name, base.head(), base.words(), Version::Three)?;
+    match report(task, base.head(), out) {
+        Ok(()) => files.finish(name),
+        Err(failed) => {
+            files.give_up(name);
+            Err(failed)
+        }
     }
 }
 
-/// Loads a file, writes it anew in the latest version and puts the report, or a refusal where one of these fails or there is no memory.
-pub(crate) fn run_migrate<R: Threads + Sync, F: Files, O: Sink>(
+/// Begins the new file, loads a file of any version, checks its words by some workers, writes it anew in the latest version and puts the
+/// report, or a refusal where the file isn't right, its words aren't consistent, one of these fails or there is no memory.
+/// The new file takes its name's place only at 0.
+pub(crate) fn run_migrate<R: Threads + Sync, F: Files, O: Sink, G: Gate + Sync>(
     rt: &R,
     alloc: Global,
     task: &Migrate,
     files: &mut F,
     out: &mut O,
+    gate: &G,
 ) -> u8
     requires { IsRightMigrate task.now }
-    ensures ends { EndsBy IsOfLoading result }
-    ensures migrates { Migrates task.now (F.tells files.old) (F.held files.old) (F.held files.new)
-        (O.output out.old) (O.output out.new) result }
+    ensures ends { EndsBy IsOfMigrating result }
+    ensures migrates { Migrates task.now (F.tells files.old) (F.held files.old)
+        (F.log files.old) (F.log files.new) (O.output out.old) (O.output out.new) result }
     ensures read_cause { result ≡ status_of Read
         → Rose (F.read_faults files.old) (F.read_faults files.new) }
     ensures write_cause { result ≡ status_of Write
-        → Rose (F.write_faults files.old) (F.write_faults files.new)
+        → Rose (failures (F.log files.old)) (failures (F.log files.new))
         ⊎ Rose (O.output out.old).faults (O.output out.new).faults }
-    ensures others { IsTrue (F.tells files.old)
-        → KeepsOthers task.now.new (F.held files.old) (F.held files.new) }
-    ensures same { result ≢ 0 → result ≢ status_of Write → IsTrue (F.tells files.old)
-        → SameFiles (F.held files.old) (F.held files.new) }
+    ensures leaves { result ≢ 0 → LeavesPlaces (F.log files.old) (F.log files.new) }
 {
-    let old = task.old.as_str();
-    let base = match load_base(rt, alloc, files, old, 1) {
-        Ok(base) => base,
-        Err(stop) => return refuse(out, &refusal_of(stop, old)),
-    };
     let new = task.new.as_str();
-    match write_base(files, new, base.head(), base.words(), Version::Two) {
-        Ok(()) => tell(task, base.head(), out),
+    if let Err(refusal) = begin(files, new, &BASE_START) {
+        return refuse(out, &refusal);
+    }
+    let old = task.old.as_str();
+    let base = match load_verified(rt, alloc, old, Version::One, task.workers, files, gate) {
+        Ok(base) => base,
+        Err(refusal) => {
+            files.give_up(new);
+            return refuse(out, &refusal);
+        }
+    };
+    match complete(task, &base, files, out) {
+        Ok(()) => DONE,
         Err(Failed) => refuse(out, &Refusal::Write),
     }
 }

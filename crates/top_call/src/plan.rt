@@ -1,6 +1,6 @@
 ghost use Rattle.std.specs.Prelude.{◌≡◌, ◌≤◌, ◌↔◌, IfErr, IsTrue, Err, length};
 ghost use Rattle.hyper_outside.specs.Causes.{Rose};
-ghost use Rattle.hyper_outside.specs.Files.{SameFiles};
+ghost use Rattle.outside_log.specs.Files.{SameFiles};
 ghost use Rattle.cube_actions.specs.Ladder.{ladder};
 ghost use Rattle.equity_report.specs.declared.refusal.Refusal.TheVariants.{Read};
 ghost use Rattle.equity_report.specs.Refusals.{status_of};
@@ -17,11 +17,13 @@ use command_line::Plan;
 use cube_actions::{Phase, Score, StakesName, Starts};
 use database_file::{Base, load_base};
 use equity_report::{Refusal, Wanted};
-use hyper_outside::{Failed, Files, Sink};
+use hyper_outside::Failed;
 use match_plan::write_plan;
 use match_scores::start_pair;
+use outside_log::{Files, Sink};
 use std::alloc::Global;
 use std::thread::Threads;
+use word_pages::Version;
 
 /// The score at which a match begins, where both sides need all its points.
 fn first_score(match_length: u8) -> Score
@@ -63,13 +65,14 @@ fn load_first<R: Threads + Sync, F: Files>(
         (F.held files.old (first_file task.now)) result }
     ensures same { IsTrue (F.tells files.old)
         → SameFiles (F.held files.old) (F.held files.new) }
+    ensures log { F.log files.new ≡ F.log files.old }
     ensures cause { result ≡ Err Read
         → Rose (F.read_faults files.old) (F.read_faults files.new) }
     ensures kinds { IfErr result IsOfShowing }
 {
     let score = first_score(task.match_length);
     let name = score_file(task.prefix.as_str(), score);
-    let base = match load_base(rt, alloc, files, name.as_str(), 1) {
+    let base = match load_base(rt, alloc, files, name.as_str(), Version::Three, 1) {
         Ok(base) => base,
         Err(stop) => return Err(refusal_of(stop, name.as_str())),
     };
@@ -117,6 +120,7 @@ pub(crate) fn run_plan<R: Threads + Sync, F: Files, O: Sink>(
         → Rose (F.read_faults files.old) (F.read_faults files.new) }
     ensures same { IsTrue (F.tells files.old)
         → SameFiles (F.held files.old) (F.held files.new) }
+    ensures log { F.log files.new ≡ F.log files.old }
 {
     plans_hold_inside_their_pairs();
     plans_of_solved_matches_hold_in_the_end();

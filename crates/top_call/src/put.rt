@@ -3,7 +3,7 @@ ghost use Rattle.equity_report.specs.Refusals.{status_of, refusal_text};
 ghost use Rattle.top_call.specs.Runs.{WasPut};
 
 use equity_report::{Refusal, write_refusal};
-use hyper_outside::Sink;
+use outside_log::Sink;
 
 /// The status of a run that did all that it was asked for.
 pub const DONE: u8 = 0;

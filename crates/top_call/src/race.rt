@@ -10,7 +10,8 @@ ghost use Rattle.top_call.specs.Tasks.{IsRightRace};
 use crate::put::{DONE, refuse};
 use crate::task::RaceTask;
 use equity_report::{Refusal, write_race};
-use hyper_outside::{Failed, NoMemory, Sink};
+use hyper_outside::{Failed, NoMemory};
+use outside_log::Sink;
 use race_table::{Race, RaceTable};
 use std::alloc::Global;
 

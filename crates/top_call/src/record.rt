@@ -1,6 +1,6 @@
 ghost use Rattle.std.specs.Prelude.{◌≡◌, ◌≤◌, IfErr, IfOk, IsTrue, Err, length};
 ghost use Rattle.hyper_outside.specs.Causes.{Rose};
-ghost use Rattle.hyper_outside.specs.Files.{SameFiles};
+ghost use Rattle.outside_log.specs.Files.{SameFiles};
 ghost use Rattle.game_record.specs.Lines.{AreStakes, IsRecord};
 ghost use Rattle.game_record.specs.Turns.{is_match};
 ghost use Rattle.equity_report.specs.declared.refusal.Refusal.TheVariants.{Read};
@@ -13,7 +13,7 @@ use game_record::{
     BadRecord, Decisions, Record, RecordFault, RecordStakes, RecordStop, Standing, read_record,
     replay,
 };
-use hyper_outside::{Files, WholeStop, read_whole};
+use outside_log::{Files, WholeStop, read_whole};
 use std::alloc::Global;
 
 /// How many bytes the file of a record has at most.
@@ -136,7 +136,7 @@ pub(crate) fn read_recorded<F: Files>(
     ensures later { F.read_faults files.old ≤ F.read_faults files.new }
     ensures cause { result ≡ Err Read
         → Rose (F.read_faults files.old) (F.read_faults files.new) }
-    ensures write_faults { F.write_faults files.new ≡ F.write_faults files.old }
+    ensures log { F.log files.new ≡ F.log files.old }
     ensures kinds { IfErr result IsOfReplaying }
 {
     let text = match read_whole(alloc, files, name, MOST_BYTES) {

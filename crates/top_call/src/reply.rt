@@ -1,6 +1,6 @@
 ghost use Rattle.std.specs.Prelude.{◌≡◌, IfErr, IfOk, IsTrue, Err};
 ghost use Rattle.hyper_outside.specs.Causes.{Rose};
-ghost use Rattle.hyper_outside.specs.Files.{SameFiles};
+ghost use Rattle.outside_log.specs.Files.{SameFiles};
 ghost use Rattle.turn_rule.specs.Games.{IsGame};
 ghost use Rattle.turn_rule.specs.States.{IsState};
 ghost use Rattle.equity_report.specs.declared.refusal.Refusal.TheVariants.{Read};
@@ -18,11 +18,13 @@ use best_reply::ReplyTable;
 use database_file::{Base, load_base};
 use directed_fixed::Pair;
 use equity_report::{Refusal, write_reply};
-use hyper_outside::{Failed, Files, NoMemory, Sink};
+use hyper_outside::{Failed, NoMemory};
 use interval_words::Words;
+use outside_log::{Files, Sink};
 use position_rank::Position;
 use std::alloc::Global;
 use std::thread::Threads;
+use word_pages::Version;
 
 /// A file that was loaded for a state of its game.
 #[derive(Drop)]
@@ -57,12 +59,13 @@ fn load_asked<R: Threads + Sync, F: Files>(
         IsState loaded.base.words.game task.now.position loaded.kind.number) }
     ensures same { IsTrue (F.tells files.old)
         → SameFiles (F.held files.old) (F.held files.new) }
+    ensures log { F.log files.new ≡ F.log files.old }
     ensures cause { result ≡ Err Read
         → Rose (F.read_faults files.old) (F.read_faults files.new) }
     ensures kinds { IfErr result IsOfShowing }
 {
     let name = task.file.as_str();
-    let base = match load_base(rt, alloc, files, name, 1) {
+    let base = match load_base(rt, alloc, files, name, Version::Three, 1) {
         Ok(base) => base,
         Err(stop) => return Err(refusal_of(stop, name)),
     };
@@ -111,6 +114,7 @@ pub(crate) fn run_reply<R: Threads + Sync, F: Files, O: Sink>(
         → Rose (F.read_faults files.old) (F.read_faults files.new) }
     ensures same { IsTrue (F.tells files.old)
         → SameFiles (F.held files.old) (F.held files.new) }
+    ensures log { F.log files.new ≡ F.log files.old }
 {
     replies_hold_for_any_words();
     let LoadedFile { base, kind } = match load_asked(rt, alloc, task, files) {

@@ -1,6 +1,6 @@
 ghost use Rattle.std.specs.Prelude.{◌≡◌, ◌⊎◌, ℕ, List, Some, true};
 ghost use Rattle.position_rank.specs.Placement.{Placement};
-ghost use Rattle.hyper_outside.specs.Sink.{Output};
+ghost use Rattle.outside_log.specs.Sink.{Output};
 ghost use Rattle.turn_rule.specs.Games.{IsGame};
 ghost use Rattle.turn_rule.specs.States.{IsState};
 ghost use Rattle.interval_words.specs.WordLists.{WordList};

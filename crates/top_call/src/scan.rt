@@ -1,6 +1,6 @@
 ghost use Rattle.std.specs.Prelude.{◌≡◌, IsTrue};
 ghost use Rattle.hyper_outside.specs.Causes.{Rose};
-ghost use Rattle.hyper_outside.specs.Files.{SameFiles};
+ghost use Rattle.outside_log.specs.Files.{SameFiles};
 ghost use Rattle.equity_report.specs.declared.refusal.Refusal.TheVariants.{Condition, Read};
 ghost use Rattle.equity_report.specs.Refusals.{status_of};
 ghost use Rattle.command_line.specs.Right.{IsRightScan};
@@ -13,9 +13,11 @@ use base_scan::{read_condition, scan};
 use command_line::Scan;
 use database_file::load_base;
 use equity_report::{Refusal, write_scan};
-use hyper_outside::{Failed, Files, NoMemory, Sink};
+use hyper_outside::{Failed, NoMemory};
+use outside_log::{Files, Sink};
 use std::alloc::Global;
 use std::thread::Threads;
+use word_pages::Version;
 
 /// Reads the condition, loads the file, searches its states by some workers and puts the report, or a refusal where the text is none of a
 /// condition, for which the files are not asked, the file isn't right, one of these fails or there is no memory.
@@ -34,6 +36,7 @@ pub(crate) fn run_scan<R: Threads + Sync, F: Files, O: Sink>(
         → Rose (F.read_faults files.old) (F.read_faults files.new) }
     ensures same { IsTrue (F.tells files.old)
         → SameFiles (F.held files.old) (F.held files.new) }
+    ensures log { F.log files.new ≡ F.log files.old }
     ensures untouched { result ≡ status_of (Condition 0) → files.new ≡ files.old }
 {
     let condition = match read_condition(task.condition.as_str()) {
@@ -41,7 +44,7 @@ pub(crate) fn run_scan<R: Threads + Sync, F: Files, O: Sink>(
         Err(bad) => return refuse(out, &Refusal::Condition { word: bad.word }),
     };
     let name = task.file.as_str();
-    let base = match load_base(rt, alloc, files, name, task.workers) {
+    let base = match load_base(rt, alloc, files, name, Version::Three, task.workers) {
         Ok(base) => base,
         Err(stop) => return refuse(out, &refusal_of(stop, name)),
     };

@@ -1,5 +1,5 @@
 ghost use Rattle.std.specs.Prelude.{◌≡◌, ◌⊎◌, ℕ, List, Some, true};
-ghost use Rattle.hyper_outside.specs.Sink.{Output};
+ghost use Rattle.outside_log.specs.Sink.{Output};
 ghost use Rattle.base_scan.specs.declared.condition.Test.{Test};
 ghost use Rattle.command_line.specs.declared.command.Scan.{Scan};
 ghost use Rattle.database_file.specs.Bases.{IsBaseOf};

@@ -1,7 +1,7 @@
 ghost use Rattle.std.specs.Prelude.{◌≡◌, ◌≤◌, IsTrue, IfErr, IfOk, Err, length, sum};
 ghost use Rattle.position_rank.specs.Placement.{IsPosition, IsLive};
 ghost use Rattle.hyper_outside.specs.Causes.{Rose};
-ghost use Rattle.hyper_outside.specs.Files.{SameFiles};
+ghost use Rattle.outside_log.specs.Files.{SameFiles};
 ghost use Rattle.hyper_outside.specs.declared.outside.LookStop.TheVariants.{ReadFault};
 ghost use Rattle.turn_rule.specs.States.{IsStateOf};
 ghost use Rattle.database_file.specs.Paged.{KeepsPagesOf};
@@ -19,10 +19,11 @@ use base_head::BadFile;
 use database_file::{PagedBase, open_paged};
 use directed_fixed::{End, Pair};
 use equity_report::{GameName, KindRow, Refusal, Wanted, write_shown};
-use hyper_outside::{Failed, Files, LookStop, Sink};
+use hyper_outside::{Failed, LookStop};
+use outside_log::{Files, Sink};
 use position_rank::Position;
 use std::alloc::Global;
-use word_pages::Flaw;
+use word_pages::{Flaw, Version};
 
 /// How many pages of a file are kept at most.
 pub(crate) const PAGES_KEPT: usize = 64;
@@ -59,7 +60,7 @@ fn pair_of<F: Files>(
     ensures later { F.read_faults files.old ≤ F.read_faults files.new }
     ensures cause { result ≡ Err ReadFault
         → Rose (F.read_faults files.old) (F.read_faults files.new) }
-    ensures write_faults { F.write_faults files.new ≡ F.write_faults files.old }
+    ensures log { F.log files.new ≡ F.log files.old }
 {
     let lower = base.look(files, position, kind, End::Lower)?;
     let upper = base.look(files, position, kind, End::Upper)?;
@@ -86,7 +87,7 @@ fn rows_of<F: Files>(
     ensures later { F.read_faults files.old ≤ F.read_faults files.new }
     ensures cause { result ≡ Err ReadFault
         → Rose (F.read_faults files.old) (F.read_faults files.new) }
-    ensures write_faults { F.write_faults files.new ≡ F.write_faults files.old }
+    ensures log { F.log files.new ≡ F.log files.old }
 {
     let stakes = base.head().stakes();
     let mut rows = Rows::new();
@@ -124,11 +125,11 @@ fn look_up<F: Files>(alloc: Global, task: &ShowTask, files: &mut F) -> Result<Sh
     ensures later { F.read_faults files.old ≤ F.read_faults files.new }
     ensures cause { result ≡ Err Read
         → Rose (F.read_faults files.old) (F.read_faults files.new) }
-    ensures write_faults { F.write_faults files.new ≡ F.write_faults files.old }
+    ensures log { F.log files.new ≡ F.log files.old }
     ensures kinds { IfErr result IsOfShowing }
 {
     let name = task.file.as_str();
-    let mut base = match open_paged(alloc, files, name, PAGES_KEPT) {
+    let mut base = match open_paged(alloc, files, name, Version::Three, PAGES_KEPT) {
         Ok(base) => base,
         Err(stop) => return Err(refusal_of(stop, name)),
     };
@@ -162,6 +163,7 @@ pub(crate) fn run_show<F: Files, O: Sink>(
         → Rose (F.read_faults files.old) (F.read_faults files.new) }
     ensures same { IsTrue (F.tells files.old)
         → SameFiles (F.held files.old) (F.held files.new) }
+    ensures log { F.log files.new ≡ F.log files.old }
 {
     let shown = match look_up(alloc, task, files) {
         Ok(shown) => shown,

@@ -1,27 +1,31 @@
-ghost use Rattle.std.specs.Prelude.{◌≡◌, ◌⊎◌, IsTrue, IfOk};
+ghost use Rattle.std.specs.Prelude.{◌≡◌, ◌≢◌, ◌⊎◌, IfOk};
 ghost use Rattle.hyper_outside.specs.Causes.{Rose};
-ghost use Rattle.hyper_outside.specs.Files.{KeepsOthers};
-ghost use Rattle.hyper_outside.specs.Sink.{Puts};
-ghost use Rattle.equity_report.specs.declared.refusal.Refusal.TheVariants.{Memory, Write};
+ghost use Rattle.outside_log.specs.Log.{LeavesPlaces, failures};
+ghost use Rattle.outside_log.specs.Sink.{Puts};
+ghost use Rattle.database_file.specs.Texts.{AreWordsOf};
+ghost use Rattle.equity_report.specs.declared.refusal.Refusal.TheVariants.{Memory, Read, Write};
 ghost use Rattle.equity_report.specs.Refusals.{status_of, refusal_text};
 ghost use Rattle.command_line.specs.Right.{IsRightSolve};
-ghost use Rattle.top_call.specs.Runs.{EndsReport, EndsWriting, WasPut};
-ghost use Rattle.top_call.specs.Solves.{AreSolved, Solves, head_of, solved_report};
+ghost use Rattle.top_call.specs.Runs.{Completes, EndsBy, IsOfWriting, WasPut};
+ghost use Rattle.top_call.specs.Solves.{AreSolved, Solves, head_of, solved_file, solved_report};
 
+use crate::begin::begin;
 use crate::put::{DONE, refuse};
-use base_head::{Head, Header};
+use base_head::{BASE_START, Head, Header};
 use command_line::Solve;
-use database_file::write_base;
+use database_file::append_base;
 use directed_fixed::Fixed;
 use equity_report::{GameName, Refusal, Solved, write_solved};
-use hyper_outside::{Failed, Files, Gate, NoMemory, Sink};
-use interval_words::Closed;
+use hyper_outside::{Failed, Gate, NoMemory};
+use interval_words::{Closed, Words};
+use outside_log::{Files, Sink};
+use position_rank::layout_count;
 use std::alloc::Global;
 use std::thread::Threads;
 use word_pages::Version;
 use worker_sweep::run_rounds;
 
-/// The words after the rounds of the workers.
+/// The words after the rounds of the workers, which the gate is told of.
 fn solved_words<R: Threads + Sync, G: Gate + Sync>(
     rt: &R,
     alloc: Global,
@@ -32,6 +36,7 @@ fn solved_words<R: Threads + Sync, G: Gate + Sync>(
     ensures { IfOk result (AreSolved task.now) }
 {
     let stakes = head_of(task).stakes();
+    gate.expect(task.rounds, layout_count(task.checkers));
     run_rounds(
         rt,
         alloc,
@@ -55,7 +60,7 @@ fn report<O: Sink>(task: &Solve, widest: Fixed, out: &mut O) -> Result<(), Faile
     requires { IsRightSolve task.now }
     ensures { Puts (O.output out.old) (O.output out.new) (solved_report task.now widest) result }
 {
-    let header = Header::of(&head_of(task), Version::Two);
+    let header = Header::of(&head_of(task), Version::Three);
     let solved = Solved {
         game: GameName {
             checkers: task.checkers,
@@ -72,19 +77,33 @@ fn report<O: Sink>(task: &Solve, widest: Fixed, out: &mut O) -> Result<(), Faile
     write_solved(out, &solved, task.file.as_str())
 }
 
-/// Puts the report, or a refusal where that fails.
-fn tell<O: Sink>(task: &Solve, widest: Fixed, out: &mut O) -> u8
-    requires { IsRightSolve task.now }
-    ensures { EndsReport (solved_report task.now widest)
+/// Adds the file's text to what was begun for it, puts the report, and has the file take its place.
+fn complete<F: Files, O: Sink>(
+    task: &Solve,
+    words: &Words,
+    widest: Fixed,
+    files: &mut F,
+    out: &mut O,
+) -> Result<(), Failed>
+    requires right { IsRightSolve task.now }
+    requires words { AreWordsOf (head_of task.now) words.now }
+    ensures { Completes task.now.file (solved_file task.now words.now)
+        (solved_report task.now widest) (F.log files.old) (F.log files.new)
         (O.output out.old) (O.output out.new) result }
 {
+    let name = task.file.as_str();
+    append_base(files, name, &head_of(task), words, Version::Three)?;
     match report(task, widest, out) {
-        Ok(()) => DONE,
-        Err(Failed) => refuse(out, &Refusal::Write),
+        Ok(()) => files.finish(name),
+        Err(failed) => {
+            files.give_up(name);
+            Err(failed)
+        }
     }
 }
 
-/// Solves the game, writes its file and puts the report, or a refusal where one of these fails or there is no memory.
+/// Begins the file, solves the game, writes the file and puts the report, or a refusal where one of these fails or there is no memory.
+/// The file takes its name's place only at 0.
 pub(crate) fn run_solve<R: Threads + Sync, F: Files, O: Sink, G: Gate + Sync>(
     rt: &R,
     alloc: Global,
@@ -94,25 +113,30 @@ pub(crate) fn run_solve<R: Threads + Sync, F: Files, O: Sink, G: Gate + Sync>(
     gate: &G,
 ) -> u8
     requires { IsRightSolve task.now }
-    ensures ends { EndsWriting result }
-    ensures solves { Solves task.now (F.tells files.old) (F.held files.old) (F.held files.new)
+    ensures ends { EndsBy IsOfWriting result }
+    ensures solves { Solves task.now (F.tells files.old)
+        (F.held files.old task.now.file) (F.log files.old) (F.log files.new)
         (O.output out.old) (O.output out.new) result }
     ensures cause { result ≡ status_of Write
-        → Rose (F.write_faults files.old) (F.write_faults files.new)
+        → Rose (failures (F.log files.old)) (failures (F.log files.new))
         ⊎ Rose (O.output out.old).faults (O.output out.new).faults }
+    ensures read_cause { result ≡ status_of Read
+        → Rose (F.read_faults files.old) (F.read_faults files.new) }
     ensures memory { result ≡ status_of Memory
         → WasPut (O.output out.old) (O.output out.new) (refusal_text Memory) }
-    ensures untouched { result ≡ status_of Memory → files.new ≡ files.old }
-    ensures others { IsTrue (F.tells files.old)
-        → KeepsOthers task.now.file (F.held files.old) (F.held files.new) }
+    ensures leaves { result ≢ 0 → LeavesPlaces (F.log files.old) (F.log files.new) }
 {
+    let name = task.file.as_str();
+    if let Err(refusal) = begin(files, name, &BASE_START) {
+        return refuse(out, &refusal);
+    }
     let Ok(closed) = solved_words(rt, alloc, task, gate) else {
+        files.give_up(name);
         return refuse(out, &Refusal::Memory);
     };
     let words = closed.words();
-    let head = head_of(task);
-    match write_base(files, task.file.as_str(), &head, words, Version::Two) {
-        Ok(()) => tell(task, words.widest(), out),
+    match complete(task, words, words.widest(), files, out) {
+        Ok(()) => DONE,
         Err(Failed) => refuse(out, &Refusal::Write),
     }
 }

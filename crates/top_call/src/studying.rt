@@ -1,6 +1,6 @@
 ghost use Rattle.std.specs.Prelude.{◌≡◌, IsTrue, IfErr, IfOk, Err};
 ghost use Rattle.hyper_outside.specs.Causes.{Rose};
-ghost use Rattle.hyper_outside.specs.Files.{SameFiles};
+ghost use Rattle.outside_log.specs.Files.{SameFiles};
 ghost use Rattle.equity_report.specs.declared.refusal.Refusal.TheVariants.{Read};
 ghost use Rattle.equity_report.specs.Refusals.{status_of};
 ghost use Rattle.command_line.specs.Right.{IsRightStudy};
@@ -8,11 +8,14 @@ ghost use Rattle.top_call.specs.Runs.{EndsBy, IsOfReplaying};
 ghost use Rattle.top_call.specs.Records.{IsRightReplayed};
 ghost use Rattle.top_call.specs.Studies.{AnswersStudy, IsStudiedBy, TellsStudy};
 
+use crate::ladder::ladder_rounds;
 use crate::put::{DONE, refuse};
 use crate::record::{Replayed, is_match, match_length, read_recorded};
 use command_line::Study;
 use equity_report::{Refusal, write_analysis};
-use hyper_outside::{Failed, Files, Gate, NoMemory, Sink};
+use hyper_outside::{Failed, Gate, NoMemory};
+use outside_log::{Files, Sink};
+use position_rank::layout_count;
 use record_analysis::Analysis;
 use record_study::{study, study_match};
 use std::alloc::Global;
@@ -36,10 +39,13 @@ fn study_replayed<R: Threads + Sync, G: Gate + Sync>(
         workers,
         ..
     } = task;
+    let columns = layout_count(rec.checkers);
     if is_match(rec.stakes) {
         let points = match_length(rec.stakes);
+        gate.expect(ladder_rounds(points, *rounds), columns);
         study_match(rt, alloc, &rec, points, decisions, *rounds, *workers, gate)
     } else {
+        gate.expect(*rounds, columns);
         study(rt, alloc, &rec, decisions, *rounds, *workers, gate)
     }
 }
@@ -57,6 +63,7 @@ fn study_recorded<R: Threads + Sync, F: Files, G: Gate + Sync>(
         (F.held files.old task.now.rec) result }
     ensures same { IsTrue (F.tells files.old)
         → SameFiles (F.held files.old) (F.held files.new) }
+    ensures log { F.log files.new ≡ F.log files.old }
     ensures cause { result ≡ Err Read
         → Rose (F.read_faults files.old) (F.read_faults files.new) }
     ensures kinds { IfErr result IsOfReplaying }
@@ -89,6 +96,7 @@ pub(crate) fn run_study<R: Threads + Sync, F: Files, O: Sink, G: Gate + Sync>(
         → Rose (F.read_faults files.old) (F.read_faults files.new) }
     ensures same { IsTrue (F.tells files.old)
         → SameFiles (F.held files.old) (F.held files.new) }
+    ensures log { F.log files.new ≡ F.log files.old }
 {
     let analysis = match study_recorded(rt, alloc, task, files, gate) {
         Ok(analysis) => analysis,

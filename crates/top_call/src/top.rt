@@ -1,9 +1,9 @@
-ghost use Rattle.std.specs.Prelude.{◌≡◌, ◌≢◌, ◌⊎◌, IsTrue};
+ghost use Rattle.std.specs.Prelude.{◌≡◌, ◌⊎◌};
 ghost use Rattle.hyper_outside.specs.Causes.{Rose};
-ghost use Rattle.hyper_outside.specs.Files.{SameFiles};
+ghost use Rattle.outside_log.specs.Log.{failures};
 ghost use Rattle.equity_report.specs.declared.refusal.Refusal.TheVariants.{Memory, Read, Write};
 ghost use Rattle.equity_report.specs.Refusals.{status_of};
-ghost use Rattle.top_call.specs.Outcomes.{HasRun, KeepsFiles, KeepsWithoutMemory, LeavesFiles, TellsMemory};
+ghost use Rattle.top_call.specs.Outcomes.{HasRun, KeepsFiles, LeavesFiles, TellsMemory};
 ghost use Rattle.top_call.specs.Runs.{Ends};
 ghost use Rattle.top_call.specs.Tasks.{asked};
 
@@ -23,7 +23,8 @@ use crate::solve::run_solve;
 use crate::studying::run_study;
 use crate::task::{Task, read_task};
 use crate::verify::run_verify;
-use hyper_outside::{Files, Gate, Sink};
+use hyper_outside::Gate;
+use outside_log::{Files, Sink};
 use std::alloc::Global;
 use std::thread::Threads;
 
@@ -47,7 +48,8 @@ use std::thread::Threads;
 ///   Each encloses those of all exact starts inside these pairs; and where the file is the last one of a match that was solved, those of
 ///   the match itself, from one number of turns on for all of them.
 /// - `show`: of the position's pairs in the file, whose header and page are right.
-/// - `migrate`: the new file holds the old one's head and words, all of which were right.
+/// - `migrate`: the new file, of version 3, holds the old one's head and words. The old one is of any version, and its words are
+///   consistent as those of `verify` are.
 /// - `advise`: of the plays of a roll, or of what to do with the cube, by the pairs of the file, whose header and pages are right as
 ///   far as the advice rests on them. Where the file's pairs enclose what their states are worth exactly in every game of enough
 ///   turns, the best play, the offer and the answer lose, in every game of enough turns, at most the bound that is told with each.
@@ -76,20 +78,22 @@ use std::thread::Threads;
 /// 2. 2 where a position's text is, or else a roll's; 10 where `bound` or `race` asks for another number of checkers than
 ///    its position has; 12 where the position of `race` isn't a race;
 ///    11 where the text of `scan` isn't that of a condition, with the first word with which none can go on.
-/// 3. Of a record that is to be read: 3 where it isn't there; 5 where its file is too long, or a line of it is wrong, with the
+/// 3. 13 comes where what stands under the name of a file that `solve`, `migrate` or `make` is to write has a byte and begins otherwise
+///    than files of its kind. That the file can be begun is seen before any work is done.
+/// 4. Of a record that is to be read: 3 where it isn't there; 5 where its file is too long, or a line of it is wrong, with the
 ///    first.
-/// 4. Of a file of bounds that is to be read: 3 where it isn't there; 4 where it isn't one, of `show`, `advise` and `analyse` up to
-///    its pages; 10 where these or `reply` are asked for a position of another number of checkers, `advise` or `reply` for a kind that
-///    the game hasn't, or `analyse` for a record of another game, or where the file of `plan` isn't of the first game of the match; 4
-///    where the page of the position isn't right, or that of a state on which the advice or a loss rests. For a record of a match `analyse` looks at
-///    what stands before the pages of all files, those of the first games first, before it looks at a page.
-/// 5. 9 where the words of a file that `verify` checks aren't consistent, with the first that doesn't hold by rising live rank, then
-///    by kind, the lower word before the upper one.
+/// 5. Of a file of bounds that is to be read: 3 where it isn't there; 4 where it isn't one of version 3, or of any for `migrate`, of
+///    `show`, `advise` and `analyse` up to its pages; 10 where these or `reply` are asked for a position of another number of
+///    checkers, `advise` or `reply` for a kind that the game hasn't, or `analyse` for a record of another game, or where the file
+///    of `plan` isn't of the first game of the match; 4 where the page of the position isn't right, or that of a state on which the
+///    advice or a loss rests. For a record of a match `analyse` looks at what stands before the pages of all files, those of the
+///    first games first, before it looks at a page.
+/// 6. 9 where the words of a file that `verify` or `migrate` checks aren't consistent, with the first that doesn't hold by rising
+///    live rank, then by kind, the lower word before the upper one.
 ///
-/// 6 comes only where reading a file failed, 7 only where writing a file or the output failed, 8 where there was no memory. At 7 a
-/// front of the report may stand before the line, and the file in work holds what it held or a front of its text; of `ladder` that is
-/// the file of one score, and those of the scores before it are whole. At all others no file changed, but that at 8 the files of the
-/// scores that a `ladder` has solved stay, and their lines stand before that of the refusal.
+/// 6 comes only where reading a file failed, 7 only where writing a file or the output failed, 8 where there was no memory. At 7 the
+/// report or a front of it may stand before the line. At all but 0 no file changed, but that those of the scores stay that a `ladder`
+/// has solved; their lines stand before that of the refusal.
 pub fn run<R: Threads + Sync, F: Files, O: Sink, G: Gate + Sync>(
     rt: &R,
     alloc: Global,
@@ -99,22 +103,17 @@ pub fn run<R: Threads + Sync, F: Files, O: Sink, G: Gate + Sync>(
     gate: &G,
 ) -> u8
     ensures ends { Ends (asked words.now) result }
-    ensures has_run { HasRun (asked words.now) (F.tells files.old)
-        (F.held files.old) (F.held files.new)
+    ensures has_run { HasRun (asked words.now) (F.tells files.old) (F.held files.old)
+        (F.log files.old) (F.log files.new)
         (O.output out.old) (O.output out.new) result }
     ensures memory { result ≡ status_of Memory
         → TellsMemory (asked words.now) (O.output out.old) (O.output out.new) }
     ensures cause { result ≡ status_of Write
-        → Rose (F.write_faults files.old) (F.write_faults files.new)
+        → Rose (failures (F.log files.old)) (failures (F.log files.new))
         ⊎ Rose (O.output out.old).faults (O.output out.new).faults }
     ensures read_cause { result ≡ status_of Read
         → Rose (F.read_faults files.old) (F.read_faults files.new) }
-    ensures kept { IsTrue (F.tells files.old)
-        → KeepsFiles (asked words.now) (F.held files.old) (F.held files.new) }
-    ensures refused_files { result ≢ 0 → result ≢ status_of Write → result ≢ status_of Memory
-        → IsTrue (F.tells files.old) → SameFiles (F.held files.old) (F.held files.new) }
-    ensures memory_files { result ≡ status_of Memory → IsTrue (F.tells files.old)
-        → KeepsWithoutMemory (asked words.now) (F.held files.old) (F.held files.new) }
+    ensures kept { KeepsFiles (asked words.now) (F.log files.old) (F.log files.new) result }
     ensures untouched { LeavesFiles (asked words.now) result → files.new ≡ files.old }
 {
     match read_task(alloc, words) {
@@ -122,7 +121,7 @@ pub fn run<R: Threads + Sync, F: Files, O: Sink, G: Gate + Sync>(
         Ok(Task::Race(task)) => run_race(alloc, &task, out),
         Ok(Task::Solve(task)) => run_solve(rt, alloc, &task, files, out, gate),
         Ok(Task::Show(task)) => run_show(alloc, &task, files, out),
-        Ok(Task::Migrate(task)) => run_migrate(rt, alloc, &task, files, out),
+        Ok(Task::Migrate(task)) => run_migrate(rt, alloc, &task, files, out, gate),
         Ok(Task::Advise(task)) => run_advise(alloc, &task, files, out),
         Ok(Task::Verify(task)) => run_verify(rt, alloc, &task, files, out, gate),
         Ok(Task::Ladder(task)) => run_ladder(rt, alloc, &task, files, out, gate),

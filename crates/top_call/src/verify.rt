@@ -1,7 +1,7 @@
-ghost use Rattle.std.specs.Prelude.{◌≡◌, ◌≢◌, ◌⊎◌, ◌≤◌, IsTrue, IfErr, Err};
+ghost use Rattle.std.specs.Prelude.{◌≡◌, ◌≢◌, ◌⊎◌, ◌≤◌, IsTrue, IfErr, Err, length};
 ghost use Rattle.hyper_outside.specs.Causes.{Rose};
-ghost use Rattle.hyper_outside.specs.Files.{SameFiles};
-ghost use Rattle.hyper_outside.specs.Sink.{Puts};
+ghost use Rattle.outside_log.specs.Files.{SameFiles};
+ghost use Rattle.outside_log.specs.Sink.{Puts};
 ghost use Rattle.turn_rule.specs.States.{IsState};
 ghost use Rattle.equity_report.specs.declared.refusal.Refusal.TheVariants.{Read};
 ghost use Rattle.equity_report.specs.Refusals.{status_of};
@@ -16,8 +16,10 @@ use base_verify::{Finding, VerifyStop, findings_tell_inconsistency, verify};
 use command_line::Verify;
 use database_file::{Base, load_base};
 use equity_report::{Refusal, Unheld, write_verified};
-use hyper_outside::{Failed, Files, Gate, Sink};
+use hyper_outside::{Failed, Gate};
+use outside_log::{Files, Sink};
 use play_analyser::losses_enclose_regrets;
+use position_rank::layout_count;
 use std::alloc::Global;
 use std::thread::Threads;
 use word_pages::Version;
@@ -52,6 +54,7 @@ fn check<R: Threads + Sync, G: Gate + Sync>(
     ensures unread { result ≢ Err Read }
 {
     base.words().right();
+    gate.expect(1, layout_count(base.head().checkers()));
     findings_tell_inconsistency();
     losses_enclose_regrets();
     match verify(rt, alloc, base, workers, gate) {
@@ -63,29 +66,34 @@ fn check<R: Threads + Sync, G: Gate + Sync>(
     }
 }
 
-/// What a file holds whose words are consistent, or what refuses it: it can't be loaded, or they aren't.
-fn load_verified<R: Threads + Sync, F: Files, G: Gate + Sync>(
+/// What a file of the version `oldest` or a later one holds whose words are consistent, or what refuses it: it can't be
+/// loaded, or they aren't.
+pub(crate) fn load_verified<R: Threads + Sync, F: Files, G: Gate + Sync>(
     rt: &R,
     alloc: Global,
-    task: &Verify,
+    name: &str,
+    oldest: Version,
+    workers: u32,
     files: &mut F,
     gate: &G,
 ) -> Result<Base, Refusal>
-    requires { IsRightVerify task.now }
-    ensures told { AnswersVerify task.now.file (F.tells files.old)
-        (F.held files.old task.now.file) result }
+    requires name { length name.now ≤ 272 }
+    requires workers { (1 ≤ workers) × (workers ≤ 64) }
+    ensures told { AnswersVerify oldest name.now (F.tells files.old)
+        (F.held files.old name.now) result }
     ensures same { IsTrue (F.tells files.old)
         → SameFiles (F.held files.old) (F.held files.new) }
+    ensures log { F.log files.new ≡ F.log files.old }
+    ensures tells { F.tells files.new ≡ F.tells files.old }
     ensures cause { result ≡ Err Read
         → Rose (F.read_faults files.old) (F.read_faults files.new) }
     ensures kinds { IfErr result IsOfVerifying }
 {
-    let name = task.file.as_str();
-    let base = match load_base(rt, alloc, files, name, task.workers) {
+    let base = match load_base(rt, alloc, files, name, oldest, workers) {
         Ok(base) => base,
         Err(stop) => return Err(refusal_of(stop, name)),
     };
-    match check(rt, alloc, &base, task.workers, gate) {
+    match check(rt, alloc, &base, workers, gate) {
         Ok(()) => Ok(base),
         Err(refusal) => Err(refusal),
     }
@@ -95,7 +103,7 @@ fn load_verified<R: Threads + Sync, F: Files, G: Gate + Sync>(
 fn report<O: Sink>(head: &Head, out: &mut O) -> Result<(), Failed>
     ensures { Puts (O.output out.old) (O.output out.new) (verified_report head.now) result }
 {
-    let positions = Header::of(head, Version::Two).positions;
+    let positions = Header::of(head, Version::Three).positions;
     write_verified(out, game_told(head), head.rounds(), positions)
 }
 
@@ -117,8 +125,10 @@ pub(crate) fn run_verify<R: Threads + Sync, F: Files, O: Sink, G: Gate + Sync>(
         → Rose (F.read_faults files.old) (F.read_faults files.new) }
     ensures same { IsTrue (F.tells files.old)
         → SameFiles (F.held files.old) (F.held files.new) }
+    ensures log { F.log files.new ≡ F.log files.old }
 {
-    let base = match load_verified(rt, alloc, task, files, gate) {
+    let name = task.file.as_str();
+    let base = match load_verified(rt, alloc, name, Version::Three, task.workers, files, gate) {
         Ok(base) => base,
         Err(refusal) => return refuse(out, &refusal),
     };

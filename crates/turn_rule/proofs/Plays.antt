@@ -9,15 +9,15 @@ use Rattle.game_payoff.specs.Points.{points}
 use Rattle.directed_fixed.specs.declared.bounds.End.{End}
 use Rattle.directed_fixed.specs.Bounds.{at, other, IsWithinUnits}
 use Rattle.cube_actions.specs.declared.kind.Kind.{Kind}
-use Rattle.turn_rule.specs.Turn.{Words, win, if_won, worth, greatest}
-use Rattle.turn_rule.specs.Looks.{Source, IsLeft}
+use Rattle.turn_rule.specs.Turn.{win, if_won, worth, greatest}
+use Rattle.turn_rule.specs.Looks.{Source, Notes, IsLeft}
 use Rattle.turn_rule.specs.Found.{IsSame, MayFollowEnds}
 use Rattle.turn_rule.proofs.Tightness.{tight-max}
 use Rattle.turn_rule.proofs.Greatest.{greatest-append}
 use Rattle.turn_rule.proofs.Found.{FindsFrom, AreAmong, mapped-ok, then-ok, found-as, found-neg, found-later, found-step, max-within}
 
 -- the play goes on, and the other side's word at the other end is looked up
-pub left-worth : (end : End) (s : Source) (u v : Words) (a b : ℕ) (q : Placement) (kind : Kind) (x y : ℤ) → points q ≡ None → y ≡ neg_ℤ x
+pub left-worth : (end : End) (s : Source) (u v : Notes) (a b : ℕ) (q : Placement) (kind : Kind) (x y : ℤ) → points q ≡ None → y ≡ neg_ℤ x
     → FindsFrom (other end) s u v a b (IsSame (swap q) kind.next) s.bound (λ w. w (other end) (swap q) kind.next) (Ok x) → FindsFrom end s u v a b (IsLeft kind.next q) s.bound (λ w. worth end kind w q) (Ok y)
 left-worth end s u v a b q kind x y on is looked =
     mapped-ok s u v a b _ _ _ _ x y looked
@@ -49,7 +49,7 @@ greatest-next f (first ∷ rest) (suc i) r low high e =
 
 module _ (end : End) (s : Source) (kind : Kind) (ends : List Placement) where
   -- a play after others
-  pub next-play : (u v w : Words) (a b c : ℕ) (i : ℕ) (q : Placement) (x y z : ℤ) → 0 < i → i < length ends → q ≡ get_or ends i q → z ≡ int_max x y
+  pub next-play : (u v w : Notes) (a b c : ℕ) (i : ℕ) (q : Placement) (x y z : ℤ) → 0 < i → i < length ends → q ≡ get_or ends i q → z ≡ int_max x y
       → FindsFrom end s u v a b (MayFollowEnds kind.next (take i ends)) s.bound (λ n. greatest (worth end kind n) (take i ends)) (Ok x) → FindsFrom end s v w b c (IsLeft kind.next q) s.bound (λ n. worth end kind n q) (Ok y)
       → FindsFrom end s u w a c (MayFollowEnds kind.next (take (i + 1) ends)) s.bound (λ n. greatest (worth end kind n) (take (i + 1) ends)) (Ok z)
   next-play u v w a b c i q x y z low high e is so_far looked =

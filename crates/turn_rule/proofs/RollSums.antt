@@ -15,9 +15,9 @@ use Rattle.directed_fixed.specs.Bounds.{IsWithin, IsWithinUnits}
 use Rattle.cube_actions.specs.declared.kind.Kind.{Kind}
 use Rattle.cube_actions.specs.Stakes.{Terms, kind_at, no_kind, IsValid}
 use Rattle.turn_rule.specs.Games.{game_of}
-use Rattle.turn_rule.specs.Turn.{Words, win, worth, greatest, sum_over}
+use Rattle.turn_rule.specs.Turn.{win, worth, greatest, sum_over}
 use Rattle.turn_rule.specs.States.{IsStateOf, IsState}
-use Rattle.turn_rule.specs.Looks.{Source, AreStakesOf, MayFollow}
+use Rattle.turn_rule.specs.Looks.{Source, Notes, AreStakesOf, MayFollow}
 use Rattle.turn_rule.specs.Found.{LeavesState, MayFollowEnds, MayFollowAmong}
 use Rattle.turn_rule.specs.declared.ends.OneRoll.{OneRoll}
 use Rattle.turn_rule.specs.Rolled.{weighted, HasEnds, AreRolled}
@@ -160,7 +160,7 @@ wins-within s stakes valid fits k here won =
 
 module _ (end : End) (s : Source) (kind : Kind) (p : Placement) where
   -- a roll after others
-  pub next-roll : (u v w : Words) (a b c : ℕ) (i : ℕ) (one : OneRoll) (x y z : ℤ) → IsKept p i one → z ≡ x +ℤ pos one.times *ℤ y
+  pub next-roll : (u v w : Notes) (a b c : ℕ) (i : ℕ) (one : OneRoll) (x y z : ℤ) → IsKept p i one → z ≡ x +ℤ pos one.times *ℤ y
       → FindsFrom end s u v a b (MayFollowAmong kind.next p (take i all_rolls)) (pos (total (take i all_rolls)) *ℤ s.bound) (λ n. sum_over (take i all_rolls) (worth end kind n) p) (Ok x)
       → FindsFrom end s v w b c (MayFollowEnds kind.next one.ends.items) s.bound (λ n. greatest (worth end kind n) one.ends.items) (Ok y)
       → FindsFrom end s u w a c (MayFollowAmong kind.next p (take (i + 1) all_rolls)) (pos (total (take (i + 1) all_rolls)) *ℤ s.bound) (λ n. sum_over (take (i + 1) all_rolls) (worth end kind n) p) (Ok z)
@@ -188,7 +188,7 @@ module _ (end : End) (s : Source) (kind : Kind) (p : Placement) where
 
 module _ (end : End) (s : Source) (stakes : Terms) (p : Placement) (k : ℕ) where
   -- after the last roll
-  pub all-rolls : (u v : Words) (a b i : ℕ) (x : ℤ) → 21 ≤ i
+  pub all-rolls : (u v : Notes) (a b i : ℕ) (x : ℤ) → 21 ≤ i
       → FindsFrom end s u v a b (MayFollowAmong (kind_at stakes k).next p (take i all_rolls)) (pos (total (take i all_rolls)) *ℤ s.bound) (λ n. sum_over (take i all_rolls) (worth end (kind_at stakes k) n) p) (Ok x)
       → FindsFrom end s u v a b (MayFollow stakes p k) (pos 36 *ℤ s.bound) (λ n. sum_over all_rolls (worth end (kind_at stakes k) n) p) (Ok x)
   all-rolls u v a b i x past so_far =

@@ -18,13 +18,13 @@ use Rattle.cube_actions.specs.Stakes.{Terms, kind_at, IsValid, IsRightDouble}
 use Rattle.turn_rule.specs.Games.{game_of}
 use Rattle.turn_rule.specs.Turn.{Words, worth, sum_over, roll_value, least, doubled, or_double, turn}
 use Rattle.turn_rule.specs.States.{IsStateOf, IsState, AreWithinOf, AreWithin}
-use Rattle.turn_rule.specs.Looks.{Source, States, AreStakesOf, MayFollow, MayFollowTurn, IsPairOf, Looked, HasDamage}
+use Rattle.turn_rule.specs.Looks.{Source, Notes, States, AreStakesOf, MayFollow, MayFollowTurn, IsPairOf, Looked, HasDamage}
 use Rattle.turn_rule.specs.Found.{IsFound, MayFollowAnswer, AreFoundSums}
 use Rattle.turn_rule.proofs.Integers.{mul_mono, regroup, floor_36_below, floor_36_above, times-neg}
 use Rattle.turn_rule.proofs.Tightness.{tight-max, tight-times, tight-outwards}
 use Rattle.turn_rule.proofs.Tight.{tight-min, words-refl}
 use Rattle.turn_rule.proofs.Within.{turn-within, roll-in_order}
-use Rattle.turn_rule.proofs.Found.{FindsFrom, AreAmong, mapped-ok, then-ok, found-as, found-later, found-step, found-through, max-within, min-within}
+use Rattle.turn_rule.proofs.Found.{FindsFrom, AreAmong, notes-refl, mapped-ok, then-ok, found-as, found-later, found-step, found-through, max-within, min-within}
 
 -- ---- a 36th
 
@@ -42,7 +42,7 @@ factored-within : (end : End) (factor : ℕ) (bound x : ℤ) → IsWithinUnits (
 factored-within end factor bound x h = mean-within end (pos factor *ℤ bound) (pos factor *ℤ x) (subst (λ (b : ℤ). IsWithinUnits b (pos factor *ℤ x)) (exchanged factor 36 bound) (times-within factor (pos 36 *ℤ bound) x h))
 
 -- what rolling is worth, from the sum
-pub rolled : (end : End) (s : Source) (stakes : Terms) (p : Placement) (k factor : ℕ) (u v : Words) (a b : ℕ) (x y : ℤ) → y ≡ outwards end (pos factor *ℤ x)
+pub rolled : (end : End) (s : Source) (stakes : Terms) (p : Placement) (k factor : ℕ) (u v : Notes) (a b : ℕ) (x y : ℤ) → y ≡ outwards end (pos factor *ℤ x)
     → FindsFrom end s u v a b (MayFollow stakes p k) (pos 36 *ℤ s.bound) (λ n. sum_over all_rolls (worth end (kind_at stakes k) n) p) (Ok x)
     → FindsFrom end s u v a b (MayFollow stakes p k) (pos factor *ℤ s.bound) (λ n. roll_value end stakes n p k factor) (Ok y)
 rolled end s stakes p k factor u v a b x y is looked =
@@ -95,7 +95,7 @@ least_of end stakes p double answers n = least (at end double.pass) (map (λ (ta
 
 module _ (end : End) (s : Source) (stakes : Terms) (p : Placement) (double : Double) where
   -- an answer after others
-  pub next-answer : (u v w : Words) (a b c : ℕ) (i : ℕ) (taken : Taken) (x y z : ℤ) → i < length double.answers.items → taken ≡ get_or double.answers.items i taken → taken.factor ≤ 4 → pos 0 ≤ℤ s.bound → z ≡ int_min x y
+  pub next-answer : (u v w : Notes) (a b c : ℕ) (i : ℕ) (taken : Taken) (x y z : ℤ) → i < length double.answers.items → taken ≡ get_or double.answers.items i taken → taken.factor ≤ 4 → pos 0 ≤ℤ s.bound → z ≡ int_min x y
       → FindsFrom end s u v a b (MayFollowAnswer stakes p (take i double.answers.items)) (pos 4 *ℤ s.bound) (least_of end stakes p double (take i double.answers.items)) (Ok x)
       → FindsFrom end s v w b c (MayFollow stakes p taken.kind) (pos taken.factor *ℤ s.bound) (λ n. roll_value end stakes n p taken.kind taken.factor) (Ok y)
       → FindsFrom end s u w a c (MayFollowAnswer stakes p (take (i + 1) double.answers.items)) (pos 4 *ℤ s.bound) (least_of end stakes p double (take (i + 1) double.answers.items)) (Ok z)
@@ -119,7 +119,7 @@ module _ (end : End) (s : Source) (stakes : Terms) (p : Placement) (double : Dou
       (sym is) both)
 
   -- after the last answer
-  pub all-answers : (u v : Words) (a b i : ℕ) (x : ℤ) → length double.answers.items ≤ i
+  pub all-answers : (u v : Notes) (a b i : ℕ) (x : ℤ) → length double.answers.items ≤ i
       → FindsFrom end s u v a b (MayFollowAnswer stakes p (take i double.answers.items)) (pos 4 *ℤ s.bound) (least_of end stakes p double (take i double.answers.items)) (Ok x)
       → FindsFrom end s u v a b (MayFollowAnswer stakes p double.answers.items) (pos 4 *ℤ s.bound) (λ n. doubled end stakes n p double) (Ok x)
   all-answers u v a b i x past so_far = rw (take_all i double.answers.items past) at so_far
@@ -146,8 +146,8 @@ answer-at stakes double i right high =
 -- ---- from sums that were found
 
 -- one end that was found, as a look-up that changes nothing
-pub found-looked : (end : End) (s : Source) (u : Words) (states : States) (bound : ℤ) (value : Words → ℤ) (x : ℤ) → IsFound end s u states bound value x → FindsFrom end s u u 0 0 states bound value (Ok x)
-found-looked end s u states bound value x found = record { later = omega arith; notes = λ tells. words-refl s.checkers s.kinds u; answer = found; stop = tt }
+pub found-looked : (end : End) (s : Source) (u : Notes) (states : States) (bound : ℤ) (value : Words → ℤ) (x : ℤ) → IsFound end s u states bound value x → FindsFrom end s u u 0 0 states bound value (Ok x)
+found-looked end s u states bound value x found = record { later = omega arith; notes = notes-refl s u; answer = found; stop = tt }
 
 item-at : (xs : List ℤ) (i : ℕ) (x d : ℤ) → i < length xs → x ≡ get_or xs i x → x ≡ get_or xs i d
 item-at [] i x d h e = absurd (omega arith)
@@ -155,7 +155,7 @@ item-at (y ∷ xs) zero x d h e = e
 item-at (y ∷ xs) (suc i) x d h e = item-at xs i x d (omega arith) e
 
 -- what rolling is worth, from the sum of its kind
-pub rolled-sum : (end : End) (s : Source) (u : Words) (stakes : Terms) (p : Placement) (sums : List ℤ) (k factor : ℕ) (x y : ℤ) → AreFoundSums end s u stakes p sums → length sums ≡ length stakes.kinds → k < length stakes.kinds
+pub rolled-sum : (end : End) (s : Source) (u : Notes) (stakes : Terms) (p : Placement) (sums : List ℤ) (k factor : ℕ) (x y : ℤ) → AreFoundSums end s u stakes p sums → length sums ≡ length stakes.kinds → k < length stakes.kinds
     → x ≡ get_or sums k x → y ≡ outwards end (pos factor *ℤ x)
     → FindsFrom end s u u 0 0 (MayFollow stakes p k) (pos factor *ℤ s.bound) (λ n. roll_value end stakes n p k factor) (Ok y)
 rolled-sum end s u stakes p sums k factor x y found many here at is =
@@ -186,7 +186,7 @@ same_some : {X : Type 0} (o : Option X) (x y : X) → o ≡ Some x → o ≡ Som
 same_some o x y h k = cc
 
 module _ (end : End) (s : Source) (stakes : Terms) (p : Placement) (k : ℕ) where
-  pub turn-plain : (u v : Words) (a b : ℕ) (x : ℤ) → (kind_at stakes k).double ≡ None
+  pub turn-plain : (u v : Notes) (a b : ℕ) (x : ℤ) → (kind_at stakes k).double ≡ None
       → FindsFrom end s u v a b (MayFollow stakes p k) (pos 1 *ℤ s.bound) (λ n. roll_value end stakes n p k 1) (Ok x) → FindsFrom end s u v a b (MayFollowTurn stakes p k) s.bound (λ n. turn stakes n end p k) (Ok x)
   turn-plain u v a b x none looked =
       mapped-ok s u v a b _ _ _ _ x x looked
@@ -194,7 +194,7 @@ module _ (end : End) (s : Source) (stakes : Terms) (p : Placement) (k : ℕ) whe
       (once s.bound x found.within) (λ q j h. elim h [ inl after ↦ after | inr double ↦ absurd (none_some _ _ none double.right) ])
       (λ n. or_none end stakes n p k none) refl found)
 
-  pub turn-doubled : (u v w : Words) (a b c : ℕ) (double : Double) (x y z : ℤ) → (kind_at stakes k).double ≡ Some double → z ≡ int_max x y → y ≤ℤ s.bound
+  pub turn-doubled : (u v w : Notes) (a b c : ℕ) (double : Double) (x y z : ℤ) → (kind_at stakes k).double ≡ Some double → z ≡ int_max x y → y ≤ℤ s.bound
       → FindsFrom end s u v a b (MayFollow stakes p k) (pos 1 *ℤ s.bound) (λ n. roll_value end stakes n p k 1) (Ok x)
       → FindsFrom end s v w b c (MayFollowAnswer stakes p double.answers.items) (pos 4 *ℤ s.bound) (λ n. doubled end stakes n p double) (Ok y)
       → FindsFrom end s u w a c (MayFollowTurn stakes p k) s.bound (λ n. turn stakes n end p k) (Ok z)
@@ -231,23 +231,23 @@ between : (x a b y : ℤ) → x ≤ℤ a → a ≤ℤ b → b ≤ℤ y → x ≤
 between x a b y h k l = omega (arith, ints)
 
 -- the lower end and then the upper end
-pub paired : (s : Source) (states : States) (bound : ℤ) (value : End → Words → ℤ) (u v w : Words) (a b c : ℕ) (x y : ℤ) (pair : Bounds) → pair.lower ≡ int_min x y → pair.upper ≡ int_max x y → (IsTrue s.tells → value Lower w ≤ℤ value Upper w)
+pub paired : (s : Source) (states : States) (bound : ℤ) (value : End → Words → ℤ) (u v w : Notes) (a b c : ℕ) (x y : ℤ) (pair : Bounds) → pair.lower ≡ int_min x y → pair.upper ≡ int_max x y → (IsTrue w.told → value Lower w.words ≤ℤ value Upper w.words)
     → FindsFrom Lower s u v a b states bound (value Lower) (Ok x) → FindsFrom Upper s v w b c states bound (value Upper) (Ok y) → Looked s u w a c (HasDamage s states) (IsPairOf s w states bound value) (Ok pair)
 paired s states bound value u v w a b c x y pair low high order lower upper =
     then-ok s u v w a b c _ _ _ _ _ _ x y pair lower upper
     (λ tighter one other.
     let before = found-later Lower s v w states bound (value Lower) x tighter one in
-    let ordered : IsTrue s.tells → x ≤ℤ y = λ tells. between x (value Lower w) (value Upper w) y (before.notes tells w (words-refl s.checkers s.kinds w)) (order tells) (other.notes tells w (words-refl s.checkers s.kinds w)) in
-    let lower_is : IsTrue s.tells → x ≡ pair.lower = λ tells. sym (low ∙ in_order-min x y (ordered tells)) in
-    let upper_is : IsTrue s.tells → y ≡ pair.upper = λ tells. sym (high ∙ in_order-max x y (ordered tells)) in
+    let ordered : IsTrue w.told → x ≤ℤ y = λ told. between x (value Lower w.words) (value Upper w.words) y (before.notes told w.words (words-refl s.checkers s.kinds w.words)) (order told) (other.notes told w.words (words-refl s.checkers s.kinds w.words)) in
+    let lower_is : IsTrue w.told → x ≡ pair.lower = λ told. sym (low ∙ in_order-min x y (ordered told)) in
+    let upper_is : IsTrue w.told → y ≡ pair.upper = λ told. sym (high ∙ in_order-max x y (ordered told)) in
     record {
       in_order = rw (low, high) (min-max x y);
       lower = subst (IsWithinUnits bound) (sym low) (min-within bound x y one.within other.within);
       upper = subst (IsWithinUnits bound) (sym high) (max-within bound x y one.within other.within);
-      lower_floor = λ tells. subst (λ (z : ℤ). IsNoLooser Lower z (value Lower s.floor)) (lower_is tells) (before.floor tells);
-      upper_floor = λ tells. subst (λ (z : ℤ). IsNoLooser Upper z (value Upper s.floor)) (upper_is tells) (other.floor tells);
-      lower_notes = λ tells. subst (λ (z : ℤ). IsNoLooser Lower (value Lower w) z) (lower_is tells) (before.notes tells w (words-refl s.checkers s.kinds w));
-      upper_notes = λ tells. subst (λ (z : ℤ). IsNoLooser Upper (value Upper w) z) (upper_is tells) (other.notes tells w (words-refl s.checkers s.kinds w));
+      lower_floor = λ told. subst (λ (z : ℤ). IsNoLooser Lower z (value Lower s.floor)) (lower_is told) (before.floor told);
+      upper_floor = λ told. subst (λ (z : ℤ). IsNoLooser Upper z (value Upper s.floor)) (upper_is told) (other.floor told);
+      lower_notes = λ told. subst (λ (z : ℤ). IsNoLooser Lower (value Lower w.words) z) (lower_is told) (before.notes told w.words (words-refl s.checkers s.kinds w.words));
+      upper_notes = λ told. subst (λ (z : ℤ). IsNoLooser Upper (value Upper w.words) z) (upper_is told) (other.notes told w.words (words-refl s.checkers s.kinds w.words));
       right = other.right;
     })
 

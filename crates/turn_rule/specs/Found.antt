@@ -14,20 +14,21 @@ use Rattle.cube_actions.specs.declared.kind.Taken.{Taken}
 use Rattle.cube_actions.specs.Stakes.{Terms, kind_at}
 use Rattle.turn_rule.specs.Turn.{Words, worth, greatest, sum_over, doubled}
 use Rattle.turn_rule.specs.States.{IsStateOf, AreNoLooserOf}
-use Rattle.turn_rule.specs.Looks.{Source, Seen, States, Sought, LooksUp, HasDamage, IsLeft, MayFollow}
+use Rattle.turn_rule.specs.Looks.{Source, Notes, Seen, States, Sought, LooksUp, HasDamage, IsLeft, MayFollow}
 
--- One end of a value within a bound. Where the source tells its words, it is at least as tight as the value over its floor, and no tighter than
--- the value over any words that are at least as tight as its notes. None of the states is damaged.
-pub record IsFound (end : End) (source : Source) (noted : Words) (states : States) (bound : ℤ)
+-- One end of a value within a bound. Where the answers are told, it is at least as tight as the value over the source's floor, and no tighter
+-- than the value over any words that are at least as tight as the notes. None of the states is damaged.
+pub record IsFound (end : End) (source : Source) (noted : Notes) (states : States) (bound : ℤ)
     (value : Words → ℤ) (found : ℤ) : Type 0 where
   pub within : IsWithinUnits bound found
-  pub floor : IsTrue source.tells → IsNoLooser end found (value source.floor)
-  pub notes : IsTrue source.tells → (later : Words)
-      → AreNoLooserOf source.checkers source.kinds later noted → IsNoLooser end (value later) found
-  pub right : IsTrue source.tells → (p : Placement) (k : ℕ) → states p k → source.damage p k ≡ None
+  pub floor : IsTrue noted.told → IsNoLooser end found (value source.floor)
+  pub notes : IsTrue noted.told → (later : Words)
+      → AreNoLooserOf source.checkers source.kinds later noted.words
+      → IsNoLooser end (value later) found
+  pub right : IsTrue noted.told → (p : Placement) (k : ℕ) → states p k → source.damage p k ≡ None
 
 -- one end of what is sought
-abbrev pub IsFoundOf : End → Sought → Source → Words → ℤ → Type 0
+abbrev pub IsFoundOf : End → Sought → Source → Notes → ℤ → Type 0
 IsFoundOf end sought source noted =
     IsFound end source noted sought.states (sought.limit source.bound) (sought.value end)
 
@@ -97,7 +98,7 @@ of_double stakes p double = record {
 }
 
 -- for each kind, the sum over the 36 ways of two dice of what the best play is worth
-abbrev pub AreFoundSums : End → Source → Words → Terms → Placement → List ℤ → Type 0
+abbrev pub AreFoundSums : End → Source → Notes → Terms → Placement → List ℤ → Type 0
 AreFoundSums end source noted stakes p sums =
     (k : ℕ) → k < length stakes.kinds
     → IsFoundOf end (of_sum stakes p k) source noted (slice_index_or sums k (pos 0))

@@ -1,5 +1,5 @@
 -- Where words are looked up, and what a look-up may answer.
-use Rattle.std.specs.Prelude.{◌≡◌, ℕ, ◌≤◌, ℤ, pos, ◌*ℤ◌, ◌≤ℤ◌, Bool, IsTrue, IsFalse, ◌⊎◌, length, Option, Some, None, Result, IfOk, IfErr}
+use Rattle.std.specs.Prelude.{◌≡◌, ℕ, ◌≤◌, ℤ, pos, ◌*ℤ◌, ◌≤ℤ◌, Bool, true, IsTrue, IsFalse, ◌⊎◌, length, Option, Some, None, Result, IfOk, IfErr}
 use Rattle.std.specs.List.{Contains}
 use Rattle.position_rank.specs.Placement.{Placement, swap}
 use Rattle.roll_table.specs.Rolls.{Dice, IsRoll}
@@ -24,38 +24,46 @@ pub record Damage : Type 0 where
   pub at : ℕ
 
 -- Where words of a game are looked up: for so many checkers a side, so many kinds and a bound of all values. It is sure where each look-up
--- is answered. It may tell words that no answer is looser than, its floor, and which states are damaged.
+-- is answered. Where answers are told, none is looser than its floor, and it says which states are damaged.
 pub record Source : Type 0 where
   pub checkers : ℕ
   pub kinds : ℕ
   pub bound : ℤ
   pub sure : Bool
-  pub tells : Bool
   pub floor : Words
   pub damage : Placement → ℕ → Option Damage
 
--- An answer is within the bound. Where the source tells its words, the answer is at least as tight as its floor and no tighter than its
--- notes, and the state isn't damaged.
-pub record IsAnswer (end : End) (source : Source) (noted : Words) (p : Placement) (k : ℕ)
+-- What is noted at a moment: words that no answer until then is tighter than, and whether what was answered until then is told. So it is
+-- answered by the source's floor and damages.
+pub record Notes : Type 0 where
+  pub words : Words
+  pub told : Bool
+
+-- notes of these words, and all is told
+abbrev pub all_told : Words → Notes
+all_told u = record { words = u; told = true }
+
+-- An answer is within the bound. Where it is told, it is at least as tight as the source's floor and no tighter than what is noted after it,
+-- and the state isn't damaged.
+pub record IsAnswer (end : End) (source : Source) (noted : Notes) (p : Placement) (k : ℕ)
     (value : ℤ) : Type 0 where
   pub within : IsWithinUnits source.bound value
-  pub floor : IsTrue source.tells → IsNoLooser end value (source.floor end p k)
-  pub notes : IsTrue source.tells → IsNoLooser end (noted end p k) value
-  pub right : IsTrue source.tells → source.damage p k ≡ None
+  pub floor : IsTrue noted.told → IsNoLooser end value (source.floor end p k)
+  pub notes : IsTrue noted.told → IsNoLooser end (noted.words end p k) value
+  pub right : IsTrue noted.told → source.damage p k ≡ None
 
--- A sure source never stops. Another does at a fault of reading only where the count of faults rose, and at a bad page, where it tells which
--- states are damaged, only with a damage that is meant.
-abbrev pub MayStop : Source → ℕ → ℕ → (Damage → Type 0) → LookStop → Type 0
-MayStop source before now meant ReadFault = IsFalse source.sure × Rose before now
-MayStop source before now meant (BadPage fault at) =
-    IsFalse source.sure × (IsTrue source.tells → meant (record { fault = fault; at = at }))
-MayStop source before now meant NoMemory = IsFalse source.sure
+-- A sure source never stops. Another does at a fault of reading only where the count of faults rose, and at a bad page, where damages are
+-- told, only with a damage that is meant.
+abbrev pub MayStop : Source → Notes → ℕ → ℕ → (Damage → Type 0) → LookStop → Type 0
+MayStop source noted before now meant ReadFault = IsFalse source.sure × Rose before now
+MayStop source noted before now meant (BadPage fault at) =
+    IsFalse source.sure × (IsTrue noted.told → meant (record { fault = fault; at = at }))
+MayStop source noted before now meant NoMemory = IsFalse source.sure
 
--- What contracts see of a place of look-ups at one moment: where it looks, the words that no answer is tighter than, and how often a call
--- of the outside has failed.
+-- What contracts see of a place of look-ups at one moment: where it looks, what is noted, and how often a call of the outside has failed.
 pub record Seen : Type 0 where
   pub source : Source
-  pub notes : Words
+  pub notes : Notes
   pub faults : ℕ
 
 -- a state that a source's words may be looked up for
@@ -66,13 +74,18 @@ IsSourceState source p k = IsStateOf source.checkers source.kinds p k
 abbrev pub AreSourceWords : Source → Words → Type 0
 AreSourceWords source u = AreWithinOf source.checkers source.kinds source.bound u
 
--- an answer or a stop, after which the count of faults hasn't fallen and no note is looser
-pub record Looked {A : Type 0} (source : Source) (old new : Words) (before now : ℕ)
+-- Notes after others: where the answers are told, so they were before, and no word is looser.
+pub record AreLater (source : Source) (old new : Notes) : Type 0 where
+  pub told : IsTrue new.told → IsTrue old.told
+  pub words : IsTrue new.told → AreNoLooserOf source.checkers source.kinds new.words old.words
+
+-- an answer or a stop, after which the count of faults hasn't fallen and the notes are later ones
+pub record Looked {A : Type 0} (source : Source) (old new : Notes) (before now : ℕ)
     (meant : Damage → Type 0) (right : A → Type 0) (result : Result A LookStop) : Type 0 where
   pub later : before ≤ now
-  pub notes : IsTrue source.tells → AreNoLooserOf source.checkers source.kinds new old
+  pub notes : AreLater source old new
   pub answer : IfOk result right
-  pub stop : IfErr result (MayStop source before now meant)
+  pub stop : IfErr result (MayStop source new before now meant)
 
 -- a look-up between two moments
 abbrev pub LooksUp : {A : Type 0} → Seen → Seen → (Damage → Type 0) → (A → Type 0)
@@ -129,18 +142,18 @@ pub record HasDamage (source : Source) (states : States) (damage : Damage) : Typ
   pub among : states position kind
   pub damaged : source.damage position kind ≡ Some damage
 
--- A pair within a bound, its lower end at most its upper. Where the source tells its words, each end is at least as tight as the value over its
--- floor and no tighter than the value over its notes, and none of the states is damaged.
-pub record IsPairOf (source : Source) (noted : Words) (states : States) (bound : ℤ)
+-- A pair within a bound, its lower end at most its upper. Where the answers are told, each end is at least as tight as the value over the
+-- source's floor and no tighter than the value over the notes, and none of the states is damaged.
+pub record IsPairOf (source : Source) (noted : Notes) (states : States) (bound : ℤ)
     (value : End → Words → ℤ) (pair : Bounds) : Type 0 where
   pub in_order : pair.lower ≤ℤ pair.upper
   pub lower : IsWithinUnits bound pair.lower
   pub upper : IsWithinUnits bound pair.upper
-  pub lower_floor : IsTrue source.tells → IsNoLooser Lower pair.lower (value Lower source.floor)
-  pub upper_floor : IsTrue source.tells → IsNoLooser Upper pair.upper (value Upper source.floor)
-  pub lower_notes : IsTrue source.tells → IsNoLooser Lower (value Lower noted) pair.lower
-  pub upper_notes : IsTrue source.tells → IsNoLooser Upper (value Upper noted) pair.upper
-  pub right : IsTrue source.tells → (p : Placement) (k : ℕ) → states p k → source.damage p k ≡ None
+  pub lower_floor : IsTrue noted.told → IsNoLooser Lower pair.lower (value Lower source.floor)
+  pub upper_floor : IsTrue noted.told → IsNoLooser Upper pair.upper (value Upper source.floor)
+  pub lower_notes : IsTrue noted.told → IsNoLooser Lower (value Lower noted.words) pair.lower
+  pub upper_notes : IsTrue noted.told → IsNoLooser Upper (value Upper noted.words) pair.upper
+  pub right : IsTrue noted.told → (p : Placement) (k : ℕ) → states p k → source.damage p k ≡ None
 
 -- What is sought from words: over which states, how far from 0 it may lie where no word lies farther than a bound, and its value at an end.
 pub record Sought : Type 1 where
@@ -149,7 +162,7 @@ pub record Sought : Type 1 where
   pub value : End → Words → ℤ
 
 -- a pair of it from a source's words
-abbrev pub IsPairFor : Sought → Source → Words → Bounds → Type 0
+abbrev pub IsPairFor : Sought → Source → Notes → Bounds → Type 0
 IsPairFor sought source noted =
     IsPairOf source noted sought.states (sought.limit source.bound) sought.value
 
@@ -175,10 +188,10 @@ of_turn stakes p k = record {
   value = λ end u. turn stakes u end p k;
 }
 
-abbrev pub IsRollPair : Terms → Placement → ℕ → ℕ → Source → Words → Bounds → Type 0
+abbrev pub IsRollPair : Terms → Placement → ℕ → ℕ → Source → Notes → Bounds → Type 0
 IsRollPair stakes p k factor = IsPairFor (of_roll stakes p k factor)
 
-abbrev pub IsTurnPair : Terms → Placement → ℕ → Source → Words → Bounds → Type 0
+abbrev pub IsTurnPair : Terms → Placement → ℕ → Source → Notes → Bounds → Type 0
 IsTurnPair stakes p k = IsPairFor (of_turn stakes p k)
 
 -- what rolling in a kind is worth over some words, at both ends

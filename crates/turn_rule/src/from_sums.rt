@@ -3,8 +3,8 @@ ghost use Rattle.position_rank.specs.Placement.{Placement};
 ghost use Rattle.directed_fixed.specs.declared.bounds.End.TheVariants.{Lower, Upper};
 ghost use Rattle.directed_fixed.specs.Bounds.{IsWithinUnits};
 ghost use Rattle.cube_actions.specs.Stakes.{IsRightDouble};
-ghost use Rattle.turn_rule.specs.Turn.{Words};
 ghost use Rattle.turn_rule.specs.Looks.{
+  Notes,
   Source,
   AreStakesOf,
   IsSourceState,
@@ -25,7 +25,7 @@ fn doubled_from(end: End, sums: &[Fixed], stakes: &Stakes, double: &Double) -> F
     requires many { length sums.now ≡ length stakes.now.kinds }
     requires small { All (IsWithinUnits (pos (2 ^ 42))) sums.now }
     requires right { IsRightDouble stakes.now double.now }
-    ensures found { (source : Source) (noted : Words) (p : Placement)
+    ensures found { (source : Source) (noted : Notes) (p : Placement)
         → AreStakesOf source stakes.now
         → AreFoundSums end source noted stakes.now p sums.now
         → IsFoundOf end (of_double stakes.now p double.now) source noted result }
@@ -44,7 +44,7 @@ fn turn_from_sums(end: End, sums: &[Fixed], stakes: &Stakes, kind: usize) -> Fix
     requires many { length sums.now ≡ length stakes.now.kinds }
     requires small { All (IsWithinUnits (pos (2 ^ 42))) sums.now }
     requires kind { kind < length stakes.now.kinds }
-    ensures found { (source : Source) (noted : Words) (p : Placement)
+    ensures found { (source : Source) (noted : Notes) (p : Placement)
         → AreStakesOf source stakes.now
         → AreFoundSums end source noted stakes.now p sums.now
         → IsFoundOf end (of_turn stakes.now p kind) source noted result }
@@ -63,8 +63,8 @@ pub fn pair_from_sums(lower: &[Fixed], upper: &[Fixed], stakes: &Stakes, kind: u
     requires small_lower { All (IsWithinUnits (pos (2 ^ 42))) lower.now }
     requires small_upper { All (IsWithinUnits (pos (2 ^ 42))) upper.now }
     requires kind { kind < length stakes.now.kinds }
-    ensures turn { (source : Source) (noted : Words) (p : Placement) → AreStakesOf source stakes.now
-        → IsSourceState source p kind → (IsTrue source.tells → AreSourceWords source noted)
+    ensures turn { (source : Source) (noted : Notes) (p : Placement) → AreStakesOf source stakes.now
+        → IsSourceState source p kind → (IsTrue noted.told → AreSourceWords source noted.words)
         → AreFoundSums Lower source noted stakes.now p lower.now
         → AreFoundSums Upper source noted stakes.now p upper.now
         → IsTurnPair stakes.now p kind source noted result }

@@ -5,9 +5,10 @@ ghost use Rattle.directed_fixed.specs.Bounds.{Bounds};
 ghost use Rattle.turn_rule.specs.Following.{AgreeOn};
 ghost use Rattle.hyper_outside.specs.declared.outside.LookStop.{LookStop};
 ghost use Rattle.cube_actions.specs.Stakes.{Terms};
-ghost use Rattle.turn_rule.specs.Turn.{Words, turn};
+ghost use Rattle.turn_rule.specs.Turn.{turn};
 ghost use Rattle.turn_rule.specs.States.{pair_of};
 ghost use Rattle.turn_rule.specs.Looks.{
+  Notes,
   Source,
   Seen,
   FindsPair,
@@ -23,20 +24,22 @@ ghost use Rattle.turn_rule.specs.Looks.{
 /// Where a source's floor and its notes are the same words on the states that may follow, the pair
 /// of a turn is the turn over these words.
 pub fn one_list_gives_the_turn()
-    ensures { (source : Source) (u : Words) (stakes : Terms) (p : Placement) (k : ℕ) (pair : Bounds)
-        → IsTrue source.tells
-        → ((end : End) → AgreeOn (MayFollowTurn stakes p k) end source.floor u)
-        → IsTurnPair stakes p k source u pair → pair ≡ pair_of (turn stakes u) p k }
+    ensures { (source : Source) (noted : Notes) (stakes : Terms) (p : Placement) (k : ℕ)
+        (pair : Bounds)
+        → IsTrue noted.told
+        → ((end : End) → AgreeOn (MayFollowTurn stakes p k) end source.floor noted.words)
+        → IsTurnPair stakes p k source noted pair → pair ≡ pair_of (turn stakes noted.words) p k }
 {}
 
 /// Where a source's floor and its notes are the same words on the states that may follow, the pair
 /// of rolling is what rolling is worth over these words.
 pub fn one_list_gives_the_roll()
-    ensures { (source : Source) (u : Words) (stakes : Terms) (p : Placement) (k factor : ℕ)
+    ensures { (source : Source) (noted : Notes) (stakes : Terms) (p : Placement) (k factor : ℕ)
         (pair : Bounds)
-        → IsTrue source.tells
-        → ((end : End) → AgreeOn (MayFollow stakes p k) end source.floor u)
-        → IsRollPair stakes p k factor source u pair → pair ≡ roll_pair stakes u p k factor }
+        → IsTrue noted.told
+        → ((end : End) → AgreeOn (MayFollow stakes p k) end source.floor noted.words)
+        → IsRollPair stakes p k factor source noted pair
+        → pair ≡ roll_pair stakes noted.words p k factor }
 {}
 
 /// Over a sure source a turn and a roll are answered.

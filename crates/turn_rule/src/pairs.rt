@@ -15,8 +15,7 @@ pub trait Pairs {
     /// What no call changes, beside the source.
     ghost stays: { Self → Stays };
 
-    /// Where words are looked up, the words that no answer is tighter than, and how often a call of
-    /// the outside has failed. No call loosens these words, where the source tells its words.
+    /// Where words are looked up, what is noted, and how often a call of the outside has failed.
     ghost seen: { Self → Seen };
 
     /// The lower word of a state.
@@ -58,10 +57,10 @@ pub trait Pairs {
     }
 
     /// The floor is within the bound, each lower word at most its upper word.
-    ghost floor_within: { (s : Self) → IsTrue (seen s).source.tells
+    ghost floor_within: { (s : Self) → IsTrue (seen s).notes.told
         → AreSourceWords (seen s).source (seen s).source.floor };
 
     /// So are the notes.
-    ghost notes_within: { (s : Self) → IsTrue (seen s).source.tells
-        → AreSourceWords (seen s).source (seen s).notes };
+    ghost notes_within: { (s : Self) → IsTrue (seen s).notes.told
+        → AreSourceWords (seen s).source (seen s).notes.words };
 }

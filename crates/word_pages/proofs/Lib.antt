@@ -1,8 +1,8 @@
 pub mod Texts
 pub mod Pairs
-pub mod Appending
 pub mod Seals
 pub mod PageFlaws
 pub mod Within
 pub mod Back
 pub mod PageTexts
+pub mod Bound

@@ -9,7 +9,7 @@ use Rattle.directed_fixed.specs.Bounds.{IsWithin, IsWithinUnits}
 use Rattle.hyper_outside.specs.declared.outside.PageFault.{PageFault}
 use Rattle.hyper_outside.specs.declared.outside.PageFault.TheVariants.{Word, Crossed}
 use Rattle.word_pages.specs.declared.version.Version.{Version}
-use Rattle.word_pages.specs.declared.version.Version.TheVariants.{One, Two}
+use Rattle.word_pages.specs.declared.version.Version.TheVariants.{One, Two, Three}
 use Rattle.word_pages.specs.Words.{word_size, Fits}
 use Rattle.word_pages.specs.Flaws.{value_of, is_in_range, flaw_unless, pair_flaw, pairs_flaw, pair_of, AreWithin}
 use Rattle.word_pages.proofs.PageFlaws.{no_flaw}
@@ -134,6 +134,7 @@ within-none version bound at (lower ∷ upper ∷ words) within =
 low_fits : (version : Version) (bound : ℤ) (word : ℕ) → bound ≤ℤ WORD_OFFSET → value_of word ≤ℤ bound → Fits version word
 low_fits One bound word most le = grind arith
 low_fits Two bound word most le = grind arith
+low_fits Three bound word most le = grind arith
 
 pub within-fit : (version : Version) (bound : ℤ) (n : ℕ) (words : List ℕ) → bound ≤ℤ WORD_OFFSET → length words ≡ 2 * n → AreWithin bound words → All (Fits version) words
 within-fit version bound n words most even within = All-from_get_or (Fits version) words 0 (λ i lt. each i lt (cases_lt i (2 * (i / 2) + 1)))

@@ -6,12 +6,12 @@ use Rattle.word_pages.specs.declared.load.PageStop.TheVariants.{ReadFault, BadPa
 use Rattle.word_pages.specs.Words.{words_of}
 use Rattle.word_pages.specs.Pages.{page_flaw}
 
--- Where these are the bytes from the page's place on, these are its words and it has no flaw, or this is its first flaw. After a fault
--- of the files nothing is said.
-abbrev pub AnswersPage : {T : Type 0} → Version → ℤ → ℕ → ℕ → List ℕ → List ℕ → Result T PageStop
-    → Type 0
-AnswersPage version bound count at bytes words (Ok x) =
-    (page_flaw version bound count at bytes ≡ None) × (words ≡ words_of version count bytes)
-AnswersPage version bound count at bytes words (Err (BadPage flaw)) =
-    page_flaw version bound count at bytes ≡ Some flaw
-AnswersPage version bound count at bytes words (Err ReadFault) = ⊤
+-- Where these are the bytes from the page's place on, these are its words and it has no flaw, or this
+-- is its first flaw. After a fault of the files nothing is said.
+abbrev pub AnswersPage : {T : Type 0} → Version → List ℕ → ℤ → ℕ → ℕ → List ℕ → List ℕ
+    → Result T PageStop → Type 0
+AnswersPage version binding bound count at bytes words (Ok x) =
+    (page_flaw version binding bound count at bytes ≡ None) × (words ≡ words_of version count bytes)
+AnswersPage version binding bound count at bytes words (Err (BadPage flaw)) =
+    page_flaw version binding bound count at bytes ≡ Some flaw
+AnswersPage version binding bound count at bytes words (Err ReadFault) = ⊤

@@ -2,12 +2,13 @@
 use Rattle.std.specs.Prelude.{ℕ, zero, suc, ◌^◌, ◌<◌, List, [], ◌∷◌, drop, flat_map}
 use Rattle.byteorder.specs.Endian.{big_bytes, big_number}
 use Rattle.word_pages.specs.declared.version.Version.{Version}
-use Rattle.word_pages.specs.declared.version.Version.TheVariants.{One, Two}
+use Rattle.word_pages.specs.declared.version.Version.TheVariants.{One, Two, Three}
 
 -- how many bytes a word takes
 abbrev pub word_size : Version → ℕ
 word_size One = 8
 word_size Two = 5
+word_size Three = 5
 
 -- a word is low enough for them
 abbrev pub Fits : Version → ℕ → Type 0

@@ -1,4 +1,4 @@
-//! Words as bytes of a file, in pages that each end with their digest.
+//! Words as bytes of a file, in pages that each end with a digest, which may bind them to their file and place.
 #![tactic(auto)]
 
 mod digest;
@@ -9,10 +9,10 @@ mod page;
 mod version;
 mod words;
 
-pub use digest::{append_sealed, is_sealed, put_digest};
+pub use digest::{Binding, append_sealed, binding_of, is_sealed, is_sealed_under, put_digest};
 pub use flaws::{Flaw, check_pairs, read_pairs};
 pub use laws::{
-    flaw_examples, lengths_are_known, pages_stand_in_order, right_pages_are_texts,
+    flaw_examples, lengths_are_known, pages_are_bound, pages_stand_in_order, right_pages_are_texts,
     right_pairs_are_within, sealed_bytes_are_sealed, word_examples,
     words_and_bytes_are_each_others,
 };

@@ -1,7 +1,7 @@
 ghost use Rattle.std.specs.Prelude.{◌≡◌, ◌≤◌, ◌<◌, ◌+◌, ◌^◌, ℕ, ℤ, pos, ◌≤ℤ◌, IsTrue, Err, length, take};
 ghost use Rattle.directed_fixed.specs.declared.word.TheConstants.{WORD_OFFSET};
 ghost use Rattle.hyper_outside.specs.Causes.{Rose};
-ghost use Rattle.hyper_outside.specs.Files.{SameFiles, bytes_from};
+ghost use Rattle.outside_log.specs.Files.{SameFiles, bytes_from};
 ghost use Rattle.word_pages.specs.declared.load.PageStop.TheVariants.{ReadFault, BadPage};
 ghost use Rattle.word_pages.specs.Pages.{page_size};
 ghost use Rattle.word_pages.specs.Loads.{AnswersPage};
@@ -10,7 +10,8 @@ use crate::flaws::Flaw;
 use crate::page::read_page;
 use crate::version::Version;
 use directed_fixed::Fixed;
-use hyper_outside::{Failed, Files, fill};
+use hyper_outside::Failed;
+use outside_log::{Files, fill};
 
 /// Why a page of a file could not be read.
 #[derive(Clone, Copy, Debug, PartialEq, Eq)]
@@ -37,14 +38,16 @@ impl From<Flaw> for PageStop {
     }
 }
 
-/// Reads the page that stands at the place `at` of a file, over as many reads as it takes, through a buffer of the page's size, and
-/// then its words. `BadPage` tells its first flaw, which is `Short` where a read answered no bytes before the page's end. `ReadFault` comes only
-/// where the files' count of reads rose. After either the words may have changed.
+/// Reads the page that is bound to `binding` and stands at the place `at` of a file, over as many reads
+/// as it takes, through a buffer of the page's size, and then its words. `BadPage` tells its first flaw,
+/// which is `Short` where a read answered no bytes before the page's end. `ReadFault` comes only where the
+/// files' count of reads rose. After either the words may have changed.
 pub fn load_page<F: Files>(
     files: &mut F,
     name: &str,
     at: u64,
     version: Version,
+    binding: &[u8],
     bound: Fixed,
     buf: &mut [u8],
     words: &mut [u64],
@@ -54,9 +57,10 @@ pub fn load_page<F: Files>(
     requires room { length buf.old ≡ page_size version (length words.old) }
     requires places { at + length buf.old < 2 ^ 64 }
     ensures page { (count : ℕ) × (count ≤ length buf.new)
-        × AnswersPage version bound (length words.old) at (take count buf.new) words.new result }
+        × AnswersPage version binding.now bound (length words.old) at (take count buf.new)
+        words.new result }
     ensures told { IsTrue (F.tells files.old)
-        → AnswersPage version bound (length words.old) at
+        → AnswersPage version binding.now bound (length words.old) at
         (bytes_from at (F.held files.old name.now)) words.new result }
     ensures same { IsTrue (F.tells files.old)
         → SameFiles (F.held files.old) (F.held files.new) }
@@ -64,9 +68,9 @@ pub fn load_page<F: Files>(
     ensures later { F.read_faults files.old ≤ F.read_faults files.new }
     ensures cause { result ≡ Err ReadFault
         → Rose (F.read_faults files.old) (F.read_faults files.new) }
-    ensures write_faults { F.write_faults files.new ≡ F.write_faults files.old }
+    ensures log { F.log files.new ≡ F.log files.old }
 {
     let count = fill(files, name, at, buf)?;
-    read_page(version, bound, at, &buf[..count], words)?;
+    read_page(version, binding, bound, at, &buf[..count], words)?;
     Ok(())
 }

@@ -9,6 +9,8 @@ pub enum Version {
     One,
     /// A word takes 5 bytes.
     Two,
+    /// A word takes 5 bytes, and a page's digest is of the head's digest and the page's number too.
+    Three,
 }
 
 impl Version {
@@ -18,7 +20,7 @@ impl Version {
     {
         match self {
             Version::One => 8,
-            Version::Two => 5,
+            Version::Two | Version::Three => 5,
         }
     }
 

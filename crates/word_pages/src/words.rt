@@ -14,7 +14,7 @@ pub fn put_words<const N: usize>(version: Version, words: &[u64], out: &mut Arra
 {
     match version {
         Version::One => put_cells::<8, N>(words, out),
-        Version::Two => put_cells::<5, N>(words, out),
+        Version::Two | Version::Three => put_cells::<5, N>(words, out),
     }
 }
 
@@ -41,7 +41,7 @@ pub fn read_words(version: Version, bytes: &[u8], words: &mut [u64])
 {
     match version {
         Version::One => read_cells::<8>(bytes, words),
-        Version::Two => read_cells::<5>(bytes, words),
+        Version::Two | Version::Three => read_cells::<5>(bytes, words),
     }
 }
 

@@ -8,7 +8,7 @@ use Rattle.directed_fixed.specs.Bounds.{Bounds, at, IsNoLooser}
 use Rattle.cube_actions.specs.Stakes.{Terms}
 use Rattle.turn_rule.specs.States.{AreNoLooser}
 use Rattle.turn_rule.specs.Turn.{Words, turn, rounds}
-use Rattle.turn_rule.specs.Looks.{Source, IsTurnPair}
+use Rattle.turn_rule.specs.Looks.{Source, Notes, IsTurnPair}
 use Rattle.turn_rule.specs.declared.game.Game.{Game}
 use Rattle.interval_words.specs.Core.{noted}
 use Rattle.interval_words.specs.Seats.{GameTable, GameSeat, SitsAt, KeepsNotes}
@@ -32,7 +32,7 @@ pub turn-done : (game : Game) (base : ℕ) (end : End) (p : Placement) (k : ℕ)
 turn-done game base end p k = ap (λ (w : Words). w end p k) (sym (rounds-turn game.stakes base)) ∙ ap (λ (n : ℕ). rounds game.stakes n end p k) (sym (add-one base))
 
 -- both ends of a turn's pair, over the words of the floor and over the notes
-pub pair-ends : (stakes : Terms) (p : Placement) (k : ℕ) (source : Source) (u : Words) (pair : Bounds) → IsTrue source.tells → IsTurnPair stakes p k source u pair → (end : End)
-    → IsNoLooser end (at end pair) (turn stakes source.floor end p k) × IsNoLooser end (turn stakes u end p k) (at end pair)
-pair-ends stakes p k source u pair tells is Lower = (is.lower_floor tells, is.lower_notes tells)
-pair-ends stakes p k source u pair tells is Upper = (is.upper_floor tells, is.upper_notes tells)
+pub pair-ends : (stakes : Terms) (p : Placement) (k : ℕ) (source : Source) (u : Notes) (pair : Bounds) → IsTrue u.told → IsTurnPair stakes p k source u pair → (end : End)
+    → IsNoLooser end (at end pair) (turn stakes source.floor end p k) × IsNoLooser end (turn stakes u.words end p k) (at end pair)
+pair-ends stakes p k source u pair told is Lower = (is.lower_floor told, is.lower_notes told)
+pair-ends stakes p k source u pair told is Upper = (is.upper_floor told, is.upper_notes told)

@@ -11,7 +11,6 @@ source_of game base = record {
   kinds = length game.stakes.kinds;
   bound = game.stakes.bound;
   sure = true;
-  tells = true;
   floor = rounds game.stakes base;
   damage = λ p k. None;
 }

@@ -28,6 +28,7 @@ pub(crate) struct SeatPairs<'a> {
 
 impl<'a> Pairs for SeatPairs<'a> {
     ghost use Rattle.std.specs.Prelude.{ℕ};
+    ghost use Rattle.turn_rule.specs.Looks.{all_told};
     ghost use Rattle.interval_words.specs.Core.{noted};
     ghost use Rattle.worker_sweep.specs.Sources.{source_of};
 
@@ -37,7 +38,7 @@ impl<'a> Pairs for SeatPairs<'a> {
 
     ghost seen = { λ s. record {
       source = source_of s.board.now.game s.seat.view.base;
-      notes = noted s.board.now.game s.seat.view.notes;
+      notes = all_told (noted s.board.now.game s.seat.view.notes);
       faults = 0;
     } };
 

@@ -1,6 +1,6 @@
 //! Files of bounds: loaded, written, and looked up page by page.
 ghost use Rattle.std.specs.Prelude.{◌≡◌, IsTrue, false, None};
-ghost use Rattle.hyper_outside.specs.Files.{SameFiles};
+ghost use Rattle.outside_log.specs.Files.{SameFiles};
 
 use crate::tests::asserts::{holds, same};
 use crate::tests::files::{NOTHING, POINT, SIZE, cubeless_text, with_base};
@@ -8,8 +8,10 @@ use crate::tests::lists::{common_words, pair_of};
 use arrayvec::ArrayVec;
 use base_head::{BadFile, FileFault, Head};
 use cube_actions::StakesName;
-use database_file::{LoadStop, load_base, open_paged, write_base};
-use hyper_outside::{Failed, Files, LookStop, MemFiles, PageFault};
+use database_file::{LoadStop, append_base, load_base, open_paged};
+use hyper_outside::{Failed, LookStop, PageFault};
+use memory_files::MemFiles;
+use outside_log::Files;
 use position_rank::read_position;
 use std::alloc::Global;
 use std::process::Abort;
@@ -24,7 +26,15 @@ fn text() -> ArrayVec<u8, SIZE> {
 
 /// What is told of a file with these bytes.
 fn stop_of<R: Abort + Threads + Sync>(rt: &R, alloc: Global, bytes: &[u8]) -> Option<LoadStop> {
-    load_base(rt, alloc, &mut with_base(rt, alloc, bytes), "base", 3).err()
+    load_base(
+        rt,
+        alloc,
+        &mut with_base(rt, alloc, bytes),
+        "base",
+        Version::Three,
+        3,
+    )
+    .err()
 }
 
 fn bad(fault: FileFault, at: u64) -> Option<LoadStop> {
@@ -34,7 +44,7 @@ fn bad(fault: FileFault, at: u64) -> Option<LoadStop> {
 #[test]
 fn loads_a_file(rt: HostRuntime) {
     let mut files = with_base(&rt, rt.alloc(), text().as_slice());
-    let Ok(base) = load_base(&rt, rt.alloc(), &mut files, "base", 1) else {
+    let Ok(base) = load_base(&rt, rt.alloc(), &mut files, "base", Version::Three, 1) else {
         panic!(rt; "it was not loaded");
     };
     let counts = (base.head().checkers(), base.head().rounds());
@@ -53,7 +63,7 @@ fn loads_a_file(rt: HostRuntime) {
 #[test]
 fn tells_a_missing_file(rt: HostRuntime) {
     let mut files = with_base(&rt, rt.alloc(), b"");
-    let stop = load_base(&rt, rt.alloc(), &mut files, "other", 1).err();
+    let stop = load_base(&rt, rt.alloc(), &mut files, "other", Version::Three, 1).err();
     same(&rt, &stop, &Some(LoadStop::Missing), &"another file");
 }
 
@@ -112,18 +122,24 @@ fn tells_a_changed_byte(rt: HostRuntime) {
     }
 }
 
-/// A file that says that it has all its bytes and gives the first 5,000, up to 700 at a time.
+/// Files of which one says that it has all its bytes and gives the first 5,000, up to 700 at a time. What is written goes elsewhere.
 #[derive(Drop)]
-struct Cut;
+struct Cut {
+    written: MemFiles,
+}
 
 impl Files for Cut {
-    ghost read_faults = { λ _. 0 };
+    ghost use Rattle.std.proofs.lemmas.Bool.{false≢true};
 
-    ghost write_faults = { λ _. 0 };
+    ghost log = { λ cut. cut.written.log };
+
+    ghost read_faults = { λ _. 0 };
 
     ghost tells = { λ _. false };
 
     ghost held = { λ _ _. None };
+
+    ghost stands = { λ cut told name. absurd (false≢true told) };
 
     fn size(&mut self, _name: &str) -> Result<Option<u64>, Failed> {
         Ok(Some(6138))
@@ -137,22 +153,29 @@ impl Files for Cut {
         Ok(count)
     }
 
-    fn start(&mut self, _name: &str) -> Result<(), Failed> {
-        Ok(())
+    fn start(&mut self, name: &str) -> Result<(), Failed> {
+        self.written.start(name)
     }
 
-    fn append(&mut self, _name: &str, _bytes: &[u8]) -> Result<(), Failed> {
-        Ok(())
+    fn append(&mut self, name: &str, bytes: &[u8]) -> Result<(), Failed> {
+        self.written.append(name, bytes)
     }
 
-    fn finish(&mut self, _name: &str) -> Result<(), Failed> {
-        Ok(())
+    fn finish(&mut self, name: &str) -> Result<(), Failed> {
+        self.written.finish(name)
+    }
+
+    fn give_up(&mut self, name: &str) {
+        self.written.give_up(name)
     }
 }
 
 #[test]
 fn tells_where_reads_end(rt: HostRuntime) {
-    let stop = load_base(&rt, rt.alloc(), &mut Cut, "base", 1).err();
+    let mut files = Cut {
+        written: MemFiles::new(rt.alloc()),
+    };
+    let stop = load_base(&rt, rt.alloc(), &mut files, "base", Version::Three, 1).err();
     same(&rt, &stop, &bad(FileFault::Short, 5000), &"a cut file");
 }
 
@@ -167,9 +190,12 @@ fn look_up<F: Files>(
     ensures same { IsTrue (F.tells files.old)
         → SameFiles (F.held files.old) (F.held files.new) }
     ensures tells { F.tells files.new ≡ F.tells files.old }
-    ensures write_faults { F.write_faults files.new ≡ F.write_faults files.old }
+    ensures log { F.log files.new ≡ F.log files.old }
 {
-    let mut base = open_paged(alloc, files, "base", 1).expect(rt, "it was not opened");
+    let mut base = open_paged(alloc, files, "base", Version::Three, 1).expect(
+        rt,
+        "it was not opened",
+    );
     let position = read_position(position).expect(rt, "no position");
     assert!(rt; position.checkers() == base.head().checkers());
     assert!(rt; base.head().kinds() > 0);
@@ -211,7 +237,6 @@ fn a_file_of_one_page(rt: HostRuntime) -> Result<(), Fail> {
 /// The file of two checkers by the Jacoby rule, of words that are all 0.
 fn with_pages(rt: &impl Abort, alloc: Global) -> MemFiles {
     let mut files = MemFiles::new(alloc);
-    files.room(1, 3_200_016).expect(rt, "no memory");
     let head = Head::of_stakes(2, StakesName::Jacoby, 1);
     let words = common_words(
         rt,
@@ -221,7 +246,9 @@ fn with_pages(rt: &impl Abort, alloc: Global) -> MemFiles {
         head.rounds(),
         (NOTHING, NOTHING),
     );
-    write_base(&mut files, "base", &head, &words, Version::Two).expect(rt, "it was not written");
+    files.start("base").expect(rt, "it was not begun");
+    append_base(&mut files, "base", &head, &words, Version::Three).expect(rt, "it was not written");
+    files.finish("base").expect(rt, "it was not put in place");
     files
 }
 
@@ -234,4 +261,46 @@ fn a_bit_of_the_last_page(rt: HostRuntime) -> Result<(), Fail> {
     let found = look_up(&rt, rt.alloc(), &mut files, "bar bar / bar bar");
     same(&rt, &found, &bad_digest(3_199_984), &"the last page");
     Ok(())
+}
+
+/// How many bytes a page of the file of two checkers has, and where the first one begins.
+const PAGE: usize = 30_752;
+
+const FIRST: usize = 96;
+
+/// Exchanges the first two pages of the file, whose pairs are the same.
+fn exchange(rt: &impl Abort, alloc: Global, files: &mut MemFiles) -> Result<(), Fail> {
+    let mut bytes = Vec::new(alloc);
+    bytes.extend_from_slice(files.held("base").unwrap_or(b""))?;
+    if bytes.len() < FIRST + 2 * PAGE {
+        panic!(rt; "there are no two pages");
+    }
+    for at in FIRST..FIRST + PAGE {
+        bytes.swap(at, at + PAGE);
+    }
+    files.with_file("base", &bytes)?;
+    Ok(())
+}
+
+#[test]
+fn pages_that_are_exchanged_are_told(rt: HostRuntime) -> Result<(), Fail> {
+    let mut files = with_pages(&rt, rt.alloc());
+    exchange(&rt, rt.alloc(), &mut files)?;
+    let found = look_up(&rt, rt.alloc(), &mut files, "1 off / 1 off");
+    same(&rt, &found, &bad_digest(30_816), &"the first page");
+    let found = look_up(&rt, rt.alloc(), &mut files, "bar bar / bar bar");
+    same(&rt, &found, &Ok((0, 0)), &"the last page");
+    Ok(())
+}
+
+/// What a command that reads version 3 alone is told of a file of an older one.
+#[test]
+fn tells_an_older_version(rt: HostRuntime) {
+    let mut text = text();
+    turned(&rt, &mut text, 11, 1);
+    let stop = stop_of(&rt, rt.alloc(), text.as_slice());
+    same(&rt, &stop, &bad(FileFault::Version, 8), &"version 2");
+    turned(&rt, &mut text, 11, 3);
+    let stop = stop_of(&rt, rt.alloc(), text.as_slice());
+    same(&rt, &stop, &bad(FileFault::Version, 8), &"version 1");
 }

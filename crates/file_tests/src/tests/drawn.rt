@@ -5,14 +5,16 @@ ghost use Rattle.turn_rule.specs.States.{IsState};
 
 use crate::tests::asserts::{holds, same};
 use crate::tests::plain::{plain_words, word_of};
-use base_head::{Head, Header};
+use base_head::Head;
 use base_verify::{Finding, VerifyStop, state_holds, verify};
 use cube_actions::StakesName;
-use database_file::{Base, load_base, write_base};
+use database_file::{Base, append_base, load_base};
 use directed_fixed::{End, Fixed, Pair};
-use hyper_outside::{MemFiles, OpenGate};
+use hyper_outside::OpenGate;
 use interval_words::{LiveIndex, Words};
+use memory_files::MemFiles;
 use move_rules::PlayList;
+use outside_log::Files;
 use position_rank::Position;
 use std::alloc::{AllocGlobal, Global};
 use std::process::Abort;
@@ -138,10 +140,10 @@ fn base_with<R: Abort + Threads + Sync + AllocGlobal>(
     let index = LiveIndex::new(rt.alloc(), head.checkers()).expect(rt, "no memory");
     let words = Words::from_list(index, &head.stakes(), head.rounds(), list).expect(rt, "no words");
     let mut files = MemFiles::new(rt.alloc());
-    let length = Header::of(&head, Version::Two).file_length();
-    files.room(1, length as usize).expect(rt, "no memory");
-    write_base(&mut files, "base", &head, &words, Version::Two).expect(rt, "it was not written");
-    let Ok(base) = load_base(rt, rt.alloc(), &mut files, "base", 4) else {
+    files.start("base").expect(rt, "it was not begun");
+    append_base(&mut files, "base", &head, &words, Version::Three).expect(rt, "it was not written");
+    files.finish("base").expect(rt, "it was not put in place");
+    let Ok(base) = load_base(rt, rt.alloc(), &mut files, "base", Version::Three, 4) else {
         panic!(rt; "it was not loaded");
     };
     base

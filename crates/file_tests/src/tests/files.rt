@@ -1,6 +1,6 @@
 //! Files in memory, and the text of a file of one checker a side without a cube, after 8 rounds.
 use arrayvec::ArrayVec;
-use hyper_outside::MemFiles;
+use memory_files::MemFiles;
 use sha2::{Digest, Sha256};
 use std::alloc::Global;
 use std::process::Abort;
@@ -46,17 +46,20 @@ fn page(common: (u64, u64), changes: &[Change]) -> ArrayVec<u8, SIZE> {
 pub fn cubeless_text(common: (u64, u64), changes: &[Change]) -> ArrayVec<u8, SIZE> {
     let mut text = ArrayVec::new();
     add(b"HYPGAMMN", &mut text);
-    for field in [2u32, 1, 0, 0, 0, 0, 0, 1, 8, 0] {
+    for field in [3u32, 1, 0, 0, 0, 0, 0, 1, 8, 0] {
         add(&field.to_be_bytes(), &mut text);
     }
     add(&601u64.to_be_bytes(), &mut text);
     add(&[0; 8], &mut text);
-    let digest = Sha256::digest(text.as_slice());
-    add(&digest, &mut text);
+    let head_digest = Sha256::digest(text.as_slice());
+    add(&head_digest, &mut text);
     let page = page(common, changes);
     add(page.as_slice(), &mut text);
-    let digest = Sha256::digest(page.as_slice());
-    add(&digest, &mut text);
+    let mut hasher = Sha256::new();
+    hasher.update(&head_digest);
+    hasher.update(&0u64.to_be_bytes());
+    hasher.update(page.as_slice());
+    add(&hasher.finalize(), &mut text);
     text
 }
 

@@ -40,6 +40,8 @@ impl Counting {
 }
 
 impl Gate for Counting {
+    fn expect(&self, _rounds: u32, _blocks: u32) {}
+
     fn pass(&self, worker: u32, block: u64) {
         match self.blocks.get(block as usize) {
             Some(passes) if worker < self.workers => {

@@ -20,14 +20,14 @@ fn header(fields: [u32; 10], positions: u64) -> [u8; 64] {
 }
 
 /// One checker a side, 2-2 in a match of two points, after 16 rounds.
-const MATCH: [u32; 10] = [2, 1, 3, 2, 2, 0, 2, 6, 16, 2];
+const MATCH: [u32; 10] = [3, 1, 3, 2, 2, 0, 2, 6, 16, 2];
 
 /// One checker a side without a cube, after 8 rounds.
-const CUBELESS: [u32; 10] = [2, 1, 0, 0, 0, 0, 0, 1, 8, 0];
+const CUBELESS: [u32; 10] = [3, 1, 0, 0, 0, 0, 0, 1, 8, 0];
 
-/// What is wrong with a header in a file of so many bytes.
-fn fault_of(size: u64, fields: [u32; 10], positions: u64) -> Option<BadFile> {
-    match read_header(size, &header(fields, positions)) {
+/// What is wrong with a header in a file of so many bytes, where versions from the oldest on are read.
+fn fault_of(oldest: Version, size: u64, fields: [u32; 10], positions: u64) -> Option<BadFile> {
+    match read_header(oldest, size, &header(fields, positions)) {
         Ok(_) => None,
         Err(bad) => Some(bad),
     }
@@ -35,7 +35,7 @@ fn fault_of(size: u64, fields: [u32; 10], positions: u64) -> Option<BadFile> {
 
 /// Each field of the two files in turn gets a number, which is wrong there.
 const WRONG_FIELDS: [([u32; 10], usize, u32, FileFault, u64); 24] = [
-    (MATCH, 0, 3, FileFault::Version, 8),
+    (MATCH, 0, 4, FileFault::Version, 8),
     (MATCH, 0, 0, FileFault::Version, 8),
     (MATCH, 1, 0, FileFault::Head, 12),
     (MATCH, 1, 4, FileFault::Head, 12),
@@ -61,7 +61,7 @@ const WRONG_FIELDS: [([u32; 10], usize, u32, FileFault, u64); 24] = [
     (CUBELESS, 9, 1, FileFault::Head, 44),
 ];
 
-/// Fields, numbers of positions and sizes, and what is wrong. The last two are money with beavers in both versions.
+/// Fields, numbers of positions and sizes, and what is wrong. The last two are money with beavers in versions 2 and 1.
 const SIZES: [([u32; 10], u64, u64, Option<BadFile>); 11] = [
     (MATCH, 601, 36_208, None),
     (CUBELESS, 601, 6138, None),
@@ -148,19 +148,39 @@ fn tells_the_first_fault_of_a_header(rt: HostRuntime) {
             *field = number;
         }
         let due = Some(BadFile { fault, at });
-        same(&rt, &fault_of(36_208, fields, 601), &due, row);
+        same(&rt, &fault_of(Version::One, 36_208, fields, 601), &due, row);
     }
     for row in SIZES.iter() {
         let (fields, positions, size, due) = *row;
-        same(&rt, &fault_of(size, fields, positions), &due, row);
+        same(
+            &rt,
+            &fault_of(Version::One, size, fields, positions),
+            &due,
+            row,
+        );
     }
+}
+
+/// A version before the oldest that is read, and then that one.
+#[test]
+fn tells_an_older_version(rt: HostRuntime) {
+    let mut fields = CUBELESS;
+    fields[0] = 2;
+    let due = Some(BadFile {
+        fault: FileFault::Version,
+        at: 8,
+    });
+    let told = fault_of(Version::Three, 6138, fields, 601);
+    same(&rt, &told, &due, &"version 2");
+    let told = fault_of(Version::Two, 6138, fields, 601);
+    same(&rt, &told, &None, &"version 2 is read");
 }
 
 #[test]
 fn writes_the_front_of_a_file(rt: HostRuntime) {
     let head = Head::of_stakes(1, StakesName::Cubeless, 8);
     let mut front: ArrayVec<u8, 96> = ArrayVec::new();
-    put_front(&head, Version::Two, &mut front);
+    put_front(&head, Version::Three, &mut front);
     let fields = front.as_slice().get(..64).unwrap_or(b"");
     same(&rt, &fields, &header(CUBELESS, 601).as_slice(), &"fields");
     same(&rt, &front.len(), &96, &"bytes");
@@ -201,7 +221,7 @@ fn seal(text: &[u8]) -> ArrayVec<u8, 116>
 
 /// What is read of the match's front, where its header is right.
 fn read(bytes: &[u8]) -> Option<Result<Head, BadFile>> {
-    let header = read_header(36_208, &header(MATCH, 601)).ok()?;
+    let header = read_header(Version::One, 36_208, &header(MATCH, 601)).ok()?;
     if header.front_length() > bytes.len() as u64 {
         return None;
     }
@@ -264,8 +284,8 @@ fn tells_the_first_fault_of_the_starts(rt: HostRuntime) {
 /// The front that is written of a head.
 fn front_of(head: &Head) -> ArrayVec<u8, 116> {
     let mut front = ArrayVec::new();
-    if Header::of(head, Version::Two).front_length() <= 116 {
-        put_front(head, Version::Two, &mut front);
+    if Header::of(head, Version::Three).front_length() <= 116 {
+        put_front(head, Version::Three, &mut front);
     }
     front
 }

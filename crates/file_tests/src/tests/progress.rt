@@ -59,21 +59,44 @@ const LINES: [(u32, u32, u64, u64, &str); 5] = [
     (2, 26, 60, 9, "\rround 2 of 2, 100 %, 9 s gone, 0 s left  "),
 ];
 
+/// Nothing is shown, and the clock stands at so many seconds.
+fn stage_at(alloc: Global, seconds: u64) -> Stage {
+    Stage {
+        alloc,
+        seconds: Cell::new(seconds),
+        shown: Cell::new(String::new(alloc)),
+    }
+}
+
 #[test]
 fn lines_tell_rounds_shares_and_seconds(rt: HostRuntime) {
     for (rounds, blocks, passed, seconds, line) in LINES.iter() {
-        let stage = Stage {
-            alloc: rt.alloc(),
-            seconds: Cell::new(0),
-            shown: Cell::new(String::new(rt.alloc())),
-        };
-        let gate = ProgressGate::new(&stage, *rounds, *blocks);
+        let stage = stage_at(rt.alloc(), 40);
+        let gate = ProgressGate::new(&stage, true);
+        stage.seconds.set(100);
+        gate.expect(*rounds, *blocks);
         for block in 0..*passed {
             gate.pass(0, block);
         }
-        stage.seconds.set(*seconds);
+        stage.seconds.set(seconds.saturating_add(100));
         gate.pass(0, *passed);
         let shown = stage.shown.replace(String::new(rt.alloc()));
         same(&rt, &shown.as_str(), line, passed);
+    }
+}
+
+// Whether it is to show the line, and whether it was said what is to come.
+#[test]
+fn untold_or_unshown_there_is_no_line(rt: HostRuntime) {
+    for (shows, said) in [(false, true), (true, false), (false, false)] {
+        let stage = stage_at(rt.alloc(), 0);
+        let gate = ProgressGate::new(&stage, shows);
+        if said {
+            gate.expect(2, 26);
+        }
+        gate.pass(0, 0);
+        gate.end();
+        let shown = stage.shown.replace(String::new(rt.alloc()));
+        same(&rt, &shown.as_str(), &"", &(shows, said));
     }
 }

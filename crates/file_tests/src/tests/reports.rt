@@ -4,11 +4,11 @@ use crate::tests::judging::{decisions, judged};
 use cube_actions::{Phase, Score, StakesName};
 use directed_fixed::{Fixed, Pair};
 use equity_report::{
-    GameName, Refusal, Wanted, write_analysis, write_ladder_end, write_ladder_score, write_made,
-    write_refusal,
+    FileName, GameName, Refusal, Wanted, write_analysis, write_ladder_end, write_ladder_score,
+    write_made, write_refusal,
 };
 use game_record::{BadRecord, RecordFault};
-use hyper_outside::{HonestSink, MemSink};
+use memory_files::{HonestSink, MemSink};
 use move_rules::BadPlay;
 use std::alloc::Global;
 use std::process::Abort;
@@ -165,6 +165,14 @@ fn tells_what_is_wrong_with_a_record(rt: HostRuntime) -> Result<(), Fail> {
         is_told(&rt, rt.alloc(), &refusal, 5, due.as_str());
     }
     Ok(())
+}
+
+#[test]
+fn tells_the_name_of_a_file_of_another_kind(rt: HostRuntime) {
+    let mut name = FileName::new();
+    name.push_str("notes 1.txt");
+    let text = "refused 13 other notes 1.txt\n";
+    is_told(&rt, rt.alloc(), &Refusal::Other(name), 13, text);
 }
 
 #[test]

@@ -11,12 +11,13 @@ use position_rank::print_position;
 use std::alloc::AllocGlobal;
 use std::process::Abort;
 use std::thread::Threads;
+use word_pages::Version;
 
 /// The base of a file of one checker a side without a cube, in which each pair is the widest one but where it is changed.
 fn base<R: Abort + Threads + Sync + AllocGlobal>(rt: &R, changes: &[Change]) -> Base {
     let text = cubeless_text((NOTHING - 3 * POINT, NOTHING + 3 * POINT), changes);
     let mut files = with_base(rt, rt.alloc(), text.as_slice());
-    let Ok(base) = load_base(rt, rt.alloc(), &mut files, "base", 1) else {
+    let Ok(base) = load_base(rt, rt.alloc(), &mut files, "base", Version::Three, 1) else {
         panic!(rt; "it was not loaded");
     };
     base

@@ -3,13 +3,12 @@ use super::steps::Change::Bit;
 use super::steps::Content::Cubeless;
 use super::steps::Held::{IsCubeless, Length};
 use super::steps::Step;
-use super::steps::Step::{Ask, Change, FailCall, FailPut, File, Make, Room, Row};
+use super::steps::Step::{Ask, Change, FailCall, FailPut, File, Make, Row};
 use std::test::Fail;
 
 // Words that solve a game, each within a second. Of the file of two checkers a bit of the last page is turned, on which no advice
 // here rests.
-static SOLVES: [Step; 7] = [
-    Room(4, 3_400_000),
+static SOLVES: [Step; 6] = [
     Ask("solve, m1, --checkers=1, --stakes=money, --rounds=2", 0),
     Ask("solve, j1, --checkers=1, --rounds=2", 0),
     Ask("solve, j2, --checkers=2, --rounds=1, --workers=4", 0),
@@ -62,8 +61,7 @@ fn advice_is_as_worked_by_hand(rt: HostRuntime) -> Result<(), Fail> {
 }
 
 // Without a cube. A play, and what is refused.
-static UNCUBED: [Step; 11] = [
-    Room(1, 10_000),
+static UNCUBED: [Step; 10] = [
     Ask("solve, c1, --checkers=1, --stakes=cubeless, --rounds=8", 0),
     Row(
         "advise, c1, 2 / 24, --roll, 21",
@@ -115,7 +113,7 @@ const READ: &str = "refused 6 read\n";
 
 // A play that ends the game rests on no page, so that one with a turned bit counts only for the other advice.
 static DAMAGED: [Step; 4] = [
-    Make("c1", Cubeless(2)),
+    Make("c1", Cubeless(3)),
     Change("c1", Bit(100)),
     Row(PLAY, 0, PLAY_TEXT),
     Row(CUBE, 4, "refused 4 file page-digest 6106\n"),
@@ -126,19 +124,19 @@ fn a_damaged_page_counts_where_advice_rests_on_it(rt: HostRuntime) -> Result<(),
     run(&rt, &[&DAMAGED])
 }
 
-static SOLVED: [Step; 1] = [Make("c1", Cubeless(2))];
+static SOLVED: [Step; 1] = [Make("c1", Cubeless(3))];
 
-const SAME: Step = File("c1", IsCubeless(2));
+const SAME: Step = File("c1", IsCubeless(3));
 
 // The files' call that fails, and all that is put: size, front and, where it counts, the page are read.
 static FAULTS: [&[Step]; 7] = [
-    &[FailCall(1, 0), Row(CUBE, 6, READ), SAME],
-    &[FailCall(2, 0), Row(CUBE, 6, READ), SAME],
-    &[FailCall(3, 0), Row(CUBE, 6, READ), SAME],
-    &[FailCall(4, 0), Row(CUBE, 0, CUBE_TEXT), SAME],
-    &[FailCall(1, 0), Row(PLAY, 6, READ), SAME],
-    &[FailCall(2, 0), Row(PLAY, 6, READ), SAME],
-    &[FailCall(3, 0), Row(PLAY, 0, PLAY_TEXT), SAME],
+    &[FailCall(1), Row(CUBE, 6, READ), SAME],
+    &[FailCall(2), Row(CUBE, 6, READ), SAME],
+    &[FailCall(3), Row(CUBE, 6, READ), SAME],
+    &[FailCall(4), Row(CUBE, 0, CUBE_TEXT), SAME],
+    &[FailCall(1), Row(PLAY, 6, READ), SAME],
+    &[FailCall(2), Row(PLAY, 6, READ), SAME],
+    &[FailCall(3), Row(PLAY, 0, PLAY_TEXT), SAME],
 ];
 
 #[test]

@@ -3,7 +3,7 @@ use super::steps::Change::Bit;
 use super::steps::Content::{Cubeless, Filled, Text};
 use super::steps::Held::{IsCubeless, Length};
 use super::steps::Step;
-use super::steps::Step::{Ask, Change, FailCall, FailPut, File, Make, Put, Room, Row};
+use super::steps::Step::{Ask, Change, FailCall, FailPut, File, Make, Put, Row};
 use super::steps::Told::EachLine;
 use std::test::Fail;
 
@@ -34,10 +34,9 @@ const OF_TWO: &str = "hypergammon record 1\ncheckers 2\nstakes jacoby\ngame 1\n\
 A 41 24/20 23/22\nstop\nclose\n";
 
 // A solved game with a cube, one without a cube, and the records.
-static FILES: [Step; 9] = [
-    Room(1, 20_000),
+static FILES: [Step; 8] = [
     Ask("solve, j1, --checkers=1, --stakes=jacoby, --rounds=8", 0),
-    Make("c1", Cubeless(2)),
+    Make("c1", Cubeless(3)),
     Make("game", Text(GAME)),
     Make("point", Text(ONE_POINT)),
     Make("forced", Text(FORCED)),
@@ -126,22 +125,22 @@ const CHOSEN_TEXT: &str = "1 5 A play 0.000000 0.000000\n1 6 B play 0.000000 0.0
 1 7 A play 0.000000 2.000000\n\
 A decisions 2 loss 0.000000 2.000000\nB decisions 1 loss 0.000000 0.000000\n";
 
-static CHOICE: [Step; 2] = [Make("c1", Cubeless(2)), Make("game", Text(CHOSEN))];
+static CHOICE: [Step; 2] = [Make("c1", Cubeless(3)), Make("game", Text(CHOSEN))];
 
 const ANALYSE: &str = "analyse, c1, game";
 
 const READ: &str = "refused 6 read\n";
 
-const SAME: Step = File("c1", IsCubeless(2));
+const SAME: Step = File("c1", IsCubeless(3));
 
 // The files' call that fails, and what is put: size and text of the record, and size, front and page of the other file are read.
 static FAULTS: [&[Step]; 6] = [
-    &[FailCall(1, 0), Row(ANALYSE, 6, READ), SAME],
-    &[FailCall(2, 0), Row(ANALYSE, 6, READ), SAME],
-    &[FailCall(3, 0), Row(ANALYSE, 6, READ), SAME],
-    &[FailCall(4, 0), Row(ANALYSE, 6, READ), SAME],
-    &[FailCall(5, 0), Row(ANALYSE, 6, READ), SAME],
-    &[FailCall(6, 0), Row(ANALYSE, 0, CHOSEN_TEXT), SAME],
+    &[FailCall(1), Row(ANALYSE, 6, READ), SAME],
+    &[FailCall(2), Row(ANALYSE, 6, READ), SAME],
+    &[FailCall(3), Row(ANALYSE, 6, READ), SAME],
+    &[FailCall(4), Row(ANALYSE, 6, READ), SAME],
+    &[FailCall(5), Row(ANALYSE, 6, READ), SAME],
+    &[FailCall(6), Row(ANALYSE, 0, CHOSEN_TEXT), SAME],
 ];
 
 #[test]
@@ -152,7 +151,7 @@ fn a_failing_read_is_told_of_an_analysis(rt: HostRuntime) -> Result<(), Fail> {
 // A file of more than 1,048,576 bytes is refused by its size, so that a failing read isn't met.
 static LONG: [Step; 3] = [
     Make("long", Filled(b'\n', 1_048_577)),
-    FailCall(2, 0),
+    FailCall(2),
     Row("analyse, x, long", 5, "refused 5 record 0 too-long\n"),
 ];
 

@@ -4,7 +4,9 @@ use super::puts::is_told;
 use super::steps::Step;
 use crate::meeting::Meeting;
 use crate::runs::{ask, ask_at, ask_failing};
-use hyper_outside::{Files, MemFiles, NoMemory};
+use hyper_outside::NoMemory;
+use memory_files::MemFiles;
+use outside_log::Files;
 use std::alloc::{AllocGlobal, Global};
 use std::process::Abort;
 use std::sync::atomic::Ordering;
@@ -82,7 +84,7 @@ fn answer_at<R: Threads + Sync>(
     Outcome::new(alloc, status, out.put_bytes())
 }
 
-/// Whether nobody gave up, and each block was passed so often. Where that is once, whoever came to block 1 came to no other.
+/// Whether nobody gave up, so many rounds were said to come, and each block was passed so often. Where that is once, whoever came to block 1 came to no other.
 fn has_met(gate: &Meeting, times: u64) -> bool {
     let last = gate.last.load(Ordering::SeqCst) as usize;
     let of_last = match gate.came.get(last) {
@@ -90,6 +92,7 @@ fn has_met(gate: &Meeting, times: u64) -> bool {
         None => 0,
     };
     gate.gave_up.load(Ordering::SeqCst) == 0
+        && gate.rounds.load(Ordering::SeqCst) == times
         && gate
             .passes
             .iter()
@@ -109,7 +112,7 @@ struct Bench {
 }
 
 impl Bench {
-    /// No files, and no room.
+    /// No files.
     fn new(alloc: Global) -> Bench {
         Bench {
             alloc,
@@ -162,10 +165,9 @@ impl Bench {
     /// Takes a step. Whether it went as it is due.
     fn take<R: Threads + Sync>(&mut self, rt: &R, step: Step) -> Result<bool, NoMemory> {
         match step {
-            Step::Room(names, bytes) => self.files.room(names, bytes)?,
             Step::Make(name, content) => make(self.alloc, &mut self.files, name, content)?,
             Step::Change(name, change) => return alter(self.alloc, &mut self.files, name, change),
-            Step::FailCall(call, prefix) => self.files.fail_call(call, prefix)?,
+            Step::FailCall(call) => self.files.fail_call(call)?,
             Step::ShortReads => self.files.short_reads(1),
             Step::FailPut(call, prefix) => self.failing = Some((call, prefix)),
             Step::Ask(question, due) => return self.ask(rt, question, due),

@@ -1,7 +1,8 @@
 //! Files that a test makes, changes and looks at.
 use super::steps::{Change, Content, Held};
 use crate::texts::{cubeless_text, opening_text};
-use hyper_outside::{MemFiles, NoMemory};
+use hyper_outside::NoMemory;
+use memory_files::MemFiles;
 use sha2::{Digest, Sha256};
 use std::alloc::Global;
 
@@ -28,7 +29,7 @@ fn made(alloc: Global, files: &MemFiles, content: Content) -> Result<Vec<u8>, No
     match content {
         Content::Text(text) => bytes.extend_from_slice(text.as_bytes())?,
         Content::Cubeless(version) => return cubeless_text(alloc, version),
-        Content::Opening => return opening_text(alloc),
+        Content::Opening(version) => return opening_text(alloc, version),
         Content::Filled(byte, count) => return Ok(vec![in alloc; byte; count]?),
         Content::CopyOf(name) => return bytes_of(alloc, files, name),
     }
@@ -68,9 +69,15 @@ fn put_pair(text: &mut [u8], rank: usize, lower: i64, upper: i64) -> bool {
     put_value(text, at, lower) && put_value(text, at + 5, upper)
 }
 
-/// Makes the digest of the page anew.
+/// Makes the digest of the page anew, which in version 3 is of the head's digest and the page's number too.
 fn seal(text: &mut [u8]) -> bool {
-    let digest = Sha256::digest(text.get(PAGE..SEAL).unwrap_or(b""));
+    let mut hasher = Sha256::new();
+    if text.get(11).copied() == Some(3) {
+        hasher.update(text.get(64..PAGE).unwrap_or(b""));
+        hasher.update(&[0u8; 8]);
+    }
+    hasher.update(text.get(PAGE..SEAL).unwrap_or(b""));
+    let digest = hasher.finalize();
     put(text, SEAL, &digest)
 }
 
@@ -131,7 +138,7 @@ pub(super) fn is_so(bytes: &[u8], held: Held) -> bool {
         Held::Begins(front) => bytes.starts_with(front),
         Held::Ends(end) => bytes.ends_with(end),
         Held::At(place, due) => bytes.get(place..).unwrap_or(b"").starts_with(due),
-        Held::Nothing | Held::IsCubeless(_) | Held::Like(_) => false,
+        Held::Nothing | Held::IsCubeless(_) | Held::IsOpening(_) | Held::Like(_) => false,
     }
 }
 
@@ -147,6 +154,10 @@ pub(super) fn holds(
         Held::Nothing => found.is_none(),
         Held::IsCubeless(version) => {
             let due = cubeless_text(alloc, version)?;
+            found == Some(due.as_slice())
+        }
+        Held::IsOpening(version) => {
+            let due = opening_text(alloc, version)?;
             found == Some(due.as_slice())
         }
         Held::Like(other) => found.is_some() && found == files.held(other),

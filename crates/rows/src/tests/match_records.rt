@@ -2,7 +2,7 @@ use super::bench::{run, run_each};
 use super::steps::Change::Bit;
 use super::steps::Content::{CopyOf, Text};
 use super::steps::Step;
-use super::steps::Step::{Ask, Change, Make, Put, Room, Row};
+use super::steps::Step::{Ask, Change, Make, Put, Row};
 use super::steps::Told::EachLine;
 use std::test::Fail;
 
@@ -35,8 +35,7 @@ fn a_recorded_match_is_studied(rt: HostRuntime) -> Result<(), Fail> {
 }
 
 // The files of a solved match to two points, and the records of one and of two games.
-static FILES: [Step; 4] = [
-    Room(3, 61_000),
+static FILES: [Step; 3] = [
     Ask(
         "ladder, M, --checkers, 1, --length, 2, --rounds, 4, --workers, 2",
         0,

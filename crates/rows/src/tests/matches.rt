@@ -1,14 +1,12 @@
 use super::bench::{run, run_each};
 use super::steps::Content::Text;
 use super::steps::Held::{Length, Nothing};
-use super::steps::Step::{Ask, FailCall, FailPut, File, Make, Put, Room};
+use super::steps::Step::{Ask, FailCall, FailPut, File, Make, Put};
 use super::steps::Told::{Begins, EachLine, Encloses, Ends, Has, Lines};
 use super::steps::{Finder, Held, Step};
 use std::test::Fail;
 
 const TO_TWO: &str = "ladder, L, --checkers, 1, --length, 2, --rounds, 4, --workers, 2";
-
-static ROOM: [Step; 1] = [Room(3, 61_000)];
 
 // The files of a match to two points, in the order in which they are written, and how many bytes they have: 96 for header and digest, 10 for each
 // score before, 10 for each of 601 positions in each kind, and 32 for the digest of the one page.
@@ -33,7 +31,7 @@ static END: [Step; 1] = [Put(Ends("\nladder checkers 1 length 2 rounds 4 workers
 
 #[test]
 fn a_match_to_two_points_is_solved(rt: HostRuntime) -> Result<(), Fail> {
-    run(&rt, &[&ROOM, &SOLVED, &END])
+    run(&rt, &[&SOLVED, &END])
 }
 
 // With a checker on 6 against one on 1, 27 of 36 rolls win a gammon at once and the others lose one, which is the match for either side.
@@ -58,16 +56,16 @@ static ANSWERS: [Step; 12] = [
 
 #[test]
 fn files_of_a_match_are_asked(rt: HostRuntime) -> Result<(), Fail> {
-    run(&rt, &[&ROOM, &ANSWERS])
+    run(&rt, &[&ANSWERS])
 }
 
 // Each file is begun, front, page and digest are appended, and it is finished: so the first append of the second file is the seventh
 // call.
 static CUT: [Step; 8] = [
-    FailCall(7, 7),
+    FailCall(7),
     Ask(TO_TWO, 7),
     FIRST,
-    File("L.1.2.c", Held::Text("HYPGAMM")),
+    File("L.1.2.c", Nothing),
     File("L.2.2.n", Nothing),
     Put(Lines(2)),
     Put(Begins("score 1.1.p start ")),
@@ -76,15 +74,16 @@ static CUT: [Step; 8] = [
 
 #[test]
 fn a_failing_file_leaves_the_scores_before(rt: HostRuntime) -> Result<(), Fail> {
-    run(&rt, &[&ROOM, &CUT])
+    run(&rt, &[&CUT])
 }
 
-// The put that fails, of which five bytes are kept; which of the files are there; and what the output ends with.
+// The put that fails, of which five bytes are kept; which of the files are there; and what the output ends with. A score's file takes its place
+// behind its line.
 static STOPS: [&[Step]; 4] = [
     &[
         FailPut(1, 5),
         Ask(TO_TWO, 7),
-        FIRST,
+        File("L.1.1.p", Nothing),
         File("L.1.2.c", Nothing),
         File("L.2.2.n", Nothing),
         Put(Ends("scorerefused 7 write\n")),
@@ -93,7 +92,7 @@ static STOPS: [&[Step]; 4] = [
         FailPut(2, 5),
         Ask(TO_TWO, 7),
         FIRST,
-        SECOND,
+        File("L.1.2.c", Nothing),
         File("L.2.2.n", Nothing),
         Put(Ends("\nscorerefused 7 write\n")),
     ],
@@ -102,7 +101,7 @@ static STOPS: [&[Step]; 4] = [
         Ask(TO_TWO, 7),
         FIRST,
         SECOND,
-        THIRD,
+        File("L.2.2.n", Nothing),
         Put(Ends("\nscorerefused 7 write\n")),
     ],
     &[
@@ -116,16 +115,15 @@ static STOPS: [&[Step]; 4] = [
 ];
 
 #[test]
-fn a_failing_line_leaves_the_file_of_its_score(rt: HostRuntime) -> Result<(), Fail> {
-    run_each(&rt, &ROOM, &STOPS)
+fn a_failing_line_leaves_the_files_of_the_scores_before(rt: HostRuntime) -> Result<(), Fail> {
+    run_each(&rt, &[], &STOPS)
 }
 
 // Two files are none of the match.
-static OTHERS: [Step; 8] = [
+static OTHERS: [Step; 7] = [
     Make("L", Text("kept")),
     Make("L.1.2.p", Text("kept too")),
     Make("L.1.2.c", Text("old")),
-    Room(3, 61_000),
     Ask(TO_TWO, 0),
     File("L", Held::Text("kept")),
     File("L.1.2.p", Held::Text("kept too")),
@@ -155,8 +153,7 @@ const EXACT: Finder = Finder {
     width: 20_000,
 };
 
-static TO_THREE: [Step; 4] = [
-    Room(7, 206_000),
+static TO_THREE: [Step; 3] = [
     Ask("ladder, m, --checkers=1, --rounds=12, --workers=2", 0),
     Put(EachLine(&[
         ("score 1.1.p start ", ""),
@@ -178,12 +175,10 @@ fn starts_enclose_what_a_plain_program_finds(rt: HostRuntime) -> Result<(), Fail
 
 static LONGER: [&[Step]; 2] = [
     &[
-        Room(18, 900_000),
         Ask("ladder, five, --checkers=1, --length=5, --rounds=2", 0),
         Put(Lines(19)),
     ],
     &[
-        Room(7, 36_300_000),
         Ask("ladder, two, --checkers=2, --rounds=1, --workers=2", 0),
         Put(Lines(8)),
     ],

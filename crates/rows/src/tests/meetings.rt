@@ -1,10 +1,10 @@
 //! Workers that really run at once: each is held at its first block until all have come to theirs.
-use super::analyses::{GAME, LINES};
+use super::analyses::{GAME, IN_MATCH, LINES};
 use super::bench::run;
 use super::steps::Content::Text;
 use super::steps::Step;
-use super::steps::Step::{Ask, Make, Meet, Put, Room, Row};
-use super::steps::Told::{EachLine, Ends, Lines};
+use super::steps::Step::{Ask, Make, Meet, Put, Row};
+use super::steps::Told::{Begins, EachLine, Ends, Lines};
 use std::test::Fail;
 
 // Whoever has block 1 waits there until the others have come to all others: so it comes last, and one worker passes one block. From `12 / 1`
@@ -13,8 +13,7 @@ use std::test::Fail;
 // otherwise.
 const LAST: &str = "alone -1.611112 -1.277777 -6919669533 -5488013767\n";
 
-static BY_TWO: [Step; 4] = [
-    Room(1, 10_000),
+static BY_TWO: [Step; 3] = [
     Meet(
         "solve, g2, --checkers=1, --stakes=cubeless, --rounds=1, --workers=2",
         2,
@@ -32,8 +31,7 @@ fn two_at_once_solve(rt: HostRuntime) -> Result<(), Fail> {
 // Which of four has written what when block 1 is swept depends on the schedule, but from `1 / 1` every play wins a gammon at once.
 const WON: &str = "alone 2.000000 2.000000 8589934592 8589934592\n";
 
-static BY_FOUR: [Step; 4] = [
-    Room(2, 30_000),
+static BY_FOUR: [Step; 3] = [
     Meet(
         "solve, g4, --checkers=1, --stakes=cubeless, --rounds=1, --workers=4",
         4,
@@ -71,8 +69,7 @@ fn four_at_once_verify(rt: HostRuntime) -> Result<(), Fail> {
 }
 
 // Each of three scores takes four rounds.
-static LADDER: [Step; 7] = [
-    Room(3, 61_000),
+static LADDER: [Step; 6] = [
     Meet(
         "ladder, L, --checkers=1, --length=2, --rounds=4, --workers=4",
         4,
@@ -111,4 +108,16 @@ static STUDIED: [Step; 3] = [
 #[test]
 fn four_at_once_study(rt: HostRuntime) -> Result<(), Fail> {
     run(&rt, &[&STUDIED])
+}
+
+// Each of three scores takes two rounds.
+static MATCH_STUDIED: [Step; 3] = [
+    Make("game", Text(IN_MATCH)),
+    Meet("study, game, --rounds=2, --workers=4", 4, 6),
+    Put(Begins("1 5 A play 0.000000 0.000000\n1 6 B offer ")),
+];
+
+#[test]
+fn four_at_once_study_a_match(rt: HostRuntime) -> Result<(), Fail> {
+    run(&rt, &[&MATCH_STUDIED])
 }

@@ -1,25 +1,24 @@
 use super::bench::{run, run_each};
 use super::steps::Change::Byte;
-use super::steps::Content::Cubeless;
-use super::steps::Held::{IsCubeless, Length, Nothing};
+use super::steps::Content::{Cubeless, Opening};
+use super::steps::Held::{IsOpening, Length, Nothing};
 use super::steps::Step;
-use super::steps::Step::{Ask, Change, FailCall, File, Make, Room, Row};
+use super::steps::Step::{Ask, Change, FailCall, File, Make, Row};
 use std::test::Fail;
 
 const MIGRATE: &str = "migrate, old, new";
 
-static OLD: [Step; 1] = [Make("old", Cubeless(1))];
+static OLD: [Step; 1] = [Make("old", Opening(1))];
 
-static WRITTEN: [Step; 5] = [
+static WRITTEN: [Step; 4] = [
     File("old", Length(9744)),
-    Room(1, 10_000),
     Row(
         MIGRATE,
         0,
         "migrated checkers 1 stakes cubeless rounds 8\nfile new bytes 6138\n",
     ),
-    File("new", IsCubeless(2)),
-    File("old", IsCubeless(1)),
+    File("new", IsOpening(3)),
+    File("old", IsOpening(1)),
 ];
 
 #[test]
@@ -27,10 +26,45 @@ fn a_file_is_written_anew(rt: HostRuntime) -> Result<(), Fail> {
     run(&rt, &[&OLD, &WRITTEN])
 }
 
+// Version 2 and the latest, with two workers.
+static VERSIONS: [&[Step]; 2] = [
+    &[
+        Make("old", Opening(2)),
+        Ask("migrate, old, new, --workers=2", 0),
+        File("new", IsOpening(3)),
+    ],
+    &[
+        Make("old", Opening(3)),
+        Ask(MIGRATE, 0),
+        File("new", IsOpening(3)),
+    ],
+];
+
+#[test]
+fn each_version_is_written_as_the_latest(rt: HostRuntime) -> Result<(), Fail> {
+    run_each(&rt, &[], &VERSIONS)
+}
+
+// The mover at `1 / 1` wins two points at once, which the upper word doesn't hold.
+static UNHELD: [Step; 3] = [
+    Make("old", Cubeless(2)),
+    Row(
+        MIGRATE,
+        9,
+        "refused 9 inconsistent upper alone 4294967296 8589934592 1 / 1\n",
+    ),
+    File("new", Nothing),
+];
+
+#[test]
+fn words_that_are_not_consistent_are_refused(rt: HostRuntime) -> Result<(), Fail> {
+    run(&rt, &[&UNHELD])
+}
+
 // A byte of the old file, what it becomes, and the line.
 static DAMAGES: [&[Step]; 3] = [
     &[
-        Change("old", Byte(11, 3)),
+        Change("old", Byte(11, 4)),
         Row(MIGRATE, 4, "refused 4 file version 8\n"),
         File("new", Nothing),
     ],
@@ -51,23 +85,22 @@ fn a_damaged_file_is_refused(rt: HostRuntime) -> Result<(), Fail> {
     run_each(&rt, &OLD, &DAMAGES)
 }
 
-static ROOM: [Step; 2] = [Make("old", Cubeless(1)), Room(1, 10_000)];
-
-// The call that fails, the status, and how many bytes the new file then has. Size, front and page are read; then the file is begun,
-// front, page and digest are appended, and it is finished.
-static FAULTS: [&[Step]; 9] = [
-    &[FailCall(1, 7), Ask(MIGRATE, 6), File("new", Nothing)],
-    &[FailCall(2, 7), Ask(MIGRATE, 6), File("new", Nothing)],
-    &[FailCall(3, 7), Ask(MIGRATE, 6), File("new", Nothing)],
-    &[FailCall(4, 7), Ask(MIGRATE, 7), File("new", Nothing)],
-    &[FailCall(5, 7), Ask(MIGRATE, 7), File("new", Length(7))],
-    &[FailCall(6, 7), Ask(MIGRATE, 7), File("new", Length(103))],
-    &[FailCall(7, 7), Ask(MIGRATE, 7), File("new", Length(6113))],
-    &[FailCall(8, 7), Ask(MIGRATE, 7), File("new", Length(6138))],
-    &[FailCall(9, 7), Ask(MIGRATE, 0), File("new", Length(6138))],
+// The call that fails, the status, and the new file then: none, or the whole one. The file is begun, and what stands there is looked at;
+// size, front and page of the old one are read; then front, page and digest are appended, and it is finished.
+static FAULTS: [&[Step]; 10] = [
+    &[FailCall(1), Ask(MIGRATE, 7), File("new", Nothing)],
+    &[FailCall(2), Ask(MIGRATE, 6), File("new", Nothing)],
+    &[FailCall(3), Ask(MIGRATE, 6), File("new", Nothing)],
+    &[FailCall(4), Ask(MIGRATE, 6), File("new", Nothing)],
+    &[FailCall(5), Ask(MIGRATE, 6), File("new", Nothing)],
+    &[FailCall(6), Ask(MIGRATE, 7), File("new", Nothing)],
+    &[FailCall(7), Ask(MIGRATE, 7), File("new", Nothing)],
+    &[FailCall(8), Ask(MIGRATE, 7), File("new", Nothing)],
+    &[FailCall(9), Ask(MIGRATE, 7), File("new", Nothing)],
+    &[FailCall(10), Ask(MIGRATE, 0), File("new", Length(6138))],
 ];
 
 #[test]
 fn a_failing_call_is_told(rt: HostRuntime) -> Result<(), Fail> {
-    run_each(&rt, &ROOM, &FAULTS)
+    run_each(&rt, &OLD, &FAULTS)
 }

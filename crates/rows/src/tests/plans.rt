@@ -1,17 +1,14 @@
 use super::bench::{run, run_each};
 use super::steps::Content::Text;
-use super::steps::Step::{Ask, FailCall, FailPut, Make, Put, Room, Row};
+use super::steps::Step::{Ask, FailCall, FailPut, Make, Put, Row};
 use super::steps::Told::{Begins, Encloses, Has, Lines, Times};
 use super::steps::{Finder, Step};
 use std::test::Fail;
 
-static TO_TWO: [Step; 2] = [
-    Room(4, 97_000),
-    Ask(
-        "ladder, L, --checkers=1, --length=2, --rounds=4, --workers=2",
-        0,
-    ),
-];
+static TO_TWO: [Step; 1] = [Ask(
+    "ladder, L, --checkers=1, --length=2, --rounds=4, --workers=2",
+    0,
+)];
 
 // One point is won by whoever wins at all. In the Crawford game nobody doubles, and where a side needs one point a gammon wins it no more.
 static PLANNED: [Step; 7] = [
@@ -51,8 +48,7 @@ fn plans_are_refused(rt: HostRuntime) -> Result<(), Fail> {
     run(&rt, &[&TO_TWO, &REFUSED])
 }
 
-static OTHER_GAME: [Step; 3] = [
-    Room(1, 20_000),
+static OTHER_GAME: [Step; 2] = [
     Ask(
         "solve, C.2.2.n, --checkers=1, --stakes=cubeless, --rounds=1",
         0,
@@ -73,9 +69,9 @@ const PLAN: &str = "plan, L, --length=2";
 
 // Each of three files was begun, appended to three times and finished. A whole file is asked for its size, and then read.
 static FAULTS: [&[Step]; 3] = [
-    &[FailCall(16, 0), Row(PLAN, 6, "refused 6 read\n")],
-    &[FailCall(17, 0), Row(PLAN, 6, "refused 6 read\n")],
-    &[FailCall(18, 0), Row(PLAN, 6, "refused 6 read\n")],
+    &[FailCall(16), Row(PLAN, 6, "refused 6 read\n")],
+    &[FailCall(17), Row(PLAN, 6, "refused 6 read\n")],
+    &[FailCall(18), Row(PLAN, 6, "refused 6 read\n")],
 ];
 
 #[test]
@@ -112,8 +108,7 @@ const ROUNDED: Finder = Finder {
     width: 5_000,
 };
 
-static TO_THREE: [Step; 5] = [
-    Room(7, 206_000),
+static TO_THREE: [Step; 4] = [
     Ask("ladder, m, --checkers=1, --rounds=12, --workers=2", 0),
     Ask("plan, m", 0),
     Put(Lines(21)),
@@ -126,8 +121,7 @@ fn plans_enclose_what_a_plain_program_finds(rt: HostRuntime) -> Result<(), Fail>
 }
 
 // No take point have both sides at 1-1 and in the four Crawford games, and the far side in the three games after it.
-static TO_FIVE: [Step; 7] = [
-    Room(18, 900_000),
+static TO_FIVE: [Step; 6] = [
     Ask("ladder, five, --checkers=1, --length=5, --rounds=2", 0),
     Ask("plan, five, --length=5", 0),
     Put(Lines(54)),

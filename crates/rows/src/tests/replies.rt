@@ -1,12 +1,11 @@
 use super::bench::{run, run_each};
 use super::steps::Content::{Cubeless, Opening, Text};
 use super::steps::Step;
-use super::steps::Step::{Ask, FailCall, FailPut, Make, Put, Room, Row};
+use super::steps::Step::{Ask, FailCall, FailPut, Make, Put, Row};
 use super::steps::Told::Begins;
 use std::test::Fail;
 
-static SOLVED: [Step; 3] = [
-    Room(2, 30_000),
+static SOLVED: [Step; 2] = [
     Ask("solve, c1, --checkers=1, --stakes=cubeless, --rounds=8", 0),
     Ask("solve, m1, --checkers=1, --stakes=money, --rounds=8", 0),
 ];
@@ -49,8 +48,8 @@ fn replies_to_solved_files(rt: HostRuntime) -> Result<(), Fail> {
 // A file in which nothing is known, so that of the plays that don't end the game the first is advised, however bad it is; one in which each pair
 // is from a point lost to a point won; and one that is too short.
 static FILES: [Step; 3] = [
-    Make("o1", Opening),
-    Make("c1", Cubeless(2)),
+    Make("o1", Opening(3)),
+    Make("c1", Cubeless(3)),
     Make("E", Text("empty")),
 ];
 
@@ -119,17 +118,17 @@ const LAST: &str = "reply, c1, 6 / 1, --rounds, 2";
 // A whole file is asked for its size, and then its head and its page are read. A wrong position asks for no file.
 static FAULTS: [&[Step]; 3] = [
     &[
-        FailCall(1, 0),
+        FailCall(1),
         Ask("reply, c1, 6 / 19", 2),
         Row(LAST, 6, "refused 6 read\n"),
     ],
     &[
-        FailCall(2, 0),
+        FailCall(2),
         Ask("reply, c1, 6 / 19", 2),
         Row(LAST, 6, "refused 6 read\n"),
     ],
     &[
-        FailCall(3, 0),
+        FailCall(3),
         Ask("reply, c1, 6 / 19", 2),
         Row(LAST, 6, "refused 6 read\n"),
     ],

@@ -3,14 +3,11 @@ use super::steps::Change::Bit;
 use super::steps::Content::{Cubeless, Text};
 use super::steps::Held::Length;
 use super::steps::Step;
-use super::steps::Step::{Ask, Change, FailCall, FailPut, File, Keep, Make, Put, Room, Row};
+use super::steps::Step::{Ask, Change, FailCall, FailPut, File, Keep, Make, Put, Row};
 use super::steps::Told::{Begins, Ends, Lines, ThenKept};
 use std::test::Fail;
 
-static SOLVED: [Step; 2] = [
-    Room(1, 20_000),
-    Ask("solve, c1, --checkers=1, --stakes=cubeless, --rounds=8", 0),
-];
+static SOLVED: [Step; 1] = [Ask("solve, c1, --checkers=1, --stakes=cubeless, --rounds=8", 0)];
 
 // From 1 each roll bears the last checker off, and whoever then has one on his point 19 or higher loses three points. After eight rounds the bounds of
 // these positions have met; the other side can't stand on its point 24, where the mover does.
@@ -37,7 +34,7 @@ fn states_of_a_solved_file_are_found(rt: HostRuntime) -> Result<(), Fail> {
 }
 
 // A file of one checker in which each pair is from a point lost to a point won, and one that is too short.
-static FILES: [Step; 2] = [Make("c1", Cubeless(2)), Make("E", Text("empty"))];
+static FILES: [Step; 2] = [Make("c1", Cubeless(3)), Make("E", Text("empty"))];
 
 // The condition is read before the file is asked for.
 static WRONG: [Step; 3] = [
@@ -87,8 +84,7 @@ fn any_number_of_workers_puts_the_same(rt: HostRuntime) -> Result<(), Fail> {
 
 // Of two checkers a side 106,552 positions are live, 1,024 on a page, so that there are 105 pages. A page has 10 bytes for each position, and
 // 32 for its digest; the first begins at 96. Of either side 11 layouts have from 1 to 5 pips.
-static PAGES: [Step; 9] = [
-    Room(1, 1_100_000),
+static PAGES: [Step; 8] = [
     Ask(
         "solve, c2, --checkers=2, --stakes=cubeless, --rounds=1, --workers=4",
         0,
@@ -135,9 +131,9 @@ fn four_workers_load_as_one_does(rt: HostRuntime) -> Result<(), Fail> {
 
 // A whole file is asked for its size, and then its head and its page are read.
 static FAULTS: [&[Step]; 3] = [
-    &[FailCall(1, 0), Row(BARS, 6, "refused 6 read\n")],
-    &[FailCall(2, 0), Row(BARS, 6, "refused 6 read\n")],
-    &[FailCall(3, 0), Row(BARS, 6, "refused 6 read\n")],
+    &[FailCall(1), Row(BARS, 6, "refused 6 read\n")],
+    &[FailCall(2), Row(BARS, 6, "refused 6 read\n")],
+    &[FailCall(3), Row(BARS, 6, "refused 6 read\n")],
 ];
 
 #[test]
@@ -147,7 +143,7 @@ fn a_read_that_fails_is_told(rt: HostRuntime) -> Result<(), Fail> {
 
 // The first call of the files fails, so the run that is refused makes none.
 static UNASKED: [Step; 3] = [
-    FailCall(1, 0),
+    FailCall(1),
     Ask("scan, c1, pips", 11),
     Ask("scan, c1, pips=1", 6),
 ];

@@ -3,12 +3,11 @@ use super::steps::Change::{Bit, Ends};
 use super::steps::Content::Cubeless;
 use super::steps::Held::Length;
 use super::steps::Step;
-use super::steps::Step::{Ask, Change, FailCall, File, Make, Room, Row, ShortReads};
+use super::steps::Step::{Ask, Change, FailCall, File, Make, Row, ShortReads};
 use std::test::Fail;
 
 // Words that solve a game, each within a second. Of the file of two checkers a bit of the last page is turned.
-static SOLVES: [Step; 6] = [
-    Room(3, 3_300_000),
+static SOLVES: [Step; 5] = [
     Ask("solve, g1, --checkers=1, --stakes=cubeless, --rounds=1", 0),
     Ask("solve, j1, --checkers=1, --rounds=2", 0),
     Ask("solve, j2, --checkers=2, --rounds=1, --workers=4", 0),
@@ -53,7 +52,7 @@ const SHOW: &str = "show, c1, 6 / 1";
 const SHOWN: &str =
     "position 6 / 1\ncheckers 1 stakes cubeless rounds 8\nalone -1.000000 1.000000 -4294967296 4294967296\n";
 
-static SLOW: [Step; 2] = [Make("c1", Cubeless(2)), ShortReads];
+static SLOW: [Step; 2] = [Make("c1", Cubeless(3)), ShortReads];
 
 // How many bytes of the file are kept, what stands behind them, and what is put.
 static LENGTHS: [&[Step]; 4] = [
@@ -77,14 +76,14 @@ fn a_damaged_file_is_not_shown(rt: HostRuntime) -> Result<(), Fail> {
     run_each(&rt, &SLOW, &LENGTHS)
 }
 
-static WHOLE: [Step; 1] = [Make("c1", Cubeless(2))];
+static WHOLE: [Step; 1] = [Make("c1", Cubeless(3))];
 
 // The size, the front and the page are read: each call fails in turn, and then none.
 static FAULTS: [&[Step]; 4] = [
-    &[FailCall(1, 0), Row(SHOW, 6, "refused 6 read\n")],
-    &[FailCall(2, 0), Row(SHOW, 6, "refused 6 read\n")],
-    &[FailCall(3, 0), Row(SHOW, 6, "refused 6 read\n")],
-    &[FailCall(4, 0), Row(SHOW, 0, SHOWN)],
+    &[FailCall(1), Row(SHOW, 6, "refused 6 read\n")],
+    &[FailCall(2), Row(SHOW, 6, "refused 6 read\n")],
+    &[FailCall(3), Row(SHOW, 6, "refused 6 read\n")],
+    &[FailCall(4), Row(SHOW, 0, SHOWN)],
 ];
 
 #[test]

@@ -1,10 +1,9 @@
-use super::bench::{answer, run_each};
+use super::bench::{answer, run, run_each};
 use super::files::is_so;
 use super::steps::Content::Text;
-use super::steps::Held::Length;
-use super::steps::Step::{FailCall, File, Make, Room, Row};
+use super::steps::Step::{Ask, FailCall, File, Make, Row};
 use super::steps::{Held, Step};
-use hyper_outside::HonestFiles;
+use memory_files::MemFiles;
 use std::test::Fail;
 
 // A game of one checker.
@@ -20,14 +19,14 @@ fn is_report(text: &str) -> bool {
 /// Whether the file is as it is due, with the pair of `1 / 1`: every play wins a gammon.
 fn is_file(bytes: &[u8]) -> bool {
     bytes.len() == 6138
-        && bytes.starts_with(b"HYPGAMMN\0\0\0\x02\0\0\0\x01")
+        && bytes.starts_with(b"HYPGAMMN\0\0\0\x03\0\0\0\x01")
         && is_so(bytes, Held::At(96, b"\x12\0\0\0\0\x12\0\0\0\0"))
 }
 
 // Over files that never fail.
 #[test]
 fn a_game_is_solved(rt: HostRuntime) -> Result<(), Fail> {
-    let mut files = HonestFiles::with_room(rt.alloc(), 1, 10_000)?;
+    let mut files = MemFiles::new(rt.alloc());
     let solved = answer(&rt, rt.alloc(), &mut files, SOLVE)?;
     let text = solved.text();
     let is_solved = is_report(text) && is_file(files.held("c1").unwrap_or(b""));
@@ -37,39 +36,54 @@ fn a_game_is_solved(rt: HostRuntime) -> Result<(), Fail> {
     Ok(())
 }
 
-static OLD: [Step; 2] = [Make("c1", Text("old")), Room(0, 10_000)];
+/// What stands where the file is to be written.
+const KEPT: &str = "HYPGAMMN, and no more of a file of bounds";
 
-// The files' call that fails, how many bytes it still adds, and how many the file then has. With the first the file is as it was, and the last
-// ends the whole file.
-static STOPS: [&[Step]; 5] = [
+static OLD: [Step; 1] = [Make("c1", Text(KEPT))];
+
+// The files' call that fails: the file is begun, what stands there is looked at, front, page and digest are appended, the report is put, and
+// the file takes its place. The old one stays.
+static STOPS: [&[Step]; 6] = [
     &[
-        FailCall(1, 0),
+        FailCall(1),
         Row(SOLVE, 7, "refused 7 write\n"),
-        File("c1", Length(3)),
+        File("c1", Held::Text(KEPT)),
     ],
     &[
-        FailCall(2, 10),
-        Row(SOLVE, 7, "refused 7 write\n"),
-        File("c1", Length(10)),
+        FailCall(2),
+        Row(SOLVE, 6, "refused 6 read\n"),
+        File("c1", Held::Text(KEPT)),
     ],
     &[
-        FailCall(3, 5),
+        FailCall(3),
         Row(SOLVE, 7, "refused 7 write\n"),
-        File("c1", Length(101)),
+        File("c1", Held::Text(KEPT)),
     ],
     &[
-        FailCall(4, 7),
+        FailCall(4),
         Row(SOLVE, 7, "refused 7 write\n"),
-        File("c1", Length(6113)),
+        File("c1", Held::Text(KEPT)),
     ],
     &[
-        FailCall(5, 0),
+        FailCall(5),
         Row(SOLVE, 7, "refused 7 write\n"),
-        File("c1", Length(6138)),
+        File("c1", Held::Text(KEPT)),
     ],
+    &[FailCall(6), Ask(SOLVE, 7), File("c1", Held::Text(KEPT))],
 ];
 
 #[test]
 fn a_failing_file_is_told(rt: HostRuntime) -> Result<(), Fail> {
     run_each(&rt, &OLD, &STOPS)
+}
+
+static OTHER: [Step; 3] = [
+    Make("c1", Text("notes")),
+    Row(SOLVE, 13, "refused 13 other c1\n"),
+    File("c1", Held::Text("notes")),
+];
+
+#[test]
+fn a_file_of_another_kind_is_left_alone(rt: HostRuntime) -> Result<(), Fail> {
+    run(&rt, &[&OTHER])
 }

@@ -3,14 +3,12 @@
 /// One step of a test. The words of a question stand in one text, parted by `, `; where it is empty there are none.
 #[derive(Clone, Copy)]
 pub(super) enum Step {
-    /// Takes room for so many names and bytes more.
-    Room(usize, usize),
     /// Puts a file of this name.
     Make(&'static str, Content),
     /// Changes the file of this name.
     Change(&'static str, Change),
-    /// The files' call of this number, from 1, fails, after it has added so many bytes.
-    FailCall(u64, usize),
+    /// The files' call of this number, from 1, fails.
+    FailCall(u64),
     /// From now on a read gives one byte.
     ShortReads,
     /// At the next question the output's call of this number, from 1, fails after so many bytes.
@@ -35,8 +33,8 @@ pub(super) enum Content {
     Text(&'static str),
     /// `cubeless_text` of this version.
     Cubeless(u8),
-    /// `opening_text`.
-    Opening,
+    /// `opening_text` of this version.
+    Opening(u8),
     /// This byte, so many times.
     Filled(u8, usize),
     /// The bytes of the file of this name.
@@ -106,6 +104,8 @@ pub(super) enum Held {
     At(usize, &'static [u8]),
     /// It is as `Content::Cubeless`.
     IsCubeless(u8),
+    /// It is as `Content::Opening`.
+    IsOpening(u8),
     /// It is as the file of this name.
     Like(&'static str),
 }

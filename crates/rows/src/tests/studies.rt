@@ -1,8 +1,8 @@
 use super::analyses::{GAME, IN_MATCH, LINES, ONE_POINT};
 use super::bench::{run, run_each};
 use super::steps::Content::Text;
-use super::steps::Held::{Length, Something};
-use super::steps::Step::{Ask, FailCall, FailPut, File, Keep, Make, Put, Room, Row};
+use super::steps::Held::Nothing;
+use super::steps::Step::{Ask, FailCall, FailPut, File, Keep, Make, Put, Row};
 use super::steps::Told::{Begins, EachLine, Ends, EndsKept};
 use super::steps::{Held, Step};
 use std::test::Fail;
@@ -99,9 +99,9 @@ const SAME: Step = File("game", Held::Text(BEAVERED));
 
 // The files' call that fails: the record's size and text are read, and no other file.
 static FAULTS: [&[Step]; 3] = [
-    &[FailCall(1, 0), Row(ONCE, 6, "refused 6 read\n"), SAME],
-    &[FailCall(2, 0), Row(ONCE, 6, "refused 6 read\n"), SAME],
-    &[FailCall(3, 0), Ask(ONCE, 0), SAME],
+    &[FailCall(1), Row(ONCE, 6, "refused 6 read\n"), SAME],
+    &[FailCall(2), Row(ONCE, 6, "refused 6 read\n"), SAME],
+    &[FailCall(3), Ask(ONCE, 0), SAME],
 ];
 
 #[test]
@@ -131,8 +131,7 @@ fn a_failing_output_is_told_of_a_study(rt: HostRuntime) -> Result<(), Fail> {
 }
 
 // What is made is read back, and a study of it by as many rounds tells the same totals, which stand behind the first line.
-static MADE: [Step; 8] = [
-    Room(1, 20_000),
+static MADE: [Step; 7] = [
     Ask("make, 7, 1, seven.rec", 0),
     Put(Begins("made lines ")),
     Keep("\n"),
@@ -152,26 +151,30 @@ fn what_is_made_can_be_studied(rt: HostRuntime) -> Result<(), Fail> {
 
 const MAKE: &str = "make, 7, 1, r";
 
-static OLD: [Step; 2] = [Make("r", Text("old")), Room(0, 20_000)];
+/// What stands where the record is to be written.
+const KEPT: &str = "hypergammon record 1\nold";
 
-// The files' call that fails, how many bytes it still adds, and how many the file then has. With the first the file is as it was, and the last
-// ends the whole file.
-static CUTS: [&[Step]; 3] = [
+static OLD: [Step; 1] = [Make("r", Text(KEPT))];
+
+// The files' call that fails: the file is begun, what stands there is looked at, the text is appended, the report is put, and the file takes
+// its place. The old one stays.
+static CUTS: [&[Step]; 4] = [
     &[
-        FailCall(1, 0),
+        FailCall(1),
         Row(MAKE, 7, "refused 7 write\n"),
-        File("r", Length(3)),
+        File("r", Held::Text(KEPT)),
     ],
     &[
-        FailCall(2, 10),
-        Row(MAKE, 7, "refused 7 write\n"),
-        File("r", Length(10)),
+        FailCall(2),
+        Row(MAKE, 6, "refused 6 read\n"),
+        File("r", Held::Text(KEPT)),
     ],
     &[
-        FailCall(3, 0),
+        FailCall(3),
         Row(MAKE, 7, "refused 7 write\n"),
-        File("r", Something),
+        File("r", Held::Text(KEPT)),
     ],
+    &[FailCall(4), Ask(MAKE, 7), File("r", Held::Text(KEPT))],
 ];
 
 #[test]
@@ -179,12 +182,22 @@ fn a_record_that_cant_be_written_is_told(rt: HostRuntime) -> Result<(), Fail> {
     run_each(&rt, &OLD, &CUTS)
 }
 
-// The report fails after five bytes. The file is written before.
-static UNTOLD: [Step; 4] = [
-    Room(1, 20_000),
+static OTHER: [Step; 3] = [
+    Make("r", Text("hypergammon record 2\n")),
+    Row(MAKE, 13, "refused 13 other r\n"),
+    File("r", Held::Text("hypergammon record 2\n")),
+];
+
+#[test]
+fn no_record_is_made_over_another_text(rt: HostRuntime) -> Result<(), Fail> {
+    run(&rt, &[&OTHER])
+}
+
+// The report fails after five bytes, before the file takes its place.
+static UNTOLD: [Step; 3] = [
     FailPut(1, 5),
     Row(MAKE, 7, "made refused 7 write\n"),
-    File("r", Something),
+    File("r", Nothing),
 ];
 
 #[test]

@@ -4,16 +4,13 @@ use super::steps::Change::{EachPair, Pair};
 use super::steps::Content::CopyOf;
 use super::steps::Held::{At, Like, Something};
 use super::steps::Step;
-use super::steps::Step::{Ask, Change, FailCall, FailPut, File, Make, Room, Row};
+use super::steps::Step::{Ask, Change, FailCall, FailPut, File, Make, Row};
 use std::test::Fail;
 
 /// How many units a point has.
 const POINT: i64 = 1 << 32;
 
-static SOLVED: [Step; 2] = [
-    Room(2, 3_300_000),
-    Ask("solve, c1, --checkers=1, --stakes=cubeless, --rounds=8", 0),
-];
+static SOLVED: [Step; 1] = [Ask("solve, c1, --checkers=1, --stakes=cubeless, --rounds=8", 0)];
 
 const VERIFY: &str = "verify, c1";
 
@@ -59,8 +56,6 @@ static WIDE: [Step; 11] = [
 fn the_widest_pairs_pass(rt: HostRuntime) -> Result<(), Fail> {
     run(&rt, &[&SOLVED, &WIDE])
 }
-
-static ROOM: [Step; 1] = [Room(2, 3_300_000)];
 
 // Each of five kinds of stakes, of one checker and of two.
 static STAKES: [&[Step]; 10] = [
@@ -148,32 +143,33 @@ static STAKES: [&[Step]; 10] = [
 
 #[test]
 fn solved_games_pass(rt: HostRuntime) -> Result<(), Fail> {
-    run_each(&rt, &ROOM, &STAKES)
+    run_each(&rt, &[], &STAKES)
 }
 
-// The file was begun, appended to three times and finished. Its size, its front and its page are read: each call fails in turn, and then none.
+// The file was begun, what stood there was looked at, three parts were appended, and it was finished. Its size, its front and its page are read:
+// each call fails in turn, and then none.
 static FAULTS: [&[Step]; 4] = [
     &[
         Make("copy", CopyOf("c1")),
-        FailCall(6, 0),
+        FailCall(7),
         Row(VERIFY, 6, "refused 6 read\n"),
         File("c1", Like("copy")),
     ],
     &[
         Make("copy", CopyOf("c1")),
-        FailCall(7, 0),
+        FailCall(8),
         Row(VERIFY, 6, "refused 6 read\n"),
         File("c1", Like("copy")),
     ],
     &[
         Make("copy", CopyOf("c1")),
-        FailCall(8, 0),
+        FailCall(9),
         Row(VERIFY, 6, "refused 6 read\n"),
         File("c1", Like("copy")),
     ],
     &[
         Make("copy", CopyOf("c1")),
-        FailCall(9, 0),
+        FailCall(10),
         Row(VERIFY, 0, YES),
         File("c1", Like("copy")),
     ],

@@ -1,7 +1,8 @@
 use super::bench::run;
 use super::steps::Step;
 use super::steps::Step::{FailPut, Row};
-use hyper_outside::{HonestSink, NoMemory};
+use hyper_outside::NoMemory;
+use memory_files::HonestSink;
 use std::alloc::Global;
 use std::test::Fail;
 use top_call::refuse_unread;

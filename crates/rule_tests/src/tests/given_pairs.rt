@@ -4,7 +4,7 @@ ghost use Rattle.std.specs.Prelude.{◌≡◌, false, IfOk, IfErr, is_none};
 ghost use Rattle.directed_fixed.specs.Bounds.{IsWithinUnits};
 ghost use Rattle.cube_actions.specs.Stakes.{point_units};
 ghost use Rattle.hyper_outside.specs.Causes.{HasCause};
-ghost use Rattle.rule_tests.specs.TestPairs.{untold, zeros};
+ghost use Rattle.rule_tests.specs.TestPairs.{untold, untold_zeros};
 
 use directed_fixed::{End, Fixed};
 use hyper_outside::LookStop;
@@ -111,7 +111,7 @@ impl Pairs for GivenPairs {
 
     ghost seen = { λ s. record {
       source = untold s.checkers s.kinds (is_none s.stop);
-      notes = zeros;
+      notes = untold_zeros;
       faults = s.faults;
     } };
 

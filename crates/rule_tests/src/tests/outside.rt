@@ -1,16 +1,16 @@
-//! Sinks and files: a call that is listed or has no room fails, and what was put and written is read back.
+//! Sinks and files: a call that is listed, has no room or isn't due fails, and what was put and written is read back.
 
-use self::Name::{More, New, Old};
-use self::Step::{Append, Fill, Finish, Read, Size, Start, Whole};
+use self::Name::{Folder, More, New, Old};
+use self::Step::{Append, Begins, Fill, Finish, GiveUp, Read, Size, Start, Whole};
 use crate::tests::checks::{holds, holds_at};
-use hyper_outside::{
-    Failed, Files, Gate, HonestFiles, HonestSink, MemFiles, MemSink, NoMemory, OpenGate, RealFiles,
-    RealSink, Sink, WholeStop, fill, read_whole,
-};
+use hyper_outside::{Failed, Gate, NoMemory, OpenGate};
+use memory_files::{HonestSink, MemFiles, MemSink};
+use outside_log::{Files, Sink, WholeStop, begins_otherwise, fill, read_whole};
 use std::alloc::Global;
 use std::process::Abort;
 use std::test::Fail;
 use std::{env, fs, process};
+use system_files::{RealFiles, RealSink};
 
 /// Puts the bytes one after the other, of which the put of this number fails, counted from 1.
 fn put_all<S: Sink>(rt: &impl Abort, sink: &mut S, puts: &[&[u8]], failing: usize) {
@@ -77,6 +77,8 @@ enum Name {
     New,
     /// One that can't.
     More,
+    /// One of a folder, where there are folders.
+    Folder,
 }
 
 #[derive(Clone, Copy)]
@@ -84,12 +86,14 @@ struct Names<'a> {
     old: &'a str,
     new: &'a str,
     more: &'a str,
+    folder: &'a str,
 }
 
 const NAMES: Names<'static> = Names {
     old: "old",
     new: "new",
     more: "more",
+    folder: "folder",
 };
 
 impl<'a> Names<'a> {
@@ -98,6 +102,7 @@ impl<'a> Names<'a> {
             Old => self.old,
             New => self.new,
             More => self.more,
+            Folder => self.folder,
         }
     }
 }
@@ -113,9 +118,12 @@ enum Step {
     Fill(u32, Result<usize, Failed>, &'static [u8]),
     /// The whole file, if it has at most so many bytes.
     Whole(u64, Result<&'static [u8], WholeStop>),
+    /// Whether it has a byte and begins otherwise than so.
+    Begins(&'static [u8], Result<bool, Failed>),
     Start(Result<(), Failed>),
     Append(&'static [u8], Result<(), Failed>),
     Finish(Result<(), Failed>),
+    GiveUp,
 }
 
 /// Whether a whole file has these bytes, or can't be read for this reason.
@@ -143,9 +151,14 @@ fn answers<F: Files>(
             fill(files, name, u64::from(at), buf) == due && buf.as_slice() == held
         }
         Whole(most, due) => is_whole(read_whole(alloc, files, name, most), due),
+        Begins(start, due) => start.len() <= 32 && begins_otherwise(files, name, start) == due,
         Start(due) => files.start(name) == due,
         Append(bytes, due) => files.append(name, bytes) == due,
         Finish(due) => files.finish(name) == due,
+        GiveUp => {
+            files.give_up(name);
+            true
+        }
     }
 }
 
@@ -167,12 +180,11 @@ fn make_calls<F: Files>(
     }
 }
 
-/// Puts the file `old`, takes room for one name and four bytes more, and lists calls that are to fail with the fronts that they add.
-fn set_up(files: &mut MemFiles, old: &[u8], failing: &[(u64, usize)]) -> Result<(), NoMemory> {
+/// Puts the file `old`, and lists calls that are to fail.
+fn set_up(files: &mut MemFiles, old: &[u8], failing: &[u64]) -> Result<(), NoMemory> {
     files.with_file("old", old)?;
-    files.room(1, 4)?;
-    for (call, prefix) in failing {
-        files.fail_call(*call, *prefix)?;
+    for call in failing {
+        files.fail_call(*call)?;
     }
     Ok(())
 }
@@ -193,20 +205,69 @@ fn mem_files_read_back(rt: HostRuntime) {
     make_calls(&rt, rt.alloc(), &mut files, &NAMES, READ_BACK);
 }
 
-const ROOM_IS_USED: &[(Name, Step)] = &[
+// Each read gives two bytes at most, so that the one before the last is the 13th call.
+const BEGINS: &[(Name, Step)] = &[
+    (Old, Begins(b"hell", Ok(false))),
+    (Old, Begins(b"hello", Ok(false))),
+    (Old, Begins(b"hero", Ok(true))),
+    (Old, Begins(b"hello you", Ok(true))),
+    (Old, Begins(b"", Ok(false))),
+    (New, Begins(b"hell", Ok(false))),
+    (Old, Begins(b"hell", Err(Failed))),
     (Old, Start(Ok(()))),
-    (New, Append(b"abcdef", Ok(()))),
-    (More, Append(b"x", Err(Failed))),
-    (New, Append(b"ghij", Err(Failed))),
-    (New, Finish(Ok(()))),
-    (More, Size(Ok(None))),
+    (Old, Begins(b"hell", Ok(false))),
 ];
 
 #[test]
-fn mem_files_add_what_there_is_room_for(rt: HostRuntime) {
+fn mem_files_tell_how_they_begin(rt: HostRuntime) {
     let mut files = MemFiles::new(rt.alloc());
-    holds(&rt, set_up(&mut files, b"hello", &[]).is_ok(), "memory");
-    make_calls(&rt, rt.alloc(), &mut files, &NAMES, ROOM_IS_USED);
+    let failing = set_up(&mut files, b"hello", &[14]);
+    holds(&rt, failing.is_ok(), "memory");
+    files.short_reads(2);
+    make_calls(&rt, rt.alloc(), &mut files, &NAMES, BEGINS);
+}
+
+// Files are written one after the other, and each stands under its name once it has ended. What was begun is gone after a failure, after
+// it was given up, and after another was begun.
+const WRITTEN_ASIDE: &[(Name, Step)] = &[
+    (Old, Start(Ok(()))),
+    (Old, Append(b"hello", Ok(()))),
+    (Old, Finish(Ok(()))),
+    (New, Append(b"x", Err(Failed))),
+    (New, Start(Ok(()))),
+    (New, Append(b"abc", Ok(()))),
+    (New, Append(b"", Ok(()))),
+    (New, Append(b"def", Ok(()))),
+    (New, Size(Ok(None))),
+    (New, Finish(Ok(()))),
+    (New, Whole(6, Ok(b"abcdef"))),
+    (New, Append(b"g", Err(Failed))),
+    (New, Finish(Err(Failed))),
+    (Old, Start(Ok(()))),
+    (New, Start(Ok(()))),
+    (Old, Append(b"x", Err(Failed))),
+    (New, Append(b"x", Err(Failed))),
+    (New, Start(Ok(()))),
+    (Old, Finish(Err(Failed))),
+    (New, Finish(Err(Failed))),
+    (Old, Start(Ok(()))),
+    (Old, Append(b"x", Ok(()))),
+    (Old, GiveUp),
+    (Old, Finish(Err(Failed))),
+    (Old, Start(Ok(()))),
+    (Old, Start(Ok(()))),
+    (Old, Append(b"yes", Ok(()))),
+    (Old, Whole(9, Ok(b"hello"))),
+    (Old, Finish(Ok(()))),
+    (Old, Whole(9, Ok(b"yes"))),
+    (New, Whole(9, Ok(b"abcdef"))),
+    (Old, GiveUp),
+];
+
+#[test]
+fn mem_files_write_aside(rt: HostRuntime) {
+    let mut files = MemFiles::new(rt.alloc());
+    make_calls(&rt, rt.alloc(), &mut files, &NAMES, WRITTEN_ASIDE);
     holds(&rt, files.held("new") == Some(b"abcdef".as_slice()), "new");
     holds(&rt, files.held("more").is_none(), "more");
 }
@@ -215,16 +276,19 @@ const CALLS_FAIL: &[(Name, Step)] = &[
     (Old, Start(Ok(()))),
     (Old, Append(b"gh", Err(Failed))),
     (Old, Size(Err(Failed))),
+    (Old, Append(b"gh", Err(Failed))),
     (Old, Start(Err(Failed))),
-    (Old, Size(Ok(Some(1)))),
-    (Old, Whole(1, Ok(b"g"))),
+    (Old, Size(Ok(Some(5)))),
+    (Old, Start(Ok(()))),
     (Old, Finish(Err(Failed))),
+    (Old, Finish(Err(Failed))),
+    (Old, Whole(5, Ok(b"hello"))),
 ];
 
 #[test]
 fn mem_files_fail_on_demand(rt: HostRuntime) {
     let mut files = MemFiles::new(rt.alloc());
-    let failing = set_up(&mut files, b"hello", &[(2, 1), (3, 0), (4, 0), (8, 0)]);
+    let failing = set_up(&mut files, b"hello", &[2, 3, 5, 8]);
     holds(&rt, failing.is_ok(), "memory");
     make_calls(&rt, rt.alloc(), &mut files, &NAMES, CALLS_FAIL);
 }
@@ -244,32 +308,10 @@ const SHORT_READS: &[(Name, Step)] = &[
 #[test]
 fn short_reads_fill_all_the_same(rt: HostRuntime) {
     let mut files = MemFiles::new(rt.alloc());
-    let failing = set_up(&mut files, b"hello you", &[(15, 0), (18, 0)]);
+    let failing = set_up(&mut files, b"hello you", &[15, 18]);
     holds(&rt, failing.is_ok(), "memory");
     files.short_reads(2);
     make_calls(&rt, rt.alloc(), &mut files, &NAMES, SHORT_READS);
-}
-
-// One name and five bytes fit.
-const FULL: &[(Name, Step)] = &[
-    (New, Append(b"abcdef", Err(Failed))),
-    (New, Size(Ok(None))),
-    (New, Append(b"abc", Ok(()))),
-    (More, Start(Err(Failed))),
-    (New, Append(b"def", Err(Failed))),
-    (New, Append(b"de", Ok(()))),
-    (New, Read(2, Ok(3), b"cde.")),
-    (New, Start(Ok(()))),
-    (New, Append(b"fghij", Ok(()))),
-    (New, Finish(Ok(()))),
-];
-
-#[test]
-fn honest_files_fail_when_full(rt: HostRuntime) -> Result<(), Fail> {
-    let mut files = HonestFiles::with_room(rt.alloc(), 1, 5)?;
-    make_calls(&rt, rt.alloc(), &mut files, &NAMES, FULL);
-    holds(&rt, files.held("new") == Some(b"fghij".as_slice()), "new");
-    Ok(())
 }
 
 const WRITTEN: &[(Name, Step)] = &[
@@ -287,35 +329,38 @@ const WRITTEN: &[(Name, Step)] = &[
     (More, Size(Ok(None))),
     (More, Start(Err(Failed))),
     (More, Append(b"x", Err(Failed))),
-    (Old, Start(Err(Failed))),
-    (Old, Read(0, Err(Failed), b"ou y")),
+    (Folder, Start(Err(Failed))),
+    (Folder, Read(0, Err(Failed), b"ou y")),
     (New, Start(Ok(()))),
     (New, Whole(9, Ok(b"hello you"))),
     (New, Finish(Ok(()))),
     (New, Size(Ok(Some(0)))),
 ];
 
-// A folder can't be read or written as a file, nothing is in a folder that isn't there, and what is written stands aside until `finish`.
+// A folder can't be read or written as a file, nothing is in a folder that isn't there, and what is written stands aside until `finish`. No
+// file is left but those of the names.
 #[test]
 fn real_files_read_back(rt: HostRuntime) -> Result<(), Fail> {
     let id = process::id(rt.process());
     let folder = format!(in rt.alloc(); "{}/rule_tests.{id}", env::temp_dir(&rt)?.display())?;
-    let file = format!(in rt.alloc(); "{folder}/file")?;
+    let old = format!(in rt.alloc(); "{folder}/old")?;
+    let new = format!(in rt.alloc(); "{folder}/new")?;
     let lost = format!(in rt.alloc(); "{folder}/none/file")?;
-    fs::create_dir(&rt, folder.as_str())?;
     let names = Names {
-        old: folder.as_str(),
-        new: file.as_str(),
+        old: old.as_str(),
+        new: new.as_str(),
         more: lost.as_str(),
+        folder: folder.as_str(),
     };
-    make_calls(
-        &rt,
-        rt.alloc(),
-        &mut RealFiles::new(&rt, rt.alloc()),
-        &names,
-        WRITTEN,
-    );
-    fs::remove_file(&rt, file.as_str())?;
+    fs::create_dir(&rt, folder.as_str())?;
+    let mut files = RealFiles::new(&rt, rt.alloc());
+    make_calls(&rt, rt.alloc(), &mut files, &names, WRITTEN);
+    fs::remove_file(&rt, new.as_str())?;
+    let mut files = RealFiles::new(&rt, rt.alloc());
+    make_calls(&rt, rt.alloc(), &mut files, &names, WRITTEN_ASIDE);
+    // The first may not be there.
+    let _removed = fs::remove_file(&rt, old.as_str());
+    fs::remove_file(&rt, new.as_str())?;
     fs::remove_dir(&rt, folder.as_str())?;
     Ok(())
 }

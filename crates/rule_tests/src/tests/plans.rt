@@ -5,8 +5,8 @@ use crate::tests::match_starts::{starts, within};
 use crate::tests::states::Ends;
 use cube_actions::{Starts, ladder};
 use directed_fixed::ONE;
-use hyper_outside::MemSink;
 use match_plan::{Millionths, gammon_price, take_point, write_plan};
+use memory_files::MemSink;
 use std::alloc::Global;
 use std::process::Abort;
 

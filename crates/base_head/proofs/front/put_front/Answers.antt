@@ -2,7 +2,7 @@ use Rattle.std.proofs.Common.{◌≡◌, ◌≤◌, ◌∙◌, ℕ, ◌+◌, ◌
 use Rattle.cube_actions.specs.Starts.{StartPairs}
 use Rattle.word_pages.proofs.Texts.{length-cells}
 use Rattle.word_pages.specs.declared.version.Version.{Version}
-use Rattle.word_pages.specs.declared.version.Version.TheVariants.{One, Two}
+use Rattle.word_pages.specs.declared.version.Version.TheVariants.{One, Two, Three}
 use Rattle.word_pages.specs.Words.{word_size, words_text}
 use Rattle.base_head.specs.Fronts.{words_of_pairs}
 use Rattle.base_head.specs.Headers.{pair_size, spelled}
@@ -12,6 +12,7 @@ use Rattle.base_head.proofs.front.put_front.Goals as goal
 room : (version : Version) (n len most : ℕ) → len ≡ 64 + word_size version * (2 * n) → 64 + pair_size version * n + 32 ≤ most → len + 32 ≤ most
 room One n len most is le = omega (arith, is, le)
 room Two n len most is le = omega (arith, is, le)
+room Three n len most is le = omega (arith, is, le)
 
 pub put_digest-requires : goal.put_digest-requires
 put_digest-requires g c =

@@ -1,7 +1,7 @@
 use Rattle.std.proofs.Common.{◌≡◌, ◌∙◌, ◌++◌, ◌*◌, ◌≤◌, ◌<◌, ◌-◌, ℕ, List, Result, Vec, length, take, drop, sym, subst, arith}
 use Rattle.std.proofs.lemmas.List.{length-take, length-take-le, take-append-le}
 use Rattle.std.specs.Global.{Global}
-use Rattle.hyper_outside.specs.Files.{bytes_from}
+use Rattle.outside_log.specs.Files.{bytes_from}
 use Rattle.database_file.specs.declared.batch.Batch.{Batch}
 use Rattle.database_file.specs.declared.pages.Pages.{Pages}
 use Rattle.database_file.specs.declared.pages.PagesStop.{PagesStop}

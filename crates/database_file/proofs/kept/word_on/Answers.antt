@@ -1,6 +1,6 @@
 use Rattle.std.proofs.Common.{◌∙◌, ℕ, List, Vec, Global, length, slice_index, sym, ap, subst, arith}
 use Rattle.std.specs.Option.{option_copied}
-use Rattle.hyper_outside.specs.Files.{bytes_from}
+use Rattle.outside_log.specs.Files.{bytes_from}
 use Rattle.word_pages.specs.Flaws.{AreWithin, value_of}
 use Rattle.interval_words.specs.Numbers.{word_of}
 use Rattle.database_file.specs.Paged.{IsPage, IsPageOf}

@@ -2,4 +2,4 @@ use Rattle.database_file.proofs.RightFiles.{right-file}
 use Rattle.database_file.proofs.laws.right_files_hold_right_words.Goals as goal
 
 pub returns : goal.returns
-returns c = λ bytes are right. right-file bytes are right
+returns c = right-file

@@ -1,38 +1,44 @@
-use Rattle.std.proofs.Common.{ap}
+use Rattle.std.proofs.Common.{◌∙◌, IsTrue, ap, subst}
 use Rattle.std.specs.Option.{option_map}
 use Rattle.database_file.specs.Faults.{whole}
 use Rattle.database_file.specs.PagedFiles.{PagedFile}
-use Rattle.database_file.proofs.OpenedFiles.{front-fits, front-stopped, none-of-file, opened}
+use Rattle.database_file.proofs.OpenedFiles.{digest-told-is, front-fits, front-stopped, none-of-file, opened}
 use Rattle.database_file.proofs.opening.open_paged.Goals as goal
 
 pub returns-in_err-front-clause-read : goal.returns-in_err-front-clause-read
 returns-in_err-front-clause-read g c =
     let (file, told) = c.in_err-front.ensures.read in
-    (file, front-stopped file c.in_err-front.field-0.0 c.from_residual.result told c.from_residual.ensures.1)
+    (file, front-stopped c.args.oldest file c.in_err-front.field-0.0 c.from_residual.result told c.from_residual.ensures.1)
 
 pub returns-in_err-front-clause-told : goal.returns-in_err-front-clause-told
 returns-in_err-front-clause-told g c tells =
     let file = option_map whole (g.F.Files.held c.args.files.now c.args.name.now) in
-    front-stopped file c.in_err-front.field-0.0 c.from_residual.result (c.in_err-front.ensures.told tells) c.from_residual.ensures.1
+    front-stopped c.args.oldest file c.in_err-front.field-0.0 c.from_residual.result (c.in_err-front.ensures.told tells) c.from_residual.ensures.1
 
 pub new-requires-clause-fitting : goal.new-requires-clause-fitting
 new-requires-clause-fitting g c =
     let (file, told) = c.in_ok-front.ensures.read in
-    front-fits file c.in_ok-front.front told c.in_ok-front.ensures.valid
+    front-fits c.args.oldest file c.in_ok-front.front told c.in_ok-front.ensures.valid
 
 pub returns-clause-read : goal.returns-clause-read
 returns-clause-read g c =
     let (file, told) = c.in_ok-front.ensures.read in
     let is = c.in_ok-base.ensures in
-    (file, opened file c.in_ok-front.front c.in_ok-base.base told (ap (λ (base : PagedFile). base.header) is) (ap (λ (base : PagedFile). base.head) is))
+    (file, opened c.args.oldest file c.in_ok-front.front c.in_ok-base.base told (ap (λ (base : PagedFile). base.header) is) (ap (λ (base : PagedFile). base.head) is) (ap (λ (base : PagedFile). base.digest) is))
 
 pub returns-clause-told : goal.returns-clause-told
 returns-clause-told g c tells =
     let file = option_map whole (g.F.Files.held c.args.files.now c.args.name.now) in
     let is = c.in_ok-base.ensures in
-    opened file c.in_ok-front.front c.in_ok-base.base (c.in_ok-front.ensures.told tells) (ap (λ (base : PagedFile). base.header) is) (ap (λ (base : PagedFile). base.head) is)
+    opened c.args.oldest file c.in_ok-front.front c.in_ok-base.base (c.in_ok-front.ensures.told tells) (ap (λ (base : PagedFile). base.header) is) (ap (λ (base : PagedFile). base.head) is) (ap (λ (base : PagedFile). base.digest) is)
 
 pub returns-clause-of_file : goal.returns-clause-of_file
 returns-clause-of_file g c =
     let files = c.read_front.new.files in
-    none-of-file c.in_ok-base.base (g.F.Files.tells files) (g.F.Files.held files) (ap (λ (base : PagedFile). base.kept) c.in_ok-base.ensures)
+    let base = c.in_ok-base.base in
+    let is = c.in_ok-base.ensures in
+    none-of-file base (g.F.Files.tells files) (g.F.Files.held files) (ap (λ (base : PagedFile). base.kept) is)
+    (λ tells.
+    let told = subst IsTrue c.in_ok-front.ensures.tells tells in
+    digest-told-is c.args.oldest (g.F.Files.held c.args.files.now c.args.name.now) (g.F.Files.held files base.name) c.in_ok-front.front base.header base.digest (c.in_ok-front.ensures.told told) (ap (λ (base : PagedFile). base.header) is) (ap (λ (base : PagedFile). base.digest) is)
+    (ap (g.F.Files.held files) (ap (λ (base : PagedFile). base.name) is) ∙ c.in_ok-front.ensures.same told c.args.name.now))

@@ -1,7 +1,7 @@
 use Rattle.std.proofs.Common.{◌≡◌, ◌∙◌, ◌≤◌, ◌++◌, ◌*◌, ℕ, List, Err, length, take, arith, ap}
 use Rattle.std.specs.Bool.{⊤}
 use Rattle.std.proofs.lemmas.List.{length-take, length-take-le}
-use Rattle.hyper_outside.specs.Files.{bytes_from}
+use Rattle.outside_log.specs.Files.{bytes_from}
 use Rattle.word_pages.specs.declared.load.PageStop.{PageStop}
 use Rattle.word_pages.specs.Pages.{page_size}
 use Rattle.database_file.specs.declared.pages.Pages.{Pages}
@@ -21,8 +21,8 @@ returns-in_err-load_page-clause-page g c =
       part,
       shorter c.args.pages.now k c.args.page c.page_size-size.result c.words_on-count.result c.load_page.new.buf c.args.buf.now few c.load_page.auto.buf c.page_size-size.ensures c.words_on-count.ensures.words,
       λ before long.
-          stops ⊤ pages c.args.page _ _ (before ++ part) part c.load_page.new.words c.args.words.now.items c.in_err-load_page.field-0.0 c.from_residual.result
-          (length-take-le c.words_on-count.result c.args.cells.now (omega (arith, c.words_on-count.ensures.words, c.requires.cells)) ∙ c.words_on-count.ensures.words) c.place_of.ensures.place (stands_behind before part _ long)
+          stops ⊤ pages c.args.page _ _ _ (before ++ part) part c.load_page.new.words c.args.words.now.items c.in_err-load_page.field-0.0 c.from_residual.result
+          (length-take-le c.words_on-count.result c.args.cells.now (omega (arith, c.words_on-count.ensures.words, c.requires.cells)) ∙ c.words_on-count.ensures.words) c.place_of.ensures.place (c.as_slice.ensures.value ∙ c.binding_on.ensures) (stands_behind before part _ long)
           read c.from_residual.ensures.1,
     )
 
@@ -30,8 +30,8 @@ pub returns-in_err-load_page-clause-told : goal.returns-in_err-load_page-clause-
 returns-in_err-load_page-clause-told g c tells =
     let pages = c.args.pages.now in
     let file = g.F.Files.held c.args.files.now c.args.name.now in
-    stops ⊤ pages c.args.page _ _ (bytes_from pages.at file) (bytes_from c.place_of.result file) c.load_page.new.words c.args.words.now.items c.in_err-load_page.field-0.0 c.from_residual.result
-    (length-take-le c.words_on-count.result c.args.cells.now (omega (arith, c.words_on-count.ensures.words, c.requires.cells)) ∙ c.words_on-count.ensures.words) c.place_of.ensures.place
+    stops ⊤ pages c.args.page _ _ _ (bytes_from pages.at file) (bytes_from c.place_of.result file) c.load_page.new.words c.args.words.now.items c.in_err-load_page.field-0.0 c.from_residual.result
+    (length-take-le c.words_on-count.result c.args.cells.now (omega (arith, c.words_on-count.ensures.words, c.requires.cells)) ∙ c.words_on-count.ensures.words) c.place_of.ensures.place (c.as_slice.ensures.value ∙ c.binding_on.ensures)
     (ap (λ at. bytes_from at file) c.place_of.ensures.place ∙ bytes_behind pages.at (c.args.page * whole_page pages) file)
     (c.in_err-load_page.ensures.told tells) c.from_residual.ensures.1
 
@@ -46,8 +46,8 @@ returns-clause-page g c =
       part,
       shorter c.args.pages.now k c.args.page c.page_size-size.result c.words_on-count.result c.load_page.new.buf c.args.buf.now few c.load_page.auto.buf c.page_size-size.ensures c.words_on-count.ensures.words,
       λ before long.
-          adds pages c.args.page _ _ (before ++ part) part c.load_page.new.words c.args.words.now.items c.extend_from_slice.new.self.items
-          (length-take-le c.words_on-count.result c.args.cells.now (omega (arith, c.words_on-count.ensures.words, c.requires.cells)) ∙ c.words_on-count.ensures.words) c.place_of.ensures.place (stands_behind before part _ long)
+          adds pages c.args.page _ _ _ (before ++ part) part c.load_page.new.words c.args.words.now.items c.extend_from_slice.new.self.items
+          (length-take-le c.words_on-count.result c.args.cells.now (omega (arith, c.words_on-count.ensures.words, c.requires.cells)) ∙ c.words_on-count.ensures.words) c.place_of.ensures.place (c.as_slice.ensures.value ∙ c.binding_on.ensures) (stands_behind before part _ long)
           read c.in_ok-extend_from_slice.ensures.items,
     )
 
@@ -55,7 +55,7 @@ pub returns-clause-told : goal.returns-clause-told
 returns-clause-told g c tells =
     let pages = c.args.pages.now in
     let file = g.F.Files.held c.args.files.now c.args.name.now in
-    adds pages c.args.page _ _ (bytes_from pages.at file) (bytes_from c.place_of.result file) c.load_page.new.words c.args.words.now.items c.extend_from_slice.new.self.items
-    (length-take-le c.words_on-count.result c.args.cells.now (omega (arith, c.words_on-count.ensures.words, c.requires.cells)) ∙ c.words_on-count.ensures.words) c.place_of.ensures.place
+    adds pages c.args.page _ _ _ (bytes_from pages.at file) (bytes_from c.place_of.result file) c.load_page.new.words c.args.words.now.items c.extend_from_slice.new.self.items
+    (length-take-le c.words_on-count.result c.args.cells.now (omega (arith, c.words_on-count.ensures.words, c.requires.cells)) ∙ c.words_on-count.ensures.words) c.place_of.ensures.place (c.as_slice.ensures.value ∙ c.binding_on.ensures)
     (ap (λ at. bytes_from at file) c.place_of.ensures.place ∙ bytes_behind pages.at (c.args.page * whole_page pages) file)
     (c.in_ok-load_page.ensures.told tells) c.in_ok-extend_from_slice.ensures.items

@@ -2,7 +2,7 @@ use Rattle.std.proofs.Common.{◌∙◌, ◌<◌, ◌++◌, ℕ, List, Option, I
 use Rattle.std.specs.Bool.{⊤}
 use Rattle.std.specs.Global.{Global}
 use Rattle.std.proofs.lemmas.Result.{err_from_is_err_and}
-use Rattle.hyper_outside.specs.Files.{bytes_from}
+use Rattle.outside_log.specs.Files.{bytes_from}
 use Rattle.database_file.specs.declared.batch.Batch.{Batch}
 use Rattle.database_file.specs.declared.pages.PagesStop.{PagesStop}
 use Rattle.database_file.specs.Batches.{AddsBatch, AreRead}
@@ -55,5 +55,5 @@ batches-preserved g c =
       same = λ tells name. c.add_batch.ensures.same (subst IsTrue (sym c.batches.invariant.tells) tells) name ∙ c.batches.invariant.same tells name;
       tells = c.add_batch.ensures.tells ∙ c.batches.invariant.tells;
       later = omega (arith, c.batches.invariant.later, c.add_batch.ensures.later);
-      write_faults = c.add_batch.ensures.write_faults ∙ c.batches.invariant.write_faults;
+      log = c.add_batch.ensures.log ∙ c.batches.invariant.log;
     }

@@ -1,5 +1,5 @@
 use Rattle.std.proofs.Common.{◌-◌, ◌≡◌, ◌≤◌, ◌<◌, ◌*◌, ℕ, List, IsTrue, length}
-use Rattle.hyper_outside.specs.Files.{SameFiles, bytes_from}
+use Rattle.outside_log.specs.Files.{SameFiles, bytes_from}
 use Rattle.database_file.specs.Batches.{AreRead}
 use Rattle.database_file.specs.Pages.{page_count, whole_page}
 use Rattle.database_file.proofs.pages.read_pages.Given as goal
@@ -14,7 +14,7 @@ invariant-batches g l = record {
   same : IsTrue (g.F.Files.tells l.fn.files) → SameFiles (g.F.Files.held l.fn.files) (g.F.Files.held l.files);
   tells : g.F.Files.tells l.files ≡ g.F.Files.tells l.fn.files;
   later : g.F.Files.read_faults l.fn.files ≤ g.F.Files.read_faults l.files;
-  write_faults : g.F.Files.write_faults l.files ≡ g.F.Files.write_faults l.fn.files;
+  log : g.F.Files.log l.files ≡ g.F.Files.log l.fn.files;
 }
 
 abbrev pub decreases-batches : goal.decreases-batches

@@ -1,7 +1,7 @@
 use Rattle.std.proofs.Common.{◌+◌, ℕ, List, take, drop, Ok, Err, sym, subst}
 use Rattle.std.specs.List.{flat_map}
 use Rattle.std.proofs.lemmas.Result.{err_from_is_err_and}
-use Rattle.hyper_outside.specs.Sink.{Puts}
+use Rattle.outside_log.specs.Sink.{Puts}
 use Rattle.hyper_outside.specs.declared.outside.Failed.{Failed}
 use Rattle.equity_report.specs.Analyses.{judged_text}
 use Rattle.equity_report.proofs.PutLemmas.{put-both, put-front, text-more, text-parts}

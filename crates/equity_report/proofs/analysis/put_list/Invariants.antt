@@ -1,6 +1,6 @@
 use Rattle.std.proofs.Common.{take, Ok}
 use Rattle.std.specs.List.{flat_map}
-use Rattle.hyper_outside.specs.Sink.{Puts}
+use Rattle.outside_log.specs.Sink.{Puts}
 use Rattle.hyper_outside.specs.declared.outside.Failed.{Failed}
 use Rattle.equity_report.specs.Analyses.{judged_text}
 use Rattle.equity_report.proofs.analysis.put_list.Given as goal

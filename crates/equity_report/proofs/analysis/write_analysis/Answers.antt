@@ -1,7 +1,7 @@
 use Rattle.std.proofs.Common.{List, Ok, Err, subst}
 use Rattle.std.specs.List.{flat_map}
 use Rattle.std.proofs.lemmas.Result.{err_from_is_err_and}
-use Rattle.hyper_outside.specs.Sink.{Puts}
+use Rattle.outside_log.specs.Sink.{Puts}
 use Rattle.hyper_outside.specs.declared.outside.Failed.{Failed}
 use Rattle.record_analysis.specs.declared.analysis.Judged.{Judged}
 use Rattle.equity_report.specs.Analyses.{judged_text, totals_text}

@@ -1,6 +1,6 @@
 use Rattle.std.proofs.Common.{◌≡◌, ◌++◌, List, ℕ, [], append_assoc, subst}
 use Rattle.std.specs.Prelude.{codes}
-use Rattle.hyper_outside.specs.Sink.{Puts}
+use Rattle.outside_log.specs.Sink.{Puts}
 use Rattle.equity_report.specs.Files.{rounds_text}
 use Rattle.equity_report.specs.Reports.{counted_text}
 use Rattle.equity_report.specs.Verify.{verified_text}

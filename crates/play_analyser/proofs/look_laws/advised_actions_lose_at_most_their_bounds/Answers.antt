@@ -14,7 +14,7 @@ returns-clause-over c = λ game scoring turns u words p k state advice is.
     advice.no_double (over-tighter (roll_pair game.stakes u p k 1) advice.no_double is.no_double) advice.action is.action
 
 pub returns-clause-looked : goal.returns-clause-looked
-returns-clause-looked c = λ game scoring turns u words p k state source advice tells is.
-    action-loses game scoring turns u words p k state (λ answers pairs. ArePairsFor (of_answer game.stakes p) answers source u pairs)
-    (λ double pairs h. pairs-notes source (of_answer game.stakes p) u tells double.answers.items pairs h) advice.no_double
-    (pair-notes source (of_roll game.stakes p k 1) u advice.no_double is.no_double tells) advice.action is.action
+returns-clause-looked c = λ game scoring turns noted words p k state source advice told is.
+    action-loses game scoring turns noted.words words p k state (λ answers pairs. ArePairsFor (of_answer game.stakes p) answers source noted pairs)
+    (λ double pairs h. pairs-notes source (of_answer game.stakes p) noted told double.answers.items pairs h) advice.no_double
+    (pair-notes source (of_roll game.stakes p k 1) noted advice.no_double is.no_double told) advice.action is.action

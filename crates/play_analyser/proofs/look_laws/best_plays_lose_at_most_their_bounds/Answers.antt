@@ -15,6 +15,6 @@ returns-clause-over c = λ game scoring turns u words p k state roll is_roll ran
     (λ row m. over-tighter (play_pair (kind_at game.stakes k) u row.entry.end) row.pair (member (λ (r : PlayRow). r.pair ≡ play_pair (kind_at game.stakes k) u r.entry.end) ranking.rows.items is.pairs row m)) is.bound
 
 pub returns-clause-looked : goal.returns-clause-looked
-returns-clause-looked c = λ game scoring turns u words p k state roll is_roll source ranking tells is.
-    first-loses game scoring turns u words p k state roll is_roll ranking.rows.items ranking.loss_bound is.some is.ends is.distinct
-    (λ row m. pair-notes source (of_play (kind_at game.stakes k) row.entry.end) u row.pair (member (λ (r : PlayRow). IsPairFor (of_play (kind_at game.stakes k) r.entry.end) source u r.pair) ranking.rows.items is.pairs row m) tells) is.bound
+returns-clause-looked c = λ game scoring turns noted words p k state roll is_roll source ranking told is.
+    first-loses game scoring turns noted.words words p k state roll is_roll ranking.rows.items ranking.loss_bound is.some is.ends is.distinct
+    (λ row m. pair-notes source (of_play (kind_at game.stakes k) row.entry.end) noted row.pair (member (λ (r : PlayRow). IsPairFor (of_play (kind_at game.stakes k) r.entry.end) source noted r.pair) ranking.rows.items is.pairs row m) told) is.bound

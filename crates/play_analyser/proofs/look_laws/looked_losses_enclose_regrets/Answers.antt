@@ -1,5 +1,6 @@
-use Rattle.play_analyser.proofs.AdvisedLosses.{looked-encloses}
+use Rattle.play_analyser.proofs.AdvisedLosses.{looser-encloses}
 use Rattle.play_analyser.proofs.look_laws.looked_losses_enclose_regrets.Goals as goal
 
 pub returns : goal.returns
-returns c = λ game scoring turns u words p k state choice is source pair tells looked. looked-encloses game scoring turns u words p k state choice is source pair tells looked
+returns c = λ game scoring turns noted words p k state choice is source pair told looked.
+    looser-encloses game scoring turns noted.words words p k state choice is pair (record { lower = looked.lower_notes told; upper = looked.upper_notes told })

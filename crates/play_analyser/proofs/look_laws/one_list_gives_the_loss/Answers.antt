@@ -9,6 +9,6 @@ use Rattle.play_analyser.proofs.OneList.{loss-same}
 use Rattle.play_analyser.proofs.look_laws.one_list_gives_the_loss.Goals as goal
 
 pub returns : goal.returns
-returns c = λ source u stakes p k choice pair tells choice_is same is.
-    exact-pair source u (MayFollowChoice stakes p k choice) (pos 8 *ℤ source.bound) (λ (end : End) (w : Words). at end (loss_of stakes w p k choice)) pair tells
-    (λ end. ap (λ (b : Bounds). at end b) (loss-same stakes source.floor u p k choice choice_is same)) is
+returns c = λ source noted stakes p k choice pair told choice_is same is.
+    exact-pair source noted (MayFollowChoice stakes p k choice) (pos 8 *ℤ source.bound) (λ (end : End) (w : Words). at end (loss_of stakes w p k choice)) pair told
+    (λ end. ap (λ (b : Bounds). at end b) (loss-same stakes source.floor noted.words p k choice choice_is same)) is

@@ -1,9 +1,9 @@
-use Rattle.std.proofs.Common.{List, ℕ, true, IsTrue, Option, None, Ok, Err, sym, subst}
+use Rattle.std.proofs.Common.{List, ℕ, IsTrue, Option, None, Ok, Err, sym, subst}
 use Rattle.turn_rule.specs.Looks.{MayFollowTurn}
 use Rattle.play_analyser.specs.Advice.{IsCubeAdvice}
 use Rattle.base_head.specs.Heads.{stakes_of}
 use Rattle.base_head.specs.declared.header.Header.{Header}
-use Rattle.database_file.specs.Paged.{paged_source, told_words}
+use Rattle.database_file.specs.Paged.{paged_source, told_notes}
 use Rattle.top_call.proofs.AdviseFiles.{cube-advised, not-looked-up, same-sought}
 use Rattle.top_call.proofs.advise.find_advice.Goals as goal
 
@@ -16,7 +16,7 @@ returns-in-Ok-advice_of-clause-told g c =
       base.head,
       λ told. cube-advised task base kind (λ bytes advice state is. c.looked_up_advice_is_of_the_file.ensures task bytes base.head kind advice state is)
           (g.F.Files.held c.args.files.now task.file) c.in-Ok-advice_of.advice (c.in-Ok.ensures.told told)
-          (same-sought (λ (header : Header) (file : Option (List ℕ)). IsCubeAdvice stakes task.position kind.number (paged_source header true file) (told_words header file)) base.header
+          (same-sought (λ (header : Header) (file : Option (List ℕ)). IsCubeAdvice stakes task.position kind.number (paged_source header file) (told_notes header file)) base.header
           (MayFollowTurn stakes task.position kind.number) (g.F.Files.held c.args.files.now) (g.F.Files.held c.open_asked.new.files) task.file base.name (Ok c.in-Ok-advice_of.advice)
           c.in-Ok.ensures.name (c.in-Ok.ensures.same told task.file) (c.in-Ok-advice_of.ensures.told (subst IsTrue (sym c.in-Ok.ensures.tells) told))),
     )
@@ -30,7 +30,7 @@ returns-clause-told g c told =
     let held = g.F.Files.held c.args.files.now task.file in
     let stop = c.in-Err-advice_of.stop in
     rw (c.look_refusal.ensures)
-    (not-looked-up task base kind (IsCubeAdvice stakes task.position kind.number (paged_source base.header true held) (told_words base.header held)) None c.requires.roll held stop (c.in-Ok.ensures.told told)
-    (same-sought (λ (header : Header) (file : Option (List ℕ)). IsCubeAdvice stakes task.position kind.number (paged_source header true file) (told_words header file)) base.header
+    (not-looked-up task base kind (IsCubeAdvice stakes task.position kind.number (paged_source base.header held) (told_notes base.header held)) None c.requires.roll held stop (c.in-Ok.ensures.told told)
+    (same-sought (λ (header : Header) (file : Option (List ℕ)). IsCubeAdvice stakes task.position kind.number (paged_source header file) (told_notes header file)) base.header
     (MayFollowTurn stakes task.position kind.number) (g.F.Files.held c.args.files.now) (g.F.Files.held c.open_asked.new.files) task.file base.name (Err stop)
     c.in-Ok.ensures.name (c.in-Ok.ensures.same told task.file) (c.in-Err-advice_of.ensures.told (subst IsTrue (sym c.in-Ok.ensures.tells) told))))

@@ -1,4 +1,5 @@
 use Rattle.std.proofs.Common.{refl}
+use Rattle.turn_rule.specs.Looks.{all_told}
 use Rattle.base_head.specs.Heads.{stakes_of}
 use Rattle.database_file.specs.Texts.{game_in}
 use Rattle.top_call.proofs.AdviseLaws.{ranking-agrees, ranking-over, ranking-pages, source_in}
@@ -12,13 +13,13 @@ returns c = λ task roll bytes head kind ranking is right looked.
       state = is;
       pages = ranking-pages bytes head p k is.valid is.game is.checkers is.kinds is.state roll right ranking looked;
       over = λ u have.
-          c.one_list_gives_the_ranking.ensures (source_in bytes) u (stakes_of head) p k roll ranking refl
+          c.one_list_gives_the_ranking.ensures (source_in bytes) (all_told u) (stakes_of head) p k roll ranking refl
           (ranking-agrees bytes head p k is.valid is.game is.checkers is.kinds is.state roll right ranking looked u have)
           (ranking-over bytes head p k is.valid is.game is.checkers is.kinds is.state roll right ranking looked u have);
       losses = λ u have sound. (
         sound.0,
         λ turns more scoring within.
-            c.best_plays_lose_at_most_their_bounds.ensures.looked (game_in head) scoring turns u (record { right = is.game; within = within; words = sound.1 turns more scoring within })
+            c.best_plays_lose_at_most_their_bounds.ensures.looked (game_in head) scoring turns (all_told u) (record { right = is.game; within = within; words = sound.1 turns more scoring within })
             p k is.state roll right (source_in bytes) ranking refl
             (ranking-over bytes head p k is.valid is.game is.checkers is.kinds is.state roll right ranking looked u have),
       );

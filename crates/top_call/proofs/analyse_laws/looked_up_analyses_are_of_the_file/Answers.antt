@@ -1,4 +1,5 @@
 use Rattle.std.proofs.Common.{◌≡◌, List, refl, subst, sym, get_or}
+use Rattle.turn_rule.specs.Looks.{all_told}
 use Rattle.turn_rule.specs.Turn.{Words}
 use Rattle.record_analysis.specs.Analyses.{analysis_of}
 use Rattle.record_analysis.specs.Truth.{IsTrueAnalysis}
@@ -17,7 +18,7 @@ returns c = λ replayed bytes head list right opened judged.
     let loss = c.one_list_gives_the_loss.ensures in
     let can = can-judge c.right_decisions_can_be_judged.ensures rec head opened.file.game decisions right.right (source_in bytes) opened.source.checkers opened.game.stakes opened.source.stakes in
     let over : (u : Words) → HavePairsOf bytes u → list ≡ analysis_of (stakes_of head) u decisions = λ u have.
-    c.one_list_gives_the_analysis.ensures (source_in bytes) u (stakes_of head) decisions list refl (plain-scores rec opened.file.game.plain decisions right.right) can
+    c.one_list_gives_the_analysis.ensures (source_in bytes) (all_told u) (stakes_of head) decisions list refl (plain-scores rec opened.file.game.plain decisions right.right) can
     (analysis-agrees loss rec bytes head opened u have decisions list can judged) (analysis-over loss rec bytes head opened u have decisions list can judged) in
     record {
       file = opened.file;

@@ -1,6 +1,6 @@
-use Rattle.std.proofs.Common.{◌≡◌, ◌∙◌, ℕ, List, true, IsTrue, Option, Some, Err, refl, ap, sym, subst}
+use Rattle.std.proofs.Common.{◌≡◌, ◌∙◌, ℕ, List, IsTrue, Option, Some, Err, refl, ap, sym, subst}
 use Rattle.base_head.specs.Heads.{stakes_of}
-use Rattle.database_file.specs.Paged.{paged_source, told_words}
+use Rattle.database_file.specs.Paged.{paged_source, told_notes}
 use Rattle.record_analysis.specs.Judging.{JudgesAll}
 use Rattle.top_call.specs.Ladders.{score_file}
 use Rattle.top_call.specs.MatchAnalyses.{AnswersJudgingAt}
@@ -19,7 +19,7 @@ returns-in-Ok-judge_at-clause-told g c told =
     let new = c.judge_at.new.analysis in
     let same : g.F.Files.held c.open_at.new.files base.name ≡ held name = ap (g.F.Files.held c.open_at.new.files) c.in-Ok.ensures.name ∙ c.in-Ok.ensures.same told name in
     score-judged c.one_list_gives_the_loss.ensures rec (match_length rec.stakes) score c.args.prefix.now held base (held name) refl (c.in-Ok.ensures.told told) old new c.requires.decisions
-    (subst (λ (f : Option (List ℕ)). JudgesAll (Some score) (stakes_of base.head) (paged_source base.header true f) (told_words base.header f) old new) same (c.in-Ok-judge_at.ensures.told (subst IsTrue (sym c.in-Ok.ensures.tells) told)))
+    (subst (λ (f : Option (List ℕ)). JudgesAll (Some score) (stakes_of base.head) (paged_source base.header f) (told_notes base.header f) old new) same (c.in-Ok-judge_at.ensures.told (subst IsTrue (sym c.in-Ok.ensures.tells) told)))
 
 pub returns-clause-told : goal.returns-clause-told
 returns-clause-told g c told =

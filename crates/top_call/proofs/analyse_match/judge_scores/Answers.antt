@@ -1,6 +1,6 @@
 use Rattle.std.proofs.Common.{◌∙◌, ◌<◌, List, length, IsTrue, Ok, arith, ap, sym, subst}
 use Rattle.game_record.specs.declared.decision.Decision.{Decision}
-use Rattle.hyper_outside.specs.Files.{Contents}
+use Rattle.outside_log.specs.Files.{Contents}
 use Rattle.record_study.specs.Keeping.{IsDecisionInMatch, decisions_in}
 use Rattle.top_call.specs.MatchAnalyses.{AnswersNext, RefusesAt}
 use Rattle.top_call.specs.Records.{match_length}
@@ -56,6 +56,7 @@ loop-place-preserved g c =
       decisions = c.judge_next.ensures.decisions ∙ inv.decisions;
       same = λ tells name. c.judge_next.ensures.same (subst IsTrue (sym inv.tells) tells) name ∙ inv.same tells name;
       tells = c.judge_next.ensures.tells ∙ inv.tells;
+      log = c.judge_next.ensures.log ∙ inv.log;
       later = (let one = inv.later in let two = c.judge_next.ensures.later in omega (arith, one, two));
       judged = λ tells.
           (let next : AnswersNext prefix rec place told held old new (Ok tt) =
@@ -68,3 +69,6 @@ returns-clause-told g c = λ tells.
     let inv = c.loop-place.invariant in
     judged-all c.args.prefix.now c.args.rec.now (g.F.Files.held c.args.files.now) c.args.analysis.now c.loop-place.analysis inv.decisions c.loop-place.place
     (let end = inv.end in let past = c.loop-place-test.false in omega (arith, end, past)) (inv.judged tells)
+
+pub returns-in-Err-clause-log : goal.returns-in-Err-clause-log
+returns-in-Err-clause-log g c = c.judge_next.ensures.log ∙ c.loop-place.invariant.log

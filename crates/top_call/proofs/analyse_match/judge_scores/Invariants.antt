@@ -1,5 +1,5 @@
 use Rattle.std.proofs.Common.{◌≡◌, ◌≤◌, ◌<◌, ℕ, IsTrue, length}
-use Rattle.hyper_outside.specs.Files.{SameFiles}
+use Rattle.outside_log.specs.Files.{SameFiles}
 use Rattle.record_study.specs.Keeping.{decisions_in}
 use Rattle.top_call.specs.MatchAnalyses.{AreJudgedLike}
 use Rattle.top_call.proofs.analyse_match.judge_scores.Given as goal
@@ -13,6 +13,7 @@ invariant-loop-place g l =
       decisions : decisions_in l.analysis ≡ decisions_in l.fn.analysis;
       same : IsTrue (g.F.Files.tells l.fn.files) → SameFiles held (g.F.Files.held l.files);
       tells : g.F.Files.tells l.files ≡ g.F.Files.tells l.fn.files;
+      log : g.F.Files.log l.files ≡ g.F.Files.log l.fn.files;
       later : g.F.Files.read_faults l.fn.files ≤ g.F.Files.read_faults l.files;
       judged :
           IsTrue (g.F.Files.tells l.fn.files) → (earlier : ℕ) → earlier < l.place

@@ -1,32 +1,67 @@
-use Rattle.std.proofs.Common.{◌≡◌, IsTrue, Some, inl, inr, arith}
-use Rattle.top_call.proofs.Written.{whole-front}
+use Rattle.std.proofs.Common.{◌≡◌, List, [], ◌∷◌, ◌++◌, inl, inr, refl, sym, ◌∙◌, subst, arith}
+use Rattle.outside_log.specs.Log.{CompletesFile, Event, GivenUp, Started}
+use Rattle.outside_log.proofs.Logs.{leaves-both, leaves-one}
+use Rattle.equity_report.specs.declared.refusal.Refusal.TheVariants.{Memory}
+use Rattle.top_call.specs.Runs.{EndsBy, IsOfWriting, WasPut}
+use Rattle.top_call.proofs.Begun.{begun-ends, is-read, is-write, write-text}
+use Rattle.top_call.proofs.Completing.{told-then}
+use Rattle.top_call.proofs.Refused.{memory-text}
+use Rattle.top_call.proofs.Telling.{some-status}
 use Rattle.top_call.proofs.make.run_make.Goals as goal
 
-pub returns-in-Ok-write_text-clause-makes : goal.returns-in-Ok-write_text-clause-makes
-returns-in-Ok-write_text-clause-makes g c =
-    let writes : IsTrue (g.F.Files.tells c.args.files.now) → g.F.Files.held c.write_text.new.files c.args.task.now.file ≡ Some c.in-Ok.made.text.items = λ told. rw (c.as_str.ensures, c.as_slice.ensures.value) at c.in-Ok-write_text.ensures.writes told in
+pub returns-in-Err-clause-ends : goal.returns-in-Err-clause-ends
+returns-in-Err-clause-ends g c = subst (EndsBy IsOfWriting) (sym c.refuse.ensures.status) (begun-ends c.in-Err.refusal c.in-Err.ensures.kinds)
+
+pub returns-in-Err-clause-makes : goal.returns-in-Err-clause-makes
+returns-in-Err-clause-makes g c =
+    let is = c.refuse.ensures.status in
     record {
-      done = λ done. record {
-        made = c.in-Ok.made;
-        is_made = c.in-Ok.ensures.made;
-        file = writes;
-        report = c.tell.ensures.report done;
-      };
-      stopped = λ stopped. record {
-        made = c.in-Ok.made;
-        is_made = c.in-Ok.ensures.made;
-        file = λ told. inr (whole-front c.in-Ok.made.text.items (g.F.Files.held c.write_text.new.files c.args.task.now.file) (writes told));
-        line = inr (c.tell.ensures.write stopped);
-      };
+      done = λ done. absurd (some-status c.in-Err.refusal (sym is ∙ done));
+      stopped = λ stopped. inl (write-text (WasPut _ _) c.in-Err.refusal (sym is ∙ stopped) c.refuse.ensures.told);
+      refused = λ done write. record { refusal = c.in-Err.refusal; cause = rw (c.as_str-name.ensures) at c.in-Err.ensures.told; line = c.refuse.ensures.told; is_status = is };
+    }
+
+pub returns-in_default-make_and_study-clause-ends : goal.returns-in_default-make_and_study-clause-ends
+returns-in_default-make_and_study-clause-ends g c = inr (inr (Memory, tt, c.refuse-in_default-make_and_study.ensures.status))
+
+pub returns-in_default-make_and_study-clause-makes : goal.returns-in_default-make_and_study-clause-makes
+returns-in_default-make_and_study-clause-makes g c =
+    let is = c.refuse-in_default-make_and_study.ensures.status in
+    record {
+      done = λ done. absurd (omega (arith, done, is));
+      stopped = λ stopped. absurd (omega (arith, stopped, is));
+      refused = λ done write. record { refusal = Memory; cause = λ told. tt; line = c.refuse-in_default-make_and_study.ensures.told; is_status = is };
+    }
+
+pub returns-in_default-make_and_study-clause-leaves : goal.returns-in_default-make_and_study-clause-leaves
+returns-in_default-make_and_study-clause-leaves g c other =
+    let task = c.args.task.now in
+    let before = g.F.Files.log c.args.files.now in
+    let begun = g.F.Files.log c.begin.new.files in
+    let after = g.F.Files.log c.give_up.new.self in
+    leaves-both before begun after (leaves-one before begun (Started _) tt c.in_default.ensures.begun) (leaves-one begun after (GivenUp _) tt c.give_up.ensures.log)
+
+pub returns-in-Ok-complete-clause-makes : goal.returns-in-Ok-complete-clause-makes
+returns-in-Ok-complete-clause-makes g c =
+    let task = c.args.task.now in
+    let before = g.F.Files.log c.args.files.now in
+    let begun = g.F.Files.log c.begin.new.files in
+    let after = g.F.Files.log c.complete.new.files in
+    let begins : begun ≡ before ++ Started task.file ∷ [] = rw (c.as_str-name.ensures) at c.in_default.ensures.begun in
+    record {
+      done = λ done. record { made = c.in-Ok.made; is_made = c.in-Ok.ensures.made; file = subst (λ (log : List Event). CompletesFile task.file c.in-Ok.made.text.items log after) begins (rw (c.as_str-name.ensures) at c.in-Ok-complete.ensures.file); report = c.in-Ok-complete.ensures.told };
+      stopped = λ stopped. absurd (omega (arith, stopped));
+      refused = λ done write. absurd (done refl);
     }
 
 pub returns-clause-makes : goal.returns-clause-makes
-returns-clause-makes g c = record {
-  done = λ done. absurd (omega (arith, done, c.refuse-in-Err.ensures.status));
-  stopped = λ stopped. record {
-    made = c.in-Ok.made;
-    is_made = c.in-Ok.ensures.made;
-    file = λ told. rw (c.as_str.ensures, c.as_slice.ensures.value) at c.in-Err.ensures.writes told;
-    line = inl c.refuse-in-Err.ensures.told;
-  };
-}
+returns-clause-makes g c =
+    let is = c.refuse-in-Err-complete.ensures.status in
+    record {
+      done = λ done. absurd (omega (arith, done, is));
+      stopped = λ stopped. elim (told-then _ _ _ _ _ c.in-Err-complete.ensures.front c.refuse-in-Err-complete.ensures.told) [
+        | inl put ↦ inl put
+        | inr lines ↦ inr (record { made = c.in-Ok.made; is_made = c.in-Ok.ensures.made; lines = lines })
+      ];
+      refused = λ done write. absurd (write is);
+    }

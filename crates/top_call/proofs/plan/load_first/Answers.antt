@@ -10,6 +10,7 @@ use Rattle.top_call.proofs.AnalyseFiles.{opening-kind}
 use Rattle.top_call.proofs.Loaded.{not-loaded, of-file}
 use Rattle.top_call.proofs.PlanFiles.{another-first, refuses-planning}
 use Rattle.top_call.proofs.plan.load_first.Goals as goal
+use Rattle.word_pages.specs.declared.version.Version.TheVariants.{Three}
 
 pub returns-in-Err-clause-told : goal.returns-in-Err-clause-told
 returns-in-Err-clause-told g c =
@@ -18,8 +19,8 @@ returns-in-Err-clause-told g c =
     let tells = rw (c.as_str-in-Err.ensures.value ∙ named) at c.refusal_of.ensures in
     let (some, read) = c.in-Err.ensures.read in
     of-file (g.F.Files.tells c.args.files.now) (g.F.Files.held c.args.files.now (first_file task)) (RefusesPlanning task c.refusal_of.result)
-    (λ told. refuses-planning task c.refusal_of.result _ (not-loaded (first_file task) _ c.in-Err.stop c.refusal_of.result (rw (c.as_str-2.ensures.value ∙ named) at c.in-Err.ensures.told told) tells))
-    (some, refuses-planning task c.refusal_of.result some (not-loaded (first_file task) some c.in-Err.stop c.refusal_of.result read tells))
+    (λ told. refuses-planning task c.refusal_of.result _ (not-loaded Three (first_file task) _ c.in-Err.stop c.refusal_of.result (rw (c.as_str-2.ensures.value ∙ named) at c.in-Err.ensures.told told) tells))
+    (some, refuses-planning task c.refusal_of.result some (not-loaded Three (first_file task) some c.in-Err.stop c.refusal_of.result read tells))
 
 pub returns-in-Err-clause-kinds : goal.returns-in-Err-clause-kinds
 returns-in-Err-clause-kinds g c = opening-kind c.as_str-in-Err.result.now c.in-Err.stop c.refusal_of.result c.refusal_of.ensures

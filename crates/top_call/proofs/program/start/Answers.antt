@@ -5,7 +5,7 @@ use Rattle.top_call.proofs.Refused.{ends-status}
 use Rattle.top_call.proofs.program.start.Goals as goal
 
 pub returns-in-Ok : goal.returns-in-Ok
-returns-in-Ok g c = ends-status _ c.run-status.result c.run-status.ensures.ends
+returns-in-Ok g c = ends-status _ c.run_real.result.0 c.run_real.ensures.ends
 
 pub returns-in-Err : goal.returns-in-Err
 returns-in-Err g c = elim c.refuse_unread.ensures.refused [

@@ -6,6 +6,7 @@ use Rattle.top_call.proofs.AnalyseFiles.{opening-kind}
 use Rattle.top_call.proofs.Loaded.{not-loaded, of-file}
 use Rattle.top_call.proofs.ReplyFiles.{refuses-replying, state-loaded, unfit}
 use Rattle.top_call.proofs.reply.load_asked.Goals as goal
+use Rattle.word_pages.specs.declared.version.Version.TheVariants.{Three}
 
 pub returns-in-Err-clause-told : goal.returns-in-Err-clause-told
 returns-in-Err-clause-told g c =
@@ -17,8 +18,8 @@ returns-in-Err-clause-told g c =
     let tells = rw (c.as_str-name.ensures) at c.refusal_of.ensures in
     let (some, read) = c.in-Err.ensures.read in
     of-file told held (RefusesReplying task refusal)
-    (λ told. refuses-replying task refusal _ (not-loaded task.file _ stop refusal (rw (c.as_str-name.ensures) at c.in-Err.ensures.told told) tells))
-    (some, refuses-replying task refusal some (not-loaded task.file some stop refusal read tells))
+    (λ told. refuses-replying task refusal _ (not-loaded Three task.file _ stop refusal (rw (c.as_str-name.ensures) at c.in-Err.ensures.told told) tells))
+    (some, refuses-replying task refusal some (not-loaded Three task.file some stop refusal read tells))
 
 pub returns-in-Err-clause-kinds : goal.returns-in-Err-clause-kinds
 returns-in-Err-clause-kinds g c = opening-kind c.as_str-name.result.now c.in-Err.stop c.refusal_of.result c.refusal_of.ensures

@@ -8,6 +8,7 @@ use Rattle.top_call.proofs.Loaded.{not-loaded, of-file}
 use Rattle.top_call.proofs.ScanFiles.{has-scanned, refuses-scanning, scanning-kind}
 use Rattle.top_call.proofs.Telling.{has-told, no-memory, not-told, was-refused}
 use Rattle.top_call.proofs.scan.run_scan.Goals as goal
+use Rattle.word_pages.specs.declared.version.Version.TheVariants.{Three}
 
 pub returns-in-Err-clause-ends : goal.returns-in-Err-clause-ends
 returns-in-Err-clause-ends g c = inr (inr (Condition c.in-Err.bad.word, tt, c.refuse.ensures.status))
@@ -23,6 +24,11 @@ returns-in-Err-clause-tells g c =
     IsOfScanning (λ none. none) (Condition word) tt (of-file told held (RefusesScanning task (Condition word)) (λ _. bad) (None, bad))
     c.refuse.result c.refuse.ensures.status c.refuse.ensures.told
 
+pub returns-in-Err-load_base-clause-ends : goal.returns-in-Err-load_base-clause-ends
+returns-in-Err-load_base-clause-ends g c =
+    let tells = rw (c.as_str-name.ensures) at c.refusal_of.ensures in
+    inr (inr (c.refusal_of.result, scanning-kind c.args.task.now.file c.in-Err-load_base.stop c.refusal_of.result tells, c.refuse-in-Err-load_base.ensures.status))
+
 pub returns-in-Err-load_base-clause-tells : goal.returns-in-Err-load_base-clause-tells
 returns-in-Err-load_base-clause-tells g c =
     let task = c.args.task.now in
@@ -36,8 +42,8 @@ returns-in-Err-load_base-clause-tells g c =
     was-refused (HasScanned task told held) (MayRefuseScanning task told held) (g.O.Sink.output c.args.out.now) (g.O.Sink.output c.refuse-in-Err-load_base.new.out)
     IsOfScanning (λ none. none) refusal (scanning-kind task.file stop refusal tells)
     (of-file told held (RefusesScanning task refusal)
-    (λ told. refuses-scanning task refusal _ text (not-loaded task.file _ stop refusal (rw (c.as_str-name.ensures) at c.in-Err-load_base.ensures.told told) tells))
-    (some, refuses-scanning task refusal some text (not-loaded task.file some stop refusal read tells)))
+    (λ told. refuses-scanning task refusal _ text (not-loaded Three task.file _ stop refusal (rw (c.as_str-name.ensures) at c.in-Err-load_base.ensures.told told) tells))
+    (some, refuses-scanning task refusal some text (not-loaded Three task.file some stop refusal read tells)))
     c.refuse-in-Err-load_base.result c.refuse-in-Err-load_base.ensures.status c.refuse-in-Err-load_base.ensures.told
 
 pub returns-in_default-clause-ends : goal.returns-in_default-clause-ends

@@ -50,7 +50,7 @@ kinds-preserved g c =
       same = λ told name. c.in_ok-pair.ensures.same (tells told) name ∙ c.kinds.invariant.same told name;
       tells = c.in_ok-pair.ensures.tells ∙ c.kinds.invariant.tells;
       later = omega (arith, c.kinds.invariant.later, c.in_ok-pair.ensures.later);
-      write_faults = c.in_ok-pair.ensures.write_faults ∙ c.kinds.invariant.write_faults;
+      log = c.in_ok-pair.ensures.log ∙ c.kinds.invariant.log;
     }
 
 pub returns-clause-told : goal.returns-clause-told

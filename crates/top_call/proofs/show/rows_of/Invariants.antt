@@ -1,5 +1,5 @@
 use Rattle.std.proofs.Common.{◌≡◌, ◌≤◌, ◌<◌, None, IsTrue, length, take}
-use Rattle.hyper_outside.specs.Files.{SameFiles}
+use Rattle.outside_log.specs.Files.{SameFiles}
 use Rattle.cube_actions.specs.Names.{names_of}
 use Rattle.base_head.specs.Heads.{stakes_of}
 use Rattle.database_file.specs.Paged.{KeepsPagesOf, flaw_at, word_at}
@@ -17,5 +17,5 @@ invariant-kinds g l = record {
   same : IsTrue (g.F.Files.tells l.fn.files) → SameFiles (g.F.Files.held l.fn.files) (g.F.Files.held l.files);
   tells : g.F.Files.tells l.files ≡ g.F.Files.tells l.fn.files;
   later : g.F.Files.read_faults l.fn.files ≤ g.F.Files.read_faults l.files;
-  write_faults : g.F.Files.write_faults l.files ≡ g.F.Files.write_faults l.fn.files;
+  log : g.F.Files.log l.files ≡ g.F.Files.log l.fn.files;
 }

@@ -1,14 +1,29 @@
 use Rattle.std.proofs.Common.{List, ℕ, refl, sym, ◌∙◌, arith}
+use Rattle.word_forms.specs.Clap.{bytes_of}
 use Rattle.top_call.specs.Tasks.{asked}
 use Rattle.top_call.specs.Runs.{WasPut}
+use Rattle.top_call.proofs.Asked.{no-fault}
 use Rattle.top_call.proofs.Refused.{memory-text}
-use Rattle.top_call.proofs.Unread.{memory-told, unread}
+use Rattle.top_call.proofs.Unread.{memory-told, nothing-written, unread}
 use Rattle.top_call.proofs.top.run.Goals as goal
 
 pub returns-in-Err-clause-has_run : goal.returns-in-Err-clause-has_run
 returns-in-Err-clause-has_run g c =
-    unread (g.F.Files.tells c.args.files.now) (g.F.Files.held c.args.files.now) (g.F.Files.held c.args.files.now) (λ name. refl) (g.O.Sink.output c.args.out.now) (g.O.Sink.output c.refuse.new.out) c.refuse.result
+    unread (g.F.Files.tells c.args.files.now) (g.F.Files.held c.args.files.now) (g.F.Files.log c.args.files.now) (g.F.Files.log c.args.files.now) refl (g.O.Sink.output c.args.out.now) (g.O.Sink.output c.refuse.new.out) c.refuse.result
     (asked c.args.words.now) c.in-Err.refusal c.in-Err.ensures.due c.refuse.ensures.status c.refuse.ensures.told
+
+pub returns-in-Err-clause-kept : goal.returns-in-Err-clause-kept
+returns-in-Err-clause-kept g c = nothing-written (asked c.args.words.now) (g.F.Files.log c.args.files.now) c.refuse.result
+
+pub returns-in-Err-clause-cause : goal.returns-in-Err-clause-cause
+returns-in-Err-clause-cause g c = λ e.
+    let is = c.refuse.ensures.status in
+    no-fault _ (bytes_of c.args.words.now) c.in-Err.refusal c.in-Err.ensures.due (omega (arith, e, is)) (omega (arith, e, is))
+
+pub returns-in-Err-clause-read_cause : goal.returns-in-Err-clause-read_cause
+returns-in-Err-clause-read_cause g c = λ e.
+    let is = c.refuse.ensures.status in
+    no-fault _ (bytes_of c.args.words.now) c.in-Err.refusal c.in-Err.ensures.due (omega (arith, e, is)) (omega (arith, e, is))
 
 pub returns-in-Err-clause-memory : goal.returns-in-Err-clause-memory
 returns-in-Err-clause-memory g c =

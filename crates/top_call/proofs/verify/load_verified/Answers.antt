@@ -1,7 +1,7 @@
 use Rattle.std.proofs.Common.{Ok}
 use Rattle.std.specs.Option.{option_map}
 use Rattle.database_file.specs.Faults.{whole}
-use Rattle.database_file.specs.Bases.{AnswersBase}
+use Rattle.database_file.specs.Bases.{AnswersFrom}
 use Rattle.top_call.specs.Verifies.{RefusesVerifying}
 use Rattle.top_call.proofs.Loaded.{not-loaded, of-file}
 use Rattle.top_call.proofs.Verified.{check-refuses, refuses-verifying}
@@ -9,28 +9,31 @@ use Rattle.top_call.proofs.verify.load_verified.Goals as goal
 
 pub returns-in-Err-clause-told : goal.returns-in-Err-clause-told
 returns-in-Err-clause-told g c =
-    let name = c.args.task.now.file in
-    let tells = rw (c.as_str-name.ensures) at c.refusal_of.ensures in
+    let oldest = c.args.oldest in
+    let name = c.args.name.now in
+    let tells = c.refusal_of.ensures in
     let (some, read) = c.in-Err.ensures.read in
-    of-file (g.F.Files.tells c.args.files.now) (g.F.Files.held c.args.files.now name) (RefusesVerifying name c.refusal_of.result)
-    (λ told. refuses-verifying name c.refusal_of.result _ (not-loaded name _ c.in-Err.stop c.refusal_of.result (rw (c.as_str-name.ensures) at c.in-Err.ensures.told told) tells))
-    (some, refuses-verifying name c.refusal_of.result some (not-loaded name some c.in-Err.stop c.refusal_of.result read tells))
+    of-file (g.F.Files.tells c.args.files.now) (g.F.Files.held c.args.files.now name) (RefusesVerifying oldest name c.refusal_of.result)
+    (λ told. refuses-verifying oldest name c.refusal_of.result _ (not-loaded oldest name _ c.in-Err.stop c.refusal_of.result (c.in-Err.ensures.told told) tells))
+    (some, refuses-verifying oldest name c.refusal_of.result some (not-loaded oldest name some c.in-Err.stop c.refusal_of.result read tells))
 
 pub returns-in-Ok-check-clause-told : goal.returns-in-Ok-check-clause-told
 returns-in-Ok-check-clause-told g c =
-    let name = c.args.task.now.file in (
-      of-file (g.F.Files.tells c.args.files.now) (g.F.Files.held c.args.files.now name) (λ file. AnswersBase file (Ok c.in-Ok.base))
-          (λ told. rw (c.as_str-name.ensures) at c.in-Ok.ensures.told told) c.in-Ok.ensures.read,
+    let oldest = c.args.oldest in
+    let name = c.args.name.now in (
+      of-file (g.F.Files.tells c.args.files.now) (g.F.Files.held c.args.files.now name) (λ file. AnswersFrom oldest file (Ok c.in-Ok.base))
+          (λ told. c.in-Ok.ensures.told told) c.in-Ok.ensures.read,
       c.in-Ok-check.ensures.told,
     )
 
 pub returns-in-Err-check-clause-told : goal.returns-in-Err-check-clause-told
 returns-in-Err-check-clause-told g c =
-    let name = c.args.task.now.file in
+    let oldest = c.args.oldest in
+    let name = c.args.name.now in
     let held = g.F.Files.held c.args.files.now name in
     let base = c.in-Ok.base in
     let refusal = c.in-Err-check.refusal in
     let (some, read) = c.in-Ok.ensures.read in
-    of-file (g.F.Files.tells c.args.files.now) held (RefusesVerifying name refusal)
-    (λ told. check-refuses name base (option_map whole held) (rw (c.as_str-name.ensures) at c.in-Ok.ensures.told told) refusal c.in-Err-check.ensures.told)
-    (some, check-refuses name base some read refusal c.in-Err-check.ensures.told)
+    of-file (g.F.Files.tells c.args.files.now) held (RefusesVerifying oldest name refusal)
+    (λ told. check-refuses oldest name base (option_map whole held) (c.in-Ok.ensures.told told) refusal c.in-Err-check.ensures.told)
+    (some, check-refuses oldest name base some read refusal c.in-Err-check.ensures.told)

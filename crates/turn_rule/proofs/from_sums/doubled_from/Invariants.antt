@@ -1,7 +1,6 @@
 use Rattle.std.proofs.Common.{◌≡◌, ◌≤ℤ◌, take, pos, ◌*ℤ◌, Ok}
 use Rattle.position_rank.specs.Placement.{Placement}
-use Rattle.turn_rule.specs.Turn.{Words}
-use Rattle.turn_rule.specs.Looks.{Source, AreStakesOf}
+use Rattle.turn_rule.specs.Looks.{Source, Notes, AreStakesOf}
 use Rattle.turn_rule.specs.Found.{MayFollowAnswer, AreFoundSums}
 use Rattle.turn_rule.proofs.Found.{FindsFrom}
 use Rattle.turn_rule.proofs.Values.{least_of}
@@ -12,7 +11,7 @@ abbrev pub invariant-loop-taken : goal.invariant-loop-taken
 invariant-loop-taken l =
     record {
       answers : l.taken-items ≡ l.double.answers.items;
-      found : (s : Source) (noted : Words) (p : Placement) → AreStakesOf s l.stakes → AreFoundSums l.end s noted l.stakes p l.sums
+      found : (s : Source) (noted : Notes) (p : Placement) → AreStakesOf s l.stakes → AreFoundSums l.end s noted l.stakes p l.sums
           → FindsFrom l.end s noted noted 0 0 (MayFollowAnswer l.stakes p (take l.taken-index l.double.answers.items)) (pos 4 *ℤ s.bound) (least_of l.end l.stakes p l.double (take l.taken-index l.double.answers.items)) (Ok l.least);
       most : l.least ≤ℤ l.stakes.bound;
     }

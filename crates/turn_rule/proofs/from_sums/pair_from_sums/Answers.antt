@@ -14,5 +14,5 @@ returns c = record {
       let low = found-looked Lower s noted states s.bound (λ (u : Words). turn stakes u Lower p k) c.turn_from_sums.result (c.turn_from_sums.ensures.found s noted p fits lower) in
       let high = found-looked Upper s noted states s.bound (λ (u : Words). turn stakes u Upper p k) c.turn_from_sums-2.result (c.turn_from_sums-2.ensures.found s noted p fits upper) in
       (paired s states s.bound (λ (end : End) (u : Words). turn stakes u end p k) noted noted noted 0 0 0 c.turn_from_sums.result c.turn_from_sums-2.result c.pair_of.result c.pair_of.ensures.lower c.pair_of.ensures.upper
-      (λ tells. turn-order s stakes c.bound-bound.ensures.valid fits noted (within tells) p k state) low high).answer;
+      (λ told. turn-order s stakes c.bound-bound.ensures.valid fits noted.words (within told) p k state) low high).answer;
 }

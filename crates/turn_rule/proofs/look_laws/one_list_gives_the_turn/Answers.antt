@@ -7,6 +7,6 @@ use Rattle.turn_rule.proofs.Sure.{exact-pair}
 use Rattle.turn_rule.proofs.look_laws.one_list_gives_the_turn.Goals as goal
 
 pub returns : goal.returns
-returns c = λ source u stakes p k pair tells same is.
-    exact-pair source u (MayFollowTurn stakes p k) source.bound (λ (end : End) (w : Words). turn stakes w end p k) pair tells
-    (λ end. turn-agree-at stakes source.floor u end p k (same (other end))) is
+returns c = λ source noted stakes p k pair told same is.
+    exact-pair source noted (MayFollowTurn stakes p k) source.bound (λ (end : End) (w : Words). turn stakes w end p k) pair told
+    (λ end. turn-agree-at stakes source.floor noted.words end p k (same (other end))) is

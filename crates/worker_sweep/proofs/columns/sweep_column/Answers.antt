@@ -2,6 +2,7 @@ use Rattle.std.proofs.Common.{List, ◌≡◌, ◌<◌, inl, inr, ℕ, length, r
 use Rattle.std.proofs.lemmas.Bool.{cases_lt}
 use Rattle.cube_actions.specs.Stakes.{Terms, IsValid}
 use Rattle.turn_rule.specs.Games.{kinds_of}
+use Rattle.turn_rule.specs.Looks.{all_told}
 use Rattle.turn_rule.specs.Layouts.{AreLayouts}
 use Rattle.turn_rule.specs.States.{IsState}
 use Rattle.column_sums.specs.Leaps.{layout_at}
@@ -36,15 +37,15 @@ loop-i-init c =
     let same : new.board.now ≡ old.board.now = ap (λ s. s.0) c.fill.ensures.stays in
     let base : new.seat.view.base ≡ old.seat.view.base = ap (λ s. s.1) c.fill.ensures.stays in
     let board_is = c.new-pairs.ensures.board in
-    let looked = keeps-looked old.board.now new.board.now old.seat new.seat same base old.sits new.sits (c.fill.ensures.later.notes refl) in
+    let looked = keeps-looked old.board.now new.board.now old.seat new.seat same base old.sits new.sits (c.fill.ensures.later.notes.words refl) in
     let layouts = subst (AreLayouts game.checkers) (sym c.fill.ensures.layouts) c.requires.room.layouts in
     let inside : c.args.block < length column.layouts = omega (arith, c.requires.block, layouts.many) in
     let many = length column.movers in
     let place = mover_at column.layouts column.other column.movers in
-    let one = subst (λ (b : GameTable). AreTurnsOf (source_of b.game old.seat.view.base) (noted new.board.now.game new.seat.view.notes) c.stakes-stakes.result.now place many column.pairs) board_is c.fill.ensures.turns in
-    let two = subst (λ (b : GameTable). AreTurnsOf (source_of game old.seat.view.base) (noted b.game new.seat.view.notes) c.stakes-stakes.result.now place many column.pairs) (same ∙ board_is) one in
-    let three = subst (λ (n : ℕ). AreTurnsOf (source_of game n) (noted game new.seat.view.notes) c.stakes-stakes.result.now place many column.pairs) (sym base) two in
-    let turns = subst (λ (s : Terms). AreTurnsOf (source_of game new.seat.view.base) (noted game new.seat.view.notes) s place many column.pairs) c.stakes-stakes.ensures three in
+    let one = subst (λ (b : GameTable). AreTurnsOf (source_of b.game old.seat.view.base) (all_told (noted new.board.now.game new.seat.view.notes)) c.stakes-stakes.result.now place many column.pairs) board_is c.fill.ensures.turns in
+    let two = subst (λ (b : GameTable). AreTurnsOf (source_of game old.seat.view.base) (all_told (noted b.game new.seat.view.notes)) c.stakes-stakes.result.now place many column.pairs) (same ∙ board_is) one in
+    let three = subst (λ (n : ℕ). AreTurnsOf (source_of game n) (all_told (noted game new.seat.view.notes)) c.stakes-stakes.result.now place many column.pairs) (sym base) two in
+    let turns = subst (λ (s : Terms). AreTurnsOf (source_of game new.seat.view.base) (all_told (noted game new.seat.view.notes)) s place many column.pairs) c.stakes-stakes.ensures three in
     let after = subst (λ (s : GameSeat). KeepsNotes s new.seat) c.new-pairs.ensures.seat looked in
     let sits : SitsAt board new.seat = sits-kept board c.args.seat new.seat after c.requires.seat in
     let valid : IsValid game.stakes = subst IsValid c.stakes-stakes.ensures c.kinds-kinds.ensures.valid in

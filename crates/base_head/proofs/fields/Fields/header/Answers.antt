@@ -15,7 +15,7 @@ returns-in_err-name-clause-read c =
     let version = checked-ok _ _ _ (sym c.in_ok-version.ensures) in
     let checkers = checked-ok _ _ _ (sym c.in_ok-checkers.ensures.read) in
     let name = checked-err _ (name_in c.args.self.now) _ (sym c.in_err-name.ensures.read) in
-    let wrong : first_wrong (field_checks c.args.self.now) ≡ Some c.in_err-name.field-0.0 = wrong-name c.args.self.now c.in_err-name.field-0.0 version.0 checkers.0 name in
+    let wrong : first_wrong (field_checks c.args.oldest c.args.self.now) ≡ Some c.in_err-name.field-0.0 = wrong-name c.args.oldest c.args.self.now c.in_err-name.field-0.0 version.0 checkers.0 name in
     search (rules, wrong)
 
 pub check_counts-requires-clause-name : goal.check_counts-requires-clause-name
@@ -27,7 +27,7 @@ returns-in_err-check_counts-clause-read c =
     let checkers = checked-ok _ _ _ (sym c.in_ok-checkers.ensures.read) in
     let name = checked-ok _ _ _ (sym c.in_ok-name.ensures.read) in
     let counts = checked-err _ tt _ (sym c.in_err-check_counts.ensures) in
-    let wrong : first_wrong (field_checks c.args.self.now) ≡ Some c.in_err-check_counts.field-0.0 = after-name c.args.self.now version.0 checkers.0 name.0 ∙ counts in
+    let wrong : first_wrong (field_checks c.args.oldest c.args.self.now) ≡ Some c.in_err-check_counts.field-0.0 = after-name c.args.oldest c.args.self.now version.0 checkers.0 name.0 ∙ counts in
     search (rules, wrong)
 
 pub with-requires-clause-kinds : goal.with-requires-clause-kinds
@@ -48,7 +48,7 @@ returns-clause-read c =
     let checkers = checked-ok _ _ _ (sym c.in_ok-checkers.ensures.read) in
     let name = checked-ok _ _ _ (sym c.in_ok-name.ensures.read) in
     let counts = checked-ok _ _ _ (sym c.in_ok-check_counts.ensures) in
-    let none : first_wrong (field_checks c.args.self.now) ≡ None = after-name c.args.self.now version.0 checkers.0 name.0 ∙ counts.0 in
+    let none : first_wrong (field_checks c.args.oldest c.args.self.now) ≡ None = after-name c.args.oldest c.args.self.now version.0 checkers.0 name.0 ∙ counts.0 in
     rw (c.with.ensures, version.1, checkers.1, name.1) (sym (ap (λ (wrong : Option BadFile). checked wrong (header_in c.args.self.now)) none))
 
 pub returns-clause-valid : goal.returns-clause-valid
@@ -57,5 +57,5 @@ returns-clause-valid c =
     let checkers = checked-ok _ _ _ (sym c.in_ok-checkers.ensures.read) in
     let name = checked-ok _ _ _ (sym c.in_ok-name.ensures.read) in
     let counts = checked-ok _ _ _ (sym c.in_ok-check_counts.ensures) in
-    let none : first_wrong (field_checks c.args.self.now) ≡ None = after-name c.args.self.now version.0 checkers.0 name.0 ∙ counts.0 in
-    rw (c.with.ensures, version.1, checkers.1, name.1) (none-header c.args.self.now none)
+    let none : first_wrong (field_checks c.args.oldest c.args.self.now) ≡ None = after-name c.args.oldest c.args.self.now version.0 checkers.0 name.0 ∙ counts.0 in
+    rw (c.with.ensures, version.1, checkers.1, name.1) (none-header c.args.oldest c.args.self.now none)

@@ -1,7 +1,7 @@
-use Rattle.std.proofs.Common.{◌∙◌, Ok, Err, refl, sym, ap, subst}
+use Rattle.std.proofs.Common.{◌≡◌, ◌∙◌, IsTrue, Ok, Err, refl, sym, ap, subst}
 use Rattle.database_file.specs.Faults.{pages_behind}
 use Rattle.database_file.specs.Pages.{ArePages}
-use Rattle.database_file.specs.Paged.{ArePagesKept, spot_of}
+use Rattle.database_file.specs.Paged.{ArePagesKept, digest_told, pages_told, spot_of}
 use Rattle.database_file.specs.PagedFiles.{PagedFile}
 use Rattle.database_file.specs.declared.pages.Pages.{Pages}
 use Rattle.database_file.proofs.Bases.{pages-valid}
@@ -9,7 +9,7 @@ use Rattle.database_file.proofs.PagedLooks.{look-stopped, moved-answer, of-file}
 use Rattle.database_file.proofs.paged.PagedBase.look.Goals as goal
 
 pub word_on-requires-clause-pages : goal.word_on-requires-clause-pages
-word_on-requires-clause-pages g c = subst ArePages (sym c.pages_behind-pages.ensures) (pages-valid c.self.inside.front.header c.self.invariant.valid)
+word_on-requires-clause-pages g c = subst ArePages (sym c.pages_behind-pages.ensures) (pages-valid c.self.inside.front.header c.self.inside.front.digest c.self.invariant.valid)
 
 pub word_on-requires-clause-of_file : goal.word_on-requires-clause-of_file
 word_on-requires-clause-of_file g c =
@@ -17,8 +17,8 @@ word_on-requires-clause-of_file g c =
     let held = g.F.Files.held c.args.files.now in
     let view = c.self.view_is in
     let name = c.as_str.ensures.value ∙ ap (λ (file : PagedFile). file.name) view in
-    of-file c.pages_behind-pages.result (pages_behind base.header) (g.F.Files.tells c.args.files.now) (held c.as_str.result.now) (held base.name) c.self.inside.kept.entries base.kept
-    (c.pages_behind-pages.ensures ∙ ap (λ (file : PagedFile). pages_behind file.header) view) (ap held name) (ap (λ (file : PagedFile). file.kept) view) c.requires.of_file
+    of-file c.pages_behind-pages.result (pages_behind base.header base.digest) (g.F.Files.tells c.args.files.now) (held c.as_str.result.now) (held base.name) c.self.inside.kept.entries base.kept
+    (c.pages_behind-pages.ensures ∙ ap (λ (file : PagedFile). pages_behind file.header file.digest) view) (ap held name) (ap (λ (file : PagedFile). file.kept) view) c.requires.of_file.pages
 
 pub returns-in_err-word-clause-told : goal.returns-in_err-word-clause-told
 returns-in_err-word-clause-told g c tells =
@@ -26,16 +26,23 @@ returns-in_err-word-clause-told g c tells =
     let held = g.F.Files.held c.args.files.now in
     let view = c.self.view_is in
     let name = c.as_str.ensures.value ∙ ap (λ (file : PagedFile). file.name) view in
-    let pages = c.pages_behind-pages.ensures ∙ ap (λ (file : PagedFile). pages_behind file.header) view in
+    let pages = c.pages_behind-pages.ensures ∙ ap (λ (file : PagedFile). pages_behind file.header file.digest) view ∙ ap (pages_behind base.header) (c.requires.of_file.digest tells) in
     look-stopped base.header (held base.name) c.args.end c.args.position.now c.args.kind c.in_err-word.field-0.0 c.from_residual.result
-    (moved-answer held c.pages_behind-pages.result (pages_behind base.header) c.as_str.result.now base.name c.spot-spot.result (spot_of base.header.kinds c.args.position.now c.args.kind c.args.end) (Err c.in_err-word.field-0.0) pages name c.spot-spot.ensures.spot (c.in_err-word.ensures.told tells))
+    (moved-answer held c.pages_behind-pages.result (pages_told base.header (held base.name)) c.as_str.result.now base.name c.spot-spot.result (spot_of base.header.kinds c.args.position.now c.args.kind c.args.end) (Err c.in_err-word.field-0.0) pages name c.spot-spot.ensures.spot (c.in_err-word.ensures.told tells))
     c.from_residual.ensures.1
 
 pub returns-in_err-word-clause-of_file : goal.returns-in_err-word-clause-of_file
 returns-in_err-word-clause-of_file g c =
+    let base = c.args.self.now in
     let held = g.F.Files.held c.word_on.new.files in
-    of-file (pages_behind c.self.inside.front.header) c.pages_behind-pages.result (g.F.Files.tells c.word_on.new.files) (held _) (held c.as_str.result.now) c.word_on.new.kept.entries c.word_on.new.kept.entries
-    (sym c.pages_behind-pages.ensures) (ap held (sym c.as_str.ensures.value)) refl c.in_err-word.ensures.of_file
+    record {
+      digest = λ tells.
+          let told = subst IsTrue c.in_err-word.ensures.tells tells in
+          subst (λ (file : PagedFile). file.digest ≡ digest_told file.header (held file.name)) (sym c.self.view_is)
+          (c.requires.of_file.digest told ∙ ap (digest_told base.header) (sym (c.in_err-word.ensures.same told base.name)));
+      pages = of-file (pages_behind c.self.inside.front.header c.self.inside.front.digest) c.pages_behind-pages.result (g.F.Files.tells c.word_on.new.files) (held _) (held c.as_str.result.now) c.word_on.new.kept.entries c.word_on.new.kept.entries
+          (sym c.pages_behind-pages.ensures) (ap held (sym c.as_str.ensures.value)) refl c.in_err-word.ensures.of_file;
+    }
 
 pub invariant_of-self-2 : goal.invariant_of-self-2
 invariant_of-self-2 g c =
@@ -55,11 +62,18 @@ returns-clause-told g c tells =
     let held = g.F.Files.held c.args.files.now in
     let view = c.self.view_is in
     let name = c.as_str.ensures.value ∙ ap (λ (file : PagedFile). file.name) view in
-    let pages = c.pages_behind-pages.ensures ∙ ap (λ (file : PagedFile). pages_behind file.header) view in
-    moved-answer held c.pages_behind-pages.result (pages_behind base.header) c.as_str.result.now base.name c.spot-spot.result (spot_of base.header.kinds c.args.position.now c.args.kind c.args.end) (Ok c.in_ok-word.word) pages name c.spot-spot.ensures.spot (c.in_ok-word.ensures.told tells)
+    let pages = c.pages_behind-pages.ensures ∙ ap (λ (file : PagedFile). pages_behind file.header file.digest) view ∙ ap (pages_behind base.header) (c.requires.of_file.digest tells) in
+    moved-answer held c.pages_behind-pages.result (pages_told base.header (held base.name)) c.as_str.result.now base.name c.spot-spot.result (spot_of base.header.kinds c.args.position.now c.args.kind c.args.end) (Ok c.in_ok-word.word) pages name c.spot-spot.ensures.spot (c.in_ok-word.ensures.told tells)
 
 pub returns-clause-of_file : goal.returns-clause-of_file
 returns-clause-of_file g c =
+    let base = c.args.self.now in
     let held = g.F.Files.held c.word_on.new.files in
-    of-file (pages_behind c.self.inside.front.header) c.pages_behind-pages.result (g.F.Files.tells c.word_on.new.files) (held _) (held c.as_str.result.now) c.word_on.new.kept.entries c.word_on.new.kept.entries
-    (sym c.pages_behind-pages.ensures) (ap held (sym c.as_str.ensures.value)) refl c.in_ok-word.ensures.of_file
+    record {
+      digest = λ tells.
+          let told = subst IsTrue c.in_ok-word.ensures.tells tells in
+          subst (λ (file : PagedFile). file.digest ≡ digest_told file.header (held file.name)) (sym c.self.view_is)
+          (c.requires.of_file.digest told ∙ ap (digest_told base.header) (sym (c.in_ok-word.ensures.same told base.name)));
+      pages = of-file (pages_behind c.self.inside.front.header c.self.inside.front.digest) c.pages_behind-pages.result (g.F.Files.tells c.word_on.new.files) (held _) (held c.as_str.result.now) c.word_on.new.kept.entries c.word_on.new.kept.entries
+          (sym c.pages_behind-pages.ensures) (ap held (sym c.as_str.ensures.value)) refl c.in_ok-word.ensures.of_file;
+    }

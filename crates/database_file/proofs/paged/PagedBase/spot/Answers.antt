@@ -11,7 +11,7 @@ pub returns-clause-there : goal.returns-clause-there
 returns-clause-there c =
     let header = c.args.self.now.header in
     let valid = subst IsHeader (ap (λ (file : PagedFile). file.header) c.self.view_is) c.self.invariant.valid in
-    subst (λ rank. rank / 1024 < page_count (pages_behind header)) (sym c.rank-rank.ensures.rank) (state-stands header valid c.args.position.now c.args.kind c.requires).0
+    subst (λ rank. rank / 1024 < page_count (pages_behind header c.args.self.now.digest)) (sym c.rank-rank.ensures.rank) (state-stands header c.args.self.now.digest valid c.args.position.now c.args.kind c.requires).0
 
 pub returns-clause-state : goal.returns-clause-state
 returns-clause-state c =
@@ -19,5 +19,5 @@ returns-clause-state c =
     let kind = c.args.kind in
     let valid = subst IsHeader (ap (λ (file : PagedFile). file.header) c.self.view_is) c.self.invariant.valid in
     let kinds = c.from-kinds.ensures ∙ ap (λ (file : PagedFile). file.header.kinds) c.self.view_is in
-    subst (λ rank. 2 * (rank % 1024 * c.from-kinds.result + kind) + 1 < words_on (pages_behind header) (rank / 1024)) (sym c.rank-rank.ensures.rank)
-    (subst (λ kinds. 2 * (live_rank_of c.args.position.now % 1024 * kinds + kind) + 1 < words_on (pages_behind header) (live_rank_of c.args.position.now / 1024)) (sym kinds) (state-stands header valid c.args.position.now kind c.requires).1)
+    subst (λ rank. 2 * (rank % 1024 * c.from-kinds.result + kind) + 1 < words_on (pages_behind header c.args.self.now.digest) (rank / 1024)) (sym c.rank-rank.ensures.rank)
+    (subst (λ kinds. 2 * (live_rank_of c.args.position.now % 1024 * kinds + kind) + 1 < words_on (pages_behind header c.args.self.now.digest) (live_rank_of c.args.position.now / 1024)) (sym kinds) (state-stands header c.args.self.now.digest valid c.args.position.now kind c.requires).1)

@@ -40,6 +40,6 @@ returns-clause-stays g c =
       most = (kept i).most;
       tells = c.look.ensures.tells i;
       files = told i;
-      write_faults = c.look.ensures.write_faults i;
+      log = c.look.ensures.log i;
       lent = c.args.self.now.files.ghost_name;
     }

@@ -1,4 +1,5 @@
 use Rattle.std.proofs.Common.{◌≡◌, ◌∙◌, Some, ap, sym, subst}
+use Rattle.turn_rule.specs.Looks.{all_told}
 use Rattle.interval_words.specs.WordLists.{WordList, source_of, words_in_list}
 use Rattle.match_scores.specs.Ladders.{AreWordsOf}
 use Rattle.match_scores.specs.Openings.{start_over}
@@ -30,5 +31,5 @@ returns-clause-stays c =
     let same : c.words-words.result.now ≡ words = c.words-words.ensures.words in
     let stakes : c.stakes.result.now ≡ words.game.stakes = c.stakes.ensures ∙ ap (λ (w : WordList). w.game.stakes) same in
     let judges = judged-by-words c.sure_sources_judge.ensures words c.reader.result.words.now c.judge.new.pairs.words.now (c.reader.ensures.source ∙ ap source_of same) c.judge.ensures.source (Some c.args.score) c.stakes.result.now stakes c.self.inside.analysis c.judge.new.self c.judge.result c.judge.ensures.looked in
-    zipped-decisions (Judges (Some c.args.score) words.game.stakes (source_of words) (words_in_list words)) (λ old new is. is.decision) c.self.inside.analysis c.judge.new.self judges
+    zipped-decisions (Judges (Some c.args.score) words.game.stakes (source_of words) (all_told (words_in_list words))) (λ old new is. is.decision) c.self.inside.analysis c.judge.new.self judges
     ∙ ap (λ (j : JudgedMatch). decisions_in j.list) c.self.view_is

@@ -1,6 +1,0 @@
-pub mod Fronts
-pub mod Held
-pub mod Stocks
-pub mod PlaceLemmas
-mod WriterLemmas
-pub mod Filling

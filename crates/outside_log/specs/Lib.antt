@@ -1,0 +1,5 @@
+pub mod Sink
+pub mod Files
+pub mod Log
+pub mod Reading
+pub mod Told

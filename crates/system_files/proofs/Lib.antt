@@ -1,0 +1,2 @@
+mod WriterLemmas
+mod PutLemmas

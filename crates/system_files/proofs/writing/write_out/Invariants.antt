@@ -1,0 +1,8 @@
+use Rattle.std.proofs.Common.{◌≤◌, length, take}
+use Rattle.std.specs.Io.KnownBytes.{Appends}
+use Rattle.system_files.proofs.writing.write_out.Given as goal
+
+-- the writer has taken the first `done`
+abbrev pub invariant-loop : goal.invariant-loop
+invariant-loop g l =
+    (l.done ≤ length l.bytes) × Appends (g.W.Write.contents l.initial.writer) (g.W.Write.contents l.writer) (take l.done l.bytes)

@@ -1,0 +1,20 @@
+-- Why no file is begun for a name.
+use Rattle.std.specs.Prelude.{◌≡◌, ℕ, List, Bool, IsTrue, Option, ⊤}
+use Rattle.outside_log.specs.Reading.{begins_otherwise}
+use Rattle.equity_report.specs.declared.refusal.Refusal.{Refusal}
+use Rattle.equity_report.specs.declared.refusal.Refusal.TheVariants.{Read, Write, Memory, Other}
+
+-- A file that is to begin so isn't written under a name: what stands there has a byte and begins otherwise. A fault of the files or of memory says
+-- nothing of what stands there.
+abbrev pub RefusesBeginning : List ℕ → List ℕ → Refusal → Option (List ℕ) → Type 0
+RefusesBeginning start name (Other other) held =
+    (other.bytes ≡ name) × IsTrue (begins_otherwise start held)
+RefusesBeginning start name Write held = ⊤
+RefusesBeginning start name Read held = ⊤
+RefusesBeginning start name Memory held = ⊤
+RefusesBeginning start name _ held = ⊥
+
+-- it may be refused so, of what stands there where files tell what they hold
+abbrev pub MayRefuseBeginning : List ℕ → List ℕ → Bool → Option (List ℕ) → Refusal → Type 0
+MayRefuseBeginning start name told held refusal =
+    IsTrue told → RefusesBeginning start name refusal held

@@ -1,0 +1,65 @@
+ghost use Rattle.std.specs.Prelude.{◌≡◌, ◌≢◌, ◌≤◌, [], ◌∷◌, ◌++◌, OnOk, OnErr, IfErr, Err, length};
+ghost use Rattle.hyper_outside.specs.Causes.{Rose};
+ghost use Rattle.outside_log.specs.Log.{GivenUp, LeavesPlaces, Started, failures};
+ghost use Rattle.equity_report.specs.declared.refusal.Refusal.TheVariants.{Read, Write};
+ghost use Rattle.top_call.specs.Beginnings.{MayRefuseBeginning};
+ghost use Rattle.top_call.specs.Runs.{IsOfBeginning};
+
+use equity_report::{FileName, Refusal};
+use hyper_outside::Failed;
+use outside_log::{Files, begins_otherwise};
+
+/// Looks at what stands under a name for which a file was begun, which is given up where that has a byte and begins otherwise than with
+/// `start`, or can't be looked at.
+fn look<F: Files>(files: &mut F, name: &str, start: &[u8]) -> Result<(), Refusal>
+    requires name { length name.now ≤ 272 }
+    requires start { length start.now ≤ 32 }
+    ensures stays { OnOk result (F.log files.new ≡ F.log files.old) }
+    ensures given_up { OnErr result
+        (F.log files.new ≡ F.log files.old ++ GivenUp name.now ∷ []) }
+    ensures kinds { IfErr result IsOfBeginning }
+    ensures told { IfErr result (MayRefuseBeginning start.now name.now
+        (F.tells files.old) (F.held files.old name.now)) }
+    ensures tells { F.tells files.new ≡ F.tells files.old }
+    ensures read_later { F.read_faults files.old ≤ F.read_faults files.new }
+    ensures read_cause { result ≡ Err Read
+        → Rose (F.read_faults files.old) (F.read_faults files.new) }
+    ensures write { result ≢ Err Write }
+{
+    match begins_otherwise(files, name, start) {
+        Ok(false) => Ok(()),
+        Ok(true) => {
+            files.give_up(name);
+            Err(Refusal::Other(FileName::from(name).unwrap()))
+        }
+        Err(Failed) => {
+            files.give_up(name);
+            Err(Refusal::Read)
+        }
+    }
+}
+
+/// Begins the file that is to take a name's place, unless a file stands there that has a byte and begins otherwise than with `start`. That
+/// the file can be written is known before any work is done for it.
+pub(crate) fn begin<F: Files>(files: &mut F, name: &str, start: &[u8]) -> Result<(), Refusal>
+    requires name { length name.now ≤ 272 }
+    requires start { length start.now ≤ 32 }
+    ensures begun { OnOk result
+        (F.log files.new ≡ F.log files.old ++ Started name.now ∷ []) }
+    ensures leaves { OnErr result (LeavesPlaces (F.log files.old) (F.log files.new)) }
+    ensures kinds { IfErr result IsOfBeginning }
+    ensures told { IfErr result (MayRefuseBeginning start.now name.now
+        (F.tells files.old) (F.held files.old name.now)) }
+    ensures tells { F.tells files.new ≡ F.tells files.old }
+    ensures later { failures (F.log files.old) ≤ failures (F.log files.new) }
+    ensures read_later { F.read_faults files.old ≤ F.read_faults files.new }
+    ensures write_cause { result ≡ Err Write
+        → Rose (failures (F.log files.old)) (failures (F.log files.new)) }
+    ensures read_cause { result ≡ Err Read
+        → Rose (F.read_faults files.old) (F.read_faults files.new) }
+{
+    match files.start(name) {
+        Ok(()) => look(files, name, start),
+        Err(Failed) => Err(Refusal::Write),
+    }
+}
