@@ -41,10 +41,9 @@ module _ (P : ℕ × Vec ℕ Global → Type 0) where
   ]
 
 -- pages stay those of a file that stays
-pub moved : (pages : Pages) (tells now : Bool) (file after : Option (List ℕ)) (kept : Kept) → now ≡ tells → (IsTrue tells → after ≡ file) → AreOfFile pages tells file kept → AreOfFile pages now after kept
-moved pages tells now file after kept same files of told e among =
-    let was = subst IsTrue same told in
-    subst (λ (file : Option (List ℕ)). IsPageOf pages (bytes_from pages.at file) e.0 e.1.items) (sym (files was)) (of was e among)
+pub moved : (pages : Pages) (tells now : Bool) (file after : Option (List ℕ)) (kept : Kept) → (IsTrue now → IsTrue tells) → after ≡ file → AreOfFile pages tells file kept → AreOfFile pages now after kept
+moved pages tells now file after kept was files of told e among =
+    subst (λ (file : Option (List ℕ)). IsPageOf pages (bytes_from pages.at file) e.0 e.1.items) (sym files) (of (was told) e among)
 
 -- a page that was read is one, whatever stands before it
 pub one-page : (pages : Pages) (page : ℕ) (part old new : List ℕ) → old ≡ []

@@ -165,3 +165,9 @@ list-fits oldest (Some file) front bytes list valid told pages =
       subst (λ bound. AreWithin bound list) (ap (λ (head : FileHead). bound_of head.name) (sym head)) (subst (AreWithin (bound_of h.name)) (sym pages.1)
           (words-within (pages_behind h front.digest) bytes (h.kinds * 1024) (h.kinds * h.positions) (mul_assoc 2 h.kinds 1024) (mul_assoc 2 h.kinds h.positions) pages.0)),
     )
+
+-- no memory for the words of a file that is there
+pub no-room : (oldest : Version) (file : Option Read) (front : Front) (stop : LoadStop) (result : Result FileBase LoadStop) → stop ≡ NoMemory → AnswersFront oldest file (Ok front) → IsErrAnd result (λ given. given ≡ stop) → AnswersFrom oldest file result
+no-room oldest file front stop (Ok base) none told wrong = absurd wrong
+no-room oldest None front stop (Err given) none told same = absurd told
+no-room oldest (Some file) front stop (Err given) none told same = subst (λ (stop : LoadStop). AnswersFrom oldest (Some file) (Err stop)) (sym (same ∙ none)) tt

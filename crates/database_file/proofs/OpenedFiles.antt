@@ -1,8 +1,9 @@
 -- What is answered of a file that is opened.
-use Rattle.std.proofs.Common.{◌≡◌, ◌∙◌, Option, None, Some, Result, Ok, Err, IsErrAnd, [], List, ℕ, Bool, IsTrue, Contains, refl, sym, ap, subst}
+use Rattle.std.proofs.Common.{◌≡◌, ◌∙◌, Option, None, Some, Result, Ok, Err, IsErrAnd, [], List, ℕ, IsTrue, Contains, refl, sym, ap, subst}
 use Rattle.std.specs.Option.{option_map}
 use Rattle.lru.proofs.Splits.{Contains-nil}
-use Rattle.outside_log.specs.Files.{Contents}
+use Rattle.outside_log.specs.Log.{Event, standing}
+use Rattle.outside_log.specs.Readings.{is_faithful}
 use Rattle.word_pages.specs.declared.version.Version.{Version}
 use Rattle.base_head.specs.declared.header.Header.{Header}
 use Rattle.base_head.specs.Fronts.{digest_in}
@@ -43,8 +44,8 @@ front-stopped oldest file stop (Err given) told same = subst (λ (stop : LoadSto
     by_file (Some file) NoMemory told = tt
 
 -- where no page is kept, each that is is one of the file
-pub none-of-file : (base : PagedFile) (tells : Bool) (held : Contents) → base.kept ≡ [] → (IsTrue tells → base.digest ≡ digest_told base.header (held base.name)) → KeepsPagesOf base tells held
-none-of-file base tells held none digest = record {
+pub none-of-file : (base : PagedFile) (log : List Event) → base.kept ≡ [] → (IsTrue (is_faithful log) → base.digest ≡ digest_told base.header (standing log base.name)) → KeepsPagesOf base log
+none-of-file base log none digest = record {
   digest = digest;
   pages = λ told page among. absurd (Contains-nil page (subst (λ (kept : Kept). Contains kept page) none among));
 }

@@ -69,7 +69,7 @@ same-both : (end : End) (a b : ℤ) → IsNoLooser end a b → IsNoLooser end b 
 same-both Lower a b one other = omega (arith, ints, one, other)
 same-both Upper a b one other = omega (arith, ints, one, other)
 
-pub answer-exact : (base : PagedFile) (held : Contents) (end : End) (p : Placement) (k : ℕ) (value : ℤ) → IsAnswer end (source_of base true held) (notes_of base true held) p k value
+pub answer-exact : (base : PagedFile) (held : Contents) (end : End) (p : Placement) (k : ℕ) (value : ℤ) → IsAnswer end (source_of base held) (notes_of base true held) p k value
     → (flaw_at base.header (held base.name) p ≡ None) × (value ≡ word_at base.header (held base.name) end p k)
 answer-exact base held end p k value answer =
     let right = no-flaw (flaw_at base.header (held base.name) p) (answer.right refl) in

@@ -1,7 +1,6 @@
 -- What a look-up in a file answers, and what stays.
-use Rattle.std.proofs.Common.{◌≡◌, ◌∙◌, ℕ, ◌≤◌, ℤ, Bool, true, false, IsTrue, List, Option, None, Some, Result, Ok, Err, IfOk, IfErr, IsErrAnd, refl, sym, ap, subst, arith}
+use Rattle.std.proofs.Common.{◌≡◌, ◌∙◌, ℕ, ◌≤◌, ℤ, Bool, IsTrue, List, Option, None, Some, Result, Ok, Err, IfOk, IfErr, IsErrAnd, refl, sym, ap, subst, arith}
 use Rattle.std.specs.Option.{option_map}
-use Rattle.std.proofs.lemmas.Bool.{false≢true}
 use Rattle.std.proofs.lemmas.Int.{ints}
 use Rattle.std.proofs.lemmas.Result.{err_from_is_err_and}
 use Rattle.position_rank.specs.Placement.{Placement}
@@ -10,7 +9,7 @@ use Rattle.directed_fixed.specs.declared.bounds.End.TheVariants.{Lower, Upper}
 use Rattle.directed_fixed.specs.Bounds.{IsNoLooser, IsWithinUnits}
 use Rattle.cube_actions.specs.Stakes.{bound_of}
 use Rattle.hyper_outside.specs.Causes.{Rose}
-use Rattle.outside_log.specs.Files.{Contents, SameFiles, bytes_from}
+use Rattle.outside_log.specs.Files.{Contents, bytes_from}
 use Rattle.hyper_outside.specs.declared.outside.LookStop.{LookStop}
 use Rattle.hyper_outside.specs.declared.outside.LookStop.TheVariants.{ReadFault, BadPage, NoMemory}
 use Rattle.turn_rule.specs.Turn.{Words}
@@ -23,20 +22,7 @@ use Rattle.database_file.specs.declared.pages.PagesStop.{PagesStop}
 use Rattle.database_file.specs.declared.pages.PagesStop.TheVariants as pages
 use Rattle.database_file.specs.Stops.{looking_stopped}
 use Rattle.database_file.specs.PagedFiles.{PagedFile}
-use Rattle.database_file.specs.Paged.{AnswersLook, AnswersWord, AreOfFile, Kept, bound_end, damage_of, flaw_at, notes_of, page_bytes, pages_told, paged_source, source_of, spot_of, told_files, told_unless, told_words, word_at, words_of_pages}
-
--- what is told stays where the files stay
-pub same-told : (tells now : Bool) (held after : Contents) → now ≡ tells → (IsTrue tells → SameFiles held after) → told_files now after ≡ told_files tells held
-same-told tells now held after same files = subst (λ (now : Bool). told_files now after ≡ told_files tells held) (sym same) (by_tells tells files)
-  where
-    by_tells : (tells : Bool) → (IsTrue tells → SameFiles held after) → told_files tells after ≡ told_files tells held
-    by_tells true files = λ i name. files refl name i
-    by_tells false files = refl
-
--- what is told is what the files hold
-told-when : (tells : Bool) (held : Contents) → IsTrue tells → told_files tells held ≡ held
-told-when true held told = refl
-told-when false held told = absurd (false≢true told)
+use Rattle.database_file.specs.Paged.{AnswersLook, AnswersWord, AreOfFile, Kept, bound_end, damage_of, flaw_at, notes_of, page_bytes, pages_told, paged_source, source_of, spot_of, told_unless, told_words, word_at, words_of_pages}
 
 -- a value is no looser than itself
 no-looser : (end : End) (a b : ℤ) → a ≡ b → IsNoLooser end a b
@@ -47,52 +33,44 @@ no-looser Upper a b same = omega (arith, ints, same)
 pub told-right : (header : Header) (file : Option (List ℕ)) (end : End) (p : Placement) (k : ℕ) → flaw_at header file p ≡ None → told_words header file end p k ≡ word_at header file end p k
 told-right header file end p k right = ap (λ (flaw : Option Flaw). told_unless flaw (word_at header file end p k) (bound_end (bound_of header.name) end)) right
 
-module _ (old new : PagedFile) (tells now : Bool) (held after : Contents) (kept : new ≡ record old { kept = new.kept }) (same : now ≡ tells) (files : IsTrue tells → SameFiles held after) where
-  file-same : told_files now after new.name ≡ told_files tells held old.name
-  file-same = λ i. same-told tells now held after same files i (kept i).name
+module _ (old new : PagedFile) (held : Contents) (kept : new ≡ record old { kept = new.kept }) where
+  words-same : words_of_pages new held ≡ words_of_pages old held
+  words-same = λ i. told_words (kept i).header (held (kept i).name)
 
-  words-same : words_of_pages new now after ≡ words_of_pages old tells held
-  words-same = λ i. told_words (kept i).header (file-same i)
+  pub source-same : source_of new held ≡ source_of old held
+  source-same = λ i. paged_source (kept i).header (held (kept i).name)
 
-  pub source-same : source_of new now after ≡ source_of old tells held
-  source-same = λ i. paged_source (kept i).header (file-same i)
-
-  was-told : IsTrue now → IsTrue tells
-  was-told = subst IsTrue same
-
-  module _ (end : End) (p : Placement) (k before later : ℕ) where
-    answer : (result : Result ℤ LookStop) → IfOk result (IsWithinUnits (bound_of old.header.name)) → (IsTrue tells → AnswersLook old.header (told_files tells held old.name) end p k result)
-        → IfOk result (IsAnswer end (source_of old tells held) (notes_of new now after) p k)
+  module _ (tells now : Bool) (before-told : IsTrue now → IsTrue tells) (end : End) (p : Placement) (k before later : ℕ) where
+    answer : (result : Result ℤ LookStop) → IfOk result (IsWithinUnits (bound_of old.header.name)) → (IsTrue now → AnswersLook old.header (held old.name) end p k result)
+        → IfOk result (IsAnswer end (source_of old held) (notes_of new now held) p k)
     answer (Ok value) within answers =
         let told = λ (told : IsTrue now).
-        let found = answers (was-told told) in
-        found.1 ∙ sym (told-right old.header (told_files tells held old.name) end p k found.0) in
+        let found = answers told in
+        found.1 ∙ sym (told-right old.header (held old.name) end p k found.0) in
         record {
           within = within;
           floor = λ is. no-looser end _ _ (told is);
           notes = λ is. no-looser end _ _ (ap (λ (words : Words). words end p k) words-same ∙ sym (told is));
-          right = λ is. ap (option_map damage_of) (answers (was-told is)).0;
+          right = λ is. ap (option_map damage_of) (answers is).0;
         }
     answer (Err stop) within answers = tt
 
-    stop : (result : Result ℤ LookStop) → (result ≡ Err ReadFault → Rose before later) → (IsTrue tells → AnswersLook old.header (told_files tells held old.name) end p k result)
-        → IfErr result (MayStop (source_of old tells held) (notes_of new now after) before later (λ damage. (source_of old tells held).damage p k ≡ Some damage))
+    stop : (result : Result ℤ LookStop) → (result ≡ Err ReadFault → Rose before later) → (IsTrue now → AnswersLook old.header (held old.name) end p k result)
+        → IfErr result (MayStop (source_of old held) (notes_of new now held) before later (λ damage. (source_of old held).damage p k ≡ Some damage))
     stop (Ok value) cause answers = tt
     stop (Err ReadFault) cause answers = (refl, cause refl)
-    stop (Err (BadPage fault at)) cause answers = (refl, λ told. ap (option_map damage_of) (answers (was-told told)))
+    stop (Err (BadPage fault at)) cause answers = (refl, λ told. ap (option_map damage_of) (answers told))
     stop (Err NoMemory) cause answers = refl
 
     pub looked : (result : Result ℤ LookStop) → before ≤ later → (result ≡ Err ReadFault → Rose before later) → IfOk result (IsWithinUnits (bound_of old.header.name))
-        → (IsTrue tells → AnswersLook old.header (held old.name) end p k result)
-        → FindsWord end p k (record { source = source_of old tells held; notes = notes_of old tells held; faults = before }) (record { source = source_of new now after; notes = notes_of new now after; faults = later }) result
-    looked result rises cause within answers =
-        let told = λ (told : IsTrue tells). subst (λ (files : Contents). AnswersLook old.header (files old.name) end p k result) (sym (told-when tells held told)) (answers told) in
-        record {
-          later = rises;
-          notes = record { told = was-told; words = λ is end p k state. no-looser end _ _ (ap (λ (words : Words). words end p k) words-same) };
-          answer = answer result within told;
-          stop = stop result cause told;
-        }
+        → (IsTrue now → AnswersLook old.header (held old.name) end p k result)
+        → FindsWord end p k (record { source = source_of old held; notes = notes_of old tells held; faults = before }) (record { source = source_of new held; notes = notes_of new now held; faults = later }) result
+    looked result rises cause within answers = record {
+      later = rises;
+      notes = record { told = before-told; words = λ is end p k state. no-looser end _ _ (ap (λ (words : Words). words end p k) words-same) };
+      answer = answer result within answers;
+      stop = stop result cause answers;
+    }
 
 -- ---- from pages to the files of their words
 

@@ -1,5 +1,5 @@
 -- The words of pages, where they are looked up by states.
-use Rattle.std.proofs.Common.{◌≡◌, ◌∙◌, ℕ, suc, ◌+◌, ◌*◌, ◌-◌, ◌/◌, ◌%◌, ◌<◌, ◌≤◌, min, sum, Bool, List, [], length, drop, Option, None, Some, refl, sym, ap, subst, arith}
+use Rattle.std.proofs.Common.{◌≡◌, ◌∙◌, ℕ, suc, ◌+◌, ◌*◌, ◌-◌, ◌/◌, ◌%◌, ◌<◌, ◌≤◌, min, sum, List, [], length, drop, Option, None, Some, refl, sym, ap, subst, arith}
 use Rattle.std.proofs.Math.Nat.{div-add-mod, le-div_iff_mul-le, mod-lt, mul-add, mul-le-mul_left, mul-le-mul_right, mul_assoc, mul_comm, mul_left_comm, suc-mul}
 use Rattle.std.proofs.lemmas.Int.{ints}
 use Rattle.position_rank.specs.Placement.{Placement}
@@ -79,8 +79,8 @@ told-within header file valid p k is = by_flaw (flaw_at header file p) refl
         record { from = omega (arith, ints); in_order = omega (arith, ints, from); to = omega (arith, ints) }
 
 -- the words of the head's game are looked up in its file
-pub source-of-head : (base : PagedFile) (index : ℕ) (tells : Bool) (held : Contents) → IsPagedFile base.header base.head base.digest index base.kept → IsSourceOfHead (source_of base tells held) base.head
-source-of-head base index tells held is = record {
+pub source-of-head : (base : PagedFile) (index : ℕ) (held : Contents) → IsPagedFile base.header base.head base.digest index base.kept → IsSourceOfHead (source_of base held) base.head
+source-of-head base index held is = record {
   checkers = sym is.checkers;
   stakes = record {
     kinds = is.valid.kinds ∙ ap (λ (name : StakesName). length (names_of name)) (sym is.name) ∙ kinds-named base.head.name base.head.starts;

@@ -1,5 +1,5 @@
 -- Words that are looked up in a file page by page.
-use Rattle.std.specs.Prelude.{◌≡◌, ℕ, ◌*◌, ◌+◌, ◌/◌, ◌%◌, ℤ, neg_ℤ, Bool, true, false, IsTrue, List, length, take, slice_index, Contains, Option, None, Some, Result, Ok, Err, Vec, ⊤}
+use Rattle.std.specs.Prelude.{◌≡◌, ℕ, ◌*◌, ◌+◌, ◌/◌, ◌%◌, ℤ, neg_ℤ, Bool, false, IsTrue, List, length, take, slice_index, Contains, Option, None, Some, Result, Ok, Err, Vec, ⊤}
 use Rattle.std.specs.Global.{Global}
 use Rattle.std.specs.Option.{option_map}
 use Rattle.std.specs.Borrow.{GName}
@@ -9,7 +9,8 @@ use Rattle.directed_fixed.specs.declared.bounds.End.{End}
 use Rattle.directed_fixed.specs.declared.bounds.End.TheVariants.{Lower, Upper}
 use Rattle.cube_actions.specs.Stakes.{bound_of}
 use Rattle.outside_log.specs.Files.{Contents, bytes_from}
-use Rattle.outside_log.specs.Log.{Event}
+use Rattle.outside_log.specs.Log.{Event, standing}
+use Rattle.outside_log.specs.Readings.{is_faithful}
 use Rattle.hyper_outside.specs.declared.outside.LookStop.{LookStop}
 use Rattle.hyper_outside.specs.declared.outside.LookStop.TheVariants as looks
 use Rattle.turn_rule.specs.Turn.{Words}
@@ -127,32 +128,29 @@ pub record IsPagedFile (header : Header) (head : FileHead) (digest : List ℕ) (
 
 -- where the file is told, each page that is kept is one of its right pages
 abbrev pub AreOfFile : Pages → Bool → Option (List ℕ) → Kept → Type 0
-AreOfFile pages tells file kept =
-    IsTrue tells → (page : ℕ × Vec ℕ Global) → Contains kept page
+AreOfFile pages told file kept =
+    IsTrue told → (page : ℕ × Vec ℕ Global) → Contains kept page
     → IsPageOf pages (bytes_from pages.at file) page.0 page.1.items
 
--- the file of this name has the digest that was read and is one whose right pages are kept, where the
--- files tell it
-pub record KeepsPagesOf (base : PagedFile) (tells : Bool) (held : Contents) : Type 0 where
-  pub digest : IsTrue tells → base.digest ≡ digest_told base.header (held base.name)
-  pub pages : AreOfFile (pages_behind base.header base.digest) tells (held base.name) base.kept
-
--- the bytes under each name, where they are told
-abbrev pub told_files : Bool → Contents → Contents
-told_files true held = held
-told_files false held = λ _. None
+-- what stands under the name has the digest that was read, and is what the kept pages are of, where
+-- each call was answered what stood there
+pub record KeepsPagesOf (base : PagedFile) (log : List Event) : Type 0 where
+  pub digest : IsTrue (is_faithful log)
+      → base.digest ≡ digest_told base.header (standing log base.name)
+  pub pages : AreOfFile (pages_behind base.header base.digest) (is_faithful log)
+      (standing log base.name) base.kept
 
 -- where its words are looked up
-abbrev pub source_of : PagedFile → Bool → Contents → Source
-source_of base tells held = paged_source base.header (told_files tells held base.name)
+abbrev pub source_of : PagedFile → Contents → Source
+source_of base held = paged_source base.header (held base.name)
 
--- its words, as far as they are told
-abbrev pub words_of_pages : PagedFile → Bool → Contents → Words
-words_of_pages base tells held = told_words base.header (told_files tells held base.name)
+-- its words
+abbrev pub words_of_pages : PagedFile → Contents → Words
+words_of_pages base held = told_words base.header (held base.name)
 
 -- these words, and whether they are told
 abbrev pub notes_of : PagedFile → Bool → Contents → Notes
-notes_of base tells held = record { words = words_of_pages base tells held; told = tells }
+notes_of base told held = record { words = words_of_pages base held; told = told }
 
 -- where these are the bytes of the pages, these are the words of one and it has no flaw, or this is its first flaw; a fault of the files or
 -- of memory says nothing
@@ -184,13 +182,11 @@ AnswersLook header file end p k (Err (looks.BadPage fault at)) =
     flaw_at header file p ≡ Some (record { fault = fault; at = at })
 AnswersLook header file end p k (Err _) = ⊤
 
--- What no look-up changes: the head, the file's name, how many pages are kept at most, what the files tell, what calls that write have done,
--- and which files are lent.
+-- What no look-up changes: the head, the file's name, how many pages are kept at most, what calls were made before the first look-up, and
+-- which files are lent.
 pub record PagedStays : Type 0 where
   pub head : FileHead
   pub name : List ℕ
   pub most : ℕ
-  pub tells : Bool
-  pub files : Contents
-  pub log : List Event
+  pub from : List Event
   pub lent : GName

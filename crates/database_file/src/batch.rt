@@ -1,6 +1,8 @@
 ghost use Rattle.std.specs.Prelude.{◌≡◌, ◌≤◌, ◌<◌, ◌+◌, ◌-◌, ◌++◌, ◌*◌, ◌^◌, ℕ, List, IfErr, IfOk, IsTrue, Err, length};
 ghost use Rattle.hyper_outside.specs.Causes.{Rose};
-ghost use Rattle.outside_log.specs.Files.{SameFiles, bytes_from};
+ghost use Rattle.outside_log.specs.Log.{standing};
+ghost use Rattle.outside_log.specs.Readings.{ReadsOn, is_faithful, read_faults};
+ghost use Rattle.outside_log.specs.Files.{bytes_from};
 ghost use Rattle.database_file.specs.declared.batch.Batch.{Batch as BatchOf};
 ghost use Rattle.database_file.specs.declared.pages.Pages.{Pages as PagesOf};
 ghost use Rattle.database_file.specs.declared.pages.PagesStop.TheVariants.{ReadFault, NoMemory};
@@ -168,18 +170,15 @@ pub(crate) fn add_batch<R: Threads + Sync, F: Files>(
     ensures part { (part : List ℕ) × (length part ≤ batch_size pages.now batch)
         × ((before : List ℕ) → length before ≡ batch.first * whole_page pages.now
         → AddsBatch pages.now batch (before ++ part) words.old.items words.new.items result) }
-    ensures told { IsTrue (F.tells files.old)
-        → AddsBatch pages.now batch (bytes_from pages.now.at (F.held files.old name.now))
+    ensures told { IsTrue (is_faithful (F.log files.new))
+        → AddsBatch pages.now batch (bytes_from pages.now.at (standing (F.log files.old) name.now))
         words.old.items words.new.items result }
     ensures buf { length buf.new ≡ length buf.old }
     ensures kept { length read.new ≡ length read.old }
-    ensures same { IsTrue (F.tells files.old)
-        → SameFiles (F.held files.old) (F.held files.new) }
-    ensures tells { F.tells files.new ≡ F.tells files.old }
-    ensures later { F.read_faults files.old ≤ F.read_faults files.new }
+    ensures later { read_faults (F.log files.old) ≤ read_faults (F.log files.new) }
     ensures cause { result ≡ Err ReadFault
-        → Rose (F.read_faults files.old) (F.read_faults files.new) }
-    ensures log { F.log files.new ≡ F.log files.old }
+        → Rose (read_faults (F.log files.old)) (read_faults (F.log files.new)) }
+    ensures reads { ReadsOn (F.log files.old) (F.log files.new) }
 {
     let size = batch_size(pages, batch);
     let count = fill(files, name, pages.place_of(batch.first), &mut buf[..size])?;

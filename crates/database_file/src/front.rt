@@ -3,13 +3,14 @@ ghost use Rattle.std.specs.Option.{option_map};
 ghost use Rattle.std.specs.Result.{result_err};
 ghost use Rattle.base_head.specs.Headers.{IsHeader};
 ghost use Rattle.hyper_outside.specs.Causes.{Rose};
-ghost use Rattle.outside_log.specs.Files.{SameFiles};
+ghost use Rattle.outside_log.specs.Log.{standing};
+ghost use Rattle.outside_log.specs.Readings.{ReadsOn, is_faithful, read_faults};
 ghost use Rattle.database_file.specs.declared.stop.LoadStop.TheVariants.{ReadFault};
 ghost use Rattle.database_file.specs.Faults.{AnswersFront, IsFrontFrom, Read, ends_before, front_fault_from, short_fault, whole};
 
 use crate::stop::LoadStop;
 use base_head::{BadFile, FileFault, Head, Header, read_header};
-use outside_log::{Files, fill};
+use outside_log::{Files, fill, size_of};
 use word_pages::Version;
 
 /// How many bytes the header has.
@@ -84,18 +85,15 @@ pub(crate) fn read_front<F: Files>(
     oldest: Version,
 ) -> Result<Front, LoadStop>
     ensures read { (file : Option Read) × AnswersFront oldest file result }
-    ensures told { IsTrue (F.tells files.old)
-        → AnswersFront oldest (option_map whole (F.held files.old name.now)) result }
-    ensures same { IsTrue (F.tells files.old)
-        → SameFiles (F.held files.old) (F.held files.new) }
-    ensures tells { F.tells files.new ≡ F.tells files.old }
-    ensures later { F.read_faults files.old ≤ F.read_faults files.new }
+    ensures told { IsTrue (is_faithful (F.log files.new))
+        → AnswersFront oldest (option_map whole (standing (F.log files.old) name.now)) result }
+    ensures later { read_faults (F.log files.old) ≤ read_faults (F.log files.new) }
     ensures cause { result ≡ Err ReadFault
-        → Rose (F.read_faults files.old) (F.read_faults files.new) }
-    ensures log { F.log files.new ≡ F.log files.old }
+        → Rose (read_faults (F.log files.old)) (read_faults (F.log files.new)) }
+    ensures reads { ReadsOn (F.log files.old) (F.log files.new) }
     ensures valid { IfOk result (λ front. IsHeader front.header) }
 {
-    let Some(size) = files.size(name)? else {
+    let Some(size) = size_of(files, name)? else {
         return Err(LoadStop::Missing);
     };
     let mut buf = [0; LONGEST_FRONT];

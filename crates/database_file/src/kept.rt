@@ -3,7 +3,9 @@ ghost use Rattle.std.specs.Map.{lookup};
 ghost use Rattle.directed_fixed.specs.declared.word.TheConstants.{WORD_OFFSET};
 ghost use Rattle.directed_fixed.specs.Bounds.{IsWithinUnits};
 ghost use Rattle.hyper_outside.specs.Causes.{Rose};
-ghost use Rattle.outside_log.specs.Files.{SameFiles, bytes_from};
+ghost use Rattle.outside_log.specs.Log.{standing};
+ghost use Rattle.outside_log.specs.Readings.{ReadsOn, is_faithful, read_faults};
+ghost use Rattle.outside_log.specs.Files.{bytes_from};
 ghost use Rattle.word_pages.specs.Flaws.{AreWithin, value_of};
 ghost use Rattle.interval_words.specs.Numbers.{word_of};
 ghost use Rattle.database_file.specs.declared.pages.PagesStop.TheVariants.{ReadFault};
@@ -28,7 +30,7 @@ pub(crate) struct Spot {
 }
 
 /// Reads the page with this number, over as many reads as it takes, and answers its words. `BadPage` tells its first flaw. `ReadFault`
-/// comes only where the files' count of reads rose.
+/// comes only where a call that reads failed.
 fn read_page<F: Files>(
     alloc: Global,
     files: &mut F,
@@ -39,15 +41,13 @@ fn read_page<F: Files>(
     requires pages { ArePages pages.now }
     requires there { page < page_count pages.now }
     ensures right { IfOk result (λ words. IsPage pages.now page words.items) }
-    ensures told { IsTrue (F.tells files.old)
-        → AnswersOnePage pages.now (bytes_from pages.now.at (F.held files.old name.now)) page result }
-    ensures same { IsTrue (F.tells files.old)
-        → SameFiles (F.held files.old) (F.held files.new) }
-    ensures tells { F.tells files.new ≡ F.tells files.old }
-    ensures later { F.read_faults files.old ≤ F.read_faults files.new }
+    ensures told { IsTrue (is_faithful (F.log files.new))
+        → AnswersOnePage pages.now
+        (bytes_from pages.now.at (standing (F.log files.old) name.now)) page result }
+    ensures later { read_faults (F.log files.old) ≤ read_faults (F.log files.new) }
     ensures cause { result ≡ Err ReadFault
-        → Rose (F.read_faults files.old) (F.read_faults files.new) }
-    ensures log { F.log files.new ≡ F.log files.old }
+        → Rose (read_faults (F.log files.old)) (read_faults (F.log files.new)) }
+    ensures reads { ReadsOn (F.log files.old) (F.log files.new) }
 {
     let mut buf = vec![in alloc; 0u8; pages.version.page_size(pages.size)]?;
     let mut cells = vec![in alloc; 0u64; pages.size]?;
@@ -71,8 +71,8 @@ fn word_in(words: &[u64], state: usize, end: End, bound: Fixed) -> Fixed
 }
 
 /// The word at a spot. Its page is read only where it isn't kept; then it is kept from now on, and the one that was used least lately is
-/// given up where there are too many. `BadPage` tells the first flaw of the page, which isn't kept. `ReadFault` comes only where the files'
-/// count of reads rose.
+/// given up where there are too many. `BadPage` tells the first flaw of the page, which isn't kept. `ReadFault` comes only where a call that
+/// reads failed.
 pub(crate) fn word_on<F: Files>(
     kept: &mut LruCache<usize, Vec<u64>>,
     alloc: Global,
@@ -85,23 +85,23 @@ pub(crate) fn word_on<F: Files>(
     requires there { spot.page < page_count pages.now }
     requires state { 2 * spot.state + 1 < words_on pages.now spot.page }
     requires right { ArePagesKept pages.now kept.old.entries }
-    requires of_file { AreOfFile pages.now (F.tells files.old) (F.held files.old name.now)
+    requires of_file { AreOfFile pages.now (is_faithful (F.log files.old))
+        (standing (F.log files.old) name.now)
         kept.old.entries }
     ensures unread { IsSome (lookup (nat_eq spot.page) kept.old.entries) → files.new ≡ files.old }
     ensures within { IfOk result (IsWithinUnits pages.now.bound) }
-    ensures told { IsTrue (F.tells files.old)
-        → AnswersWord pages.now (bytes_from pages.now.at (F.held files.old name.now)) spot result }
+    ensures told { IsTrue (is_faithful (F.log files.new))
+        → AnswersWord pages.now
+        (bytes_from pages.now.at (standing (F.log files.old) name.now)) spot result }
     ensures right { ArePagesKept pages.now kept.new.entries }
-    ensures of_file { AreOfFile pages.now (F.tells files.new) (F.held files.new name.now)
+    ensures of_file { AreOfFile pages.now (is_faithful (F.log files.new))
+        (standing (F.log files.new) name.now)
         kept.new.entries }
     ensures most { kept.new.cap ≡ kept.old.cap }
-    ensures same { IsTrue (F.tells files.old)
-        → SameFiles (F.held files.old) (F.held files.new) }
-    ensures tells { F.tells files.new ≡ F.tells files.old }
-    ensures later { F.read_faults files.old ≤ F.read_faults files.new }
+    ensures later { read_faults (F.log files.old) ≤ read_faults (F.log files.new) }
     ensures cause { result ≡ Err ReadFault
-        → Rose (F.read_faults files.old) (F.read_faults files.new) }
-    ensures log { F.log files.new ≡ F.log files.old }
+        → Rose (read_faults (F.log files.old)) (read_faults (F.log files.new)) }
+    ensures reads { ReadsOn (F.log files.old) (F.log files.new) }
 {
     if let Some(words) = kept.get(&spot.page) {
         return Ok(word_in(words, spot.state, spot.end, pages.bound));

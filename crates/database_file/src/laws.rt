@@ -109,16 +109,16 @@ pub fn pages_have_their_places()
         ⊎ AreTwins (digested bytes page) (digested other other_page)) }
 {}
 
-/// Where files tell their contents, an answer of a look-up in a file is the word of the state on its page, which has no flaw; a damage is
+/// Where each call was answered what stood there, an answer of a look-up in a file is the word of the state on its page, which has no flaw; a damage is
 /// the first flaw of the state's page. The word of a state on its page is its word among those of all pages.
 pub fn look_ups_tell_the_words_of_the_file()
     ensures exact { (base : PagedFile) (held : Contents) (end : End) (p : Placement) (k : ℕ)
         (value : ℤ)
-        → IsAnswer end (source_of base true held) (notes_of base true held) p k value
+        → IsAnswer end (source_of base held) (notes_of base true held) p k value
         → (flaw_at base.header (held base.name) p ≡ None)
         × (value ≡ word_at base.header (held base.name) end p k) }
     ensures damaged { (base : PagedFile) (held : Contents) (p : Placement) (k : ℕ) (damage : Damage)
-        → (source_of base true held).damage p k ≡ Some damage
+        → (source_of base held).damage p k ≡ Some damage
         → flaw_at base.header (held base.name) p
         ≡ Some (record { fault = damage.fault; at = damage.at }) }
     ensures among { (header : Header) (bytes : List ℕ) (end : End) (p : Placement) (k : ℕ)

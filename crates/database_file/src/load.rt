@@ -1,8 +1,9 @@
-ghost use Rattle.std.specs.Prelude.{◌≡◌, ◌≤◌, ◌*◌, Option, IfOk, IsTrue, Err, OnErr, length};
+ghost use Rattle.std.specs.Prelude.{◌≡◌, ◌≤◌, ◌*◌, Option, IfOk, IsTrue, Err, length};
 ghost use Rattle.std.specs.Option.{option_map};
 ghost use Rattle.cube_actions.specs.Stakes.{bound_of};
 ghost use Rattle.hyper_outside.specs.Causes.{Rose};
-ghost use Rattle.outside_log.specs.Files.{SameFiles};
+ghost use Rattle.outside_log.specs.Log.{standing};
+ghost use Rattle.outside_log.specs.Readings.{ReadsOn, is_faithful, read_faults};
 ghost use Rattle.word_pages.specs.Flaws.{AreWithin};
 ghost use Rattle.interval_words.specs.Core.{words_in};
 ghost use Rattle.base_head.specs.Headers.{IsHeader};
@@ -106,7 +107,7 @@ fn base_of(alloc: Global, head: Head, list: Vec<u64>) -> Result<Base, NoMemory>
 /// its own where one can be started. What it answers is the same for each number of workers. `Missing` comes
 /// exactly where there is no file of this name, and `BadFile` exactly where the bytes that were read aren't a
 /// file of bounds of such a version: it tells the first fault in the order of the format, and its place.
-/// `ReadFault` comes only where the files' count of reads rose. No file changes.
+/// `ReadFault` comes only where a call that reads failed. No file changes.
 pub fn load_base<R: Threads + Sync, F: Files>(
     rt: &R,
     alloc: Global,
@@ -117,15 +118,12 @@ pub fn load_base<R: Threads + Sync, F: Files>(
 ) -> Result<Base, LoadStop>
     requires workers { (1 ≤ workers) × (workers ≤ 64) }
     ensures read { (file : Option Read) × AnswersFrom oldest file result }
-    ensures told { IsTrue (F.tells files.old)
-        → AnswersFrom oldest (option_map whole (F.held files.old name.now)) result }
-    ensures same { IsTrue (F.tells files.old)
-        → SameFiles (F.held files.old) (F.held files.new) }
-    ensures tells { F.tells files.new ≡ F.tells files.old }
-    ensures later { F.read_faults files.old ≤ F.read_faults files.new }
+    ensures told { IsTrue (is_faithful (F.log files.new))
+        → AnswersFrom oldest (option_map whole (standing (F.log files.old) name.now)) result }
+    ensures later { read_faults (F.log files.old) ≤ read_faults (F.log files.new) }
     ensures cause { result ≡ Err ReadFault
-        → Rose (F.read_faults files.old) (F.read_faults files.new) }
-    ensures log { F.log files.new ≡ F.log files.old }
+        → Rose (read_faults (F.log files.old)) (read_faults (F.log files.new)) }
+    ensures reads { ReadsOn (F.log files.old) (F.log files.new) }
 {
     let Front {
         header,

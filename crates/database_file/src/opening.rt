@@ -1,7 +1,8 @@
 ghost use Rattle.std.specs.Prelude.{◌≡◌, ◌≤◌, [], Option, IfOk, IsTrue, Err};
 ghost use Rattle.std.specs.Option.{option_map};
 ghost use Rattle.hyper_outside.specs.Causes.{Rose};
-ghost use Rattle.outside_log.specs.Files.{SameFiles};
+ghost use Rattle.outside_log.specs.Log.{standing};
+ghost use Rattle.outside_log.specs.Readings.{ReadsOn, is_faithful, read_faults};
 ghost use Rattle.database_file.specs.declared.stop.LoadStop.TheVariants.{ReadFault};
 ghost use Rattle.database_file.specs.Faults.{Read, whole};
 ghost use Rattle.database_file.specs.Opened.{AnswersPagedFrom};
@@ -18,7 +19,7 @@ use word_pages::Version;
 /// for the size, and reads all that stands before the pages. `Missing` comes exactly where there is no file of
 /// this name, and `BadFile` exactly where that front isn't one of a file of such a version, or the size not that which it says: it tells the
 /// first fault in the order of the format, and its place. A page is only checked when it is looked up.
-/// `ReadFault` comes only where the files' count of reads rose. No file changes.
+/// `ReadFault` comes only where a call that reads failed. No file changes.
 pub fn open_paged<F: Files>(
     alloc: Global,
     files: &mut F,
@@ -28,19 +29,16 @@ pub fn open_paged<F: Files>(
 ) -> Result<PagedBase, LoadStop>
     requires { 1 ≤ pages }
     ensures read { (file : Option Read) × AnswersPagedFrom oldest file result }
-    ensures told { IsTrue (F.tells files.old)
-        → AnswersPagedFrom oldest (option_map whole (F.held files.old name.now)) result }
-    ensures same { IsTrue (F.tells files.old)
-        → SameFiles (F.held files.old) (F.held files.new) }
-    ensures tells { F.tells files.new ≡ F.tells files.old }
-    ensures later { F.read_faults files.old ≤ F.read_faults files.new }
+    ensures told { IsTrue (is_faithful (F.log files.new))
+        → AnswersPagedFrom oldest (option_map whole (standing (F.log files.old) name.now)) result }
+    ensures later { read_faults (F.log files.old) ≤ read_faults (F.log files.new) }
     ensures cause { result ≡ Err ReadFault
-        → Rose (F.read_faults files.old) (F.read_faults files.new) }
-    ensures log { F.log files.new ≡ F.log files.old }
+        → Rose (read_faults (F.log files.old)) (read_faults (F.log files.new)) }
+    ensures reads { ReadsOn (F.log files.old) (F.log files.new) }
     ensures name { IfOk result (λ base. base.name ≡ name.now) }
     ensures none { IfOk result (λ base. base.kept ≡ []) }
     ensures of_file { IfOk result (λ base.
-        KeepsPagesOf base (F.tells files.new) (F.held files.new)) }
+        KeepsPagesOf base (F.log files.new)) }
     ensures most { IfOk result (λ base. base.most ≡ pages) }
 {
     let front = read_front(files, name, oldest)?;

@@ -3,7 +3,8 @@ ghost use Rattle.std.specs.Map.{lookup};
 ghost use Rattle.directed_fixed.specs.Bounds.{IsWithinUnits};
 ghost use Rattle.cube_actions.specs.Stakes.{bound_of};
 ghost use Rattle.hyper_outside.specs.Causes.{Rose};
-ghost use Rattle.outside_log.specs.Files.{SameFiles};
+ghost use Rattle.outside_log.specs.Log.{standing};
+ghost use Rattle.outside_log.specs.Readings.{ReadsOn, ReadsOn-prop, is_faithful, read_faults};
 ghost use Rattle.hyper_outside.specs.declared.outside.LookStop.TheVariants.{ReadFault};
 ghost use Rattle.turn_rule.specs.Looks.{AreSourceWords};
 ghost use Rattle.turn_rule.specs.States.{IsStateOf};
@@ -20,7 +21,7 @@ use directed_fixed::{End, Fixed};
 use hyper_outside::{LookStop, NoMemory};
 use interval_words::LiveIndex;
 use lru::LruCache;
-use outside_log::Files;
+use outside_log::{Files, Log};
 use position_rank::Position;
 use std::alloc::Global;
 use std::marker::Model;
@@ -99,21 +100,28 @@ impl PagedBase {
         &self.front.head
     }
 
-    /// Looks the words up, one end at a time, in the file that was opened. Where the files tell their contents, they are to tell the file
-    /// of the pages that are kept. The reader isn't sure, and its floor and its notes are the words of the file's right pages, and the
-    /// bound on both sides of 0 on the others. Each page is checked as it is read. When the reader is given up, no file has changed.
+    /// Looks the words up, one end at a time, in the file that was opened. Where each call was answered what stood there, that is to be the
+    /// file of the pages that are kept. The reader isn't sure, and its floor and its notes are the words of the file's right pages, and the
+    /// bound on both sides of 0 on the others. Each page is checked as it is read. When the reader is given up, calls that read were made, and
+    /// no others.
     pub fn reader<'a, F: Files>(&'a mut self, files: &'a mut F) -> PagedReader<'a, F>
-        requires { KeepsPagesOf self.old (F.tells files.old) (F.held files.old) }
+        requires { KeepsPagesOf self.old (F.log files.old) }
         ensures base { result.base.now ≡ self.old }
         ensures same_base { result.base.ghost_name ≡ self.entry.ghost_name }
         ensures files { result.files.now ≡ files.old }
         ensures same_files { result.files.ghost_name ≡ files.entry.ghost_name }
         ensures game { IsSourceOfHead
-            (source_of self.old (F.tells files.old) (F.held files.old)) self.old.head }
+            (source_of self.old (standing (F.log files.old))) self.old.head }
+        ensures from { result.from.events ≡ F.log files.old }
     {
         // A look at the front shows that it goes with the head.
         let _front = &self.front;
-        PagedReader { base: self, files }
+        let from = Log::of(files);
+        PagedReader {
+            base: self,
+            files,
+            from,
+        }
     }
 
     /// Where the word of a state at an end stands.
@@ -135,8 +143,8 @@ impl PagedBase {
         }
     }
 
-    /// Looks up the word of a state at an end. Where the files tell their contents, an answer is the word of the file, whose page has no flaw;
-    /// `BadPage` tells the first flaw of that page. `ReadFault` comes only where the files' count of reads rose, and no call of them is made
+    /// Looks up the word of a state at an end. Where each call was answered what stood there, an answer is the word of the file, whose page has
+    /// no flaw; `BadPage` tells the first flaw of that page. `ReadFault` comes only where a call that reads failed, and no call is made
     /// where the page is kept.
     pub fn look<F: Files>(
         &mut self,
@@ -147,23 +155,20 @@ impl PagedBase {
     ) -> Result<Fixed, LookStop>
         requires state { IsStateOf self.old.header.checkers self.old.header.kinds
             position.now kind }
-        requires of_file { KeepsPagesOf self.old (F.tells files.old) (F.held files.old) }
+        requires of_file { KeepsPagesOf self.old (F.log files.old) }
         ensures unread { IsSome (lookup (nat_eq (page_of position.now)) self.old.kept)
             → files.new ≡ files.old }
         ensures within { IfOk result (IsWithinUnits (bound_of self.old.header.name)) }
-        ensures told { IsTrue (F.tells files.old)
-            → AnswersLook self.old.header (F.held files.old self.old.name)
+        ensures told { IsTrue (is_faithful (F.log files.new))
+            → AnswersLook self.old.header (standing (F.log files.old) self.old.name)
             end position.now kind result }
-        ensures of_file { KeepsPagesOf self.new (F.tells files.new) (F.held files.new) }
+        ensures of_file { KeepsPagesOf self.new (F.log files.new) }
         ensures kept { self.new ≡ record self.old { kept = self.new.kept } }
         ensures valid { IsHeader self.old.header }
-        ensures same { IsTrue (F.tells files.old)
-            → SameFiles (F.held files.old) (F.held files.new) }
-        ensures tells { F.tells files.new ≡ F.tells files.old }
-        ensures later { F.read_faults files.old ≤ F.read_faults files.new }
+        ensures later { read_faults (F.log files.old) ≤ read_faults (F.log files.new) }
         ensures cause { result ≡ Err ReadFault
-            → Rose (F.read_faults files.old) (F.read_faults files.new) }
-        ensures log { F.log files.new ≡ F.log files.old }
+            → Rose (read_faults (F.log files.old)) (read_faults (F.log files.new)) }
+        ensures reads { ReadsOn (F.log files.old) (F.log files.new) }
     {
         let spot = self.spot(position, kind, end);
         let pages = pages_behind(&self.front.header, self.front.digest);
@@ -184,9 +189,12 @@ impl PagedBase {
 pub struct PagedReader<'a, F: Files> {
     base: &'a mut PagedBase,
     files: &'a mut F,
-    ghost of_file: { KeepsPagesOf base.now (F.tells files.now) (F.held files.now) },
-    ghost within: { AreSourceWords (source_of base.now (F.tells files.now) (F.held files.now))
-        (words_of_pages base.now (F.tells files.now) (F.held files.now)) },
+    /// The log as it was before the first look-up.
+    from: Log,
+    ghost reads: { ReadsOn from.events (F.log files.now) } by { ReadsOn-prop from.events (F.log files.now) },
+    ghost of_file: { KeepsPagesOf base.now (F.log files.now) },
+    ghost within: { AreSourceWords (source_of base.now (standing from.events))
+        (words_of_pages base.now (standing from.events)) },
 }
 
 impl<F: Files> PagedReader<'_, F> {
@@ -199,7 +207,7 @@ impl<F: Files> PagedReader<'_, F> {
 }
 
 impl<'a, F: Files> Pairs for PagedReader<'a, F> {
-    ghost use Rattle.database_file.specs.Paged.{PagedStays, notes_of, source_of, told_files};
+    ghost use Rattle.database_file.specs.Paged.{PagedStays, notes_of, source_of};
 
     ghost Stays = { PagedStays };
 
@@ -207,16 +215,14 @@ impl<'a, F: Files> Pairs for PagedReader<'a, F> {
       head = r.base.now.head;
       name = r.base.now.name;
       most = r.base.now.most;
-      tells = F.tells r.files.now;
-      files = told_files (F.tells r.files.now) (F.held r.files.now);
-      log = F.log r.files.now;
+      from = r.from.events;
       lent = r.files.ghost_name;
     } };
 
     ghost seen = { λ r. record {
-      source = source_of r.base.now (F.tells r.files.now) (F.held r.files.now);
-      notes = notes_of r.base.now (F.tells r.files.now) (F.held r.files.now);
-      faults = F.read_faults r.files.now;
+      source = source_of r.base.now (standing r.from.events);
+      notes = notes_of r.base.now (is_faithful (F.log r.files.now)) (standing r.from.events);
+      faults = read_faults (F.log r.files.now);
     } };
 
     fn lower_of(&mut self, position: &Position, kind: usize) -> Result<Fixed, LookStop> {

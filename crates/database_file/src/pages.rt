@@ -1,6 +1,8 @@
-ghost use Rattle.std.specs.Prelude.{◌≡◌, ◌≤◌, ◌<◌, ◌+◌, ◌++◌, ◌*◌, ◌^◌, ℕ, List, IsTrue, Err, length, take, drop};
+ghost use Rattle.std.specs.Prelude.{◌≡◌, ◌≤◌, ◌<◌, ◌+◌, ◌++◌, ◌*◌, ℕ, List, IsTrue, Err, length};
 ghost use Rattle.hyper_outside.specs.Causes.{Rose};
-ghost use Rattle.outside_log.specs.Files.{SameFiles, bytes_from};
+ghost use Rattle.outside_log.specs.Log.{standing};
+ghost use Rattle.outside_log.specs.Readings.{ReadsOn, is_faithful, read_faults};
+ghost use Rattle.outside_log.specs.Files.{bytes_from};
 ghost use Rattle.word_pages.specs.Pages.{page_size};
 ghost use Rattle.database_file.specs.declared.pages.PagesStop.TheVariants.{ReadFault, BadPage, NoMemory};
 ghost use Rattle.database_file.specs.Pages.{AddsPage, AnswersPages, ArePages, binding_on, page_count, place_of, stopped_by, whole_page, words_on};
@@ -139,18 +141,15 @@ pub(crate) fn add_page<F: Files>(
         × (length part ≤ page_size pages.now.version (words_on pages.now page))
         × ((before : List ℕ) → length before ≡ page * whole_page pages.now
         → AddsPage pages.now page (before ++ part) words.old.items words.new.items result) }
-    ensures told { IsTrue (F.tells files.old)
-        → AddsPage pages.now page (bytes_from pages.now.at (F.held files.old name.now))
+    ensures told { IsTrue (is_faithful (F.log files.new))
+        → AddsPage pages.now page (bytes_from pages.now.at (standing (F.log files.old) name.now))
         words.old.items words.new.items result }
     ensures buf { length buf.new ≡ length buf.old }
     ensures kept { length cells.new ≡ length cells.old }
-    ensures same { IsTrue (F.tells files.old)
-        → SameFiles (F.held files.old) (F.held files.new) }
-    ensures tells { F.tells files.new ≡ F.tells files.old }
-    ensures later { F.read_faults files.old ≤ F.read_faults files.new }
+    ensures later { read_faults (F.log files.old) ≤ read_faults (F.log files.new) }
     ensures cause { result ≡ Err ReadFault
-        → Rose (F.read_faults files.old) (F.read_faults files.new) }
-    ensures log { F.log files.new ≡ F.log files.old }
+        → Rose (read_faults (F.log files.old)) (read_faults (F.log files.new)) }
+    ensures reads { ReadsOn (F.log files.old) (F.log files.new) }
 {
     let count = pages.words_on(page);
     let size = pages.version.page_size(count);
@@ -171,7 +170,7 @@ pub(crate) fn add_page<F: Files>(
 
 /// Reads all pages in order, some of them together, which so many workers check, 1 to 64, and whose
 /// words they read, and answers the words of all. `BadPage` tells the first flaw of the pages, and is the same for each number of workers.
-/// `ReadFault` comes only where the files' count of reads rose.
+/// `ReadFault` comes only where a call that reads failed.
 pub fn read_pages<R: Threads + Sync, F: Files>(
     rt: &R,
     alloc: Global,
@@ -183,15 +182,13 @@ pub fn read_pages<R: Threads + Sync, F: Files>(
     requires pages { ArePages pages.now }
     requires workers { (1 ≤ workers) × (workers ≤ 64) }
     ensures read { (bytes : List ℕ) × AnswersPages pages.now bytes result }
-    ensures told { IsTrue (F.tells files.old)
-        → AnswersPages pages.now (bytes_from pages.now.at (F.held files.old name.now)) result }
-    ensures same { IsTrue (F.tells files.old)
-        → SameFiles (F.held files.old) (F.held files.new) }
-    ensures tells { F.tells files.new ≡ F.tells files.old }
-    ensures later { F.read_faults files.old ≤ F.read_faults files.new }
+    ensures told { IsTrue (is_faithful (F.log files.new))
+        → AnswersPages pages.now
+        (bytes_from pages.now.at (standing (F.log files.old) name.now)) result }
+    ensures later { read_faults (F.log files.old) ≤ read_faults (F.log files.new) }
     ensures cause { result ≡ Err ReadFault
-        → Rose (F.read_faults files.old) (F.read_faults files.new) }
-    ensures log { F.log files.new ≡ F.log files.old }
+        → Rose (read_faults (F.log files.old)) (read_faults (F.log files.new)) }
+    ensures reads { ReadsOn (F.log files.old) (F.log files.new) }
 {
     let count = pages.page_count();
     let most = BATCH_PAGES.min(count);

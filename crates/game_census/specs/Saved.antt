@@ -7,7 +7,8 @@ use Rattle.interval_words.specs.Numbers.{value_in, word_of}
 use Rattle.interval_words.specs.Seats.{WasHeld}
 use Rattle.interval_words.specs.WordLists.{AreRight, list_of, states_of}
 use Rattle.word_pages.specs.declared.version.Version.TheVariants.{Three}
-use Rattle.outside_log.specs.Log.{Event, WritesFile}
+use Rattle.outside_log.specs.Log.{Event}
+use Rattle.outside_log.specs.Readings.{WritesFile}
 use Rattle.base_head.specs.Heads.{FileHead, no_starts}
 use Rattle.database_file.specs.Texts.{file_text, game_in}
 use Rattle.game_census.specs.declared.task.WidthsTask.{WidthsTask}

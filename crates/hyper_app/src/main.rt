@@ -1,9 +1,11 @@
 //! The hypergammon solver.
 #![tactic(auto)]
 
+mod program;
+
+use program::start;
 use std::io::IsTerminal;
 use std::process::ExitCode;
-use top_call::start;
 
 fn main(rt: HostRuntime) -> ExitCode {
     let shows = rt.stderr().is_terminal();

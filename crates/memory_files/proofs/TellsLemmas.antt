@@ -1,7 +1,9 @@
 -- What files in memory hold after an event, and what a write leaves that can't end.
-use Rattle.std.proofs.Common.{◌≡◌, ◌∙◌, ℕ, List, [], ◌∷◌, ◌++◌, Result, Ok, Err, OnErr, sym, ap, subst}
-use Rattle.outside_log.specs.Log.{Event, Started, Appended, Finished, Failed, Disk, LeavesPlaces, after, disk_of, event_of}
+use Rattle.std.proofs.Common.{◌≡◌, ◌∙◌, ℕ, List, Option, [], ◌∷◌, ◌++◌, Result, Ok, Err, OnErr, IsTrue, refl, sym, ap, subst}
+use Rattle.outside_log.specs.Log.{Event, Started, Appended, Finished, Failed, Disk, LeavesPlaces, after, disk_of, event_of, standing}
+use Rattle.outside_log.specs.Readings.{is_answer, read_event, sized_event}
 use Rattle.outside_log.proofs.Logs.{leaves-both, leaves-one, one-more}
+use Rattle.outside_log.proofs.Readings.{faithful-more}
 use Rattle.memory_files.specs.Disks.{disk_in}
 use Rattle.memory_files.specs.MemFiles.{LeavesSome}
 use Rattle.memory_files.specs.Telling.{Tells}
@@ -9,11 +11,26 @@ use Rattle.memory_files.specs.declared.mem_files.MemFiles.TheInside.{Inside}
 
 -- files that did what an event says tell it
 pub tells-more : (old new : Inside) (event : Event) → Tells old → new.log.events ≡ old.log.events ++ event ∷ []
-    → disk_in new.disk ≡ after (disk_in old.disk) event → new.most ≡ old.most → Tells new
-tells-more old new event tells grown is same = record {
+    → disk_in new.disk ≡ after (disk_in old.disk) event → IsTrue (is_answer (standing old.log.events) event) → new.most ≡ old.most → Tells new
+tells-more old new event tells grown is answer same = record {
   disk = is ∙ ap (λ (disk : Disk). after disk event) tells.disk ∙ sym (one-more old.log.events event) ∙ sym (ap disk_of grown);
+  faithful = faithful-more old.log.events new.log.events event grown tells.faithful answer;
   limit = subst LeavesSome (sym same) tells.limit;
 }
+
+-- a call that writes asks for nothing
+pub asks-nothing : {T E : Type 0} (held : List ℕ → Option (List ℕ)) (event : Event) (name : List ℕ) (result : Result T E) → IsTrue (is_answer held event) → IsTrue (is_answer held (event_of event name result))
+asks-nothing held event name (Ok x) is = is
+asks-nothing held event name (Err e) is = refl
+
+-- a call that reads leaves the disk
+pub same-sized : {E : Type 0} (disk : Disk) (name : List ℕ) (result : Result (Option ℕ) E) → disk ≡ after disk (sized_event name result)
+same-sized disk name (Ok size) = refl
+same-sized disk name (Err e) = refl
+
+pub same-read : {E : Type 0} (disk : Disk) (name : List ℕ) (at room : ℕ) (buf : List ℕ) (result : Result ℕ E) → disk ≡ after disk (read_event name at room buf result)
+same-read disk name at room buf (Ok count) = refl
+same-read disk name at room buf (Err e) = refl
 
 -- a start and an append
 both-begun : (name bytes : List ℕ) (old begun added : List Event) → begun ≡ old ++ Started name ∷ [] → added ≡ begun ++ Appended name bytes ∷ [] → LeavesPlaces old added

@@ -1,7 +1,6 @@
 -- Files in memory that fail on demand.
-use Rattle.std.specs.Prelude.{ℕ, ◌≤◌, Bool, List, [], ◌∷◌, ◌++◌, length, min, is_some, Option, None, IfSome, if◌then◌else◌}
+use Rattle.std.specs.Prelude.{ℕ, ◌≤◌, Bool, List, [], ◌∷◌, ◌++◌, length, min, is_some, Option, None, IfSome}
 use Rattle.std.specs.Option.{option_map_or}
-use Rattle.hyper_outside.specs.Causes.{counted}
 use Rattle.outside_log.specs.Files.{bytes_from}
 use Rattle.outside_log.specs.Log.{Event, Started, Appended, Finished, Failed, standing}
 use Rattle.memory_files.specs.Calls.{CallList, no_calls, called, listed}
@@ -10,22 +9,14 @@ pub record DemandingFiles : Type 0 where
   pub log : List Event
   pub most : Option ℕ  -- how many bytes a read gives at most
   pub calls : CallList
-  pub read_faults : ℕ
 
 -- no files, no limit, no call
 abbrev pub no_files : DemandingFiles
-no_files = record { log = []; most = None; calls = no_calls; read_faults = 0 }
+no_files = record { log = []; most = None; calls = no_calls }
 
 -- the next call is to fail
 abbrev pub is_listed : DemandingFiles → Bool
 is_listed files = is_some (listed (called files.calls))
-
--- after a call of size or read_at, which fails only where it is listed
-abbrev pub after_read : DemandingFiles → DemandingFiles
-after_read files = record files {
-  calls = called files.calls;
-  read_faults = if is_listed files then counted files.read_faults else files.read_faults;
-}
 
 -- with this event at the end of the log
 abbrev pub told_more : DemandingFiles → Event → DemandingFiles
@@ -35,9 +26,9 @@ told_more files event = record files { log = files.log ++ event ∷ [] }
 abbrev pub after_failure : DemandingFiles → List ℕ → DemandingFiles
 after_failure files name = told_more files (Failed name)
 
--- after a call that writes, with its event
-abbrev pub after_write : DemandingFiles → Event → DemandingFiles
-after_write files event = record files {
+-- after a call that is counted, with its event
+abbrev pub after_call : DemandingFiles → Event → DemandingFiles
+after_call files event = record files {
   log = files.log ++ event ∷ [];
   calls = called files.calls;
 }

@@ -1,11 +1,11 @@
-ghost use Rattle.std.specs.Prelude.{◌≡◌, ◌≤◌, ◌++◌, IsTrue, IsFalse, not, true, min, Some, length, IfOk, OnOk, OnErr, IsErr, is_ok, refl};
+ghost use Rattle.std.specs.Prelude.{◌≡◌, ◌≤◌, ◌++◌, IsTrue, IsFalse, not, min, Some, length, IfOk, OnOk, OnErr, IsErr, is_ok};
 ghost use Rattle.std.specs.Option.{option_copied, option_map};
-ghost use Rattle.hyper_outside.specs.Causes.{HasCause};
 ghost use Rattle.outside_log.specs.Files.{Reads, SameFiles};
 ghost use Rattle.outside_log.specs.Log.{Started, Appended, Finished, GivenUp, LeavesPlaces, disk_of, event_of, standing};
-ghost use Rattle.memory_files.specs.Calls.{with_failing};
+ghost use Rattle.outside_log.specs.Readings.{is_faithful, read_event, sized_event};
+ghost use Rattle.memory_files.specs.Calls.{called, with_failing};
 ghost use Rattle.memory_files.specs.Disks.{has_begun};
-ghost use Rattle.memory_files.specs.MemFiles.{no_files, is_listed, after_read, after_write, told_more, after_failure, with_log, file_events, length_from, at_most};
+ghost use Rattle.memory_files.specs.MemFiles.{no_files, is_listed, after_call, told_more, after_failure, with_log, file_events, length_from, at_most};
 
 use crate::calls::{Calls, front};
 use crate::mem_disk::MemDisk;
@@ -16,7 +16,7 @@ use std::marker::Model;
 use std::mem;
 
 /// Files in memory that fail on demand. A call that writes fails also where there is no memory. What stands under a name, and what was
-/// begun, is what the log tells.
+/// begun, is what the log tells, and each call that reads is answered what stands there.
 #[derive(Drop)]
 pub struct MemFiles {
     disk: MemDisk,
@@ -24,7 +24,6 @@ pub struct MemFiles {
     calls: Calls,
     /// How many bytes a read gives at most.
     most: Option<usize>,
-    read_faults: u64,
     alloc: Global,
 }
 
@@ -37,7 +36,6 @@ impl Model for MemFiles {
       log = f.log.events;
       most = f.most;
       calls = f.calls;
-      read_faults = f.read_faults;
     } };
 
     ghost use Rattle.memory_files.specs.Telling.{Tells};
@@ -55,7 +53,6 @@ impl MemFiles {
             log: Log::new(),
             calls: Calls::new(alloc),
             most: None,
-            read_faults: 0,
             alloc,
         }
     }
@@ -94,6 +91,38 @@ impl MemFiles {
         Err(Failed)
     }
 
+    /// How many bytes stand under a name, unless the call is listed.
+    fn find_size(&mut self, name: &str) -> Result<Option<u64>, Failed>
+        ensures size { IfOk result
+            (λ size. size ≡ option_map length (standing self.old.log name.now)) }
+        ensures answer { is_ok result ≡ not (is_listed self.old) }
+        ensures after { self.new ≡ record self.old { calls = called self.old.calls } }
+    {
+        if self.calls.count().is_some() {
+            return Err(Failed);
+        }
+        match self.disk.held(name) {
+            Some(bytes) => Ok(Some(bytes.len() as u64)),
+            None => Ok(None),
+        }
+    }
+
+    /// Copies what a read gives of a name from the place `at` on, unless the call is listed.
+    fn copy_from(&mut self, name: &str, at: u64, buf: &mut [u8]) -> Result<usize, Failed>
+        ensures reads { IfOk result (Reads (standing self.old.log name.now) at buf.old buf.new) }
+        ensures most { IfOk result (λ count. count ≡ at_most self.old.most
+            (min (length buf.old) (length_from at self.old.log name.now))) }
+        ensures failed { OnErr result (buf.new ≡ buf.old) }
+        ensures answer { is_ok result ≡ not (is_listed self.old) }
+        ensures after { self.new ≡ record self.old { calls = called self.old.calls } }
+    {
+        if self.calls.count().is_some() {
+            return Err(Failed);
+        }
+        let bytes = rest_from(self.disk.held(name), at);
+        Ok(copy_front(front(bytes, self.most), buf))
+    }
+
     /// Starts, appends and finishes.
     fn write(&mut self, name: &str, bytes: &[u8]) -> Result<(), Failed>
         ensures ok { OnOk result
@@ -130,30 +159,17 @@ impl MemFiles {
 impl Files for MemFiles {
     ghost log = { λ f. f.log };
 
-    ghost read_faults = { λ f. f.read_faults };
-
-    ghost tells = { λ _. true };
-
-    ghost held = { λ f. standing f.log };
-
-    ghost stands = { λ f told name. refl };
-
     /// `Failed` exactly where the call is listed.
     fn size(&mut self, name: &str) -> Result<Option<u64>, Failed>
         ensures size { IfOk result
             (λ size. size ≡ option_map length (standing self.old.log name.now)) }
-        ensures cause { HasCause self.old.read_faults self.new.read_faults result }
         ensures answer { is_ok result ≡ not (is_listed self.old) }
-        ensures after { self.new ≡ after_read self.old }
+        ensures after { self.new ≡ after_call self.old (sized_event name.now result) }
+        ensures faithful { IsTrue (is_faithful self.new.log) }
     {
-        if self.calls.count().is_some() {
-            self.read_faults = self.read_faults.saturating_add(1);
-            return Err(Failed);
-        }
-        match self.disk.held(name) {
-            Some(bytes) => Ok(Some(bytes.len() as u64)),
-            None => Ok(None),
-        }
+        let answer = self.find_size(name);
+        self.log = self.log.then_size(name, &answer);
+        answer
     }
 
     /// `Failed` exactly where the call is listed. Otherwise it reads as many bytes as there are, fit, and are no more than the limit.
@@ -163,23 +179,21 @@ impl Files for MemFiles {
         ensures most { IfOk result (λ count. count ≡ at_most self.old.most
             (min (length buf.old) (length_from at self.old.log name.now))) }
         ensures failed { OnErr result (buf.new ≡ buf.old) }
-        ensures cause { HasCause self.old.read_faults self.new.read_faults result }
         ensures answer { is_ok result ≡ not (is_listed self.old) }
-        ensures after { self.new ≡ after_read self.old }
+        ensures after { self.new
+            ≡ after_call self.old (read_event name.now at (length buf.old) buf.new result) }
+        ensures faithful { IsTrue (is_faithful self.new.log) }
     {
-        if self.calls.count().is_some() {
-            self.read_faults = self.read_faults.saturating_add(1);
-            return Err(Failed);
-        }
-        let bytes = rest_from(self.disk.held(name), at);
-        Ok(copy_front(front(bytes, self.most), buf))
+        let answer = self.copy_from(name, at, buf);
+        self.log = self.log.then_read(name, at, buf, &answer);
+        answer
     }
 
     /// `Failed` exactly where the call is listed or there is no memory. Then what was begun before is gone too.
     fn start(&mut self, name: &str) -> Result<(), Failed>
         ensures listed { OnOk result (IsFalse (is_listed self.old)) }
         ensures after { self.new
-            ≡ after_write self.old (event_of (Started name.now) name.now result) }
+            ≡ after_call self.old (event_of (Started name.now) name.now result) }
     {
         if self.calls.count().is_some() {
             return self.fail(name);
@@ -194,7 +208,7 @@ impl Files for MemFiles {
         ensures listed { OnOk result (IsFalse (is_listed self.old)) }
         ensures begun { OnOk result (IsTrue (has_begun (disk_of self.old.log) name.now)) }
         ensures after { self.new
-            ≡ after_write self.old (event_of (Appended name.now bytes.now) name.now result) }
+            ≡ after_call self.old (event_of (Appended name.now bytes.now) name.now result) }
     {
         if self.calls.count().is_some() {
             return self.fail(name);
@@ -212,7 +226,7 @@ impl Files for MemFiles {
         ensures listed { OnOk result (IsFalse (is_listed self.old)) }
         ensures begun { OnOk result (IsTrue (has_begun (disk_of self.old.log) name.now)) }
         ensures after { self.new
-            ≡ after_write self.old (event_of (Finished name.now) name.now result) }
+            ≡ after_call self.old (event_of (Finished name.now) name.now result) }
     {
         if self.calls.count().is_some() {
             return self.fail(name);

@@ -1,11 +1,11 @@
 -- What stands under the names after a file was written, or wasn't.
-use Rattle.std.proofs.Common.{◌≡◌, ◌≢◌, ◌∙◌, ℕ, ◌+◌, ◌≤◌, arith, List, [], ◌∷◌, ◌++◌, map, Option, Some, None, Result, Ok, Err, IsErr, Bool, true, false, refl, sym, ap, ap₂, subst, append_assoc}
+use Rattle.std.proofs.Common.{◌≡◌, ◌≢◌, ◌∙◌, ℕ, ◌+◌, ◌≤◌, arith, List, [], ◌∷◌, ◌++◌, map, Option, Some, Result, Ok, Err, IsErr, Bool, true, false, refl, sym, ap, ap₂, subst, append_assoc}
 use Rattle.std.specs.List.{concat}
 use Rattle.std.specs.Str.{bytes_eq}
 use Rattle.std.proofs.lemmas.List.{append-nil}
 use Rattle.std.proofs.lemmas.Slice.Eq.{bytes_eq-Decides}
 use Rattle.hyper_outside.specs.Causes.{HasCause, Rose, counted}
-use Rattle.outside_log.specs.Log.{Event, Started, Appended, Finished, GivenUp, Failed, Put, Begun, Disk, Adds, AddsAll, AllLeavePlaces, LeavesPlace, LeavesPlaces, WritesFile, after, after_all, disk_of, empty_disk, event_of, failures, in_place, standing, with_bytes}
+use Rattle.outside_log.specs.Log.{Event, Found, Sized, Read, ReadFailed, Started, Appended, Finished, GivenUp, Failed, Put, Begun, Disk, Adds, AddsAll, AllLeavePlaces, LeavesPlace, LeavesPlaces, after, after_all, disk_of, empty_disk, event_of, failures, standing, with_bytes}
 
 -- some events after others
 pub after-both : (disk : Disk) (first last : List Event) → after_all disk (first ++ last) ≡ after_all (after_all disk first) last
@@ -17,21 +17,12 @@ pub one-more : (log : List Event) (event : Event) → disk_of (log ++ event ∷ 
 one-more log event = after-both empty_disk log (event ∷ [])
 
 -- pieces that are added one after another
-added : (name : List ℕ) (pieces : List (List ℕ)) (held : List ℕ → Option (List ℕ)) (begun : Begun)
+pub added : (name : List ℕ) (pieces : List (List ℕ)) (held : List ℕ → Option (List ℕ)) (begun : Begun)
     → after_all (record { held = held; begun = Some begun }) (map (Appended name) pieces) ≡ record { held = held; begun = Some (record { name = begun.name; bytes = begun.bytes ++ concat pieces }) }
 added name [] held begun = ap (λ (bytes : List ℕ). record { held = held; begun = Some (record { name = begun.name; bytes = bytes }) }) (sym (append-nil begun.bytes))
 added name (piece ∷ pieces) held begun =
     added name pieces held (record { name = begun.name; bytes = begun.bytes ++ piece })
     ∙ ap (λ (bytes : List ℕ). record { held = held; begun = Some (record { name = begun.name; bytes = bytes }) }) (append_assoc begun.bytes piece (concat pieces))
-
--- what was begun for a name and added to
-pub begun-with : (name bytes : List ℕ) (old new : List Event) → Adds name bytes (old ++ Started name ∷ []) new → disk_of new ≡ record { held = standing old; begun = Some (record { name = name; bytes = bytes }) }
-begun-with name bytes old new adds =
-    ap disk_of adds.grown
-    ∙ after-both empty_disk ((old ++ Started name ∷ [])) (map (Appended name) adds.pieces)
-    ∙ ap (λ (disk : Disk). after_all disk (map (Appended name) adds.pieces)) (one-more old (Started name))
-    ∙ added name adds.pieces (standing old) (record { name = name; bytes = [] })
-    ∙ ap (λ (all : List ℕ). record { held = standing old; begun = Some (record { name = name; bytes = all }) }) adds.joined
 
 bytes_eq-same : (name : List ℕ) → bytes_eq name name ≡ true
 bytes_eq-same name = (bytes_eq-Decides name name).1 refl
@@ -46,20 +37,13 @@ under held name bytes = rw (bytes_eq-same name) refl
 pub aside : (held : List ℕ → Option (List ℕ)) (name bytes other : List ℕ) → other ≢ name → with_bytes held name bytes other ≡ held other
 aside held name bytes other differs = rw (bytes_eq-differs name other _ refl (λ same. differs (sym same))) refl
 
--- once it was written whole
-pub placed : (name bytes : List ℕ) (old new : List Event) → WritesFile name bytes old new → (other : List ℕ) → standing new other ≡ with_bytes (standing old) name bytes other
-placed name bytes old new writes other =
-    ap (λ (log : List Event). standing log other) writes.ends
-    ∙ ap (λ (disk : Disk). disk.held other) (one-more writes.middle (Finished name))
-    ∙ ap (λ (disk : Disk). in_place disk.held disk.begun other) (begun-with name bytes old writes.middle writes.adds)
-
--- under its name it stands
-pub stands : (name bytes : List ℕ) (old new : List Event) → WritesFile name bytes old new → standing new name ≡ Some bytes
-stands name bytes old new writes = placed name bytes old new writes name ∙ under (standing old) name bytes
-
 -- where no file took a place, none changed
 stays : (disk : Disk) (events : List Event) → AllLeavePlaces events → (name : List ℕ) → (after_all disk events).held name ≡ disk.held name
 stays disk [] all name = refl
+stays disk (Found files ∷ events) all name = absurd all.0
+stays disk (Sized other size ∷ events) all name = stays disk events all.1 name
+stays disk (Read other at room bytes ∷ events) all name = stays disk events all.1 name
+stays disk (ReadFailed other ∷ events) all name = stays disk events all.1 name
 stays disk (Started other ∷ events) all name = stays (after disk (Started other)) events all.1 name
 stays disk (Appended other bytes ∷ events) all name = stays (after disk (Appended other bytes)) events all.1 name
 stays disk (Finished other ∷ events) all name = absurd all.0
@@ -107,8 +91,12 @@ leaves-failed old new event name (Err e) err fails = leaves-one old new (Failed 
 
 -- ---- calls that failed
 
-failures-both : (one two : List Event) → failures (one ++ two) ≡ failures one + failures two
+pub failures-both : (one two : List Event) → failures (one ++ two) ≡ failures one + failures two
 failures-both [] two = omega arith
+failures-both (Found files ∷ one) two = failures-both one two
+failures-both (Sized name size ∷ one) two = failures-both one two
+failures-both (Read name at room bytes ∷ one) two = failures-both one two
+failures-both (ReadFailed name ∷ one) two = failures-both one two
 failures-both (Started name ∷ one) two = failures-both one two
 failures-both (Appended name bytes ∷ one) two = failures-both one two
 failures-both (Finished name ∷ one) two = failures-both one two

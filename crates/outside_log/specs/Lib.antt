@@ -3,3 +3,4 @@ pub mod Files
 pub mod Log
 pub mod Reading
 pub mod Told
+pub mod Readings

@@ -1,4 +1,4 @@
--- What calls that write have done: one event for each call, the oldest first.
+-- What calls have done and were answered: one event for each call, the oldest first.
 use Rattle.std.specs.Prelude.{◌≡◌, ℕ, ◌+◌, List, [], ◌∷◌, ◌++◌, map, Option, Some, None, Result, Ok, Err, OnOk, ⊤, if◌then◌else◌}
 use Rattle.std.specs.List.{concat}
 use Rattle.std.specs.Option.{option_map}
@@ -7,6 +7,14 @@ use Rattle.hyper_outside.specs.Causes.{HasCause}
 use Rattle.outside_log.specs.Files.{Contents}
 
 pub data Event : Type 0 where
+  -- the log began, and these files stood there, each by its name
+  Found : (files : List (List ℕ × List ℕ)) → Event
+  -- the name was said to have so many bytes, or not to be there
+  Sized : (name : List ℕ) (size : Option ℕ) → Event
+  -- these bytes were read of it, from this place on, where there was room for so many
+  Read : (name : List ℕ) (at room : ℕ) (bytes : List ℕ) → Event
+  -- a call that reads failed
+  ReadFailed : (name : List ℕ) → Event
   -- a file was begun that is to take the name's place
   Started : (name : List ℕ) → Event
   -- these bytes were added to it
@@ -45,6 +53,11 @@ empty_disk = record { held = λ name. None; begun = None }
 abbrev pub with_bytes : Contents → List ℕ → List ℕ → Contents
 with_bytes held name bytes other = if bytes_eq name other then Some bytes else held other
 
+-- what stands under each name where these files stand, the first of a name
+abbrev pub contents_of : List (List ℕ × List ℕ) → Contents
+contents_of [] = λ name. None
+contents_of (file ∷ files) = with_bytes (contents_of files) file.0 file.1
+
 -- once what was begun has taken its name's place
 abbrev pub in_place : Contents → Option Begun → Contents
 in_place held None = held
@@ -52,6 +65,10 @@ in_place held (Some begun) = with_bytes held begun.name begun.bytes
 
 -- after a call
 abbrev pub after : Disk → Event → Disk
+after disk (Found files) = record { held = contents_of files; begun = None }
+after disk (Sized name size) = disk
+after disk (Read name at room bytes) = disk
+after disk (ReadFailed name) = disk
 after disk (Started name) = record {
   held = disk.held;
   begun = Some (record { name = name; bytes = [] });
@@ -103,6 +120,7 @@ failures (event ∷ events) = failures events
 -- no file takes a name's place by this call, or by any of these
 abbrev pub LeavesPlace : Event → Type 0
 LeavesPlace (Finished name) = ⊥
+LeavesPlace (Found files) = ⊥
 LeavesPlace event = ⊤
 
 abbrev pub AllLeavePlaces : List Event → Type 0
@@ -127,7 +145,3 @@ pub record CompletesFile (name bytes : List ℕ) (old new : List Event) : Type 0
   pub middle : List Event
   pub adds : Adds name bytes old middle
   pub ends : new ≡ middle ++ Finished name ∷ []
-
--- a file was begun, these bytes were added, and it took the name's place
-abbrev pub WritesFile : List ℕ → List ℕ → List Event → List Event → Type 0
-WritesFile name bytes old new = CompletesFile name bytes (old ++ Started name ∷ []) new

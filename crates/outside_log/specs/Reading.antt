@@ -1,5 +1,5 @@
 -- What reading a file leaves and answers.
-use Rattle.std.specs.Prelude.{◌≡◌, ℕ, ◌+◌, ◌<◌, ◌≤◌, nat_lt, Bool, ◌&&◌, not, false, List, ◌++◌, length, take, drop, ⊤, Option, None, Some, IfSome, Result, Ok, Err}
+use Rattle.std.specs.Prelude.{◌≡◌, ℕ, ◌+◌, ◌<◌, ◌≤◌, nat_lt, Bool, ◌&&◌, not, false, List, ◌++◌, length, take, ⊤, Option, None, Some, IfSome, Result, Ok, Err}
 use Rattle.std.specs.Str.{bytes_eq}
 use Rattle.std.specs.Io.KnownBytes.{Consumes, Keeps}
 use Rattle.std.specs.declared.vec.Vec.{Vec}
@@ -8,12 +8,11 @@ use Rattle.outside_log.specs.declared.reading.WholeStop.{WholeStop}
 use Rattle.outside_log.specs.declared.reading.WholeStop.TheVariants.{Missing, TooLong, ReadFault, NoMemory}
 use Rattle.hyper_outside.specs.Causes.{Rose}
 
--- so many of these bytes stand behind the first `done`, some where there is room and are any, and the rest of the buffer stays
+-- so many of these bytes stand behind the first `done`, some where there is room and are any
 pub record AddsRead (there : List ℕ) (done : ℕ) (old new : List ℕ) (count : ℕ) : Type 0 where
   pub enough : count ≤ length there
   pub some : done < length old → 0 < length there → 0 < count
   pub front : take (done + count) new ≡ take done old ++ take count there
-  pub rest : drop (done + count) new ≡ drop (done + count) old
 
 -- a reader went to a place of its bytes, and had these from there on, as far as it tells its place and its bytes
 abbrev pub ReadFrom : {R : Type 0} → (R → Option ℕ) → (R → Option (List ℕ)) → (R → Option (List ℕ))

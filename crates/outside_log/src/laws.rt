@@ -1,5 +1,6 @@
 ghost use Rattle.std.specs.Prelude.{◌≡◌, ◌≢◌, ℕ, List, Some};
-ghost use Rattle.outside_log.specs.Log.{Event, LeavesPlaces, WritesFile, standing};
+ghost use Rattle.outside_log.specs.Log.{Event, LeavesPlaces, standing};
+ghost use Rattle.outside_log.specs.Readings.{WritesFile};
 
 /// A file that was written whole stands under its name. No other name's file changed.
 pub fn written_files_stand()

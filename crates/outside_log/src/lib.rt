@@ -1,4 +1,4 @@
-//! What the solver reaches outside itself, as traits: files, with a log of what was written, and the output.
+//! What the solver reaches outside itself, as traits: files, with a log of calls, and the output.
 #![tactic(auto)]
 
 mod copying;
@@ -11,4 +11,4 @@ pub use copying::{copy_front, rest_from};
 pub use laws::{files_stay_till_one_takes_a_place, written_files_stand};
 pub use log::{Log, Told};
 pub use outside::{Files, Sink};
-pub use reading::{WholeStop, begins_otherwise, fill, read_whole};
+pub use reading::{WholeStop, begins_otherwise, fill, read_whole, size_of};

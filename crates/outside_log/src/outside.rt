@@ -1,8 +1,6 @@
-ghost use Rattle.std.specs.Prelude.{◌≡◌, ℕ, ◌≤◌, List, [], ◌∷◌, ◌++◌, Bool, IsTrue, Option, IfOk, length};
-ghost use Rattle.std.specs.Option.{option_map};
-ghost use Rattle.hyper_outside.specs.Causes.{HasCause};
-ghost use Rattle.outside_log.specs.Files.{SameFiles, Reads};
-ghost use Rattle.outside_log.specs.Log.{Event, Started, Appended, Finished, GivenUp, event_of, standing};
+ghost use Rattle.std.specs.Prelude.{◌≡◌, ◌≤◌, List, [], ◌∷◌, ◌++◌, IfOk, length};
+ghost use Rattle.outside_log.specs.Log.{Event, Started, Appended, Finished, GivenUp, event_of};
+ghost use Rattle.outside_log.specs.Readings.{sized_event, read_event};
 ghost use Rattle.outside_log.specs.Sink.{Output, Puts};
 
 use hyper_outside::Failed;
@@ -17,69 +15,39 @@ pub trait Sink {
         ensures { Puts (output self.old) (output self.new) bytes.now result };
 }
 
-/// Files by their names. A file is written aside, and then takes its name's place whole. Each call that writes adds one event to the log,
-/// also where it fails; one that reads adds none.
+/// Files by their names. A file is written aside, and then takes its name's place whole. Each call adds one event to the log, also where
+/// it fails.
 pub trait Files {
-    /// What calls that write have done, the oldest first.
+    /// What calls have done and were answered, the oldest first.
     ghost log: { Self → List Event };
-
-    /// How often a call of `size` or `read_at` has failed.
-    ghost read_faults: { Self → ℕ };
-
-    /// Whether it tells its contents.
-    ghost tells: { Self → Bool };
-
-    /// The bytes under a name, where it tells its contents.
-    ghost held: { Self → List ℕ → Option (List ℕ) };
-
-    /// They are those that the log tells.
-    ghost stands: { (s : Self) → IsTrue (tells s) → (name : List ℕ)
-        → held s name ≡ standing (log s) name };
 
     /// How many bytes stand under the name, `None` where it isn't there.
     fn size(&mut self, name: &str) -> Result<Option<u64>, Failed>
-        ensures size { IsTrue (tells self.old)
-            → IfOk result (λ size. size ≡ option_map length (held self.old name.now)) }
-        ensures tells { tells self.new ≡ tells self.old }
-        ensures same { IsTrue (tells self.old) → SameFiles (held self.old) (held self.new) }
-        ensures cause { HasCause (read_faults self.old) (read_faults self.new) result }
-        ensures log { log self.new ≡ log self.old };
+        ensures { log self.new ≡ log self.old ++ sized_event name.now result ∷ [] };
 
     /// Reads bytes of the file from the place `at` on to the front of `buf`, and answers how many. It is none only where `buf` is
     /// empty, the name isn't there or `at` is the size or more.
     fn read_at(&mut self, name: &str, at: u64, buf: &mut [u8]) -> Result<usize, Failed>
         ensures within { IfOk result (λ count. count ≤ length buf.old) }
-        ensures reads { IsTrue (tells self.old)
-            → IfOk result (Reads (held self.old name.now) at buf.old buf.new) }
-        ensures tells { tells self.new ≡ tells self.old }
-        ensures same { IsTrue (tells self.old) → SameFiles (held self.old) (held self.new) }
-        ensures cause { HasCause (read_faults self.old) (read_faults self.new) result }
-        ensures log { log self.new ≡ log self.old };
+        ensures log { log self.new
+            ≡ log self.old ++ read_event name.now at (length buf.old) buf.new result ∷ [] };
 
     /// Begins a file that is to take the name's place, with no bytes. One that was begun before and didn't end is given up.
     fn start(&mut self, name: &str) -> Result<(), Failed>
-        ensures log { log self.new
-            ≡ log self.old ++ event_of (Started name.now) name.now result ∷ [] }
-        ensures tells { tells self.new ≡ tells self.old }
-        ensures read_faults { read_faults self.new ≡ read_faults self.old };
+        ensures { log self.new
+            ≡ log self.old ++ event_of (Started name.now) name.now result ∷ [] };
 
     /// Adds the bytes at the end of the file that was begun. `Failed` also where none was begun for the name.
     fn append(&mut self, name: &str, bytes: &[u8]) -> Result<(), Failed>
-        ensures log { log self.new
-            ≡ log self.old ++ event_of (Appended name.now bytes.now) name.now result ∷ [] }
-        ensures tells { tells self.new ≡ tells self.old }
-        ensures read_faults { read_faults self.new ≡ read_faults self.old };
+        ensures { log self.new
+            ≡ log self.old ++ event_of (Appended name.now bytes.now) name.now result ∷ [] };
 
     /// Has the file that was begun take its name's place, for good. `Failed` also where none was begun for the name.
     fn finish(&mut self, name: &str) -> Result<(), Failed>
-        ensures log { log self.new
-            ≡ log self.old ++ event_of (Finished name.now) name.now result ∷ [] }
-        ensures tells { tells self.new ≡ tells self.old }
-        ensures read_faults { read_faults self.new ≡ read_faults self.old };
+        ensures { log self.new
+            ≡ log self.old ++ event_of (Finished name.now) name.now result ∷ [] };
 
     /// Gives up the file that was begun.
     fn give_up(&mut self, name: &str)
-        ensures log { log self.new ≡ log self.old ++ GivenUp name.now ∷ [] }
-        ensures tells { tells self.new ≡ tells self.old }
-        ensures read_faults { read_faults self.new ≡ read_faults self.old };
+        ensures { log self.new ≡ log self.old ++ GivenUp name.now ∷ [] };
 }

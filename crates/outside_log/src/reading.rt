@@ -1,12 +1,26 @@
-ghost use Rattle.std.specs.Prelude.{◌≡◌, ◌≤◌, ◌<◌, ◌+◌, ◌^◌, [], IfOk, IsTrue, Ok, vec_len, length, take, drop};
+ghost use Rattle.std.specs.Prelude.{◌≡◌, ◌≤◌, ◌<◌, ◌+◌, ◌^◌, [], IfOk, IsTrue, Ok, vec_len, length};
+ghost use Rattle.std.specs.Option.{option_map};
 ghost use Rattle.hyper_outside.specs.Causes.{HasCause};
-ghost use Rattle.outside_log.specs.Files.{SameFiles, Fills, bytes_from};
+ghost use Rattle.outside_log.specs.Files.{Fills, bytes_from};
+ghost use Rattle.outside_log.specs.Log.{standing};
+ghost use Rattle.outside_log.specs.Readings.{ReadsOn, is_faithful, read_faults};
 ghost use Rattle.outside_log.specs.Reading.{AddsRead, IsWhole, HasReadCause, begins_otherwise};
 ghost use Rattle.outside_log.specs.declared.reading.WholeStop.TheVariants.{ReadFault, NoMemory};
 
 use crate::outside::Files;
 use hyper_outside::Failed;
 use std::alloc::{AllocError, Global};
+
+/// How many bytes a file has, `None` where it isn't there.
+pub fn size_of<F: Files>(files: &mut F, name: &str) -> Result<Option<u64>, Failed>
+    ensures size { IsTrue (is_faithful (F.log files.new)) → IfOk result
+        (λ size. size ≡ option_map length (standing (F.log files.old) name.now)) }
+    ensures reads { ReadsOn (F.log files.old) (F.log files.new) }
+    ensures cause { HasCause (read_faults (F.log files.old))
+        (read_faults (F.log files.new)) result }
+{
+    files.size(name)
+}
 
 /// Reads on, behind what is in the buffer already.
 fn read_more<F: Files>(
@@ -19,14 +33,13 @@ fn read_more<F: Files>(
     requires end { at + done < 2 ^ 64 }
     requires room { done < length buf.old }
     ensures within { IfOk result (λ count. done + count ≤ length buf.old) }
-    ensures read { IsTrue (F.tells files.old) → IfOk result
-        (AddsRead (bytes_from (at + done) (F.held files.old name.now)) done buf.old buf.new) }
+    ensures read { IsTrue (is_faithful (F.log files.new)) → IfOk result
+        (AddsRead
+        (bytes_from (at + done) (standing (F.log files.old) name.now)) done buf.old buf.new) }
     ensures len { length buf.new ≡ length buf.old }
-    ensures tells { F.tells files.new ≡ F.tells files.old }
-    ensures same { IsTrue (F.tells files.old)
-        → SameFiles (F.held files.old) (F.held files.new) }
-    ensures cause { HasCause (F.read_faults files.old) (F.read_faults files.new) result }
-    ensures log { F.log files.new ≡ F.log files.old }
+    ensures reads { ReadsOn (F.log files.old) (F.log files.new) }
+    ensures cause { HasCause (read_faults (F.log files.old))
+        (read_faults (F.log files.new)) result }
 {
     files.read_at(name, at + done as u64, &mut buf[done..])
 }
@@ -37,15 +50,13 @@ fn read_more<F: Files>(
 pub fn fill<F: Files>(files: &mut F, name: &str, at: u64, buf: &mut [u8]) -> Result<usize, Failed>
     requires { at + length buf.old < 2 ^ 64 }
     ensures within { IfOk result (λ count. count ≤ length buf.old) }
-    ensures fills { IsTrue (F.tells files.old)
-        → IfOk result (Fills (F.held files.old name.now) at buf.old buf.new) }
+    ensures fills { IsTrue (is_faithful (F.log files.new))
+        → IfOk result (Fills (standing (F.log files.old) name.now) at buf.old buf.new) }
     ensures empty { buf.old ≡ [] → (result ≡ Ok 0) × (files.new ≡ files.old) }
     ensures len { length buf.new ≡ length buf.old }
-    ensures tells { F.tells files.new ≡ F.tells files.old }
-    ensures same { IsTrue (F.tells files.old)
-        → SameFiles (F.held files.old) (F.held files.new) }
-    ensures cause { HasCause (F.read_faults files.old) (F.read_faults files.new) result }
-    ensures log { F.log files.new ≡ F.log files.old }
+    ensures reads { ReadsOn (F.log files.old) (F.log files.new) }
+    ensures cause { HasCause (read_faults (F.log files.old))
+        (read_faults (F.log files.new)) result }
 {
     let mut done = 0;
     'reads: while done < buf.len() {
@@ -65,13 +76,12 @@ const LONGEST_START: usize = 32;
 /// is shorter than they are begins otherwise too, unless it is empty. `Failed` comes where a call failed.
 pub fn begins_otherwise<F: Files>(files: &mut F, name: &str, start: &[u8]) -> Result<bool, Failed>
     requires { length start.now ≤ 32 }
-    ensures otherwise { IsTrue (F.tells files.old) → IfOk result
-        (λ otherwise. otherwise ≡ begins_otherwise start.now (F.held files.old name.now)) }
-    ensures tells { F.tells files.new ≡ F.tells files.old }
-    ensures same { IsTrue (F.tells files.old)
-        → SameFiles (F.held files.old) (F.held files.new) }
-    ensures cause { HasCause (F.read_faults files.old) (F.read_faults files.new) result }
-    ensures log { F.log files.new ≡ F.log files.old }
+    ensures otherwise { IsTrue (is_faithful (F.log files.new)) → IfOk result
+        (λ otherwise. otherwise ≡ begins_otherwise start.now
+        (standing (F.log files.old) name.now)) }
+    ensures reads { ReadsOn (F.log files.old) (F.log files.new) }
+    ensures cause { HasCause (read_faults (F.log files.old))
+        (read_faults (F.log files.new)) result }
 {
     let mut front = [0; LONGEST_START];
     let count = fill(files, name, 0, &mut front[..start.len()])?;
@@ -116,15 +126,13 @@ pub fn read_whole<F: Files>(
     most: u64,
 ) -> Result<Vec<u8>, WholeStop>
     ensures within { IfOk result (λ bytes. vec_len bytes ≤ most) }
-    ensures whole { IsTrue (F.tells files.old)
-        → IsWhole (F.held files.old name.now) most result }
-    ensures tells { F.tells files.new ≡ F.tells files.old }
-    ensures same { IsTrue (F.tells files.old)
-        → SameFiles (F.held files.old) (F.held files.new) }
-    ensures cause { HasReadCause (F.read_faults files.old) (F.read_faults files.new) result }
-    ensures log { F.log files.new ≡ F.log files.old }
+    ensures whole { IsTrue (is_faithful (F.log files.new))
+        → IsWhole (standing (F.log files.old) name.now) most result }
+    ensures reads { ReadsOn (F.log files.old) (F.log files.new) }
+    ensures cause { HasReadCause (read_faults (F.log files.old))
+        (read_faults (F.log files.new)) result }
 {
-    let Some(size) = files.size(name)? else {
+    let Some(size) = size_of(files, name)? else {
         return Err(WholeStop::Missing);
     };
     if size > most {

@@ -1,4 +1,4 @@
-//! Files and the output of a system, with a log of what was written and put.
+//! Files and the output of a system, with a log of what was read, written and put.
 #![tactic(auto)]
 
 mod faults;

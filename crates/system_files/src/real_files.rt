@@ -1,10 +1,10 @@
-ghost use Rattle.std.specs.Prelude.{◌≡◌, ◌≤◌, ◌↔◌, [], ◌∷◌, ◌++◌, IsTrue, None, false, IfOk, OnOk, OnErr, length, string_bytes};
-ghost use Rattle.outside_log.specs.Log.{Started, Appended, Finished, GivenUp, event_of};
+ghost use Rattle.std.specs.Prelude.{◌≡◌, ℕ, ◌≤◌, ◌↔◌, List, [], ◌∷◌, ◌++◌, IsTrue, None, IfOk, OnOk, OnErr, length, string_bytes};
+ghost use Rattle.outside_log.specs.Log.{Found, Started, Appended, Finished, GivenUp, event_of};
 ghost use Rattle.outside_log.specs.Told.{event_of_told};
 ghost use Rattle.system_files.specs.Parts.{IsFor};
 ghost use Rattle.system_files.specs.Written.{Takes};
 
-use crate::faults::counted;
+use crate::faults::or_failed;
 use crate::opened::{Opened, open_path};
 use crate::writing::write_out;
 use hyper_outside::Failed;
@@ -95,8 +95,9 @@ impl<F: OpenFile + Write + Drop> Part<F> {
     }
 }
 
-/// The files of a system by their paths, with a log of what was written and a count of read faults. They tell nothing of what stands under
-/// a path. That the system did what the log tells is taken on trust.
+/// The files of a system by their paths, with a log of all calls and what they were answered: what was written, and what each read gave.
+/// What stood there at first may be any files, and a clause that speaks of files speaks of those that agree with all answers. That the
+/// system did what the log tells, and gave the answers in it, is taken on trust.
 ///
 /// A file is opened by `size`, and all that `read_at` gives of it until another is opened or written is read from this opening. What is no
 /// file, as a pipe, is read at once to its end, and is an error where that is over some MB. What is written stands aside, in a file of its
@@ -107,23 +108,21 @@ pub struct RealFiles<R: System> {
     alloc: Global,
     opened: Option<Opened<R::File>>,
     part: Option<Part<R::File>>,
-    read_faults: u64,
     log: Log,
 }
 
 impl<R: System> RealFiles<R> {
-    /// The files of this system. Nothing was written, and no read has failed yet.
+    /// The files of this system. Any files may have stood there.
     pub fn new(system: R, alloc: Global) -> Self
+        ghost found: { List (List ℕ × List ℕ) }
         ensures system { result.system ≡ system }
-        ensures read_faults { result.read_faults ≡ 0 }
-        ensures log { result.log.events ≡ [] }
+        ensures log { result.log.events ≡ Found found ∷ [] }
     {
         RealFiles {
             system,
             alloc,
             opened: None,
             part: None,
-            read_faults: 0,
             log: Log::new(),
         }
     }
@@ -173,8 +172,7 @@ impl<R: System> RealFiles<R> {
 
     /// Removes what was begun.
     fn remove_part(&mut self)
-        ensures gone { self.new ≡ record self.old { part = None } }
-        ensures read_faults { self.new.read_faults ≡ self.old.read_faults }
+        ensures { self.new ≡ record self.old { part = None } }
     {
         if let Some(part) = self.part.take() {
             let _ = fs::remove_file(&self.system, part.aside.as_str());
@@ -238,7 +236,6 @@ impl<R: System> RealFiles<R> {
             ++ event_of (event_of_told told.now) name.now answer ∷ [] }
         ensures gone { OnErr result (self.new.part ≡ None) }
         ensures stays { OnOk result (self.new.part ≡ self.old.part) }
-        ensures read_faults { self.new.read_faults ≡ self.old.read_faults }
     {
         if answer.is_err() {
             self.remove_part();
@@ -249,27 +246,19 @@ impl<R: System> RealFiles<R> {
 }
 
 impl<R: System> Files for RealFiles<R> {
-    ghost use Rattle.std.proofs.lemmas.Bool.{false≢true};
-
     ghost log = { λ s. s.log.events };
-
-    ghost read_faults = { λ s. s.read_faults };
-
-    ghost tells = { λ _. false };
-
-    ghost held = { λ _ _. None };
-
-    ghost stands = { λ s told name. absurd (false≢true told) };
 
     /// `None` where nothing is found under the path, also where a folder of it is missing.
     fn size(&mut self, name: &str) -> Result<Option<u64>, Failed> {
-        let answer = self.open(name);
-        counted(answer, &mut self.read_faults)
+        let answer = or_failed(self.open(name));
+        self.log = self.log.then_size(name, &answer);
+        answer
     }
 
     fn read_at(&mut self, name: &str, at: u64, buf: &mut [u8]) -> Result<usize, Failed> {
-        let answer = self.read(name, at, buf);
-        counted(answer, &mut self.read_faults)
+        let answer = or_failed(self.read(name, at, buf));
+        self.log = self.log.then_read(name, at, buf, &answer);
+        answer
     }
 
     /// `Failed` also where something stands under the path that is no file.
@@ -278,7 +267,6 @@ impl<R: System> Files for RealFiles<R> {
             ≡ self.old.log.events ++ event_of (Started name.now) name.now result ∷ [] }
         ensures begun { OnOk result (IsFor self.new.part name.now) }
         ensures gone { OnErr result (self.new.part ≡ None) }
-        ensures read_faults { self.new.read_faults ≡ self.old.read_faults }
     {
         let answer = self.begin(name);
         self.tell(&Told::Started(name), name, answer)
@@ -289,7 +277,6 @@ impl<R: System> Files for RealFiles<R> {
             ≡ self.old.log.events ++ event_of (Appended name.now bytes.now) name.now result ∷ [] }
         ensures begun { OnOk result (IsFor self.old.part name.now) }
         ensures gone { OnErr result (self.new.part ≡ None) }
-        ensures read_faults { self.new.read_faults ≡ self.old.read_faults }
     {
         let answer = self.add(name, bytes);
         self.tell(&Told::Appended(name, bytes), name, answer)
@@ -300,7 +287,6 @@ impl<R: System> Files for RealFiles<R> {
             ≡ self.old.log.events ++ event_of (Finished name.now) name.now result ∷ [] }
         ensures begun { OnOk result (IsFor self.old.part name.now) }
         ensures gone { self.new.part ≡ None }
-        ensures read_faults { self.new.read_faults ≡ self.old.read_faults }
     {
         let answer = self.place(name);
         self.tell(&Told::Finished(name), name, answer)
@@ -309,7 +295,6 @@ impl<R: System> Files for RealFiles<R> {
     fn give_up(&mut self, name: &str)
         ensures log { self.new.log.events ≡ self.old.log.events ++ GivenUp name.now ∷ [] }
         ensures gone { self.new.part ≡ None }
-        ensures read_faults { self.new.read_faults ≡ self.old.read_faults }
     {
         self.remove_part();
         self.log = self.log.then(&Told::GivenUp(name));

@@ -44,7 +44,6 @@ use Rattle.top_call.specs.Shows.{look_refusal}
 use Rattle.top_call.proofs.AdviseFiles.{same-kinds}
 use Rattle.top_call.proofs.AdviseLaws.{bad-page, noted_in, source_in}
 use Rattle.top_call.proofs.Loaded.{tells-missing}
-use Rattle.top_call.proofs.MatchLaws.{same-contents}
 
 -- ---- a file of the record's game
 
@@ -153,14 +152,14 @@ judging-match name replayed told held in_match (Err refusal) a = λ tells. elim 
 ]
 
 -- what is answered of the files as they are after the record was read is so of them as they were
-pub analysed-by : (task : Analyse) (replayed : Replayed) (told mid : Bool) (held after : Contents) → mid ≡ told → (IsTrue told → (name : List ℕ) → after name ≡ held name) → (IsTrue told → OfHeld (held task.rec) (λ bytes. HoldsRecord bytes replayed))
-    → (result : Result (List Judged) Refusal) → AnswersJudging task.base replayed mid after result → AnswersAnalysis task told held result
-analysed-by task replayed told mid held after is same holds (Ok list) a = record {
+pub analysed-by : (task : Analyse) (replayed : Replayed) (told mid : Bool) (held after : Contents) → (IsTrue told → IsTrue mid) → after ≡ held → (IsTrue mid → OfHeld (held task.rec) (λ bytes. HoldsRecord bytes replayed))
+    → (result : Result (List Judged) Refusal) → AnswersJudging task.base replayed told after result → AnswersAnalysis task told held result
+analysed-by task replayed told mid held after was same holds (Ok list) a = record {
   replayed = replayed;
-  record_file = holds;
-  base_files = λ tells. subst (λ (h : Contents). JudgesReplayed task.base replayed h list) (same-contents held after (same tells)) (a (subst IsTrue (sym is) tells));
+  record_file = λ tells. holds (was tells);
+  base_files = λ tells. subst (λ (h : Contents). JudgesReplayed task.base replayed h list) same (a tells);
 }
-analysed-by task replayed told mid held after is same holds (Err refusal) a = λ tells. elim (a (subst IsTrue (sym is) tells)) [
+analysed-by task replayed told mid held after was same holds (Err refusal) a = λ tells. elim (a tells) [
   | inl outside ↦ inl outside
-  | inr cause ↦ inr (inr (record { replayed = replayed; record_file = holds tells; cause = subst (λ (h : Contents). RefusesJudging task.base replayed refusal h) (same-contents held after (same tells)) cause }))
+  | inr cause ↦ inr (inr (record { replayed = replayed; record_file = holds (was tells); cause = subst (λ (h : Contents). RefusesJudging task.base replayed refusal h) same cause }))
 ]

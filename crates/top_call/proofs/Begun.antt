@@ -1,7 +1,8 @@
 -- What is known where a file is begun, or isn't.
-use Rattle.std.proofs.Common.{◌≡◌, ◌≤◌, ℕ, List, [], ◌∷◌, ◌++◌, Bool, IsTrue, Option, Result, Ok, Err, OnOk, OnErr, IfErr, inl, inr, refl, ap, sym, ◌∙◌, subst, arith}
-use Rattle.outside_log.specs.Files.{Contents}
-use Rattle.outside_log.specs.Log.{Event, GivenUp, LeavesPlaces, Started, failures, standing}
+use Rattle.std.proofs.Common.{◌≡◌, ◌≤◌, ℕ, List, [], ◌∷◌, ◌++◌, Bool, IsTrue, IsFalse, Option, Result, Ok, Err, OnOk, IfErr, inl, inr, refl, ap, ◌∙◌, subst, arith}
+use Rattle.outside_log.specs.Log.{Event, LeavesPlaces, Started, failures, standing}
+use Rattle.outside_log.specs.Readings.{ReadsOn}
+use Rattle.outside_log.specs.Reading.{begins_otherwise}
 use Rattle.outside_log.proofs.Logs.{failures-later, leaves-both, leaves-one, stay}
 use Rattle.equity_report.specs.declared.refusal.Refusal.{Refusal}
 use Rattle.equity_report.specs.declared.refusal.Refusal.TheVariants.{Words, Position, Missing, File, Read, Write, Memory, Base, Roll, Inconsistent, Record, Contact, Condition, Other}
@@ -9,12 +10,8 @@ use Rattle.equity_report.specs.Refusals.{status_of, refusal_text}
 use Rattle.std.specs.Option.{option_map}
 use Rattle.database_file.specs.Faults.{Read as FileRead, whole}
 use Rattle.top_call.specs.Loads.{OfFile}
-use Rattle.top_call.specs.Beginnings.{MayRefuseBeginning, RefusesBeginning}
+use Rattle.top_call.specs.Beginnings.{MayRefuseBeginning, MayTakePlace, RefusesBeginning}
 use Rattle.top_call.specs.Runs.{EndsBy, IsOfBeginning, IsOfMigrating, IsOfWriting}
-
--- where no file took a place, names hold what they held
-pub held-same : (held now : Contents) (old new : List Event) → ((name : List ℕ) → held name ≡ standing old name) → ((name : List ℕ) → now name ≡ standing new name) → LeavesPlaces old new → (name : List ℕ) → now name ≡ held name
-held-same held now old new was is leaves name = is name ∙ stay old new leaves name ∙ sym (was name)
 
 -- status 7 is that of a failed write alone, and 6 that of a failed reading
 pub is-write : (refusal : Refusal) → status_of refusal ≡ 7 → refusal ≡ Write
@@ -88,26 +85,29 @@ begun-migrating (Condition word) kind = absurd kind
 
 -- ---- a look behind the beginning
 
-module _ {T : Type 0} (name : List ℕ) (old begun new : List Event) (begins : begun ≡ old ++ Started name ∷ []) where
-  pub begun-log : (result : Result T Refusal) → OnOk result (new ≡ begun) → OnOk result (new ≡ old ++ Started name ∷ [])
-  begun-log (Ok x) same = same ∙ begins
-  begun-log (Err e) same = tt
-
-  pub begun-leaves : (result : Result T Refusal) → OnErr result (new ≡ begun ++ GivenUp name ∷ []) → OnErr result (LeavesPlaces old new)
-  begun-leaves (Ok x) given = tt
-  begun-leaves (Err e) given = leaves-both old begun new (leaves-one old begun (Started name) tt begins) (leaves-one begun new (GivenUp name) tt given)
-
-  pub begun-later : (result : Result T Refusal) → OnOk result (new ≡ begun) → OnErr result (new ≡ begun ++ GivenUp name ∷ []) → failures old ≤ failures new
-  begun-later (Ok x) same given = failures-later old new (Started name ∷ []) (same ∙ begins)
-  begun-later (Err e) same given =
-      let first = failures-later old begun (Started name ∷ []) begins in
-      let last = failures-later begun new (GivenUp name ∷ []) given in
-      omega (arith, first, last)
-
-pub begun-told : {T : Type 0} (start name : List ℕ) (told now : Bool) (held there : Option (List ℕ)) → now ≡ told → (IsTrue told → there ≡ held) → (result : Result T Refusal) → IfErr result (MayRefuseBeginning start name now there) → IfErr result (MayRefuseBeginning start name told held)
-begun-told start name told now held there same stays (Ok x) refuses = tt
-begun-told start name told now held there same stays (Err refusal) refuses = λ is. subst (RefusesBeginning start name refusal) (stays is) (refuses (subst IsTrue (sym same) is))
-
 -- what was read of a file is of what stood there before
-pub of-file-before : (told now : Bool) (held there : Option (List ℕ)) (P : Option FileRead → Type 0) → now ≡ told → (IsTrue told → there ≡ held) → OfFile now there P → OfFile told held P
-of-file-before told now held there P same stays of = (of.0, λ is. of.1 (subst IsTrue (sym same) is) ∙ ap (λ (bytes : Option (List ℕ)). option_map whole bytes) (stays is), of.2)
+pub of-file-before : (told now : Bool) (held there : Option (List ℕ)) (P : Option FileRead → Type 0) → (IsTrue told → IsTrue now) → there ≡ held → OfFile now there P → OfFile told held P
+of-file-before told now held there P was stays of = (of.0, λ is. of.1 (was is) ∙ ap (λ (bytes : Option (List ℕ)). option_map whole bytes) stays, of.2)
+
+module _ (name : List ℕ) (old begun new : List Event) (begins : begun ≡ old ++ Started name ∷ []) where
+  pub begun-reads : {T : Type 0} (result : Result T Refusal) → OnOk result (ReadsOn begun new) → OnOk result (ReadsOn (old ++ Started name ∷ []) new)
+  begun-reads (Ok x) reads = subst (λ (log : List Event). ReadsOn log new) begins reads
+  begun-reads (Err e) reads = tt
+
+  pub begun-leaves : LeavesPlaces begun new → LeavesPlaces old new
+  begun-leaves leaves = leaves-both old begun new (leaves-one old begun (Started name) tt begins) leaves
+
+  pub begun-file : (other : List ℕ) → standing begun other ≡ standing old other
+  begun-file other = stay old begun (leaves-one old begun (Started name) tt begins) other
+
+pub leaves-failures : {old new : List Event} → LeavesPlaces old new → failures old ≤ failures new
+leaves-failures {old} {new} leaves = failures-later old new leaves.added leaves.grown
+
+module _ {T : Type 0} (start name : List ℕ) (told : Bool) (held there : Option (List ℕ)) (stays : there ≡ held) where
+  pub begun-told : (result : Result T Refusal) → IfErr result (MayRefuseBeginning start name told there) → IfErr result (MayRefuseBeginning start name told held)
+  begun-told (Ok x) refuses = tt
+  begun-told (Err refusal) refuses = λ is. subst (RefusesBeginning start name refusal) stays (refuses is)
+
+  pub begun-may : (result : Result T Refusal) → OnOk result (MayTakePlace start told there) → OnOk result (MayTakePlace start told held)
+  begun-may (Ok x) may = λ is. subst (λ (file : Option (List ℕ)). IsFalse (begins_otherwise start file)) stays (may is)
+  begun-may (Err e) may = tt

@@ -1,11 +1,13 @@
 -- How adding a file's text, putting its report and taking its name's place ends, by where it ends.
-use Rattle.std.proofs.Common.{◌≡◌, ◌≤◌, List, ℕ, [], ◌∷◌, ◌++◌, map, Result, Ok, Err, IsErr, OnOk, OnErr, ◌⊎◌, inl, inr, refl, subst, arith}
-use Rattle.hyper_outside.specs.Causes.{HasCause, Rose}
+use Rattle.std.proofs.Common.{◌≡◌, ◌≤◌, List, ℕ, [], ◌∷◌, ◌++◌, map, Result, Ok, Err, IsErr, OnOk, OnErr, ◌⊎◌, inl, inr, refl, sym, subst, arith}
+use Rattle.hyper_outside.specs.Causes.{Rose}
 use Rattle.hyper_outside.specs.declared.outside.Failed.{Failed as Failure}
-use Rattle.outside_log.specs.Log.{Event, Started, Appended, Finished, GivenUp, Failed, Adds, CompletesFile, LeavesPlaces, WritesFile, event_of, failures}
+use Rattle.outside_log.specs.Log.{Event, Started, Appended, Finished, GivenUp, Failed, Adds, CompletesFile, LeavesPlaces, event_of, failures}
+use Rattle.outside_log.specs.Readings.{ReadsOn, WritesFile}
 use Rattle.outside_log.specs.Sink.{Output, Puts}
 use Rattle.outside_log.proofs.Logs.{adds-leaves, cause-of, failures-later, leaves-both, leaves-one}
 use Rattle.top_call.specs.Runs.{Completes, HasEitherCause, PutBefore, WasPut}
+use Rattle.outside_log.proofs.Readings.{reads-none}
 use Rattle.top_call.proofs.Telling.{all-told}
 
 -- adding failed
@@ -78,10 +80,11 @@ module _ (name text report : List ℕ) (before begun after : List Event) (begins
   began = leaves-one before begun (Started name) tt begins
 
   pub written : OnOk result (WritesFile name text before after)
-  written = on-ok result (subst (λ (log : List Event). OnOk result (CompletesFile name text log after)) begins completes.file)
+  written = on-ok result completes.file
     where
-      on-ok : (r : Result (Unit {0}) Failure) → OnOk r (CompletesFile name text (before ++ Started name ∷ []) after) → OnOk r (WritesFile name text before after)
-      on-ok r completed = completed
+      on-ok : (r : Result (Unit {0}) Failure) → OnOk r (CompletesFile name text begun after) → OnOk r (WritesFile name text before after)
+      on-ok (Ok x) completed = record { begun = begun; begins = subst (ReadsOn (before ++ Started name ∷ [])) (sym begins) (reads-none _); completes = completed }
+      on-ok (Err e) completed = tt
 
   pub left : OnErr result (LeavesPlaces before after)
   left = behind result completes.leaves

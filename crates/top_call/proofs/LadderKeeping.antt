@@ -1,7 +1,8 @@
 -- What a keeper does with a score that it may keep.
 use Rattle.std.proofs.Common.{◌≡◌, ◌∙◌, ◌≤◌, ◌<◌, ◌⊎◌, ℕ, ℤ, List, true, false, length, sym, ap, subst}
 use Rattle.std.specs.List.{AllPairs}
-use Rattle.outside_log.specs.Log.{Event, LeavesPlaces, WritesFile}
+use Rattle.outside_log.specs.Log.{Event, LeavesPlaces}
+use Rattle.outside_log.specs.Readings.{WritesFile}
 use Rattle.outside_log.specs.Sink.{Output}
 use Rattle.directed_fixed.specs.Bounds.{Bounds}
 use Rattle.cube_actions.specs.Ladder.{ladder, ScoreComesBefore}
@@ -14,7 +15,7 @@ use Rattle.match_scores.specs.Openings.{start_over}
 use Rattle.command_line.specs.declared.command.Ladder.{Ladder}
 use Rattle.command_line.specs.Right.{IsRightLadder}
 use Rattle.equity_report.specs.Ladder.{ladder_score_text}
-use Rattle.top_call.specs.Ladders.{HasKeptSince, IsScoreSolved, LadderPast, SolvedScore, file_of, score_bytes, score_file, score_line, score_of, scores_in}
+use Rattle.top_call.specs.Ladders.{HasKeptSince, IsScoreSolved, LadderPast, SolvedScore, score_bytes, score_file, score_line, score_of, scores_in}
 use Rattle.top_call.specs.Runs.{IsPut, WasPut}
 use Rattle.top_call.proofs.LadderSteps.{LadderLaw, head-valid, kept-next, not-kept, score-solved}
 

@@ -1,9 +1,10 @@
 -- One score more of a ladder, or one that failed.
-use Rattle.std.proofs.Common.{◌≡◌, ◌≢◌, ◌∙◌, ◌≤◌, ◌<◌, ◌+◌, ◌⊎◌, ℕ, ℤ, pos, zero, suc, true, false, IsTrue, List, [], ◌++◌, length, length-append, Option, Some, None, Err, inl, inr, refl, sym, ap, subst, arith}
+use Rattle.std.proofs.Common.{◌≡◌, ◌∙◌, ◌≤◌, ◌<◌, ◌+◌, ◌⊎◌, ℕ, ℤ, pos, zero, suc, true, false, List, [], ◌++◌, length, length-append, Option, Some, None, inl, inr, refl, sym, ap, subst, arith}
 use Rattle.std.specs.List.{AllPairs}
 use Rattle.std.proofs.lemmas.Bool.{cases_lt}
 use Rattle.std.proofs.lemmas.List.{append-nil, append_assoc}
-use Rattle.outside_log.specs.Log.{Event, LeavesPlaces, WritesFile}
+use Rattle.outside_log.specs.Log.{Event, LeavesPlaces}
+use Rattle.outside_log.specs.Readings.{WritesFile}
 use Rattle.outside_log.specs.Sink.{Output}
 use Rattle.outside_log.proofs.Logs.{leaves-same}
 use Rattle.cube_actions.specs.Ladder.{ladder, ScoreComesBefore}
@@ -18,7 +19,7 @@ use Rattle.match_scores.specs.Keepers.{no_pairs}
 use Rattle.match_scores.proofs.Places.{place-of}
 use Rattle.command_line.specs.Right.{IsRightLadder}
 use Rattle.match_scores.specs.Ladders.{score_at, starts_till, with_pair, game_at, AreWordsOf, IsSolved, IsSolvedAt, IsLadder}
-use Rattle.match_scores.proofs.WholeLadder.{AreScores, and_then, and_then-before, and_then-last, till-same, all-taken, solved-next}
+use Rattle.match_scores.proofs.WholeLadder.{and_then, and_then-before, and_then-last, till-same, all-taken, solved-next}
 use Rattle.command_line.specs.declared.command.Ladder.{Ladder}
 use Rattle.top_call.specs.Ladders.{AreScoresSolved, HasKeptSince, IsScoreSolved, LadderPast, SolvedScore, WroteScores, file_of, lines_of, score_bytes, score_head, score_line, score_of, scores_in}
 use Rattle.top_call.specs.Runs.{IsPut, IsTold, WasPut}

@@ -1,4 +1,4 @@
-mod Refused
+pub mod Refused
 mod Enclosed
 mod Right
 mod Loaded
@@ -20,6 +20,7 @@ mod Begun
 mod LadderSteps
 mod LadderEnds
 mod LadderKeeping
+mod LadderTries
 mod PlanLaws
 mod PlanFiles
 mod ScanFiles

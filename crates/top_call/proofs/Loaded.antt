@@ -13,7 +13,7 @@ use Rattle.equity_report.specs.declared.refusal.Refusal.TheVariants.{Words, Posi
 use Rattle.top_call.specs.Loads.{OfFile, TellsStop, RefusesFrom}
 use Rattle.top_call.specs.Runs.{IsOfLoading}
 
--- of the file that is held, where files tell what they hold, and else of some file
+-- of the file that is held, where all answers were faithful, and else of some file
 pub of-file : (told : Bool) (held : Option (List ℕ)) (P : Option FileRead → Type 0) → (IsTrue told → P (option_map whole held)) → ((file : Option FileRead) × P file) → OfFile told held P
 of-file true held P known some = (option_map whole held, λ _. refl, known refl)
 of-file false held P known some = (some.0, λ no. absurd (false≢true no), some.1)

@@ -342,10 +342,6 @@ module _ (prefix : List ℕ) (rec : RecordRead) (held : Contents) (first : List 
       let e = ap (λ (ds : List Decision). length ds) same in
       all i (omega (arith, below, whole, long, long', e)) d i d below (ap (λ (x : Decision). x.score) (like-same list first same i below d d))
 
--- files that hold the same
-pub same-contents : (before after : Contents) → ((name : List ℕ) → after name ≡ before name) → after ≡ before
-same-contents before after same = λ i name. same name i
-
 -- where all files are right as far as their pages, what refuses judging the decision at a place refuses the match
 pub refused-at : (prefix : List ℕ) (replayed : Replayed) (held : Contents) (refusal : Refusal) → All (λ (decision : Decision). HasFile prefix replayed.rec held decision.score) replayed.decisions → (place : ℕ) → RefusesAt prefix replayed.rec held refusal place replayed.decisions → RefusesMatch prefix replayed refusal held
 refused-at prefix replayed held refusal fronts place (decision, at, cause) = elim cause [

@@ -1,9 +1,10 @@
 -- What is shown of a file, and what refuses it.
-use Rattle.std.proofs.Common.{◌≡◌, ◌≢◌, ◌∙◌, ◌<◌, ◌+◌, ℕ, suc, List, [], ◌∷◌, sum, length, drop, Option, Some, None, Ok, Err, Result, inl, inr, refl, sym, ap, subst, arith}
+use Rattle.std.proofs.Common.{◌≡◌, ◌≢◌, ◌∙◌, ◌<◌, ◌+◌, ℕ, ℤ, suc, List, [], ◌∷◌, sum, length, drop, Option, Some, None, Ok, Err, IsErrAnd, Result, inl, inr, refl, sym, ap, subst, arith}
 use Rattle.std.specs.Option.{option_map}
 use Rattle.position_rank.specs.Placement.{Placement, IsPosition, IsLive}
 use Rattle.directed_fixed.specs.declared.bounds.End.{End}
 use Rattle.directed_fixed.specs.declared.bounds.End.TheVariants.{Lower, Upper}
+use Rattle.directed_fixed.specs.Bounds.{Bounds}
 use Rattle.cube_actions.specs.declared.name.KindName.{KindName}
 use Rattle.cube_actions.specs.declared.name.StakesName.{StakesName}
 use Rattle.cube_actions.specs.Names.{names_of}
@@ -21,7 +22,7 @@ use Rattle.database_file.specs.Faults.{header_of_file, pages_behind, whole}
 use Rattle.database_file.specs.Pages.{words_in}
 use Rattle.interval_words.specs.Numbers.{words_of}
 use Rattle.database_file.specs.Opened.{AnswersPaged}
-use Rattle.database_file.specs.Paged.{flaw_at, word_at}
+use Rattle.database_file.specs.Paged.{AnswersLook, flaw_at, word_at}
 use Rattle.database_file.specs.PagedFiles.{PagedFile}
 use Rattle.database_file.proofs.PageWords.{word-among}
 use Rattle.equity_report.specs.declared.files.KindRow.{KindRow}
@@ -32,7 +33,7 @@ use Rattle.equity_report.specs.declared.refusal.Wanted.TheVariants.{Checkers}
 use Rattle.top_call.specs.declared.task.ShowTask.{ShowTask}
 use Rattle.top_call.specs.Loads.{TellsStop, game_told}
 use Rattle.top_call.specs.Runs.{IsOfShowing}
-use Rattle.top_call.specs.Shows.{AnswersRows, IsShown, RefusesShowing, look_refusal, rows_from, words_in_file}
+use Rattle.top_call.specs.Shows.{AnswersPair, AnswersRows, IsShown, RefusesShowing, look_refusal, rows_from, words_in_file}
 use Rattle.top_call.proofs.Loaded.{tells-missing}
 
 refuses : (task : ShowTask) (held : Option (List ℕ)) (refusal due : Refusal) → refusal ≡ due → RefusesShowing task due held → RefusesShowing task refusal held
@@ -110,3 +111,40 @@ pub look-shows : (stop : LookStop) → IsOfShowing (look_refusal stop)
 look-shows looks.ReadFault = tt
 look-shows (looks.BadPage fault at) = tt
 look-shows looks.NoMemory = tt
+
+-- what stops a look-up stops that of a pair
+pub pair-stopped : (header : Header) (file : Option (List ℕ)) (end : End) (p : Placement) (k : ℕ) (stop : LookStop) (result : Result Bounds LookStop) → AnswersLook header file end p k (Err stop) → IsErrAnd result (λ given. given ≡ stop)
+    → AnswersPair header file p k result
+pair-stopped header file end p k stop (Ok pair) answers wrong = absurd wrong
+pair-stopped header file end p k stop (Err given) answers same = subst (λ (s : LookStop). AnswersPair header file p k (Err s)) (sym same) (by_stop stop answers)
+  where
+    by_stop : (stop : LookStop) → AnswersLook header file end p k (Err stop) → AnswersPair header file p k (Err stop)
+    by_stop looks.ReadFault answers = tt
+    by_stop (looks.BadPage fault at) answers = answers
+    by_stop looks.NoMemory answers = tt
+
+-- and that of the rows
+pub rows-stopped : (header : Header) (file : Option (List ℕ)) (p : Placement) (k : ℕ) (stop : LookStop) (result : Result (Rattle.arrayvec.specs.ArrayVec.ArrayVec KindRow) LookStop) → AnswersPair header file p k (Err stop)
+    → IsErrAnd result (λ given. given ≡ stop) → AnswersRows header file p result
+rows-stopped header file p k stop (Ok rows) answers wrong = absurd wrong
+rows-stopped header file p k stop (Err given) answers same = subst (λ (s : LookStop). AnswersRows header file p (Err s)) (sym same) (by_stop stop answers)
+  where
+    by_stop : (stop : LookStop) → AnswersPair header file p k (Err stop) → AnswersRows header file p (Err stop)
+    by_stop looks.ReadFault answers = tt
+    by_stop (looks.BadPage fault at) answers = answers
+    by_stop looks.NoMemory answers = tt
+
+-- a look-up in the same file, after some others
+pub look-moved : (header other : Header) (name named : List ℕ) (after held : Contents) (end : End) (p : Placement) (k : ℕ) (result : Result ℤ LookStop) → header ≡ other → name ≡ named → after ≡ held → AnswersLook header (after name) end p k result
+    → AnswersLook other (held named) end p k result
+look-moved header other name named after held end p k result same_header same_name same_held answers =
+    subst (λ (h : Header). AnswersLook h (held named) end p k result) same_header
+    (subst (λ (n : List ℕ). AnswersLook header (held n) end p k result) same_name
+    (subst (λ (c : Contents). AnswersLook header (c name) end p k result) same_held answers))
+
+pub pair-moved : (header other : Header) (name named : List ℕ) (after held : Contents) (p : Placement) (k : ℕ) (result : Result Bounds LookStop) → header ≡ other → name ≡ named → after ≡ held → AnswersPair header (after name) p k result
+    → AnswersPair other (held named) p k result
+pair-moved header other name named after held p k result same_header same_name same_held answers =
+    subst (λ (h : Header). AnswersPair h (held named) p k result) same_header
+    (subst (λ (n : List ℕ). AnswersPair header (held n) p k result) same_name
+    (subst (λ (c : Contents). AnswersPair header (c name) p k result) same_held answers))

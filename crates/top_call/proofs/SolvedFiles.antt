@@ -4,7 +4,7 @@ use Rattle.std.specs.Option.{option_map}
 use Rattle.std.proofs.lemmas.Option.{none-some}
 use Rattle.outside_log.specs.Log.{Event, standing}
 use Rattle.outside_log.specs.Sink.{Output}
-use Rattle.outside_log.proofs.Logs.{stands}
+use Rattle.outside_log.proofs.Written.{stands}
 use Rattle.word_pages.specs.declared.version.Version.{Version}
 use Rattle.word_pages.specs.declared.version.Version.TheVariants.{One, Two, Three}
 use Rattle.interval_words.specs.WordLists.{WordList, words_in_list}

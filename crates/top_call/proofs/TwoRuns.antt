@@ -7,7 +7,7 @@ use Rattle.cube_actions.specs.declared.name.StakesName.{StakesName}
 use Rattle.cube_actions.specs.declared.name.StakesName.TheVariants.{Cubeless, Money, Jacoby, MoneyBeavers, JacobyBeavers, Match}
 use Rattle.outside_log.specs.Log.{Event, standing}
 use Rattle.outside_log.specs.Sink.{Output}
-use Rattle.outside_log.proofs.Logs.{stands}
+use Rattle.outside_log.proofs.Written.{stands}
 use Rattle.turn_rule.specs.Games.{kinds_of}
 use Rattle.turn_rule.specs.Truth.{AreSound}
 use Rattle.turn_rule.specs.declared.game.Game.{Game}

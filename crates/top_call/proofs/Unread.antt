@@ -1,7 +1,9 @@
 -- What is known where the program's words are refused, or there was no memory for them.
-use Rattle.std.proofs.Common.{◌≡◌, ◌∙◌, ℕ, List, Bool, IsTrue, None, Result, Ok, Err, inl, refl, sym, subst, arith}
+use Rattle.std.proofs.Common.{◌≡◌, ◌∙◌, ℕ, List, Bool, IsTrue, None, Result, Ok, Err, inl, sym, subst, arith}
 use Rattle.outside_log.specs.Files.{Contents}
-use Rattle.outside_log.specs.Log.{Event}
+use Rattle.outside_log.specs.Log.{Event, standing}
+use Rattle.outside_log.specs.Readings.{is_faithful}
+use Rattle.outside_log.proofs.Readings.{reads-none}
 use Rattle.outside_log.proofs.Logs.{leaves-none}
 use Rattle.outside_log.specs.Sink.{Output}
 use Rattle.equity_report.specs.declared.refusal.Refusal.{Refusal}
@@ -18,7 +20,7 @@ use Rattle.top_call.specs.Runs.{IsDue, WasPut}
 use Rattle.top_call.specs.Scans.{HasScanned, MayRefuseScanning, RefusesScanning}
 use Rattle.top_call.specs.Studies.{HasStudied, MayRefuseStudy}
 use Rattle.top_call.specs.Shows.{HasShown, RefusesShowing}
-use Rattle.word_pages.specs.declared.version.Version.TheVariants.{One, Three}
+use Rattle.word_pages.specs.declared.version.Version.TheVariants.{Three}
 use Rattle.top_call.specs.Verifies.{HasVerified, MayRefuseVerifying, RefusesVerifying}
 use Rattle.match_scores.specs.Keepers.{no_pairs}
 use Rattle.top_call.proofs.LadderEnds.{run-out}
@@ -60,28 +62,34 @@ memory-told (Ok (Scan task)) old new put = put
 memory-told (Ok (Reply task)) old new put = put
 memory-told (Err refusal) old new put = put
 
--- where no call was made that writes, no file took a place
+-- where no call was made, no file took a place
 pub nothing-written : (expected : Result Task Refusal) (log : List Event) (status : ℕ) → KeepsFiles expected log log status
-nothing-written (Ok (Bound task)) log status = refl
-nothing-written (Ok (Race task)) log status = refl
+nothing-written (Ok (Bound task)) log status = reads-none log
+nothing-written (Ok (Race task)) log status = reads-none log
 nothing-written (Ok (Solve task)) log status = λ other. leaves-none log
-nothing-written (Ok (Show task)) log status = refl
+nothing-written (Ok (Show task)) log status = reads-none log
 nothing-written (Ok (Migrate task)) log status = λ other. leaves-none log
-nothing-written (Ok (Advise task)) log status = refl
-nothing-written (Ok (Verify task)) log status = refl
+nothing-written (Ok (Advise task)) log status = reads-none log
+nothing-written (Ok (Verify task)) log status = reads-none log
 nothing-written (Ok (Ladder task)) log status = tt
-nothing-written (Ok (Analyse task)) log status = refl
-nothing-written (Ok (Study task)) log status = refl
+nothing-written (Ok (Analyse task)) log status = reads-none log
+nothing-written (Ok (Study task)) log status = reads-none log
 nothing-written (Ok (Make task)) log status = λ other. leaves-none log
-nothing-written (Ok (Plan task)) log status = refl
-nothing-written (Ok (Scan task)) log status = refl
-nothing-written (Ok (Reply task)) log status = refl
-nothing-written (Err refusal) log status = refl
+nothing-written (Ok (Plan task)) log status = reads-none log
+nothing-written (Ok (Scan task)) log status = reads-none log
+nothing-written (Ok (Reply task)) log status = reads-none log
+nothing-written (Err refusal) log status = reads-none log
 
 -- where there was no memory for the words, nothing is known of what they ask for
-module _ (told : Bool) (held : Contents) (before after : List Event) (same : after ≡ before) (old new : Output) (status : ℕ) where
+module _ (before after : List Event) (same : after ≡ before) (old new : Output) (status : ℕ) where
+  abbrev told : Bool
+  told = is_faithful after
+
+  abbrev held : Contents
+  held = standing before
+
   abbrev Run : Result Task Refusal → Type 0
-  Run expected = HasRun expected told held before after old new status
+  Run expected = HasRun expected before after old new status
 
   unheld : status ≡ status_of Memory → WasPut old new (refusal_text Memory) → (expected : Result Task Refusal) → Run expected
   unheld is put (Err refusal) = λ e. of_memory (WasPut old new) refusal (sym is ∙ e) put
@@ -99,6 +107,7 @@ module _ (told : Bool) (held : Contents) (before after : List Event) (same : aft
   }
   unheld is put (Ok (Solve task)) = record {
     solved = λ done. absurd (omega (arith, done, is));
+    taken = λ done. absurd (omega (arith, done, is));
     stopped = λ write. absurd (omega (arith, write, is));
     refused = λ done write. record { refusal = Memory; cause = λ told. tt; line = put; is_status = is };
   }
@@ -106,6 +115,7 @@ module _ (told : Bool) (held : Contents) (before after : List Event) (same : aft
       no-memory (HasShown task told (held task.file)) (λ refusal. IsTrue told → RefusesShowing task refusal (held task.file)) old new (λ _. tt) status is put
   unheld is put (Ok (Migrate task)) = record {
     migrated = λ done. absurd (omega (arith, done, is));
+    taken = λ done. absurd (omega (arith, done, is));
     stopped = λ write. absurd (omega (arith, write, is));
     refused = λ done write. record {
       refusal = Memory;
@@ -123,11 +133,14 @@ module _ (told : Bool) (held : Contents) (before after : List Event) (same : aft
       no-memory (HasStudied task told (held task.rec)) (MayRefuseStudy task told (held task.rec)) old new (λ _. inl tt) status is put
   unheld is put (Ok (Make task)) = record {
     done = λ done. absurd (omega (arith, done, is));
+    taken = λ done. absurd (omega (arith, done, is));
     stopped = λ write. absurd (omega (arith, write, is));
     refused = λ done write. record { refusal = Memory; cause = λ told. tt; line = put; is_status = is };
   }
   unheld is put (Ok (Ladder task)) = record {
     solved = λ done. absurd (omega (arith, done, is));
+    taken = λ done. absurd (omega (arith, done, is));
+    refused = λ done write memory. absurd (memory is);
     stopped = λ write. absurd (omega (arith, write, is));
     out_of_memory = λ memory. run-out task before after old old new (no_pairs task.match_length)
         (nothing-since (record { before = before; old = old }) task after same) put;

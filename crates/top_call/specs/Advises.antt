@@ -136,7 +136,7 @@ abbrev pub OfHeld : Option (List ℕ) → (List ℕ → Type 0) → Type 0
 OfHeld (Some bytes) P = P bytes
 OfHeld None P = ⊥
 
--- The report of a ranking was put, in this way; where files tell what they hold, the file ranks the plays so.
+-- The report of a ranking was put, in this way; where all answers were faithful, the file ranks the plays so.
 pub record HasRanked (task : AdviseTask) (roll : Dice) (told : Bool) (held : Option (List ℕ))
     (IsReport : List ℕ → Type 0) : Type 0 where
   pub head : FileHead
@@ -215,7 +215,7 @@ RefusesAdvice task Read held = ⊤
 RefusesAdvice task Memory held = ⊤
 RefusesAdvice task _ _ = ⊥
 
--- this refuses advice, of the file that is held where files tell what they hold
+-- this refuses advice, of the file that is held where all answers were faithful
 abbrev pub MayRefuseAdvice : AdviseTask → Bool → Option (List ℕ) → Refusal → Type 0
 MayRefuseAdvice task told held refusal = IsTrue told → RefusesAdvice task refusal held
 
@@ -272,7 +272,7 @@ AnswersAdvice header file stakes p k =
 abbrev pub CanBePlayed : Placement → List PlayRow → Type 0
 CanBePlayed p rows = All (λ (row : PlayRow). CanFollow p row.entry.play.items) rows
 
--- what is found for a task of a roll, where files tell what they hold in the file that is held, or what refuses it
+-- what is found for a task of a roll, where all answers were faithful in the file that is held, or what refuses it
 abbrev pub AnswersRanked : AdviseTask → Dice → Bool → Option (List ℕ) → Result FoundRanking Refusal
     → Type 0
 AnswersRanked task roll told held (Ok found) =

@@ -79,7 +79,7 @@ pub record JudgesReplayed (name : List ℕ) (replayed : Replayed) (held : Conten
       → OfHeld (held name) (λ bytes. JudgesPlain replayed bytes list)
   pub in_match : is_match replayed.rec.stakes ≡ true → JudgesMatch name replayed held list
 
--- This is the analysis of a recorded game: where files tell what they hold, one of them holds a record that breaks no rule, and the others judge its
+-- This is the analysis of a recorded game: where all answers were faithful, one of them holds a record that breaks no rule, and the others judge its
 -- decisions so.
 pub record IsAnalysed (task : Analyse) (told : Bool) (held : Contents)
     (list : List Judged) : Type 0 where
@@ -149,7 +149,7 @@ abbrev pub RefusesAnalysis : Analyse → Refusal → Contents → Type 0
 RefusesAnalysis task refusal held = IsOutside refusal
     ⊎ RefusesRecord task.rec refusal (held task.rec) ⊎ RefusesReplayed task refusal held
 
--- this refuses an analysis, of the files that are held where these tell what they hold
+-- this refuses an analysis, of the files that stood there where all answers were faithful
 abbrev pub MayRefuseAnalysis : Analyse → Bool → Contents → Refusal → Type 0
 MayRefuseAnalysis task told held refusal = IsTrue told → RefusesAnalysis task refusal held
 

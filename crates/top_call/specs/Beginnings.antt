@@ -1,5 +1,5 @@
 -- Why no file is begun for a name.
-use Rattle.std.specs.Prelude.{◌≡◌, ℕ, List, Bool, IsTrue, Option, ⊤}
+use Rattle.std.specs.Prelude.{◌≡◌, ℕ, List, Bool, IsTrue, IsFalse, Option, ⊤}
 use Rattle.outside_log.specs.Reading.{begins_otherwise}
 use Rattle.equity_report.specs.declared.refusal.Refusal.{Refusal}
 use Rattle.equity_report.specs.declared.refusal.Refusal.TheVariants.{Read, Write, Memory, Other}
@@ -14,7 +14,12 @@ RefusesBeginning start name Read held = ⊤
 RefusesBeginning start name Memory held = ⊤
 RefusesBeginning start name _ held = ⊥
 
--- it may be refused so, of what stands there where files tell what they hold
+-- it may be refused so, of what stands there where each call was answered that
 abbrev pub MayRefuseBeginning : List ℕ → List ℕ → Bool → Option (List ℕ) → Refusal → Type 0
 MayRefuseBeginning start name told held refusal =
     IsTrue told → RefusesBeginning start name refusal held
+
+-- it may take the place of what stands there, where each call was answered that: nothing, no byte, or a
+-- file that begins so too
+abbrev pub MayTakePlace : List ℕ → Bool → Option (List ℕ) → Type 0
+MayTakePlace start told held = IsTrue told → IsFalse (begins_otherwise start held)

@@ -1,7 +1,9 @@
 -- What solving a match leaves, score by score in the order of its ladder.
-use Rattle.std.specs.Prelude.{◌≡◌, ◌≤◌, ◌<◌, ◌⊎◌, ℕ, zero, suc, ℤ, List, [], ◌++◌, length, codes, Bool, true, false, Result, Ok, Err}
+use Rattle.std.specs.Prelude.{◌≡◌, ◌≢◌, ◌≤◌, ◌<◌, ◌⊎◌, ℕ, zero, suc, ℤ, List, [], ◌++◌, length, codes, Bool, true, false, Result, Ok, Err}
 use Rattle.std.specs.Borrow.{GName}
-use Rattle.outside_log.specs.Log.{Event, LeavesPlaces, WritesFile}
+use Rattle.outside_log.specs.Files.{Contents}
+use Rattle.outside_log.specs.Log.{Event, LeavesPlaces, standing}
+use Rattle.outside_log.specs.Readings.{WritesFile, is_faithful}
 use Rattle.outside_log.specs.Sink.{Output}
 use Rattle.cube_actions.specs.declared.name.StakesName.TheVariants.{Match}
 use Rattle.cube_actions.specs.Ladder.{ladder}
@@ -15,12 +17,15 @@ use Rattle.match_scores.specs.Ladders.{score_at, starts_till, AreWordsOf, IsLadd
 use Rattle.match_scores.specs.Openings.{start_over}
 use Rattle.word_pages.specs.declared.version.Version.TheVariants.{Three}
 use Rattle.base_head.specs.Heads.{FileHead}
+use Rattle.base_head.specs.declared.header.TheConstants.{BASE_START}
 use Rattle.database_file.specs.Texts.{IsText, file_text}
 use Rattle.command_line.specs.declared.command.Ladder.{Ladder}
+use Rattle.equity_report.specs.declared.refusal.Refusal.{Refusal}
 use Rattle.equity_report.specs.declared.refusal.Refusal.TheVariants.{Memory, Write}
 use Rattle.equity_report.specs.Ladder.{ladder_end_text, ladder_score_text}
 use Rattle.equity_report.specs.Refusals.{status_of, refusal_text}
-use Rattle.top_call.specs.Runs.{FailedThenPut, IsPut, WasPut}
+use Rattle.top_call.specs.Beginnings.{MayRefuseBeginning, MayTakePlace}
+use Rattle.top_call.specs.Runs.{FailedThenPut, IsPut, WasPut, WasRefused}
 
 -- ---- one score: its file and its line
 
@@ -157,10 +162,28 @@ pub record HasRunOut (task : Ladder) (before after : List Event) (old new : Outp
       HasSolvedScores task starts before after (λ lines.
       (middle : Output) × IsPut old middle lines × WasPut middle new (refusal_text Memory))
 
--- How solving a ladder ends: all scores were solved, or writing failed, or there was no memory.
+-- the files of the first so many scores may take the places of what stands there
+abbrev pub MayTakePlaces : Ladder → ℕ → Bool → Contents → Type 0
+MayTakePlaces task many told held =
+    (place : ℕ) → place < many → MayTakePlace BASE_START told (held (file_of task place))
+
+-- a ladder is refused, where the file of one of its scores isn't begun
+pub record MayRefuseLadder (task : Ladder) (told : Bool) (held : Contents)
+    (refusal : Refusal) : Type 0 where
+  pub place : ℕ
+  pub inside : place < scores_in task
+  pub cause : MayRefuseBeginning BASE_START (file_of task place) told (held (file_of task place))
+      refusal
+
+-- How solving a ladder ends: all scores were solved, or writing failed, or there was no memory, or it was refused for what stands where a file is
+-- to be written.
 pub record SolvesLadder (task : Ladder) (before after : List Event) (old new : Output)
     (status : ℕ) : Type 0 where
   pub solved : status ≡ 0 → HasSolvedLadder task before after old new
+  pub taken : status ≡ 0
+      → MayTakePlaces task (scores_in task) (is_faithful after) (standing before)
+  pub refused : status ≢ 0 → status ≢ status_of Write → status ≢ status_of Memory
+      → WasRefused (MayRefuseLadder task (is_faithful after) (standing before)) old new status
   pub stopped : status ≡ status_of Write → HasStoppedLadder task before after old new
   pub out_of_memory : status ≡ status_of Memory → HasRunOut task before after old new
 

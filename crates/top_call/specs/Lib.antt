@@ -3,8 +3,8 @@ pub mod Runs
 pub mod Truth
 pub mod Races
 pub mod Solves
-pub mod Ladders
 pub mod Beginnings
+pub mod Ladders
 pub mod Loads
 pub mod Migrates
 pub mod Shows

@@ -19,7 +19,7 @@ game_told head = record {
   match_length = head.starts.match_length;
 }
 
--- Something is so of the file that was read: of the one that is held, where files tell what they hold, and else of some that could be read.
+-- Something is so of the file that was read: of the one that is held, where all answers were faithful, and else of some that could be read.
 abbrev pub OfFile : Bool → Option (List ℕ) → (Option FileRead → Type 0) → Type 0
 OfFile told held P =
     (file : Option FileRead) × (IsTrue told → file ≡ option_map whole held) × P file

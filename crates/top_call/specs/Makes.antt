@@ -1,6 +1,7 @@
 -- What making a record leaves.
 use Rattle.std.specs.Prelude.{◌≡◌, ◌≢◌, ◌⊎◌, ℕ, List, length, count_by, Bool, Option}
-use Rattle.outside_log.specs.Log.{Event, WritesFile}
+use Rattle.outside_log.specs.Log.{Event}
+use Rattle.outside_log.specs.Readings.{WritesFile}
 use Rattle.outside_log.specs.Sink.{Output}
 use Rattle.game_record.specs.Lines.{is_line_end, record_text}
 use Rattle.game_record.specs.declared.print.TheConstants.{RECORD_START}
@@ -13,7 +14,7 @@ use Rattle.command_line.specs.declared.command.Make.{Make}
 use Rattle.equity_report.specs.declared.refusal.Refusal.TheVariants.{Write}
 use Rattle.equity_report.specs.Refusals.{status_of, refusal_text}
 use Rattle.equity_report.specs.Analyses.{made_text}
-use Rattle.top_call.specs.Beginnings.{MayRefuseBeginning}
+use Rattle.top_call.specs.Beginnings.{MayRefuseBeginning, MayTakePlace}
 use Rattle.top_call.specs.Runs.{IsPut, PutBefore, WasPut, WasRefused}
 use Rattle.top_call.specs.declared.make.MadeRecord.{MadeRecord}
 
@@ -49,6 +50,7 @@ pub record HasToldMaking (task : Make) (old new : Output) : Type 0 where
 pub record Makes (task : Make) (told : Bool) (held : Option (List ℕ))
     (before after : List Event) (old new : Output) (status : ℕ) : Type 0 where
   pub done : status ≡ 0 → HasMade task before after old new
+  pub taken : status ≡ 0 → MayTakePlace RECORD_START told held
   pub stopped : status ≡ status_of Write
       → WasPut old new (refusal_text Write) ⊎ HasToldMaking task old new
   pub refused : status ≢ 0 → status ≢ status_of Write

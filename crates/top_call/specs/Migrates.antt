@@ -1,7 +1,8 @@
 -- What a file that is written anew leaves.
 use Rattle.std.specs.Prelude.{◌≡◌, ◌≢◌, ◌⊎◌, ℕ, List, Option, Ok, Bool}
 use Rattle.outside_log.specs.Files.{Contents}
-use Rattle.outside_log.specs.Log.{Event, WritesFile}
+use Rattle.outside_log.specs.Log.{Event}
+use Rattle.outside_log.specs.Readings.{WritesFile}
 use Rattle.outside_log.specs.Sink.{Output}
 use Rattle.word_pages.specs.declared.version.Version.TheVariants.{One, Three}
 use Rattle.base_head.specs.Heads.{FileHead}
@@ -15,7 +16,7 @@ use Rattle.equity_report.specs.declared.refusal.Refusal.{Refusal}
 use Rattle.equity_report.specs.declared.refusal.Refusal.TheVariants.{Write}
 use Rattle.equity_report.specs.Refusals.{status_of, refusal_text}
 use Rattle.equity_report.specs.Files.{migrated_text}
-use Rattle.top_call.specs.Beginnings.{MayRefuseBeginning}
+use Rattle.top_call.specs.Beginnings.{MayRefuseBeginning, MayTakePlace}
 use Rattle.top_call.specs.Loads.{OfFile, game_told}
 use Rattle.top_call.specs.Verifies.{AreVerified, MayRefuseVerifying}
 use Rattle.top_call.specs.Runs.{IsPut, PutBefore, WasPut, WasRefused}
@@ -57,6 +58,7 @@ MayRefuseMigrating task told held refusal =
 pub record Migrates (task : Migrate) (told : Bool) (held : Contents)
     (before after : List Event) (old new : Output) (status : ℕ) : Type 0 where
   pub migrated : status ≡ 0 → HasMigrated task told (held task.old) before after old new
+  pub taken : status ≡ 0 → MayTakePlace BASE_START told (held task.new)
   pub stopped : status ≡ status_of Write
       → WasPut old new (refusal_text Write)
       ⊎ HasToldMigrating task told (held task.old) old new

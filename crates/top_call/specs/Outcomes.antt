@@ -1,10 +1,10 @@
 -- What a run does, by what its words ask for.
-use Rattle.std.specs.Prelude.{◌≡◌, ◌≢◌, ℕ, List, Bool, Result, Ok, Err, ⊤}
-use Rattle.outside_log.specs.Files.{Contents}
-use Rattle.outside_log.specs.Log.{Event, LeavesPlaces}
+use Rattle.std.specs.Prelude.{◌≡◌, ◌≢◌, ℕ, List, Result, Ok, Err, ⊤}
+use Rattle.outside_log.specs.Log.{Event, LeavesPlaces, standing}
+use Rattle.outside_log.specs.Readings.{ReadsOn, is_faithful}
 use Rattle.outside_log.specs.Sink.{Output}
 use Rattle.equity_report.specs.declared.refusal.Refusal.{Refusal}
-use Rattle.equity_report.specs.declared.refusal.Refusal.TheVariants.{Memory, Write, Condition}
+use Rattle.equity_report.specs.declared.refusal.Refusal.TheVariants.{Memory, Condition}
 use Rattle.equity_report.specs.Refusals.{status_of, refusal_text}
 use Rattle.top_call.specs.declared.task.Task.{Task}
 use Rattle.top_call.specs.declared.task.Task.TheVariants.{Bound, Race, Solve, Show, Migrate, Advise, Verify, Ladder, Analyse, Study, Make, Plan, Scan, Reply}
@@ -24,47 +24,47 @@ use Rattle.top_call.specs.Studies.{TellsStudy}
 use Rattle.top_call.specs.Truth.{TellsBound}
 use Rattle.top_call.specs.Verifies.{TellsVerified}
 
--- What was asked for was done, by files that told or didn't tell what they held, by what calls that write had done before and after, and by what
--- was put before and after. Where the words are refused and the status is that of the refusal, its line was put.
-abbrev pub HasRun : Result Task Refusal → Bool → Contents → List Event → List Event
-    → Output → Output → ℕ → Type 0
-HasRun (Ok (Bound task)) told held before after old new status = TellsBound task old new status
-HasRun (Ok (Race task)) told held before after old new status = TellsRace task old new status
-HasRun (Ok (Solve task)) told held before after old new status =
-    Solves task told (held task.file) before after old new status
-HasRun (Ok (Show task)) told held before after old new status =
-    TellsShown task told (held task.file) old new status
-HasRun (Ok (Migrate task)) told held before after old new status =
-    Migrates task told held before after old new status
-HasRun (Ok (Advise task)) told held before after old new status =
-    TellsAdvice task told (held task.file) old new status
-HasRun (Ok (Verify task)) told held before after old new status =
-    TellsVerified task told (held task.file) old new status
-HasRun (Ok (Ladder task)) told held before after old new status =
+-- What was asked for was done, by what calls were made and answered before and until after it, and by what was put. What is said of a file holds
+-- of what stood under its name before, where each call was answered what stood there. Where the words are refused and the status is that of the
+-- refusal, its line was put.
+abbrev pub HasRun : Result Task Refusal → List Event → List Event → Output → Output → ℕ → Type 0
+HasRun (Ok (Bound task)) before after old new status = TellsBound task old new status
+HasRun (Ok (Race task)) before after old new status = TellsRace task old new status
+HasRun (Ok (Solve task)) before after old new status =
+    Solves task (is_faithful after) (standing before task.file) before after old new status
+HasRun (Ok (Show task)) before after old new status =
+    TellsShown task (is_faithful after) (standing before task.file) old new status
+HasRun (Ok (Migrate task)) before after old new status =
+    Migrates task (is_faithful after) (standing before) before after old new status
+HasRun (Ok (Advise task)) before after old new status =
+    TellsAdvice task (is_faithful after) (standing before task.file) old new status
+HasRun (Ok (Verify task)) before after old new status =
+    TellsVerified task (is_faithful after) (standing before task.file) old new status
+HasRun (Ok (Ladder task)) before after old new status =
     SolvesLadder task before after old new status
-HasRun (Ok (Study task)) told held before after old new status =
-    TellsStudy task told (held task.rec) old new status
-HasRun (Ok (Make task)) told held before after old new status =
-    Makes task told (held task.file) before after old new status
-HasRun (Ok (Analyse task)) told held before after old new status =
-    TellsAnalysis task told held old new status
-HasRun (Ok (Plan task)) told held before after old new status =
-    TellsPlan task told (held (first_file task)) old new status
-HasRun (Ok (Scan task)) told held before after old new status =
-    TellsScan task told (held task.file) old new status
-HasRun (Ok (Reply task)) told held before after old new status =
-    TellsReply task told (held task.file) old new status
-HasRun (Err refusal) told held before after old new status =
+HasRun (Ok (Study task)) before after old new status =
+    TellsStudy task (is_faithful after) (standing before task.rec) old new status
+HasRun (Ok (Make task)) before after old new status =
+    Makes task (is_faithful after) (standing before task.file) before after old new status
+HasRun (Ok (Analyse task)) before after old new status =
+    TellsAnalysis task (is_faithful after) (standing before) old new status
+HasRun (Ok (Plan task)) before after old new status =
+    TellsPlan task (is_faithful after) (standing before (first_file task)) old new status
+HasRun (Ok (Scan task)) before after old new status =
+    TellsScan task (is_faithful after) (standing before task.file) old new status
+HasRun (Ok (Reply task)) before after old new status =
+    TellsReply task (is_faithful after) (standing before task.file) old new status
+HasRun (Err refusal) before after old new status =
     status ≡ status_of refusal → WasPut old new (refusal_text refusal)
 
 -- No file took a name's place but at 0, and but those of the scores that a ladder had solved; which these are is said with what it has done.
--- Where nothing is to be written, no call was made that writes.
+-- Where nothing is to be written, calls that read were made alone.
 abbrev pub KeepsFiles : Result Task Refusal → List Event → List Event → ℕ → Type 0
 KeepsFiles (Ok (Solve task)) before after status = status ≢ 0 → LeavesPlaces before after
 KeepsFiles (Ok (Migrate task)) before after status = status ≢ 0 → LeavesPlaces before after
 KeepsFiles (Ok (Make task)) before after status = status ≢ 0 → LeavesPlaces before after
 KeepsFiles (Ok (Ladder task)) before after status = ⊤
-KeepsFiles _ before after status = after ≡ before
+KeepsFiles _ before after status = ReadsOn before after
 
 -- Where there was no memory, the line of that refusal was put; of a ladder it stands behind the lines of the scores that were solved, as is said
 -- with what it has done.

@@ -138,7 +138,7 @@ RefusesPlanning task (Base wanted found) file =
     IsOfAnotherGame task.match_length (Base wanted found) file
 RefusesPlanning task refusal file = RefusesLoading (first_file task) refusal file
 
--- this refuses it, of the file that is held where files tell what they hold
+-- this refuses it, of the file that is held where all answers were faithful
 abbrev pub MayRefusePlanning : Plan → Bool → Option (List ℕ) → Refusal → Type 0
 MayRefusePlanning task told held refusal = OfFile told held (RefusesPlanning task refusal)
 

@@ -65,7 +65,7 @@ replied_text p rounds kind words =
     (pair_of (replies_to words rounds).reply p kind.number)
     (pair_of (words_in_list words) p kind.number)
 
--- A reply was told: a head and words were read from the file, of the one that is held where files tell what they hold; the position and the kind that
+-- A reply was told: a head and words were read from the file, of the one that is held where all answers were faithful; the position and the kind that
 -- is asked for are of its game; what is known of a reply holds of the state; and the report was put, in this way, of its pairs after the rounds.
 pub record HasReplied (task : ReplyTask) (told : Bool) (held : Option (List ℕ))
     (IsReport : List ℕ → Type 0) : Type 0 where
@@ -91,7 +91,7 @@ abbrev pub RefusesReplying : ReplyTask → Refusal → Option FileRead → Type 
 RefusesReplying task (Base wanted found) file = IsOfUnfitGame task (Base wanted found) file
 RefusesReplying task refusal file = RefusesLoading task.file refusal file
 
--- this refuses it, of the file that is held where files tell what they hold
+-- this refuses it, of the file that is held where all answers were faithful
 abbrev pub MayRefuseReplying : ReplyTask → Bool → Option (List ℕ) → Refusal → Type 0
 MayRefuseReplying task told held refusal = OfFile told held (RefusesReplying task refusal)
 

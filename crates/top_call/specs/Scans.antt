@@ -24,8 +24,8 @@ IsTextOf text groups = AreWordsOf groups (words text)
 abbrev pub IsConditionText : List ℕ → Type 0
 IsConditionText text = (groups : List (List Test)) × IsTextOf text groups
 
--- The states of a file were searched: the text is that of a condition; a head and words were read from the file, of the one that is held where files
--- tell what they hold; and the report was put, in this way, of exactly those states that meet the condition over the words, in their order.
+-- The states of a file were searched: the text is that of a condition; a head and words were read from the file, of the one that stood there where all
+-- answers were faithful; and the report was put, in this way, of exactly those states that meet the condition over the words, in their order.
 pub record HasScanned (task : Scan) (told : Bool) (held : Option (List ℕ))
     (IsReport : List ℕ → Type 0) : Type 0 where
   pub groups : List (List Test)
@@ -44,7 +44,7 @@ RefusesScanning task Memory file = ⊤
 RefusesScanning task refusal file =
     IsConditionText task.condition × RefusesLoading task.file refusal file
 
--- this refuses it, of the file that is held where files tell what they hold
+-- this refuses it, of the file that is held where all answers were faithful
 abbrev pub MayRefuseScanning : Scan → Bool → Option (List ℕ) → Refusal → Type 0
 MayRefuseScanning task told held refusal = OfFile told held (RefusesScanning task refusal)
 

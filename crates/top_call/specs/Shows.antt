@@ -56,7 +56,7 @@ abbrev pub IsShown : Option (List ℕ) → Placement → FileHead → List KindR
 IsShown (Some bytes) p head rows = ShowsPairs bytes p head rows
 IsShown None p head rows = ⊥
 
--- The report of a position's pairs was put, in this way; where files tell what they hold, they are those of the file.
+-- The report of a position's pairs was put, in this way; where all answers were faithful, they are those of the file.
 pub record HasShown (task : ShowTask) (told : Bool) (held : Option (List ℕ))
     (IsReport : List ℕ → Type 0) : Type 0 where
   pub head : FileHead
@@ -127,7 +127,7 @@ pub record IsOfHead (shown : Shown) (head : FileHead) : Type 0 where
   pub game : shown.game ≡ game_told head
   pub rounds : shown.rounds ≡ head.rounds
 
--- what is shown of a task, where files tell what they hold that of the file that is held, or what refuses it
+-- what is shown of a task, where all answers were faithful that of the file that is held, or what refuses it
 abbrev pub AnswersShow : ShowTask → Bool → Option (List ℕ) → Result Shown Refusal → Type 0
 AnswersShow task told held (Ok shown) =
     (head : FileHead) × IsOfHead shown head

@@ -1,7 +1,8 @@
 -- What a game that is solved leaves.
 use Rattle.std.specs.Prelude.{◌≡◌, ◌≢◌, ◌⊎◌, ℕ, ℤ, List, length, Bool, Option}
 use Rattle.position_rank.specs.LiveRanks.{live_positions}
-use Rattle.outside_log.specs.Log.{Event, WritesFile}
+use Rattle.outside_log.specs.Log.{Event}
+use Rattle.outside_log.specs.Readings.{WritesFile}
 use Rattle.outside_log.specs.Sink.{Output}
 use Rattle.cube_actions.specs.Names.{names_of}
 use Rattle.turn_rule.specs.Turn.{rounds}
@@ -17,7 +18,7 @@ use Rattle.command_line.specs.declared.command.Solve.{Solve}
 use Rattle.equity_report.specs.declared.refusal.Refusal.TheVariants.{Write}
 use Rattle.equity_report.specs.Refusals.{status_of, refusal_text}
 use Rattle.equity_report.specs.Files.{solved_text}
-use Rattle.top_call.specs.Beginnings.{MayRefuseBeginning}
+use Rattle.top_call.specs.Beginnings.{MayRefuseBeginning, MayTakePlace}
 use Rattle.top_call.specs.Runs.{IsPut, PutBefore, WasPut, WasRefused}
 
 -- the head of the file that is asked for
@@ -77,6 +78,7 @@ pub record HasToldBefore (task : Solve) (old new : Output) : Type 0 where
 pub record Solves (task : Solve) (told : Bool) (held : Option (List ℕ))
     (before after : List Event) (old new : Output) (status : ℕ) : Type 0 where
   pub solved : status ≡ 0 → HasSolved task before after old new
+  pub taken : status ≡ 0 → MayTakePlace BASE_START told held
   pub stopped : status ≡ status_of Write
       → WasPut old new (refusal_text Write) ⊎ HasToldBefore task old new
   pub refused : status ≢ 0 → status ≢ status_of Write

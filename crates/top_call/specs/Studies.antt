@@ -24,7 +24,7 @@ pub record IsStudiedBy (replayed : Replayed) (most : ℕ) (list : List Judged) :
       → AreStudiedInMatch replayed.rec.checkers (match_length replayed.rec.stakes) most
       replayed.decisions list
 
--- A recorded game was studied: where files tell what they hold, the file holds a record that breaks no rule, and its decisions were studied by the
+-- A recorded game was studied: where all answers were faithful, the file holds a record that breaks no rule, and its decisions were studied by the
 -- rounds of the task.
 pub record IsStudied (task : Study) (told : Bool) (held : Option (List ℕ))
     (list : List Judged) : Type 0 where
@@ -43,7 +43,7 @@ pub record HasStudied (task : Study) (told : Bool) (held : Option (List ℕ))
 abbrev pub RefusesStudy : Study → Refusal → Option (List ℕ) → Type 0
 RefusesStudy task refusal held = IsOutside refusal ⊎ RefusesRecord task.rec refusal held
 
--- this refuses a study, of the file that is held where files tell what they hold
+-- this refuses a study, of the file that is held where all answers were faithful
 abbrev pub MayRefuseStudy : Study → Bool → Option (List ℕ) → Refusal → Type 0
 MayRefuseStudy task told held refusal = IsTrue told → RefusesStudy task refusal held
 

@@ -48,7 +48,7 @@ pub record AreVerified (words : WordList) : Type 0 where
   pub enclosing : AlwaysEnclose words
   pub losses : LossesEnclose words
 
--- The words of a file were checked: a head and words were read from it, of the file that is held where files tell what they hold; the words are
+-- The words of a file were checked: a head and words were read from it, of the file that is held where all answers were faithful; the words are
 -- consistent; and the report on the head was put, in this way.
 pub record HasVerified (task : Verify) (told : Bool) (held : Option (List ℕ))
     (IsReport : List ℕ → Type 0) : Type 0 where
@@ -84,7 +84,7 @@ abbrev pub RefusesVerifying : Version → List ℕ → Refusal → Option FileRe
 RefusesVerifying oldest name (Inconsistent unheld) file = HoldsUnheld oldest unheld file
 RefusesVerifying oldest name refusal file = RefusesFrom oldest name refusal file
 
--- this refuses a file of this name, of the one that is held where files tell what they hold
+-- this refuses a file of this name, of the one that is held where all answers were faithful
 abbrev pub MayRefuseVerifying : Version → List ℕ → Bool → Option (List ℕ) → Refusal → Type 0
 MayRefuseVerifying oldest name told held refusal =
     OfFile told held (RefusesVerifying oldest name refusal)

@@ -1,8 +1,7 @@
 ghost use Rattle.std.specs.Prelude.{◌≡◌, ◌≤◌, ◌<◌, IsTrue, IfErr, IfOk, None, Err, Some};
-ghost use Rattle.position_rank.specs.Placement.{IsPosition, IsLive};
-ghost use Rattle.roll_table.specs.Rolls.{IsRoll};
 ghost use Rattle.hyper_outside.specs.Causes.{Rose};
-ghost use Rattle.outside_log.specs.Files.{SameFiles};
+ghost use Rattle.outside_log.specs.Log.{standing};
+ghost use Rattle.outside_log.specs.Readings.{ReadsOn, is_faithful, read_faults};
 ghost use Rattle.hyper_outside.specs.declared.outside.LookStop.TheVariants.{ReadFault};
 ghost use Rattle.turn_rule.specs.Games.{IsGame, kinds_of};
 ghost use Rattle.turn_rule.specs.States.{IsStateOf};
@@ -105,20 +104,17 @@ fn open_asked<F: Files>(
     files: &mut F,
 ) -> Result<OpenedFile, Refusal>
     requires { IsRightAdvise task.now }
-    ensures told { AnswersOpened task.now (F.tells files.old)
-        (F.held files.old task.now.file) result }
+    ensures told { AnswersOpened task.now (is_faithful (F.log files.new))
+        (standing (F.log files.old) task.now.file) result }
     ensures state { IfOk result (λ opened. IsStateOf opened.base.header.checkers
         opened.base.header.kinds task.now.position opened.kind.number) }
     ensures name { IfOk result (λ opened. opened.base.name ≡ task.now.file) }
     ensures of_file { IfOk result (λ opened.
-        KeepsPagesOf opened.base (F.tells files.new) (F.held files.new)) }
-    ensures same { IsTrue (F.tells files.old)
-        → SameFiles (F.held files.old) (F.held files.new) }
-    ensures log { F.log files.new ≡ F.log files.old }
-    ensures tells { F.tells files.new ≡ F.tells files.old }
-    ensures later { F.read_faults files.old ≤ F.read_faults files.new }
+        KeepsPagesOf opened.base (F.log files.new)) }
+    ensures reads { ReadsOn (F.log files.old) (F.log files.new) }
+    ensures later { read_faults (F.log files.old) ≤ read_faults (F.log files.new) }
     ensures cause { result ≡ Err Read
-        → Rose (F.read_faults files.old) (F.read_faults files.new) }
+        → Rose (read_faults (F.log files.old)) (read_faults (F.log files.new)) }
     ensures kinds { IfErr result IsOfShowing }
 {
     let name = task.file.as_str();
@@ -142,17 +138,15 @@ fn ranking_of<F: Files>(
 ) -> Result<Ranking, LookStop>
     requires state { IsStateOf base.old.header.checkers base.old.header.kinds
         position.now kind }
-    requires of_file { KeepsPagesOf base.old (F.tells files.old) (F.held files.old) }
-    ensures told { IsTrue (F.tells files.old)
-        → AnswersRanking base.old.header (F.held files.old (base.old.name))
+    requires of_file { KeepsPagesOf base.old (F.log files.old) }
+    ensures told { IsTrue (is_faithful (F.log files.new))
+        → AnswersRanking base.old.header (standing (F.log files.old) (base.old.name))
         (stakes_of base.old.head) position.now kind roll result }
     ensures plays { IfOk result (λ ranking. CanBePlayed position.now ranking.rows.items) }
-    ensures same { IsTrue (F.tells files.old)
-        → SameFiles (F.held files.old) (F.held files.new) }
-    ensures log { F.log files.new ≡ F.log files.old }
-    ensures later { F.read_faults files.old ≤ F.read_faults files.new }
+    ensures reads { ReadsOn (F.log files.old) (F.log files.new) }
+    ensures later { read_faults (F.log files.old) ≤ read_faults (F.log files.new) }
     ensures cause { result ≡ Err ReadFault
-        → Rose (F.read_faults files.old) (F.read_faults files.new) }
+        → Rose (read_faults (F.log files.old)) (read_faults (F.log files.new)) }
 {
     let stakes = base.head().stakes();
     // What `high` ensures says that the roll shows two dice.
@@ -170,16 +164,14 @@ fn advice_of<F: Files>(
 ) -> Result<CubeAdvice, LookStop>
     requires state { IsStateOf base.old.header.checkers base.old.header.kinds
         position.now kind }
-    requires of_file { KeepsPagesOf base.old (F.tells files.old) (F.held files.old) }
-    ensures told { IsTrue (F.tells files.old)
-        → AnswersAdvice base.old.header (F.held files.old (base.old.name))
+    requires of_file { KeepsPagesOf base.old (F.log files.old) }
+    ensures told { IsTrue (is_faithful (F.log files.new))
+        → AnswersAdvice base.old.header (standing (F.log files.old) (base.old.name))
         (stakes_of base.old.head) position.now kind result }
-    ensures same { IsTrue (F.tells files.old)
-        → SameFiles (F.held files.old) (F.held files.new) }
-    ensures log { F.log files.new ≡ F.log files.old }
-    ensures later { F.read_faults files.old ≤ F.read_faults files.new }
+    ensures reads { ReadsOn (F.log files.old) (F.log files.new) }
+    ensures later { read_faults (F.log files.old) ≤ read_faults (F.log files.new) }
     ensures cause { result ≡ Err ReadFault
-        → Rose (F.read_faults files.old) (F.read_faults files.new) }
+        → Rose (read_faults (F.log files.old)) (read_faults (F.log files.new)) }
 {
     let stakes = base.head().stakes();
     let mut reader = base.reader(files);
@@ -195,16 +187,14 @@ fn find_ranking<F: Files>(
 ) -> Result<FoundRanking, Refusal>
     requires right { IsRightAdvise task.now }
     requires roll { task.now.roll ≡ Some roll }
-    ensures told { AnswersRanked task.now roll (F.tells files.old)
-        (F.held files.old task.now.file) result }
+    ensures told { AnswersRanked task.now roll (is_faithful (F.log files.new))
+        (standing (F.log files.old) task.now.file) result }
     ensures plays { IfOk result (λ found.
         CanBePlayed task.now.position found.ranking.rows.items) }
-    ensures same { IsTrue (F.tells files.old)
-        → SameFiles (F.held files.old) (F.held files.new) }
-    ensures log { F.log files.new ≡ F.log files.old }
-    ensures later { F.read_faults files.old ≤ F.read_faults files.new }
+    ensures reads { ReadsOn (F.log files.old) (F.log files.new) }
+    ensures later { read_faults (F.log files.old) ≤ read_faults (F.log files.new) }
     ensures cause { result ≡ Err Read
-        → Rose (F.read_faults files.old) (F.read_faults files.new) }
+        → Rose (read_faults (F.log files.old)) (read_faults (F.log files.new)) }
     ensures kinds { IfErr result IsOfShowing }
 {
     looked_up_rankings_are_of_the_file();
@@ -226,14 +216,12 @@ fn find_advice<F: Files>(
 ) -> Result<FoundAdvice, Refusal>
     requires right { IsRightAdvise task.now }
     requires roll { task.now.roll ≡ None }
-    ensures told { AnswersCube task.now (F.tells files.old)
-        (F.held files.old task.now.file) result }
-    ensures same { IsTrue (F.tells files.old)
-        → SameFiles (F.held files.old) (F.held files.new) }
-    ensures log { F.log files.new ≡ F.log files.old }
-    ensures later { F.read_faults files.old ≤ F.read_faults files.new }
+    ensures told { AnswersCube task.now (is_faithful (F.log files.new))
+        (standing (F.log files.old) task.now.file) result }
+    ensures reads { ReadsOn (F.log files.old) (F.log files.new) }
+    ensures later { read_faults (F.log files.old) ≤ read_faults (F.log files.new) }
     ensures cause { result ≡ Err Read
-        → Rose (F.read_faults files.old) (F.read_faults files.new) }
+        → Rose (read_faults (F.log files.old)) (read_faults (F.log files.new)) }
     ensures kinds { IfErr result IsOfShowing }
 {
     looked_up_advice_is_of_the_file();
@@ -259,13 +247,11 @@ fn run_ranking<F: Files, O: Sink>(
     requires roll { task.now.roll ≡ Some roll }
     ensures ends { EndsBy IsOfShowing result }
     ensures tells { TellsRanking task.now roll
-        (F.tells files.old) (F.held files.old task.now.file)
+        (is_faithful (F.log files.new)) (standing (F.log files.old) task.now.file)
         (O.output out.old) (O.output out.new) result }
     ensures read_cause { result ≡ status_of Read
-        → Rose (F.read_faults files.old) (F.read_faults files.new) }
-    ensures same { IsTrue (F.tells files.old)
-        → SameFiles (F.held files.old) (F.held files.new) }
-    ensures log { F.log files.new ≡ F.log files.old }
+        → Rose (read_faults (F.log files.old)) (read_faults (F.log files.new)) }
+    ensures reads { ReadsOn (F.log files.old) (F.log files.new) }
 {
     let found = match find_ranking(alloc, task, roll, files) {
         Ok(found) => found,
@@ -282,13 +268,12 @@ fn run_cube<F: Files, O: Sink>(alloc: Global, task: &AdviseTask, files: &mut F, 
     requires right { IsRightAdvise task.now }
     requires roll { task.now.roll ≡ None }
     ensures ends { EndsBy IsOfShowing result }
-    ensures tells { TellsCube task.now (F.tells files.old) (F.held files.old task.now.file)
+    ensures tells { TellsCube task.now (is_faithful (F.log files.new))
+        (standing (F.log files.old) task.now.file)
         (O.output out.old) (O.output out.new) result }
     ensures read_cause { result ≡ status_of Read
-        → Rose (F.read_faults files.old) (F.read_faults files.new) }
-    ensures same { IsTrue (F.tells files.old)
-        → SameFiles (F.held files.old) (F.held files.new) }
-    ensures log { F.log files.new ≡ F.log files.old }
+        → Rose (read_faults (F.log files.old)) (read_faults (F.log files.new)) }
+    ensures reads { ReadsOn (F.log files.old) (F.log files.new) }
 {
     let found = match find_advice(alloc, task, files) {
         Ok(found) => found,
@@ -310,13 +295,12 @@ pub(crate) fn run_advise<F: Files, O: Sink>(
 ) -> u8
     requires { IsRightAdvise task.now }
     ensures ends { EndsBy IsOfShowing result }
-    ensures tells { TellsAdvice task.now (F.tells files.old) (F.held files.old task.now.file)
+    ensures tells { TellsAdvice task.now (is_faithful (F.log files.new))
+        (standing (F.log files.old) task.now.file)
         (O.output out.old) (O.output out.new) result }
     ensures read_cause { result ≡ status_of Read
-        → Rose (F.read_faults files.old) (F.read_faults files.new) }
-    ensures same { IsTrue (F.tells files.old)
-        → SameFiles (F.held files.old) (F.held files.new) }
-    ensures log { F.log files.new ≡ F.log files.old }
+        → Rose (read_faults (F.log files.old)) (read_faults (F.log files.new)) }
+    ensures reads { ReadsOn (F.log files.old) (F.log files.new) }
 {
     match task.roll {
         Some(roll) => run_ranking(alloc, task, roll, files, out),

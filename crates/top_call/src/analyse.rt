@@ -1,6 +1,7 @@
 ghost use Rattle.std.specs.Prelude.{◌≡◌, ◌≤◌, ◌↔◌, IsTrue, false, IfErr, IfOk, Err, length};
 ghost use Rattle.hyper_outside.specs.Causes.{Rose};
-ghost use Rattle.outside_log.specs.Files.{SameFiles};
+ghost use Rattle.outside_log.specs.Log.{standing};
+ghost use Rattle.outside_log.specs.Readings.{ReadsOn, is_faithful, read_faults};
 ghost use Rattle.hyper_outside.specs.declared.outside.LookStop.TheVariants.{ReadFault};
 ghost use Rattle.game_record.specs.Lines.{IsRecord};
 ghost use Rattle.game_record.specs.Turns.{is_match};
@@ -54,19 +55,16 @@ fn open_for<F: Files>(
     requires name { length name.now ≤ 255 }
     requires valid { IsRecord rec.now }
     requires plain { is_match rec.now.stakes ≡ false }
-    ensures told { AnswersOpening name.now rec.now (F.tells files.old)
-        (F.held files.old name.now) result }
+    ensures told { AnswersOpening name.now rec.now (is_faithful (F.log files.new))
+        (standing (F.log files.old) name.now) result }
     ensures game { IfOk result (λ base. IsGameOf rec.now base.head) }
     ensures name { IfOk result (λ base. base.name ≡ name.now) }
     ensures of_file { IfOk result (λ base.
-        KeepsPagesOf base (F.tells files.new) (F.held files.new)) }
-    ensures same { IsTrue (F.tells files.old)
-        → SameFiles (F.held files.old) (F.held files.new) }
-    ensures log { F.log files.new ≡ F.log files.old }
-    ensures tells { F.tells files.new ≡ F.tells files.old }
-    ensures later { F.read_faults files.old ≤ F.read_faults files.new }
+        KeepsPagesOf base (F.log files.new)) }
+    ensures reads { ReadsOn (F.log files.old) (F.log files.new) }
+    ensures later { read_faults (F.log files.old) ≤ read_faults (F.log files.new) }
     ensures cause { result ≡ Err Read
-        → Rose (F.read_faults files.old) (F.read_faults files.new) }
+        → Rose (read_faults (F.log files.old)) (read_faults (F.log files.new)) }
     ensures kinds { IfErr result IsOfShowing }
 {
     let base = match open_paged(alloc, files, name, Version::Three, PAGES_KEPT) {
@@ -93,16 +91,14 @@ fn judge<F: Files>(
 ) -> Result<Analysis, LookStop>
     requires right { IsRightReplayed replayed }
     requires game { IsGameOf replayed.rec base.old.head }
-    requires of_file { KeepsPagesOf base.old (F.tells files.old) (F.held files.old) }
-    ensures told { IsTrue (F.tells files.old)
-        → AnswersDecisions base.old.header (F.held files.old base.old.name)
+    requires of_file { KeepsPagesOf base.old (F.log files.old) }
+    ensures told { IsTrue (is_faithful (F.log files.new))
+        → AnswersDecisions base.old.header (standing (F.log files.old) base.old.name)
         (stakes_of base.old.head) replayed.decisions result }
-    ensures same { IsTrue (F.tells files.old)
-        → SameFiles (F.held files.old) (F.held files.new) }
-    ensures log { F.log files.new ≡ F.log files.old }
-    ensures later { F.read_faults files.old ≤ F.read_faults files.new }
+    ensures reads { ReadsOn (F.log files.old) (F.log files.new) }
+    ensures later { read_faults (F.log files.old) ≤ read_faults (F.log files.new) }
     ensures cause { result ≡ Err ReadFault
-        → Rose (F.read_faults files.old) (F.read_faults files.new) }
+        → Rose (read_faults (F.log files.old)) (read_faults (F.log files.new)) }
 {
     right_decisions_can_be_judged();
     let stakes = base.head().stakes();
@@ -128,13 +124,11 @@ fn judge_plain<F: Files>(
     requires name { length name.now ≤ 255 }
     requires right { IsRightReplayed replayed }
     requires plain { is_match replayed.rec.stakes ≡ false }
-    ensures told { AnswersPlain name.now replayed (F.tells files.old)
-        (F.held files.old name.now) result }
-    ensures same { IsTrue (F.tells files.old)
-        → SameFiles (F.held files.old) (F.held files.new) }
-    ensures log { F.log files.new ≡ F.log files.old }
+    ensures told { AnswersPlain name.now replayed (is_faithful (F.log files.new))
+        (standing (F.log files.old) name.now) result }
+    ensures reads { ReadsOn (F.log files.old) (F.log files.new) }
     ensures cause { result ≡ Err Read
-        → Rose (F.read_faults files.old) (F.read_faults files.new) }
+        → Rose (read_faults (F.log files.old)) (read_faults (F.log files.new)) }
     ensures kinds { IfErr result IsOfShowing }
 {
     looked_up_analyses_are_of_the_file();
@@ -157,13 +151,11 @@ fn judge_by<F: Files>(
 ) -> Result<Analysis, Refusal>
     requires name { length name.now ≤ 255 }
     requires right { IsRightReplayed replayed }
-    ensures told { AnswersJudging name.now replayed (F.tells files.old)
-        (F.held files.old) result }
-    ensures same { IsTrue (F.tells files.old)
-        → SameFiles (F.held files.old) (F.held files.new) }
-    ensures log { F.log files.new ≡ F.log files.old }
+    ensures told { AnswersJudging name.now replayed (is_faithful (F.log files.new))
+        (standing (F.log files.old)) result }
+    ensures reads { ReadsOn (F.log files.old) (F.log files.new) }
     ensures cause { result ≡ Err Read
-        → Rose (F.read_faults files.old) (F.read_faults files.new) }
+        → Rose (read_faults (F.log files.old)) (read_faults (F.log files.new)) }
     ensures kinds { IfErr result IsOfShowing }
 {
     if is_match(replayed.rec.stakes) {
@@ -176,12 +168,11 @@ fn judge_by<F: Files>(
 /// What the decisions of a recorded game lose by a file of bounds, or what refuses that.
 fn analyse<F: Files>(alloc: Global, task: &Analyse, files: &mut F) -> Result<Analysis, Refusal>
     requires { IsRightAnalyse task.now }
-    ensures told { AnswersAnalysis task.now (F.tells files.old) (F.held files.old) result }
-    ensures same { IsTrue (F.tells files.old)
-        → SameFiles (F.held files.old) (F.held files.new) }
-    ensures log { F.log files.new ≡ F.log files.old }
+    ensures told { AnswersAnalysis task.now (is_faithful (F.log files.new))
+        (standing (F.log files.old)) result }
+    ensures reads { ReadsOn (F.log files.old) (F.log files.new) }
     ensures cause { result ≡ Err Read
-        → Rose (F.read_faults files.old) (F.read_faults files.new) }
+        → Rose (read_faults (F.log files.old)) (read_faults (F.log files.new)) }
     ensures kinds { IfErr result IsOfAnalysing }
 {
     match read_recorded(alloc, task.rec.as_str(), files) {
@@ -199,13 +190,12 @@ pub(crate) fn run_analyse<F: Files, O: Sink>(
 ) -> u8
     requires { IsRightAnalyse task.now }
     ensures ends { EndsBy IsOfAnalysing result }
-    ensures tells { TellsAnalysis task.now (F.tells files.old) (F.held files.old)
+    ensures tells { TellsAnalysis task.now (is_faithful (F.log files.new))
+        (standing (F.log files.old))
         (O.output out.old) (O.output out.new) result }
     ensures read_cause { result ≡ status_of Read
-        → Rose (F.read_faults files.old) (F.read_faults files.new) }
-    ensures same { IsTrue (F.tells files.old)
-        → SameFiles (F.held files.old) (F.held files.new) }
-    ensures log { F.log files.new ≡ F.log files.old }
+        → Rose (read_faults (F.log files.old)) (read_faults (F.log files.new)) }
+    ensures reads { ReadsOn (F.log files.old) (F.log files.new) }
 {
     let analysis = match analyse(alloc, task, files) {
         Ok(analysis) => analysis,

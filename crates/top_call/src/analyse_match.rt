@@ -1,6 +1,7 @@
 ghost use Rattle.std.specs.Prelude.{◌≡◌, ◌≤◌, ◌<◌, ◌↔◌, All, IfErr, IfOk, IsTrue, Err, length, true};
 ghost use Rattle.hyper_outside.specs.Causes.{Rose};
-ghost use Rattle.outside_log.specs.Files.{SameFiles};
+ghost use Rattle.outside_log.specs.Log.{standing};
+ghost use Rattle.outside_log.specs.Readings.{ReadsOn, is_faithful, read_faults};
 ghost use Rattle.hyper_outside.specs.declared.outside.LookStop.TheVariants.{ReadFault};
 ghost use Rattle.database_file.specs.Paged.{KeepsPagesOf};
 ghost use Rattle.database_file.specs.Texts.{game_in};
@@ -64,20 +65,17 @@ fn open_at<F: Files>(
     files: &mut F,
 ) -> Result<PagedBase, Refusal>
     requires prefix { length prefix.now ≤ 255 }
-    ensures told { AnswersOpeningAt prefix.now rec.now score (F.tells files.old)
-        (F.held files.old) result }
+    ensures told { AnswersOpeningAt prefix.now rec.now score (is_faithful (F.log files.new))
+        (standing (F.log files.old)) result }
     ensures game { IfOk result (λ base. game_told base.head ≡ game_at rec.now score) }
     ensures right { IfOk result (λ base. IsGame (game_in base.head)) }
     ensures name { IfOk result (λ base. base.name ≡ score_file prefix.now score) }
     ensures of_file { IfOk result (λ base.
-        KeepsPagesOf base (F.tells files.new) (F.held files.new)) }
-    ensures same { IsTrue (F.tells files.old)
-        → SameFiles (F.held files.old) (F.held files.new) }
-    ensures log { F.log files.new ≡ F.log files.old }
-    ensures tells { F.tells files.new ≡ F.tells files.old }
-    ensures later { F.read_faults files.old ≤ F.read_faults files.new }
+        KeepsPagesOf base (F.log files.new)) }
+    ensures reads { ReadsOn (F.log files.old) (F.log files.new) }
+    ensures later { read_faults (F.log files.old) ≤ read_faults (F.log files.new) }
     ensures cause { result ≡ Err Read
-        → Rose (F.read_faults files.old) (F.read_faults files.new) }
+        → Rose (read_faults (F.log files.old)) (read_faults (F.log files.new)) }
     ensures kinds { IfErr result IsOfShowing }
 {
     let name = score_file(prefix, score);
@@ -108,15 +106,12 @@ fn check_file<F: Files>(
     files: &mut F,
 ) -> Result<(), Refusal>
     requires prefix { length prefix.now ≤ 255 }
-    ensures told { AnswersFile prefix.now rec.now score (F.tells files.old)
-        (F.held files.old) result }
-    ensures same { IsTrue (F.tells files.old)
-        → SameFiles (F.held files.old) (F.held files.new) }
-    ensures log { F.log files.new ≡ F.log files.old }
-    ensures tells { F.tells files.new ≡ F.tells files.old }
-    ensures later { F.read_faults files.old ≤ F.read_faults files.new }
+    ensures told { AnswersFile prefix.now rec.now score (is_faithful (F.log files.new))
+        (standing (F.log files.old)) result }
+    ensures reads { ReadsOn (F.log files.old) (F.log files.new) }
+    ensures later { read_faults (F.log files.old) ≤ read_faults (F.log files.new) }
     ensures cause { result ≡ Err Read
-        → Rose (F.read_faults files.old) (F.read_faults files.new) }
+        → Rose (read_faults (F.log files.old)) (read_faults (F.log files.new)) }
     ensures kinds { IfErr result IsOfShowing }
 {
     // Only whether it can be opened matters: no page is looked at before all fronts were.
@@ -137,15 +132,12 @@ fn check_next<F: Files>(
 ) -> Result<(), Refusal>
     requires prefix { length prefix.now ≤ 255 }
     requires place { place < length replayed.now.decisions }
-    ensures told { AnswersCheck prefix.now replayed.now place (F.tells files.old)
-        (F.held files.old) result }
-    ensures same { IsTrue (F.tells files.old)
-        → SameFiles (F.held files.old) (F.held files.new) }
-    ensures log { F.log files.new ≡ F.log files.old }
-    ensures tells { F.tells files.new ≡ F.tells files.old }
-    ensures later { F.read_faults files.old ≤ F.read_faults files.new }
+    ensures told { AnswersCheck prefix.now replayed.now place (is_faithful (F.log files.new))
+        (standing (F.log files.old)) result }
+    ensures reads { ReadsOn (F.log files.old) (F.log files.new) }
+    ensures later { read_faults (F.log files.old) ≤ read_faults (F.log files.new) }
     ensures cause { result ≡ Err Read
-        → Rose (F.read_faults files.old) (F.read_faults files.new) }
+        → Rose (read_faults (F.log files.old)) (read_faults (F.log files.new)) }
     ensures kinds { IfErr result IsOfShowing }
 {
     let decision = replayed.decisions.at(place);
@@ -166,15 +158,12 @@ fn check_files<F: Files>(
     files: &mut F,
 ) -> Result<(), Refusal>
     requires prefix { length prefix.now ≤ 255 }
-    ensures told { AnswersChecks prefix.now replayed.now (F.tells files.old)
-        (F.held files.old) result }
-    ensures same { IsTrue (F.tells files.old)
-        → SameFiles (F.held files.old) (F.held files.new) }
-    ensures log { F.log files.new ≡ F.log files.old }
-    ensures tells { F.tells files.new ≡ F.tells files.old }
-    ensures later { F.read_faults files.old ≤ F.read_faults files.new }
+    ensures told { AnswersChecks prefix.now replayed.now (is_faithful (F.log files.new))
+        (standing (F.log files.old)) result }
+    ensures reads { ReadsOn (F.log files.old) (F.log files.new) }
+    ensures later { read_faults (F.log files.old) ≤ read_faults (F.log files.new) }
     ensures cause { result ≡ Err Read
-        → Rose (F.read_faults files.old) (F.read_faults files.new) }
+        → Rose (read_faults (F.log files.old)) (read_faults (F.log files.new)) }
     ensures kinds { IfErr result IsOfShowing }
 {
     for place in 0..replayed.decisions.len() {
@@ -196,21 +185,18 @@ fn judge_at<F: Files>(
 ) -> Result<(), LookStop>
     requires game { game_told base.old.head ≡ game_at rec.now score }
     requires right { IsGame (game_in base.old.head) }
-    requires of_file { KeepsPagesOf base.old (F.tells files.old) (F.held files.old) }
+    requires of_file { KeepsPagesOf base.old (F.log files.old) }
     requires decisions { All (λ one.
         IsDecisionInMatch rec.now.checkers (match_length rec.now.stakes) one.decision)
         analysis.old }
-    ensures told { IsTrue (F.tells files.old)
-        → AnswersJudgingAt base.old.header (F.held files.old base.old.name)
+    ensures told { IsTrue (is_faithful (F.log files.new))
+        → AnswersJudgingAt base.old.header (standing (F.log files.old) base.old.name)
         base.old.head score analysis.old analysis.new result }
     ensures decisions { decisions_in analysis.new ≡ decisions_in analysis.old }
-    ensures same { IsTrue (F.tells files.old)
-        → SameFiles (F.held files.old) (F.held files.new) }
-    ensures log { F.log files.new ≡ F.log files.old }
-    ensures tells { F.tells files.new ≡ F.tells files.old }
-    ensures later { F.read_faults files.old ≤ F.read_faults files.new }
+    ensures reads { ReadsOn (F.log files.old) (F.log files.new) }
+    ensures later { read_faults (F.log files.old) ≤ read_faults (F.log files.new) }
     ensures cause { result ≡ Err ReadFault
-        → Rose (F.read_faults files.old) (F.read_faults files.new) }
+        → Rose (read_faults (F.log files.old)) (read_faults (F.log files.new)) }
 {
     let stakes = base.head().stakes();
     // The stakes are valid.
@@ -232,16 +218,13 @@ fn judge_score<F: Files>(
     requires decisions { All (λ one.
         IsDecisionInMatch rec.now.checkers (match_length rec.now.stakes) one.decision)
         analysis.old }
-    ensures told { AnswersScore prefix.now rec.now score (F.tells files.old)
-        (F.held files.old) analysis.old analysis.new result }
+    ensures told { AnswersScore prefix.now rec.now score (is_faithful (F.log files.new))
+        (standing (F.log files.old)) analysis.old analysis.new result }
     ensures decisions { decisions_in analysis.new ≡ decisions_in analysis.old }
-    ensures same { IsTrue (F.tells files.old)
-        → SameFiles (F.held files.old) (F.held files.new) }
-    ensures log { F.log files.new ≡ F.log files.old }
-    ensures tells { F.tells files.new ≡ F.tells files.old }
-    ensures later { F.read_faults files.old ≤ F.read_faults files.new }
+    ensures reads { ReadsOn (F.log files.old) (F.log files.new) }
+    ensures later { read_faults (F.log files.old) ≤ read_faults (F.log files.new) }
     ensures cause { result ≡ Err Read
-        → Rose (F.read_faults files.old) (F.read_faults files.new) }
+        → Rose (read_faults (F.log files.old)) (read_faults (F.log files.new)) }
     ensures kinds { IfErr result IsOfShowing }
 {
     one_list_gives_the_loss();
@@ -269,16 +252,13 @@ fn judge_next<F: Files>(
     requires decisions { All (λ one.
         IsDecisionInMatch rec.now.checkers (match_length rec.now.stakes) one.decision)
         analysis.old }
-    ensures told { AnswersNext prefix.now rec.now place (F.tells files.old)
-        (F.held files.old) analysis.old analysis.new result }
+    ensures told { AnswersNext prefix.now rec.now place (is_faithful (F.log files.new))
+        (standing (F.log files.old)) analysis.old analysis.new result }
     ensures decisions { decisions_in analysis.new ≡ decisions_in analysis.old }
-    ensures same { IsTrue (F.tells files.old)
-        → SameFiles (F.held files.old) (F.held files.new) }
-    ensures log { F.log files.new ≡ F.log files.old }
-    ensures tells { F.tells files.new ≡ F.tells files.old }
-    ensures later { F.read_faults files.old ≤ F.read_faults files.new }
+    ensures reads { ReadsOn (F.log files.old) (F.log files.new) }
+    ensures later { read_faults (F.log files.old) ≤ read_faults (F.log files.new) }
     ensures cause { result ≡ Err Read
-        → Rose (F.read_faults files.old) (F.read_faults files.new) }
+        → Rose (read_faults (F.log files.old)) (read_faults (F.log files.new)) }
     ensures kinds { IfErr result IsOfShowing }
 {
     if place > 0 && is_like(analysis.decision(place - 1), analysis.decision(place)) {
@@ -302,15 +282,13 @@ fn judge_scores<F: Files>(
     requires decisions { All (λ one.
         IsDecisionInMatch rec.now.checkers (match_length rec.now.stakes) one.decision)
         analysis.old }
-    ensures told { AnswersScores prefix.now rec.now (F.tells files.old)
-        (F.held files.old) analysis.old analysis.new result }
+    ensures told { AnswersScores prefix.now rec.now (is_faithful (F.log files.new))
+        (standing (F.log files.old)) analysis.old analysis.new result }
     ensures decisions { decisions_in analysis.new ≡ decisions_in analysis.old }
-    ensures same { IsTrue (F.tells files.old)
-        → SameFiles (F.held files.old) (F.held files.new) }
-    ensures log { F.log files.new ≡ F.log files.old }
-    ensures later { F.read_faults files.old ≤ F.read_faults files.new }
+    ensures reads { ReadsOn (F.log files.old) (F.log files.new) }
+    ensures later { read_faults (F.log files.old) ≤ read_faults (F.log files.new) }
     ensures cause { result ≡ Err Read
-        → Rose (F.read_faults files.old) (F.read_faults files.new) }
+        → Rose (read_faults (F.log files.old)) (read_faults (F.log files.new)) }
     ensures kinds { IfErr result IsOfShowing }
 {
     for place in 0..analysis.len() {
@@ -332,13 +310,11 @@ pub(crate) fn judge_match<F: Files>(
     requires prefix { length prefix.now ≤ 255 }
     requires right { IsRightReplayed replayed }
     requires in_match { is_match replayed.rec.stakes ≡ true }
-    ensures told { AnswersMatch prefix.now replayed (F.tells files.old)
-        (F.held files.old) result }
-    ensures same { IsTrue (F.tells files.old)
-        → SameFiles (F.held files.old) (F.held files.new) }
-    ensures log { F.log files.new ≡ F.log files.old }
+    ensures told { AnswersMatch prefix.now replayed (is_faithful (F.log files.new))
+        (standing (F.log files.old)) result }
+    ensures reads { ReadsOn (F.log files.old) (F.log files.new) }
     ensures cause { result ≡ Err Read
-        → Rose (F.read_faults files.old) (F.read_faults files.new) }
+        → Rose (read_faults (F.log files.old)) (read_faults (F.log files.new)) }
     ensures kinds { IfErr result IsOfShowing }
 {
     right_decisions_can_be_judged();

@@ -1,8 +1,9 @@
-ghost use Rattle.std.specs.Prelude.{◌≡◌, ◌≢◌, ◌≤◌, [], ◌∷◌, ◌++◌, OnOk, OnErr, IfErr, Err, length};
+ghost use Rattle.std.specs.Prelude.{◌≡◌, ◌≢◌, ◌≤◌, [], ◌∷◌, ◌++◌, OnOk, IfErr, Err, length};
 ghost use Rattle.hyper_outside.specs.Causes.{Rose};
-ghost use Rattle.outside_log.specs.Log.{GivenUp, LeavesPlaces, Started, failures};
+ghost use Rattle.outside_log.specs.Readings.{ReadsOn, is_faithful, read_faults};
+ghost use Rattle.outside_log.specs.Log.{LeavesPlaces, Started, failures, standing};
 ghost use Rattle.equity_report.specs.declared.refusal.Refusal.TheVariants.{Read, Write};
-ghost use Rattle.top_call.specs.Beginnings.{MayRefuseBeginning};
+ghost use Rattle.top_call.specs.Beginnings.{MayRefuseBeginning, MayTakePlace};
 ghost use Rattle.top_call.specs.Runs.{IsOfBeginning};
 
 use equity_report::{FileName, Refusal};
@@ -14,16 +15,16 @@ use outside_log::{Files, begins_otherwise};
 fn look<F: Files>(files: &mut F, name: &str, start: &[u8]) -> Result<(), Refusal>
     requires name { length name.now ≤ 272 }
     requires start { length start.now ≤ 32 }
-    ensures stays { OnOk result (F.log files.new ≡ F.log files.old) }
-    ensures given_up { OnErr result
-        (F.log files.new ≡ F.log files.old ++ GivenUp name.now ∷ []) }
+    ensures stays { OnOk result (ReadsOn (F.log files.old) (F.log files.new)) }
+    ensures leaves { LeavesPlaces (F.log files.old) (F.log files.new) }
     ensures kinds { IfErr result IsOfBeginning }
+    ensures may { OnOk result (MayTakePlace start.now
+        (is_faithful (F.log files.new)) (standing (F.log files.old) name.now)) }
     ensures told { IfErr result (MayRefuseBeginning start.now name.now
-        (F.tells files.old) (F.held files.old name.now)) }
-    ensures tells { F.tells files.new ≡ F.tells files.old }
-    ensures read_later { F.read_faults files.old ≤ F.read_faults files.new }
+        (is_faithful (F.log files.new)) (standing (F.log files.old) name.now)) }
+    ensures read_later { read_faults (F.log files.old) ≤ read_faults (F.log files.new) }
     ensures read_cause { result ≡ Err Read
-        → Rose (F.read_faults files.old) (F.read_faults files.new) }
+        → Rose (read_faults (F.log files.old)) (read_faults (F.log files.new)) }
     ensures write { result ≢ Err Write }
 {
     match begins_otherwise(files, name, start) {
@@ -45,18 +46,19 @@ pub(crate) fn begin<F: Files>(files: &mut F, name: &str, start: &[u8]) -> Result
     requires name { length name.now ≤ 272 }
     requires start { length start.now ≤ 32 }
     ensures begun { OnOk result
-        (F.log files.new ≡ F.log files.old ++ Started name.now ∷ []) }
-    ensures leaves { OnErr result (LeavesPlaces (F.log files.old) (F.log files.new)) }
+        (ReadsOn (F.log files.old ++ Started name.now ∷ []) (F.log files.new)) }
+    ensures leaves { LeavesPlaces (F.log files.old) (F.log files.new) }
     ensures kinds { IfErr result IsOfBeginning }
+    ensures may { OnOk result (MayTakePlace start.now
+        (is_faithful (F.log files.new)) (standing (F.log files.old) name.now)) }
     ensures told { IfErr result (MayRefuseBeginning start.now name.now
-        (F.tells files.old) (F.held files.old name.now)) }
-    ensures tells { F.tells files.new ≡ F.tells files.old }
+        (is_faithful (F.log files.new)) (standing (F.log files.old) name.now)) }
     ensures later { failures (F.log files.old) ≤ failures (F.log files.new) }
-    ensures read_later { F.read_faults files.old ≤ F.read_faults files.new }
+    ensures read_later { read_faults (F.log files.old) ≤ read_faults (F.log files.new) }
     ensures write_cause { result ≡ Err Write
         → Rose (failures (F.log files.old)) (failures (F.log files.new)) }
     ensures read_cause { result ≡ Err Read
-        → Rose (F.read_faults files.old) (F.read_faults files.new) }
+        → Rose (read_faults (F.log files.old)) (read_faults (F.log files.new)) }
 {
     match files.start(name) {
         Ok(()) => look(files, name, start),

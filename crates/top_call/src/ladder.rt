@@ -1,16 +1,19 @@
-ghost use Rattle.std.specs.Prelude.{◌≡◌, ◌≤◌, ◌*◌, ◌⊎◌, Err, length};
+ghost use Rattle.std.specs.Prelude.{◌≡◌, ◌≤◌, ◌*◌, ◌⊎◌, Err, IfErr, OnOk, length};
 ghost use Rattle.hyper_outside.specs.Causes.{Rose};
-ghost use Rattle.outside_log.specs.Log.{failures};
+ghost use Rattle.outside_log.specs.Log.{LeavesPlaces, failures, standing};
+ghost use Rattle.outside_log.specs.Readings.{is_faithful, read_faults};
 ghost use Rattle.match_scores.specs.declared.ladder.LadderStop.TheVariants.{Keep};
-ghost use Rattle.equity_report.specs.declared.refusal.Refusal.TheVariants.{Write};
+ghost use Rattle.equity_report.specs.declared.refusal.Refusal.TheVariants.{Read, Write};
 ghost use Rattle.equity_report.specs.Refusals.{status_of};
 ghost use Rattle.command_line.specs.Right.{IsRightLadder};
 ghost use Rattle.cube_actions.specs.Ladder.{ladder};
-ghost use Rattle.top_call.specs.Ladders.{SolvesLadder, SolvesScores, end_line, scores_in};
-ghost use Rattle.top_call.specs.Runs.{EndsReport, EndsWriting};
+ghost use Rattle.top_call.specs.Ladders.{MayRefuseLadder, MayTakePlaces, SolvesLadder, SolvesScores, end_line, scores_in};
+ghost use Rattle.top_call.specs.Runs.{EndsBy, EndsReport, IsOfBeginning, IsOfWriting};
 
-use crate::ladder_keep::LadderKeep;
+use crate::begin::begin;
+use crate::ladder_keep::{LadderKeep, score_file};
 use crate::put::{DONE, refuse};
+use base_head::BASE_START;
 use command_line::Ladder;
 use cube_actions::{Starts, ladder};
 use equity_report::{Refusal, write_ladder_end};
@@ -29,6 +32,31 @@ pub(crate) fn ladder_rounds(match_length: u8, rounds: u32) -> u32
     ensures { result ≡ length (ladder match_length) * rounds }
 {
     ladder(match_length).len() as u32 * rounds
+}
+
+/// Begins the file of each score of a ladder, and gives it up again, so that one that can't be written, or would take the place of a file of
+/// another kind, is told before any work.
+fn try_scores<F: Files>(task: &Ladder, files: &mut F) -> Result<(), Refusal>
+    requires { IsRightLadder task.now }
+    ensures may { OnOk result (MayTakePlaces task.now (scores_in task.now)
+        (is_faithful (F.log files.new)) (standing (F.log files.old))) }
+    ensures told { IfErr result (MayRefuseLadder task.now
+        (is_faithful (F.log files.new)) (standing (F.log files.old))) }
+    ensures kinds { IfErr result IsOfBeginning }
+    ensures leaves { LeavesPlaces (F.log files.old) (F.log files.new) }
+    ensures later { failures (F.log files.old) ≤ failures (F.log files.new) }
+    ensures write_cause { result ≡ Err Write
+        → Rose (failures (F.log files.old)) (failures (F.log files.new)) }
+    ensures read_cause { result ≡ Err Read
+        → Rose (read_faults (F.log files.old)) (read_faults (F.log files.new)) }
+{
+    let scores = ladder(task.match_length);
+    'scores: for place in 0..scores.len() {
+        let name = score_file(task.prefix.as_str(), scores.as_slice()[place]);
+        begin(files, name.as_str(), &BASE_START)?;
+        files.give_up(name.as_str());
+    }
+    Ok(())
 }
 
 /// Solves the scores of a ladder in order. The file of each is written, and then its line is put, before the next one is begun.
@@ -85,8 +113,8 @@ fn tell_end<O: Sink>(task: &Ladder, out: &mut O) -> u8
     }
 }
 
-/// Solves the scores of a ladder, with a file and a line for each, and puts the last line; or a refusal where writing fails or there is no
-/// memory. The files of the scores that are solved by then stay.
+/// Solves the scores of a ladder, with a file and a line for each, and puts the last line; or a refusal where a file can't be begun, writing
+/// fails or there is no memory. The files of the scores that are solved by then stay.
 pub(crate) fn run_ladder<R: Threads + Sync, F: Files, O: Sink, G: Gate + Sync>(
     rt: &R,
     alloc: Global,
@@ -96,13 +124,18 @@ pub(crate) fn run_ladder<R: Threads + Sync, F: Files, O: Sink, G: Gate + Sync>(
     gate: &G,
 ) -> u8
     requires { IsRightLadder task.now }
-    ensures ends { EndsWriting result }
+    ensures ends { EndsBy IsOfWriting result }
     ensures solves { SolvesLadder task.now (F.log files.old) (F.log files.new)
         (O.output out.old) (O.output out.new) result }
     ensures cause { result ≡ status_of Write
         → Rose (failures (F.log files.old)) (failures (F.log files.new))
         ⊎ Rose (O.output out.old).faults (O.output out.new).faults }
+    ensures read_cause { result ≡ status_of Read
+        → Rose (read_faults (F.log files.old)) (read_faults (F.log files.new)) }
 {
+    if let Err(refusal) = try_scores(task, files) {
+        return refuse(out, &refusal);
+    }
     match solve_scores(rt, alloc, task, files, out, gate) {
         Ok(_) => tell_end(task, out),
         Err(LadderStop::Keep) => refuse(out, &Refusal::Write),

@@ -1,5 +1,6 @@
 ghost use Rattle.std.specs.Prelude.{◌≡◌, ◌⊎◌, ◌≤◌, false, OnOk, OnErr, length};
-ghost use Rattle.outside_log.specs.Log.{LeavesPlaces, WritesFile, failures};
+ghost use Rattle.outside_log.specs.Log.{LeavesPlaces, failures};
+ghost use Rattle.outside_log.specs.Readings.{WritesFile};
 ghost use Rattle.word_pages.specs.declared.version.Version.TheVariants.{Three};
 ghost use Rattle.base_head.specs.Heads.{HasText, IsHead};
 ghost use Rattle.command_line.specs.Right.{IsRightLadder};

@@ -1,6 +1,7 @@
 ghost use Rattle.std.specs.Prelude.{◌≡◌, ◌≢◌, ◌⊎◌, ◌≤◌, IfOk, count_by, length};
 ghost use Rattle.hyper_outside.specs.Causes.{Rose};
-ghost use Rattle.outside_log.specs.Log.{LeavesPlaces, failures};
+ghost use Rattle.outside_log.specs.Readings.{is_faithful, read_faults};
+ghost use Rattle.outside_log.specs.Log.{LeavesPlaces, failures, standing};
 ghost use Rattle.outside_log.specs.Sink.{Puts};
 ghost use Rattle.game_record.specs.Lines.{is_line_end};
 ghost use Rattle.equity_report.specs.declared.refusal.Refusal.TheVariants.{Memory, Read, Write};
@@ -109,14 +110,14 @@ pub(crate) fn run_make<R: Threads + Sync, F: Files, O: Sink, G: Gate + Sync>(
 ) -> u8
     requires { IsRightMake task.now }
     ensures ends { EndsBy IsOfWriting result }
-    ensures makes { Makes task.now (F.tells files.old)
-        (F.held files.old task.now.file) (F.log files.old) (F.log files.new)
+    ensures makes { Makes task.now (is_faithful (F.log files.new))
+        (standing (F.log files.old) task.now.file) (F.log files.old) (F.log files.new)
         (O.output out.old) (O.output out.new) result }
     ensures cause { result ≡ status_of Write
         → Rose (failures (F.log files.old)) (failures (F.log files.new))
         ⊎ Rose (O.output out.old).faults (O.output out.new).faults }
     ensures read_cause { result ≡ status_of Read
-        → Rose (F.read_faults files.old) (F.read_faults files.new) }
+        → Rose (read_faults (F.log files.old)) (read_faults (F.log files.new)) }
     ensures memory { result ≡ status_of Memory
         → WasPut (O.output out.old) (O.output out.new) (refusal_text Memory) }
     ensures leaves { result ≢ 0 → LeavesPlaces (F.log files.old) (F.log files.new) }

@@ -1,6 +1,7 @@
 ghost use Rattle.std.specs.Prelude.{◌≡◌, ◌≢◌, ◌⊎◌};
 ghost use Rattle.hyper_outside.specs.Causes.{Rose};
-ghost use Rattle.outside_log.specs.Log.{LeavesPlaces, failures};
+ghost use Rattle.outside_log.specs.Readings.{is_faithful, read_faults};
+ghost use Rattle.outside_log.specs.Log.{LeavesPlaces, failures, standing};
 ghost use Rattle.outside_log.specs.Sink.{Puts};
 ghost use Rattle.equity_report.specs.declared.refusal.Refusal.TheVariants.{Read, Write};
 ghost use Rattle.equity_report.specs.Refusals.{status_of};
@@ -73,10 +74,11 @@ pub(crate) fn run_migrate<R: Threads + Sync, F: Files, O: Sink, G: Gate + Sync>(
 ) -> u8
     requires { IsRightMigrate task.now }
     ensures ends { EndsBy IsOfMigrating result }
-    ensures migrates { Migrates task.now (F.tells files.old) (F.held files.old)
+    ensures migrates { Migrates task.now (is_faithful (F.log files.new))
+        (standing (F.log files.old))
         (F.log files.old) (F.log files.new) (O.output out.old) (O.output out.new) result }
     ensures read_cause { result ≡ status_of Read
-        → Rose (F.read_faults files.old) (F.read_faults files.new) }
+        → Rose (read_faults (F.log files.old)) (read_faults (F.log files.new)) }
     ensures write_cause { result ≡ status_of Write
         → Rose (failures (F.log files.old)) (failures (F.log files.new))
         ⊎ Rose (O.output out.old).faults (O.output out.new).faults }

@@ -1,6 +1,7 @@
 ghost use Rattle.std.specs.Prelude.{◌≡◌, ◌≤◌, ◌↔◌, IfErr, IsTrue, Err, length};
 ghost use Rattle.hyper_outside.specs.Causes.{Rose};
-ghost use Rattle.outside_log.specs.Files.{SameFiles};
+ghost use Rattle.outside_log.specs.Log.{standing};
+ghost use Rattle.outside_log.specs.Readings.{ReadsOn, is_faithful, read_faults};
 ghost use Rattle.cube_actions.specs.Ladder.{ladder};
 ghost use Rattle.equity_report.specs.declared.refusal.Refusal.TheVariants.{Read};
 ghost use Rattle.equity_report.specs.Refusals.{status_of};
@@ -61,13 +62,11 @@ fn load_first<R: Threads + Sync, F: Files>(
     files: &mut F,
 ) -> Result<Base, Refusal>
     requires { IsRightPlan task.now }
-    ensures told { AnswersFirst task.now (F.tells files.old)
-        (F.held files.old (first_file task.now)) result }
-    ensures same { IsTrue (F.tells files.old)
-        → SameFiles (F.held files.old) (F.held files.new) }
-    ensures log { F.log files.new ≡ F.log files.old }
+    ensures told { AnswersFirst task.now (is_faithful (F.log files.new))
+        (standing (F.log files.old) (first_file task.now)) result }
+    ensures reads { ReadsOn (F.log files.old) (F.log files.new) }
     ensures cause { result ≡ Err Read
-        → Rose (F.read_faults files.old) (F.read_faults files.new) }
+        → Rose (read_faults (F.log files.old)) (read_faults (F.log files.new)) }
     ensures kinds { IfErr result IsOfShowing }
 {
     let score = first_score(task.match_length);
@@ -113,14 +112,12 @@ pub(crate) fn run_plan<R: Threads + Sync, F: Files, O: Sink>(
 ) -> u8
     requires { IsRightPlan task.now }
     ensures ends { EndsBy IsOfShowing result }
-    ensures tells { TellsPlan task.now (F.tells files.old)
-        (F.held files.old (first_file task.now))
+    ensures tells { TellsPlan task.now (is_faithful (F.log files.new))
+        (standing (F.log files.old) (first_file task.now))
         (O.output out.old) (O.output out.new) result }
     ensures read_cause { result ≡ status_of Read
-        → Rose (F.read_faults files.old) (F.read_faults files.new) }
-    ensures same { IsTrue (F.tells files.old)
-        → SameFiles (F.held files.old) (F.held files.new) }
-    ensures log { F.log files.new ≡ F.log files.old }
+        → Rose (read_faults (F.log files.old)) (read_faults (F.log files.new)) }
+    ensures reads { ReadsOn (F.log files.old) (F.log files.new) }
 {
     plans_hold_inside_their_pairs();
     plans_of_solved_matches_hold_in_the_end();

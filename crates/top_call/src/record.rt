@@ -1,6 +1,7 @@
-ghost use Rattle.std.specs.Prelude.{◌≡◌, ◌≤◌, IfErr, IfOk, IsTrue, Err, length};
+ghost use Rattle.std.specs.Prelude.{◌≡◌, ◌≤◌, IfErr, IfOk, Err, length};
 ghost use Rattle.hyper_outside.specs.Causes.{Rose};
-ghost use Rattle.outside_log.specs.Files.{SameFiles};
+ghost use Rattle.outside_log.specs.Log.{standing};
+ghost use Rattle.outside_log.specs.Readings.{ReadsOn, is_faithful, read_faults};
 ghost use Rattle.game_record.specs.Lines.{AreStakes, IsRecord};
 ghost use Rattle.game_record.specs.Turns.{is_match};
 ghost use Rattle.equity_report.specs.declared.refusal.Refusal.TheVariants.{Read};
@@ -120,23 +121,20 @@ fn replay_text(alloc: Global, text: &[u8]) -> Result<Replayed, Refusal>
 
 /// Reads the record in a file of this name and replays it. `Missing` comes exactly where there is no file, `Record` exactly where the file
 /// has more than 1,048,576 bytes, or its text or its play has a wrong line: it tells the first. A file that is too long isn't read, and takes no
-/// memory. `Read` comes only where the files' count of reads rose. No file changes.
+/// memory. `Read` comes only where a call that reads failed. No file changes.
 pub(crate) fn read_recorded<F: Files>(
     alloc: Global,
     name: &str,
     files: &mut F,
 ) -> Result<Replayed, Refusal>
     requires { length name.now ≤ 255 }
-    ensures told { AnswersRecord name.now (F.tells files.old)
-        (F.held files.old name.now) result }
+    ensures told { AnswersRecord name.now (is_faithful (F.log files.new))
+        (standing (F.log files.old) name.now) result }
     ensures right { IfOk result IsRightReplayed }
-    ensures same { IsTrue (F.tells files.old)
-        → SameFiles (F.held files.old) (F.held files.new) }
-    ensures tells { F.tells files.new ≡ F.tells files.old }
-    ensures later { F.read_faults files.old ≤ F.read_faults files.new }
+    ensures later { read_faults (F.log files.old) ≤ read_faults (F.log files.new) }
     ensures cause { result ≡ Err Read
-        → Rose (F.read_faults files.old) (F.read_faults files.new) }
-    ensures log { F.log files.new ≡ F.log files.old }
+        → Rose (read_faults (F.log files.old)) (read_faults (F.log files.new)) }
+    ensures reads { ReadsOn (F.log files.old) (F.log files.new) }
     ensures kinds { IfErr result IsOfReplaying }
 {
     let text = match read_whole(alloc, files, name, MOST_BYTES) {

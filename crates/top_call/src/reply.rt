@@ -1,6 +1,7 @@
-ghost use Rattle.std.specs.Prelude.{◌≡◌, IfErr, IfOk, IsTrue, Err};
+ghost use Rattle.std.specs.Prelude.{◌≡◌, IfErr, IfOk, Err};
 ghost use Rattle.hyper_outside.specs.Causes.{Rose};
-ghost use Rattle.outside_log.specs.Files.{SameFiles};
+ghost use Rattle.outside_log.specs.Log.{standing};
+ghost use Rattle.outside_log.specs.Readings.{ReadsOn, is_faithful, read_faults};
 ghost use Rattle.turn_rule.specs.Games.{IsGame};
 ghost use Rattle.turn_rule.specs.States.{IsState};
 ghost use Rattle.equity_report.specs.declared.refusal.Refusal.TheVariants.{Read};
@@ -52,16 +53,14 @@ fn load_asked<R: Threads + Sync, F: Files>(
     files: &mut F,
 ) -> Result<LoadedFile, Refusal>
     requires { IsRightReply task.now }
-    ensures told { AnswersLoaded task.now (F.tells files.old)
-        (F.held files.old task.now.file) result }
+    ensures told { AnswersLoaded task.now (is_faithful (F.log files.new))
+        (standing (F.log files.old) task.now.file) result }
     ensures game { IfOk result (λ loaded. IsGame loaded.base.words.game) }
     ensures state { IfOk result (λ loaded.
         IsState loaded.base.words.game task.now.position loaded.kind.number) }
-    ensures same { IsTrue (F.tells files.old)
-        → SameFiles (F.held files.old) (F.held files.new) }
-    ensures log { F.log files.new ≡ F.log files.old }
+    ensures reads { ReadsOn (F.log files.old) (F.log files.new) }
     ensures cause { result ≡ Err Read
-        → Rose (F.read_faults files.old) (F.read_faults files.new) }
+        → Rose (read_faults (F.log files.old)) (read_faults (F.log files.new)) }
     ensures kinds { IfErr result IsOfShowing }
 {
     let name = task.file.as_str();
@@ -108,13 +107,12 @@ pub(crate) fn run_reply<R: Threads + Sync, F: Files, O: Sink>(
 ) -> u8
     requires { IsRightReply task.now }
     ensures ends { EndsBy IsOfShowing result }
-    ensures tells { TellsReply task.now (F.tells files.old) (F.held files.old task.now.file)
+    ensures tells { TellsReply task.now (is_faithful (F.log files.new))
+        (standing (F.log files.old) task.now.file)
         (O.output out.old) (O.output out.new) result }
     ensures read_cause { result ≡ status_of Read
-        → Rose (F.read_faults files.old) (F.read_faults files.new) }
-    ensures same { IsTrue (F.tells files.old)
-        → SameFiles (F.held files.old) (F.held files.new) }
-    ensures log { F.log files.new ≡ F.log files.old }
+        → Rose (read_faults (F.log files.old)) (read_faults (F.log files.new)) }
+    ensures reads { ReadsOn (F.log files.old) (F.log files.new) }
 {
     replies_hold_for_any_words();
     let LoadedFile { base, kind } = match load_asked(rt, alloc, task, files) {

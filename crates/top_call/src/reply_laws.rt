@@ -28,8 +28,8 @@ pub fn replies_hold_for_any_words()
     following_gives_no_more_and_replying_no_less();
 }
 
-/// Where the file of a reply is there and is a file of bounds, of the position's number of checkers and with the kind that is asked for, and files
-/// tell what they hold, `reply` ends with 0, or with 6, 7 or 8: where `run` says that it was refused, reading failed or there was no memory.
+/// Where the file of a reply is there and is a file of bounds, of the position's number of checkers and with the kind that is asked for, and all
+/// answers were faithful, `reply` ends with 0, or with 6, 7 or 8: where `run` says that it was refused, reading failed or there was no memory.
 pub fn right_replies_are_done()
     ensures { (task : ReplyTask) (bytes : List ℕ) (base : FileBase)
         (old new : Output) (status : ℕ)

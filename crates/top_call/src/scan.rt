@@ -1,6 +1,7 @@
-ghost use Rattle.std.specs.Prelude.{◌≡◌, IsTrue};
+ghost use Rattle.std.specs.Prelude.{◌≡◌};
 ghost use Rattle.hyper_outside.specs.Causes.{Rose};
-ghost use Rattle.outside_log.specs.Files.{SameFiles};
+ghost use Rattle.outside_log.specs.Log.{standing};
+ghost use Rattle.outside_log.specs.Readings.{ReadsOn, is_faithful, read_faults};
 ghost use Rattle.equity_report.specs.declared.refusal.Refusal.TheVariants.{Condition, Read};
 ghost use Rattle.equity_report.specs.Refusals.{status_of};
 ghost use Rattle.command_line.specs.Right.{IsRightScan};
@@ -30,13 +31,12 @@ pub(crate) fn run_scan<R: Threads + Sync, F: Files, O: Sink>(
 ) -> u8
     requires { IsRightScan task.now }
     ensures ends { EndsBy IsOfScanning result }
-    ensures tells { TellsScan task.now (F.tells files.old) (F.held files.old task.now.file)
+    ensures tells { TellsScan task.now (is_faithful (F.log files.new))
+        (standing (F.log files.old) task.now.file)
         (O.output out.old) (O.output out.new) result }
     ensures read_cause { result ≡ status_of Read
-        → Rose (F.read_faults files.old) (F.read_faults files.new) }
-    ensures same { IsTrue (F.tells files.old)
-        → SameFiles (F.held files.old) (F.held files.new) }
-    ensures log { F.log files.new ≡ F.log files.old }
+        → Rose (read_faults (F.log files.old)) (read_faults (F.log files.new)) }
+    ensures reads { ReadsOn (F.log files.old) (F.log files.new) }
     ensures untouched { result ≡ status_of (Condition 0) → files.new ≡ files.old }
 {
     let condition = match read_condition(task.condition.as_str()) {

@@ -10,7 +10,7 @@ ghost use Rattle.equity_report.specs.Refusals.{status_of};
 ghost use Rattle.top_call.specs.Runs.{WasRefused};
 ghost use Rattle.top_call.specs.Scans.{IsTextOf, MayRefuseScanning};
 
-/// Where the text of a search is that of a condition, and its file is there and is a file of bounds, and files tell what they hold, `scan` ends
+/// Where the text of a search is that of a condition, and its file is there and is a file of bounds, and all answers were faithful, `scan` ends
 /// with 0, or with 6, 7 or 8: where `run` says that the search was refused, reading failed or there was no memory.
 pub fn right_searches_are_done()
     ensures { (task : Scan) (groups : List (List Test)) (bytes : List ℕ) (base : FileBase)

@@ -1,7 +1,8 @@
 ghost use Rattle.std.specs.Prelude.{◌≡◌, ◌≤◌, IsTrue, IfErr, IfOk, Err, length, sum};
 ghost use Rattle.position_rank.specs.Placement.{IsPosition, IsLive};
 ghost use Rattle.hyper_outside.specs.Causes.{Rose};
-ghost use Rattle.outside_log.specs.Files.{SameFiles};
+ghost use Rattle.outside_log.specs.Log.{standing};
+ghost use Rattle.outside_log.specs.Readings.{ReadsOn, is_faithful, read_faults};
 ghost use Rattle.hyper_outside.specs.declared.outside.LookStop.TheVariants.{ReadFault};
 ghost use Rattle.turn_rule.specs.States.{IsStateOf};
 ghost use Rattle.database_file.specs.Paged.{KeepsPagesOf};
@@ -48,19 +49,16 @@ fn pair_of<F: Files>(
 ) -> Result<Pair, LookStop>
     requires state { IsStateOf base.old.header.checkers base.old.header.kinds
         position.now kind }
-    requires of_file { KeepsPagesOf base.old (F.tells files.old) (F.held files.old) }
-    ensures told { IsTrue (F.tells files.old)
-        → AnswersPair base.old.header (F.held files.old (base.old.name))
+    requires of_file { KeepsPagesOf base.old (F.log files.old) }
+    ensures told { IsTrue (is_faithful (F.log files.new))
+        → AnswersPair base.old.header (standing (F.log files.old) (base.old.name))
         position.now kind result }
-    ensures of_file { KeepsPagesOf base.new (F.tells files.new) (F.held files.new) }
+    ensures of_file { KeepsPagesOf base.new (F.log files.new) }
     ensures kept { base.new ≡ record base.old { kept = base.new.kept } }
-    ensures same { IsTrue (F.tells files.old)
-        → SameFiles (F.held files.old) (F.held files.new) }
-    ensures tells { F.tells files.new ≡ F.tells files.old }
-    ensures later { F.read_faults files.old ≤ F.read_faults files.new }
+    ensures later { read_faults (F.log files.old) ≤ read_faults (F.log files.new) }
     ensures cause { result ≡ Err ReadFault
-        → Rose (F.read_faults files.old) (F.read_faults files.new) }
-    ensures log { F.log files.new ≡ F.log files.old }
+        → Rose (read_faults (F.log files.old)) (read_faults (F.log files.new)) }
+    ensures reads { ReadsOn (F.log files.old) (F.log files.new) }
 {
     let lower = base.look(files, position, kind, End::Lower)?;
     let upper = base.look(files, position, kind, End::Upper)?;
@@ -77,17 +75,15 @@ fn rows_of<F: Files>(
     requires position { IsPosition position.now }
     requires live { IsLive position.now }
     requires checkers { sum position.now.mover ≡ base.old.header.checkers }
-    requires of_file { KeepsPagesOf base.old (F.tells files.old) (F.held files.old) }
-    ensures told { IsTrue (F.tells files.old)
-        → AnswersRows base.old.header (F.held files.old (base.old.name)) position.now result }
+    requires of_file { KeepsPagesOf base.old (F.log files.old) }
+    ensures told { IsTrue (is_faithful (F.log files.new))
+        → AnswersRows base.old.header
+        (standing (F.log files.old) (base.old.name)) position.now result }
     ensures few { IfOk result (λ rows. length rows.items ≤ 14) }
-    ensures same { IsTrue (F.tells files.old)
-        → SameFiles (F.held files.old) (F.held files.new) }
-    ensures tells { F.tells files.new ≡ F.tells files.old }
-    ensures later { F.read_faults files.old ≤ F.read_faults files.new }
+    ensures later { read_faults (F.log files.old) ≤ read_faults (F.log files.new) }
     ensures cause { result ≡ Err ReadFault
-        → Rose (F.read_faults files.old) (F.read_faults files.new) }
-    ensures log { F.log files.new ≡ F.log files.old }
+        → Rose (read_faults (F.log files.old)) (read_faults (F.log files.new)) }
+    ensures reads { ReadsOn (F.log files.old) (F.log files.new) }
 {
     let stakes = base.head().stakes();
     let mut rows = Rows::new();
@@ -116,16 +112,13 @@ pub(crate) fn look_refusal(stop: LookStop) -> Refusal
 /// checkers, or it couldn't be read.
 fn look_up<F: Files>(alloc: Global, task: &ShowTask, files: &mut F) -> Result<Shown, Refusal>
     requires { IsRightShow task.now }
-    ensures told { AnswersShow task.now (F.tells files.old)
-        (F.held files.old task.now.file) result }
+    ensures told { AnswersShow task.now (is_faithful (F.log files.new))
+        (standing (F.log files.old) task.now.file) result }
     ensures few { IfOk result (λ shown. length shown.rows.items ≤ 14) }
-    ensures same { IsTrue (F.tells files.old)
-        → SameFiles (F.held files.old) (F.held files.new) }
-    ensures tells { F.tells files.new ≡ F.tells files.old }
-    ensures later { F.read_faults files.old ≤ F.read_faults files.new }
+    ensures later { read_faults (F.log files.old) ≤ read_faults (F.log files.new) }
     ensures cause { result ≡ Err Read
-        → Rose (F.read_faults files.old) (F.read_faults files.new) }
-    ensures log { F.log files.new ≡ F.log files.old }
+        → Rose (read_faults (F.log files.old)) (read_faults (F.log files.new)) }
+    ensures reads { ReadsOn (F.log files.old) (F.log files.new) }
     ensures kinds { IfErr result IsOfShowing }
 {
     let name = task.file.as_str();
@@ -157,13 +150,12 @@ pub(crate) fn run_show<F: Files, O: Sink>(
 ) -> u8
     requires { IsRightShow task.now }
     ensures ends { EndsBy IsOfShowing result }
-    ensures tells { TellsShown task.now (F.tells files.old) (F.held files.old task.now.file)
+    ensures tells { TellsShown task.now (is_faithful (F.log files.new))
+        (standing (F.log files.old) task.now.file)
         (O.output out.old) (O.output out.new) result }
     ensures read_cause { result ≡ status_of Read
-        → Rose (F.read_faults files.old) (F.read_faults files.new) }
-    ensures same { IsTrue (F.tells files.old)
-        → SameFiles (F.held files.old) (F.held files.new) }
-    ensures log { F.log files.new ≡ F.log files.old }
+        → Rose (read_faults (F.log files.old)) (read_faults (F.log files.new)) }
+    ensures reads { ReadsOn (F.log files.old) (F.log files.new) }
 {
     let shown = match look_up(alloc, task, files) {
         Ok(shown) => shown,

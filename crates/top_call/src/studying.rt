@@ -1,6 +1,7 @@
-ghost use Rattle.std.specs.Prelude.{◌≡◌, IsTrue, IfErr, IfOk, Err};
+ghost use Rattle.std.specs.Prelude.{◌≡◌, IfErr, IfOk, Err};
 ghost use Rattle.hyper_outside.specs.Causes.{Rose};
-ghost use Rattle.outside_log.specs.Files.{SameFiles};
+ghost use Rattle.outside_log.specs.Log.{standing};
+ghost use Rattle.outside_log.specs.Readings.{ReadsOn, is_faithful, read_faults};
 ghost use Rattle.equity_report.specs.declared.refusal.Refusal.TheVariants.{Read};
 ghost use Rattle.equity_report.specs.Refusals.{status_of};
 ghost use Rattle.command_line.specs.Right.{IsRightStudy};
@@ -59,13 +60,11 @@ fn study_recorded<R: Threads + Sync, F: Files, G: Gate + Sync>(
     gate: &G,
 ) -> Result<Analysis, Refusal>
     requires { IsRightStudy task.now }
-    ensures told { AnswersStudy task.now (F.tells files.old)
-        (F.held files.old task.now.rec) result }
-    ensures same { IsTrue (F.tells files.old)
-        → SameFiles (F.held files.old) (F.held files.new) }
-    ensures log { F.log files.new ≡ F.log files.old }
+    ensures told { AnswersStudy task.now (is_faithful (F.log files.new))
+        (standing (F.log files.old) task.now.rec) result }
+    ensures reads { ReadsOn (F.log files.old) (F.log files.new) }
     ensures cause { result ≡ Err Read
-        → Rose (F.read_faults files.old) (F.read_faults files.new) }
+        → Rose (read_faults (F.log files.old)) (read_faults (F.log files.new)) }
     ensures kinds { IfErr result IsOfReplaying }
 {
     let replayed = match read_recorded(alloc, task.rec.as_str(), files) {
@@ -90,13 +89,12 @@ pub(crate) fn run_study<R: Threads + Sync, F: Files, O: Sink, G: Gate + Sync>(
 ) -> u8
     requires { IsRightStudy task.now }
     ensures ends { EndsBy IsOfReplaying result }
-    ensures tells { TellsStudy task.now (F.tells files.old) (F.held files.old task.now.rec)
+    ensures tells { TellsStudy task.now (is_faithful (F.log files.new))
+        (standing (F.log files.old) task.now.rec)
         (O.output out.old) (O.output out.new) result }
     ensures read_cause { result ≡ status_of Read
-        → Rose (F.read_faults files.old) (F.read_faults files.new) }
-    ensures same { IsTrue (F.tells files.old)
-        → SameFiles (F.held files.old) (F.held files.new) }
-    ensures log { F.log files.new ≡ F.log files.old }
+        → Rose (read_faults (F.log files.old)) (read_faults (F.log files.new)) }
+    ensures reads { ReadsOn (F.log files.old) (F.log files.new) }
 {
     let analysis = match study_recorded(rt, alloc, task, files, gate) {
         Ok(analysis) => analysis,

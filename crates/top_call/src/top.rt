@@ -1,5 +1,6 @@
 ghost use Rattle.std.specs.Prelude.{◌≡◌, ◌⊎◌};
 ghost use Rattle.hyper_outside.specs.Causes.{Rose};
+ghost use Rattle.outside_log.specs.Readings.{read_faults};
 ghost use Rattle.outside_log.specs.Log.{failures};
 ghost use Rattle.equity_report.specs.declared.refusal.Refusal.TheVariants.{Memory, Read, Write};
 ghost use Rattle.equity_report.specs.Refusals.{status_of};
@@ -103,8 +104,7 @@ pub fn run<R: Threads + Sync, F: Files, O: Sink, G: Gate + Sync>(
     gate: &G,
 ) -> u8
     ensures ends { Ends (asked words.now) result }
-    ensures has_run { HasRun (asked words.now) (F.tells files.old) (F.held files.old)
-        (F.log files.old) (F.log files.new)
+    ensures has_run { HasRun (asked words.now) (F.log files.old) (F.log files.new)
         (O.output out.old) (O.output out.new) result }
     ensures memory { result ≡ status_of Memory
         → TellsMemory (asked words.now) (O.output out.old) (O.output out.new) }
@@ -112,7 +112,7 @@ pub fn run<R: Threads + Sync, F: Files, O: Sink, G: Gate + Sync>(
         → Rose (failures (F.log files.old)) (failures (F.log files.new))
         ⊎ Rose (O.output out.old).faults (O.output out.new).faults }
     ensures read_cause { result ≡ status_of Read
-        → Rose (F.read_faults files.old) (F.read_faults files.new) }
+        → Rose (read_faults (F.log files.old)) (read_faults (F.log files.new)) }
     ensures kept { KeepsFiles (asked words.now) (F.log files.old) (F.log files.new) result }
     ensures untouched { LeavesFiles (asked words.now) result → files.new ≡ files.old }
 {

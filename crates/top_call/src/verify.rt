@@ -1,6 +1,7 @@
-ghost use Rattle.std.specs.Prelude.{◌≡◌, ◌≢◌, ◌⊎◌, ◌≤◌, IsTrue, IfErr, Err, length};
+ghost use Rattle.std.specs.Prelude.{◌≡◌, ◌≢◌, ◌≤◌, IfErr, Err, length};
 ghost use Rattle.hyper_outside.specs.Causes.{Rose};
-ghost use Rattle.outside_log.specs.Files.{SameFiles};
+ghost use Rattle.outside_log.specs.Log.{standing};
+ghost use Rattle.outside_log.specs.Readings.{ReadsOn, is_faithful, read_faults};
 ghost use Rattle.outside_log.specs.Sink.{Puts};
 ghost use Rattle.turn_rule.specs.States.{IsState};
 ghost use Rattle.equity_report.specs.declared.refusal.Refusal.TheVariants.{Read};
@@ -79,14 +80,11 @@ pub(crate) fn load_verified<R: Threads + Sync, F: Files, G: Gate + Sync>(
 ) -> Result<Base, Refusal>
     requires name { length name.now ≤ 272 }
     requires workers { (1 ≤ workers) × (workers ≤ 64) }
-    ensures told { AnswersVerify oldest name.now (F.tells files.old)
-        (F.held files.old name.now) result }
-    ensures same { IsTrue (F.tells files.old)
-        → SameFiles (F.held files.old) (F.held files.new) }
-    ensures log { F.log files.new ≡ F.log files.old }
-    ensures tells { F.tells files.new ≡ F.tells files.old }
+    ensures told { AnswersVerify oldest name.now (is_faithful (F.log files.new))
+        (standing (F.log files.old) name.now) result }
+    ensures reads { ReadsOn (F.log files.old) (F.log files.new) }
     ensures cause { result ≡ Err Read
-        → Rose (F.read_faults files.old) (F.read_faults files.new) }
+        → Rose (read_faults (F.log files.old)) (read_faults (F.log files.new)) }
     ensures kinds { IfErr result IsOfVerifying }
 {
     let base = match load_base(rt, alloc, files, name, oldest, workers) {
@@ -119,13 +117,12 @@ pub(crate) fn run_verify<R: Threads + Sync, F: Files, O: Sink, G: Gate + Sync>(
 ) -> u8
     requires { IsRightVerify task.now }
     ensures ends { EndsBy IsOfVerifying result }
-    ensures tells { TellsVerified task.now (F.tells files.old) (F.held files.old task.now.file)
+    ensures tells { TellsVerified task.now (is_faithful (F.log files.new))
+        (standing (F.log files.old) task.now.file)
         (O.output out.old) (O.output out.new) result }
     ensures read_cause { result ≡ status_of Read
-        → Rose (F.read_faults files.old) (F.read_faults files.new) }
-    ensures same { IsTrue (F.tells files.old)
-        → SameFiles (F.held files.old) (F.held files.new) }
-    ensures log { F.log files.new ≡ F.log files.old }
+        → Rose (read_faults (F.log files.old)) (read_faults (F.log files.new)) }
+    ensures reads { ReadsOn (F.log files.old) (F.log files.new) }
 {
     let name = task.file.as_str();
     let base = match load_verified(rt, alloc, name, Version::Three, task.workers, files, gate) {

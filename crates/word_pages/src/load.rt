@@ -1,7 +1,9 @@
 ghost use Rattle.std.specs.Prelude.{◌≡◌, ◌≤◌, ◌<◌, ◌+◌, ◌^◌, ℕ, ℤ, pos, ◌≤ℤ◌, IsTrue, Err, length, take};
 ghost use Rattle.directed_fixed.specs.declared.word.TheConstants.{WORD_OFFSET};
 ghost use Rattle.hyper_outside.specs.Causes.{Rose};
-ghost use Rattle.outside_log.specs.Files.{SameFiles, bytes_from};
+ghost use Rattle.outside_log.specs.Log.{standing};
+ghost use Rattle.outside_log.specs.Readings.{ReadsOn, is_faithful, read_faults};
+ghost use Rattle.outside_log.specs.Files.{bytes_from};
 ghost use Rattle.word_pages.specs.declared.load.PageStop.TheVariants.{ReadFault, BadPage};
 ghost use Rattle.word_pages.specs.Pages.{page_size};
 ghost use Rattle.word_pages.specs.Loads.{AnswersPage};
@@ -40,8 +42,8 @@ impl From<Flaw> for PageStop {
 
 /// Reads the page that is bound to `binding` and stands at the place `at` of a file, over as many reads
 /// as it takes, through a buffer of the page's size, and then its words. `BadPage` tells its first flaw,
-/// which is `Short` where a read answered no bytes before the page's end. `ReadFault` comes only where the
-/// files' count of reads rose. After either the words may have changed.
+/// which is `Short` where a read answered no bytes before the page's end. `ReadFault` comes only where a call that reads
+/// failed. After either the words may have changed.
 pub fn load_page<F: Files>(
     files: &mut F,
     name: &str,
@@ -59,16 +61,13 @@ pub fn load_page<F: Files>(
     ensures page { (count : ℕ) × (count ≤ length buf.new)
         × AnswersPage version binding.now bound (length words.old) at (take count buf.new)
         words.new result }
-    ensures told { IsTrue (F.tells files.old)
+    ensures told { IsTrue (is_faithful (F.log files.new))
         → AnswersPage version binding.now bound (length words.old) at
-        (bytes_from at (F.held files.old name.now)) words.new result }
-    ensures same { IsTrue (F.tells files.old)
-        → SameFiles (F.held files.old) (F.held files.new) }
-    ensures tells { F.tells files.new ≡ F.tells files.old }
-    ensures later { F.read_faults files.old ≤ F.read_faults files.new }
+        (bytes_from at (standing (F.log files.old) name.now)) words.new result }
+    ensures later { read_faults (F.log files.old) ≤ read_faults (F.log files.new) }
     ensures cause { result ≡ Err ReadFault
-        → Rose (F.read_faults files.old) (F.read_faults files.new) }
-    ensures log { F.log files.new ≡ F.log files.old }
+        → Rose (read_faults (F.log files.old)) (read_faults (F.log files.new)) }
+    ensures reads { ReadsOn (F.log files.old) (F.log files.new) }
 {
     let count = fill(files, name, at, buf)?;
     read_page(version, binding, bound, at, &buf[..count], words)?;

@@ -1,6 +1,5 @@
 //! Files of bounds: loaded, written, and looked up page by page.
-ghost use Rattle.std.specs.Prelude.{◌≡◌, IsTrue, false, None};
-ghost use Rattle.outside_log.specs.Files.{SameFiles};
+ghost use Rattle.outside_log.specs.Readings.{ReadsOn};
 
 use crate::tests::asserts::{holds, same};
 use crate::tests::files::{NOTHING, POINT, SIZE, cubeless_text, with_base};
@@ -11,7 +10,7 @@ use cube_actions::StakesName;
 use database_file::{LoadStop, append_base, load_base, open_paged};
 use hyper_outside::{Failed, LookStop, PageFault};
 use memory_files::MemFiles;
-use outside_log::Files;
+use outside_log::{Files, Log, Told};
 use position_rank::read_position;
 use std::alloc::Global;
 use std::process::Abort;
@@ -126,55 +125,67 @@ fn tells_a_changed_byte(rt: HostRuntime) {
 #[derive(Drop)]
 struct Cut {
     written: MemFiles,
+    log: Log,
+}
+
+impl Cut {
+    /// No call was made.
+    fn new(alloc: Global) -> Cut {
+        Cut {
+            written: MemFiles::new(alloc),
+            log: Log::new(),
+        }
+    }
 }
 
 impl Files for Cut {
-    ghost use Rattle.std.proofs.lemmas.Bool.{false≢true};
+    ghost log = { λ cut. cut.log.events };
 
-    ghost log = { λ cut. cut.written.log };
-
-    ghost read_faults = { λ _. 0 };
-
-    ghost tells = { λ _. false };
-
-    ghost held = { λ _ _. None };
-
-    ghost stands = { λ cut told name. absurd (false≢true told) };
-
-    fn size(&mut self, _name: &str) -> Result<Option<u64>, Failed> {
-        Ok(Some(6138))
+    fn size(&mut self, name: &str) -> Result<Option<u64>, Failed> {
+        let answer = Ok(Some(6138));
+        self.log = self.log.then_size(name, &answer);
+        answer
     }
 
-    fn read_at(&mut self, _name: &str, at: u64, buf: &mut [u8]) -> Result<usize, Failed> {
+    fn read_at(&mut self, name: &str, at: u64, buf: &mut [u8]) -> Result<usize, Failed> {
         let text = text();
         let there = text.as_slice().get(at as usize..5000).unwrap_or(b"");
         let count = buf.len().min(700).min(there.len());
         buf[..count].copy_from_slice(&there[..count]);
-        Ok(count)
+        let answer = Ok(count);
+        self.log = self.log.then_read(name, at, buf, &answer);
+        answer
     }
 
     fn start(&mut self, name: &str) -> Result<(), Failed> {
-        self.written.start(name)
+        let answer = self.written.start(name);
+        self.log = self.log.then_answer(&Told::Started(name), name, &answer);
+        answer
     }
 
     fn append(&mut self, name: &str, bytes: &[u8]) -> Result<(), Failed> {
-        self.written.append(name, bytes)
+        let answer = self.written.append(name, bytes);
+        self.log = self
+            .log
+            .then_answer(&Told::Appended(name, bytes), name, &answer);
+        answer
     }
 
     fn finish(&mut self, name: &str) -> Result<(), Failed> {
-        self.written.finish(name)
+        let answer = self.written.finish(name);
+        self.log = self.log.then_answer(&Told::Finished(name), name, &answer);
+        answer
     }
 
     fn give_up(&mut self, name: &str) {
-        self.written.give_up(name)
+        self.written.give_up(name);
+        self.log = self.log.then(&Told::GivenUp(name));
     }
 }
 
 #[test]
 fn tells_where_reads_end(rt: HostRuntime) {
-    let mut files = Cut {
-        written: MemFiles::new(rt.alloc()),
-    };
+    let mut files = Cut::new(rt.alloc());
     let stop = load_base(&rt, rt.alloc(), &mut files, "base", Version::Three, 1).err();
     same(&rt, &stop, &bad(FileFault::Short, 5000), &"a cut file");
 }
@@ -187,10 +198,7 @@ fn look_up<F: Files>(
     position: &str,
 ) -> Result<(i64, i64), LookStop>
     // What a caller knows of the files when the reader is given up.
-    ensures same { IsTrue (F.tells files.old)
-        → SameFiles (F.held files.old) (F.held files.new) }
-    ensures tells { F.tells files.new ≡ F.tells files.old }
-    ensures log { F.log files.new ≡ F.log files.old }
+    ensures { ReadsOn (F.log files.old) (F.log files.new) }
 {
     let mut base = open_paged(alloc, files, "base", Version::Three, 1).expect(
         rt,

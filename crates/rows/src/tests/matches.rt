@@ -59,10 +59,10 @@ fn files_of_a_match_are_asked(rt: HostRuntime) -> Result<(), Fail> {
     run(&rt, &[&ANSWERS])
 }
 
-// Each file is begun, front, page and digest are appended, and it is finished: so the first append of the second file is the seventh
-// call.
+// Each of three files is begun and looked at before any is written. Then each is begun, front, page and digest are appended, and it is finished:
+// so the first append of the second file is the thirteenth call.
 static CUT: [Step; 8] = [
-    FailCall(7),
+    FailCall(13),
     Ask(TO_TWO, 7),
     FIRST,
     File("L.1.2.c", Nothing),
@@ -119,11 +119,35 @@ fn a_failing_line_leaves_the_files_of_the_scores_before(rt: HostRuntime) -> Resu
     run_each(&rt, &[], &STOPS)
 }
 
+// The last file can't be begun: that is told before any is written.
+static UNBEGUN: [Step; 5] = [
+    FailCall(5),
+    Ask(TO_TWO, 7),
+    File("L.1.1.p", Nothing),
+    File("L.1.2.c", Nothing),
+    Put(Has("refused 7 write\n")),
+];
+
+// A file of another kind stands where the second one is to be.
+static OTHER_KIND: [Step; 5] = [
+    Make("L.1.2.c", Text("old")),
+    Ask(TO_TWO, 13),
+    File("L.1.1.p", Nothing),
+    File("L.1.2.c", Held::Text("old")),
+    Put(Has("refused 13 other L.1.2.c\n")),
+];
+
+#[test]
+fn files_are_tried_before_any_is_written(rt: HostRuntime) -> Result<(), Fail> {
+    run(&rt, &[&UNBEGUN])?;
+    run(&rt, &[&OTHER_KIND])
+}
+
 // Two files are none of the match.
 static OTHERS: [Step; 7] = [
     Make("L", Text("kept")),
     Make("L.1.2.p", Text("kept too")),
-    Make("L.1.2.c", Text("old")),
+    Make("L.1.2.c", Text("")),
     Ask(TO_TWO, 0),
     File("L", Held::Text("kept")),
     File("L.1.2.p", Held::Text("kept too")),

@@ -67,11 +67,12 @@ fn a_file_of_another_game_is_refused(rt: HostRuntime) -> Result<(), Fail> {
 
 const PLAN: &str = "plan, L, --length=2";
 
-// Each of three files was begun, appended to three times and finished. A whole file is asked for its size, and then read.
+// Each of three files was begun and looked at, and then begun, appended to three times and finished. A whole file is asked for its size, and
+// then read.
 static FAULTS: [&[Step]; 3] = [
-    &[FailCall(16), Row(PLAN, 6, "refused 6 read\n")],
-    &[FailCall(17), Row(PLAN, 6, "refused 6 read\n")],
-    &[FailCall(18), Row(PLAN, 6, "refused 6 read\n")],
+    &[FailCall(22), Row(PLAN, 6, "refused 6 read\n")],
+    &[FailCall(23), Row(PLAN, 6, "refused 6 read\n")],
+    &[FailCall(24), Row(PLAN, 6, "refused 6 read\n")],
 ];
 
 #[test]

@@ -8,6 +8,7 @@ use Rattle.database_file.specs.declared.pages.PagesStop.{PagesStop}
 use Rattle.database_file.specs.Batches.{AnswersEach, batch_size}
 use Rattle.database_file.specs.Pages.{whole_page}
 use Rattle.database_file.proofs.Batches.{batch_fits, is_part, is_read}
+use Rattle.outside_log.specs.Log.{standing}
 use Rattle.database_file.proofs.batch.add_batch.Goals as goal
 
 -- the buffer has room for the batch
@@ -55,7 +56,7 @@ returns-clause-told g c tells =
     let pages = c.args.pages.now in
     let batch = c.args.batch in
     let new : List ℕ = c.fill.new.buf in
-    let file = g.F.Files.held c.args.files.now c.args.name.now in
+    let file = standing (g.F.Files.log c.args.files.now) c.args.name.now in
     let front = seen c.in_ok-count.count c.batch_size-size.result new c.args.buf.now (drop c.batch_size-size.result c.args.buf.now) c.fill.auto.buf c.in_ok-count.ensures.within in
     let answers : AnswersEach pages batch (take c.in_ok-count.count new) c.read_each.new.read = looked front c.read_each.ensures in
     c.add_words.ensures.adds pages batch (take c.in_ok-count.count new) (bytes_from pages.at file) answers

@@ -5,6 +5,9 @@ use Rattle.word_pages.specs.Flaws.{AreWithin, value_of}
 use Rattle.interval_words.specs.Numbers.{word_of}
 use Rattle.database_file.specs.Paged.{IsPage, IsPageOf}
 use Rattle.database_file.proofs.KeptPages.{added, found, moved, used}
+use Rattle.outside_log.specs.Log.{standing}
+use Rattle.outside_log.specs.Readings.{is_faithful}
+use Rattle.outside_log.proofs.Readings.{reads-before, reads-file, reads-none}
 use Rattle.database_file.proofs.kept.word_on.Goals as goal
 
 pub word_in-requires-clause-state : goal.word_in-requires-clause-state
@@ -22,7 +25,7 @@ word_in-requires-clause-within g c =
 pub returns-in-Some-clause-told : goal.returns-in-Some-clause-told
 returns-in-Some-clause-told g c tells =
     let pages = c.args.pages.now in
-    let bytes = bytes_from pages.at (g.F.Files.held c.args.files.now c.args.name.now) in
+    let bytes = bytes_from pages.at (standing (g.F.Files.log c.args.files.now) c.args.name.now) in
     let page = found (λ e. IsPageOf pages bytes e.0 e.1.items) c.args.kept.now.entries c.args.spot.page c.in-Some.words.now (c.requires.of_file tells) (sym c.get.ensures.value ∙ ap option_copied c.in-Some.is) in
     (page.right, c.word_in.ensures.word ∙ ap (λ (words : List ℕ). value_of (slice_index words (word_of c.args.spot.end c.args.spot.state))) (c.deref.ensures.value ∙ page.holds))
 
@@ -33,7 +36,7 @@ returns-in-Some-clause-right g c =
 pub returns-in-Some-clause-of_file : goal.returns-in-Some-clause-of_file
 returns-in-Some-clause-of_file g c tells =
     let pages = c.args.pages.now in
-    let bytes = bytes_from pages.at (g.F.Files.held c.args.files.now c.args.name.now) in
+    let bytes = bytes_from pages.at (standing (g.F.Files.log c.args.files.now) c.args.name.now) in
     used (λ e. IsPageOf pages bytes e.0 e.1.items) c.args.kept.now c.get.follows.lender-at-none c.args.spot.page (c.requires.of_file tells) c.get.follows.holds-at-none
 
 pub returns-in_err-words-clause-right : goal.returns-in_err-words-clause-right
@@ -43,8 +46,8 @@ returns-in_err-words-clause-right g c =
 pub returns-in_err-words-clause-of_file : goal.returns-in_err-words-clause-of_file
 returns-in_err-words-clause-of_file g c =
     let pages = c.args.pages.now in
-    let held = g.F.Files.held c.args.files.now c.args.name.now in
-    moved pages (g.F.Files.tells c.args.files.now) (g.F.Files.tells c.read_page.new.files) held (g.F.Files.held c.read_page.new.files c.args.name.now) c.get.follows.lender-at-none.entries c.read_page.ensures.tells (λ tells. c.read_page.ensures.same tells c.args.name.now)
+    let held = standing (g.F.Files.log c.args.files.now) c.args.name.now in
+    moved pages (is_faithful (g.F.Files.log c.args.files.now)) (is_faithful (g.F.Files.log c.read_page.new.files)) held (standing (g.F.Files.log c.read_page.new.files) c.args.name.now) c.get.follows.lender-at-none.entries (reads-before c.read_page.ensures.reads) (reads-file c.read_page.ensures.reads c.args.name.now)
     (λ tells. used (λ e. IsPageOf pages (bytes_from pages.at held) e.0 e.1.items) c.args.kept.now c.get.follows.lender-at-none c.args.spot.page (c.requires.of_file tells) c.get.follows.holds-at-none)
 
 pub returns-in_err-put-clause-right : goal.returns-in_err-put-clause-right
@@ -54,8 +57,8 @@ returns-in_err-put-clause-right g c =
 pub returns-in_err-put-clause-of_file : goal.returns-in_err-put-clause-of_file
 returns-in_err-put-clause-of_file g c =
     let pages = c.args.pages.now in
-    let held = g.F.Files.held c.args.files.now c.args.name.now in
-    rw c.in_err-put.ensures.err (moved pages (g.F.Files.tells c.args.files.now) (g.F.Files.tells c.read_page.new.files) held (g.F.Files.held c.read_page.new.files c.args.name.now) c.get.follows.lender-at-none.entries c.read_page.ensures.tells (λ tells. c.read_page.ensures.same tells c.args.name.now)
+    let held = standing (g.F.Files.log c.args.files.now) c.args.name.now in
+    rw c.in_err-put.ensures.err (moved pages (is_faithful (g.F.Files.log c.args.files.now)) (is_faithful (g.F.Files.log c.read_page.new.files)) held (standing (g.F.Files.log c.read_page.new.files) c.args.name.now) c.get.follows.lender-at-none.entries (reads-before c.read_page.ensures.reads) (reads-file c.read_page.ensures.reads c.args.name.now)
     (λ tells. used (λ e. IsPageOf pages (bytes_from pages.at held) e.0 e.1.items) c.args.kept.now c.get.follows.lender-at-none c.args.spot.page (c.requires.of_file tells) c.get.follows.holds-at-none))
 
 pub returns-clause-right : goal.returns-clause-right
@@ -64,9 +67,12 @@ returns-clause-right g c =
     added P c.get.follows.lender-at-none c.put.new.self c.args.spot.page c.in_ok-words.words (used P c.args.kept.now c.get.follows.lender-at-none c.args.spot.page c.requires.right c.get.follows.holds-at-none) c.in_ok-words.ensures.right c.in_ok-put.ensures.entries
 
 pub returns-clause-of_file : goal.returns-clause-of_file
-returns-clause-of_file g c =
+returns-clause-of_file g c all =
     let pages = c.args.pages.now in
-    let held = g.F.Files.held c.args.files.now c.args.name.now in
+    let held = standing (g.F.Files.log c.args.files.now) c.args.name.now in
     let P = λ (e : ℕ × Vec ℕ Global). IsPageOf pages (bytes_from pages.at held) e.0 e.1.items in
-    moved pages (g.F.Files.tells c.args.files.now) (g.F.Files.tells c.read_page.new.files) held (g.F.Files.held c.read_page.new.files c.args.name.now) c.put.new.self.entries c.read_page.ensures.tells (λ tells. c.read_page.ensures.same tells c.args.name.now)
-    (λ tells. added P c.get.follows.lender-at-none c.put.new.self c.args.spot.page c.in_ok-words.words (used P c.args.kept.now c.get.follows.lender-at-none c.args.spot.page (c.requires.of_file tells) c.get.follows.holds-at-none) (c.in_ok-words.ensures.told tells) c.in_ok-put.ensures.entries)
+    moved pages (is_faithful (g.F.Files.log c.read_page.new.files)) (is_faithful (g.F.Files.log c.read_page.new.files)) held (standing (g.F.Files.log c.read_page.new.files) c.args.name.now) c.put.new.self.entries (λ is. is) (reads-file c.read_page.ensures.reads c.args.name.now)
+    (λ all. added P c.get.follows.lender-at-none c.put.new.self c.args.spot.page c.in_ok-words.words (used P c.args.kept.now c.get.follows.lender-at-none c.args.spot.page (c.requires.of_file (reads-before c.read_page.ensures.reads all)) c.get.follows.holds-at-none) (c.in_ok-words.ensures.told all) c.in_ok-put.ensures.entries) all
+
+pub returns-in-Some-clause-reads : goal.returns-in-Some-clause-reads
+returns-in-Some-clause-reads g c = reads-none _

@@ -1,9 +1,12 @@
-use Rattle.std.proofs.Common.{◌≡◌, None, IsTrue, Err, sym, ap, subst}
+use Rattle.std.proofs.Common.{◌≡◌, None, Err, refl, sym, ap, subst}
 use Rattle.outside_log.specs.Files.{bytes_from}
 use Rattle.database_file.specs.declared.pages.Pages.{Pages}
 use Rattle.database_file.specs.Pages.{AnswersPages, ArePages, flaw_in, words_in}
 use Rattle.database_file.proofs.Bases.{pages-valid}
-use Rattle.database_file.proofs.Loading.{base-read, base-told, front-stopped, list-fits, pages-read, pages-told}
+use Rattle.database_file.specs.declared.stop.LoadStop.TheVariants.{NoMemory}
+use Rattle.database_file.proofs.Loading.{base-read, base-told, front-stopped, list-fits, no-room, pages-read, pages-told}
+use Rattle.outside_log.specs.Log.{standing}
+use Rattle.outside_log.proofs.Readings.{reads-before, reads-both, reads-file}
 use Rattle.database_file.proofs.load.load_base.Goals as goal
 
 pub returns-in_err-header-clause-read : goal.returns-in_err-header-clause-read
@@ -26,11 +29,11 @@ returns-in_err-list-clause-read g c =
 
 pub returns-in_err-list-clause-told : goal.returns-in_err-list-clause-told
 returns-in_err-list-clause-told g c tells =
-    let held = g.F.Files.held c.args.files.now c.args.name.now in
-    let there = g.F.Files.held c.read_front.new.files c.args.name.now in
+    let held = standing (g.F.Files.log c.args.files.now) c.args.name.now in
+    let there = standing (g.F.Files.log c.read_front.new.files) c.args.name.now in
     let at = c.pages_behind-pages.result.at in
-    pages-told c.args.oldest held there c.in_ok-header.field-0 at c.in_err-list.field-0.0 c.from_residual-in_err-list.result (c.in_ok-header.ensures.same tells c.args.name.now) (ap (λ (pages : Pages). pages.at) c.pages_behind-pages.ensures) (c.in_ok-header.ensures.told tells)
-    (subst (λ (pages : Pages). AnswersPages pages (bytes_from at there) (Err c.in_err-list.field-0.0)) c.pages_behind-pages.ensures (c.in_err-list.ensures.told (subst IsTrue (sym c.in_ok-header.ensures.tells) tells)))
+    pages-told c.args.oldest held there c.in_ok-header.field-0 at c.in_err-list.field-0.0 c.from_residual-in_err-list.result (reads-file c.in_ok-header.ensures.reads c.args.name.now) (ap (λ (pages : Pages). pages.at) c.pages_behind-pages.ensures) (c.in_ok-header.ensures.told (reads-before c.read_pages.ensures.reads tells))
+    (subst (λ (pages : Pages). AnswersPages pages (bytes_from at there) (Err c.in_err-list.field-0.0)) c.pages_behind-pages.ensures (c.in_err-list.ensures.told tells))
     c.from_residual-in_err-list.ensures.1
 
 pub base_of-requires-clause-long : goal.base_of-requires-clause-long
@@ -56,9 +59,21 @@ returns-clause-read g c =
 
 pub returns-clause-told : goal.returns-clause-told
 returns-clause-told g c tells =
-    let held = g.F.Files.held c.args.files.now c.args.name.now in
-    let there = g.F.Files.held c.read_front.new.files c.args.name.now in
+    let held = standing (g.F.Files.log c.args.files.now) c.args.name.now in
+    let there = standing (g.F.Files.log c.read_front.new.files) c.args.name.now in
     let at = c.pages_behind-pages.result.at in
-    base-told c.args.oldest held there c.in_ok-header.field-0 at c.in_ok-list.list.items c.in_ok-base.base (c.in_ok-header.ensures.same tells c.args.name.now) (ap (λ (pages : Pages). pages.at) c.pages_behind-pages.ensures) (c.in_ok-header.ensures.told tells)
-    (subst (λ (pages : Pages). (flaw_in pages (bytes_from at there) ≡ None) × (c.in_ok-list.list.items ≡ words_in pages (bytes_from at there))) c.pages_behind-pages.ensures (c.in_ok-list.ensures.told (subst IsTrue (sym c.in_ok-header.ensures.tells) tells)))
+    base-told c.args.oldest held there c.in_ok-header.field-0 at c.in_ok-list.list.items c.in_ok-base.base (reads-file c.in_ok-header.ensures.reads c.args.name.now) (ap (λ (pages : Pages). pages.at) c.pages_behind-pages.ensures) (c.in_ok-header.ensures.told (reads-before c.read_pages.ensures.reads tells))
+    (subst (λ (pages : Pages). (flaw_in pages (bytes_from at there) ≡ None) × (c.in_ok-list.list.items ≡ words_in pages (bytes_from at there))) c.pages_behind-pages.ensures (c.in_ok-list.ensures.told tells))
     c.in_ok-base.ensures
+
+pub returns-in_err-list-clause-reads : goal.returns-in_err-list-clause-reads
+returns-in_err-list-clause-reads g c = reads-both _ _ _ c.in_ok-header.ensures.reads c.read_pages.ensures.reads
+
+pub returns-clause-reads : goal.returns-clause-reads
+returns-clause-reads g c = reads-both _ _ _ c.in_ok-header.ensures.reads c.read_pages.ensures.reads
+
+pub returns-in_err-base-clause-reads : goal.returns-in_err-base-clause-reads
+returns-in_err-base-clause-reads g c = reads-both _ _ _ c.in_ok-header.ensures.reads c.read_pages.ensures.reads
+
+pub returns-in_err-base-clause-told : goal.returns-in_err-base-clause-told
+returns-in_err-base-clause-told g c tells = no-room c.args.oldest _ c.in_ok-header.field-0 NoMemory c.from_residual-in_err-base.result refl (c.in_ok-header.ensures.told (reads-before c.read_pages.ensures.reads tells)) c.from_residual-in_err-base.ensures.1

@@ -1,8 +1,10 @@
-use Rattle.std.proofs.Common.{◌∙◌, IsTrue, ap, subst}
+use Rattle.std.proofs.Common.{◌∙◌, ap}
 use Rattle.std.specs.Option.{option_map}
 use Rattle.database_file.specs.Faults.{whole}
 use Rattle.database_file.specs.PagedFiles.{PagedFile}
 use Rattle.database_file.proofs.OpenedFiles.{digest-told-is, front-fits, front-stopped, none-of-file, opened}
+use Rattle.outside_log.specs.Log.{standing}
+use Rattle.outside_log.proofs.Readings.{reads-file}
 use Rattle.database_file.proofs.opening.open_paged.Goals as goal
 
 pub returns-in_err-front-clause-read : goal.returns-in_err-front-clause-read
@@ -12,7 +14,7 @@ returns-in_err-front-clause-read g c =
 
 pub returns-in_err-front-clause-told : goal.returns-in_err-front-clause-told
 returns-in_err-front-clause-told g c tells =
-    let file = option_map whole (g.F.Files.held c.args.files.now c.args.name.now) in
+    let file = option_map whole (standing (g.F.Files.log c.args.files.now) c.args.name.now) in
     front-stopped c.args.oldest file c.in_err-front.field-0.0 c.from_residual.result (c.in_err-front.ensures.told tells) c.from_residual.ensures.1
 
 pub new-requires-clause-fitting : goal.new-requires-clause-fitting
@@ -28,7 +30,7 @@ returns-clause-read g c =
 
 pub returns-clause-told : goal.returns-clause-told
 returns-clause-told g c tells =
-    let file = option_map whole (g.F.Files.held c.args.files.now c.args.name.now) in
+    let file = option_map whole (standing (g.F.Files.log c.args.files.now) c.args.name.now) in
     let is = c.in_ok-base.ensures in
     opened c.args.oldest file c.in_ok-front.front c.in_ok-base.base (c.in_ok-front.ensures.told tells) (ap (λ (base : PagedFile). base.header) is) (ap (λ (base : PagedFile). base.head) is) (ap (λ (base : PagedFile). base.digest) is)
 
@@ -37,8 +39,7 @@ returns-clause-of_file g c =
     let files = c.read_front.new.files in
     let base = c.in_ok-base.base in
     let is = c.in_ok-base.ensures in
-    none-of-file base (g.F.Files.tells files) (g.F.Files.held files) (ap (λ (base : PagedFile). base.kept) is)
+    none-of-file base (g.F.Files.log files) (ap (λ (base : PagedFile). base.kept) is)
     (λ tells.
-    let told = subst IsTrue c.in_ok-front.ensures.tells tells in
-    digest-told-is c.args.oldest (g.F.Files.held c.args.files.now c.args.name.now) (g.F.Files.held files base.name) c.in_ok-front.front base.header base.digest (c.in_ok-front.ensures.told told) (ap (λ (base : PagedFile). base.header) is) (ap (λ (base : PagedFile). base.digest) is)
-    (ap (g.F.Files.held files) (ap (λ (base : PagedFile). base.name) is) ∙ c.in_ok-front.ensures.same told c.args.name.now))
+    digest-told-is c.args.oldest (standing (g.F.Files.log c.args.files.now) c.args.name.now) (standing (g.F.Files.log files) base.name) c.in_ok-front.front base.header base.digest (c.in_ok-front.ensures.told tells) (ap (λ (base : PagedFile). base.header) is) (ap (λ (base : PagedFile). base.digest) is)
+    (ap (standing (g.F.Files.log files)) (ap (λ (base : PagedFile). base.name) is) ∙ reads-file c.in_ok-front.ensures.reads c.args.name.now))

@@ -7,6 +7,7 @@ use Rattle.word_pages.specs.Pages.{page_size}
 use Rattle.database_file.specs.declared.pages.Pages.{Pages}
 use Rattle.database_file.specs.Pages.{whole_page, words_on}
 use Rattle.database_file.proofs.ManyPages.{adds, bytes_behind, fault_only, stands_behind, stops}
+use Rattle.outside_log.specs.Log.{standing}
 use Rattle.database_file.proofs.pages.add_page.Goals as goal
 
 -- what was read is no longer than the page
@@ -29,7 +30,7 @@ returns-in_err-load_page-clause-page g c =
 pub returns-in_err-load_page-clause-told : goal.returns-in_err-load_page-clause-told
 returns-in_err-load_page-clause-told g c tells =
     let pages = c.args.pages.now in
-    let file = g.F.Files.held c.args.files.now c.args.name.now in
+    let file = standing (g.F.Files.log c.args.files.now) c.args.name.now in
     stops ⊤ pages c.args.page _ _ _ (bytes_from pages.at file) (bytes_from c.place_of.result file) c.load_page.new.words c.args.words.now.items c.in_err-load_page.field-0.0 c.from_residual.result
     (length-take-le c.words_on-count.result c.args.cells.now (omega (arith, c.words_on-count.ensures.words, c.requires.cells)) ∙ c.words_on-count.ensures.words) c.place_of.ensures.place (c.as_slice.ensures.value ∙ c.binding_on.ensures)
     (ap (λ at. bytes_from at file) c.place_of.ensures.place ∙ bytes_behind pages.at (c.args.page * whole_page pages) file)
@@ -54,7 +55,7 @@ returns-clause-page g c =
 pub returns-clause-told : goal.returns-clause-told
 returns-clause-told g c tells =
     let pages = c.args.pages.now in
-    let file = g.F.Files.held c.args.files.now c.args.name.now in
+    let file = standing (g.F.Files.log c.args.files.now) c.args.name.now in
     adds pages c.args.page _ _ _ (bytes_from pages.at file) (bytes_from c.place_of.result file) c.load_page.new.words c.args.words.now.items c.extend_from_slice.new.self.items
     (length-take-le c.words_on-count.result c.args.cells.now (omega (arith, c.words_on-count.ensures.words, c.requires.cells)) ∙ c.words_on-count.ensures.words) c.place_of.ensures.place (c.as_slice.ensures.value ∙ c.binding_on.ensures)
     (ap (λ at. bytes_from at file) c.place_of.ensures.place ∙ bytes_behind pages.at (c.args.page * whole_page pages) file)

@@ -1,4 +1,4 @@
-use Rattle.std.proofs.Common.{◌∙◌, ◌<◌, ◌++◌, ℕ, List, Option, IsTrue, Result, Err, Vec, length, arith, ap, sym, subst}
+use Rattle.std.proofs.Common.{◌∙◌, ◌<◌, ◌++◌, ℕ, List, Option, Result, Err, Vec, length, arith, ap, subst}
 use Rattle.std.specs.Bool.{⊤}
 use Rattle.std.specs.Global.{Global}
 use Rattle.std.proofs.lemmas.Result.{err_from_is_err_and}
@@ -9,6 +9,9 @@ use Rattle.database_file.specs.Batches.{AddsBatch, AreRead}
 use Rattle.database_file.specs.Pages.{page_count}
 use Rattle.database_file.proofs.ManyPages.{kept, read-front}
 use Rattle.database_file.proofs.Batches.{answers_batch, long_after}
+use Rattle.outside_log.specs.Log.{standing}
+use Rattle.outside_log.proofs.Readings.{reads-both}
+use Rattle.outside_log.proofs.Readings.{reads-before, reads-file}
 use Rattle.database_file.proofs.pages.read_pages.Goals as goal
 
 pub returns-in_err-add_batch-clause-read : goal.returns-in_err-add_batch-clause-read
@@ -26,13 +29,13 @@ pub returns-in_err-add_batch-clause-told : goal.returns-in_err-add_batch-clause-
 returns-in_err-add_batch-clause-told g c tells =
     let pages = c.args.pages.now in
     let batch : Batch = record { first = c.batches.first; past = c.min-past.result } in
-    let file = g.F.Files.held c.args.files.now c.args.name.now in
-    let same = c.batches.invariant.same tells c.args.name.now in
+    let file = standing (g.F.Files.log c.args.files.now) c.args.name.now in
+    let same = reads-file c.batches.invariant.reads c.args.name.now in
     let p = err_from_is_err_and c.from_residual-in_err-add_batch.result c.from_residual-in_err-add_batch.ensures.1 in
     let stopped = p.1 ∙ ap (λ (stop : PagesStop). Err stop) p.2 in
-    rw stopped (answers_batch ⊤ pages batch (bytes_from pages.at file) c.batches.words.items c.add_batch.new.words.items c.in_err-add_batch.field-0.0 (c.batches.invariant.told tells)
+    rw stopped (answers_batch ⊤ pages batch (bytes_from pages.at file) c.batches.words.items c.add_batch.new.words.items c.in_err-add_batch.field-0.0 (c.batches.invariant.told (reads-before c.add_batch.ensures.reads tells))
     (subst (λ (file : Option (List ℕ)). AddsBatch {T = ⊤} pages batch (bytes_from pages.at file) c.batches.words.items c.add_batch.new.words.items (Err c.in_err-add_batch.field-0.0)) same
-    (c.in_err-add_batch.ensures.told (subst IsTrue (sym c.batches.invariant.tells) tells))))
+    (c.in_err-add_batch.ensures.told tells)))
 
 pub batches-preserved : goal.batches-preserved
 batches-preserved g c =
@@ -48,12 +51,13 @@ batches-preserved g c =
     record {
       inside = omega (arith, c.min-past.ensures, c.page_count-count.ensures);
       read = (had ++ part, long_after pages batch had part new c.requires.pages.some rises (long there) few next, next);
-      told = λ tells. subst (λ (file : Option (List ℕ)). AreRead pages (bytes_from pages.at file) batch.first words → AreRead pages (bytes_from pages.at file) batch.past new) (c.batches.invariant.same tells c.args.name.now)
-          (c.in_ok-add_batch.ensures.told (subst IsTrue (sym c.batches.invariant.tells) tells)) (c.batches.invariant.told tells);
+      told = λ tells. subst (λ (file : Option (List ℕ)). AreRead pages (bytes_from pages.at file) batch.first words → AreRead pages (bytes_from pages.at file) batch.past new) (reads-file c.batches.invariant.reads c.args.name.now)
+          (c.in_ok-add_batch.ensures.told tells) (c.batches.invariant.told (reads-before c.add_batch.ensures.reads tells));
       buf = kept c.batches.buf.len c.add_batch.new.buf c.deref_mut.result.now c.batches.buf.items c.batches.buf.ok.0 c.add_batch.ensures.buf (ap (λ (bytes : List ℕ). length bytes) c.deref_mut.ensures.value) ∙ c.batches.invariant.buf;
       room = kept c.batches.read.len c.add_batch.new.read c.deref_mut-in-batches.result.now c.batches.read.items c.batches.read.ok.0 c.add_batch.ensures.kept (ap (λ (read : List (Result (Vec ℕ Global) PagesStop)). length read) c.deref_mut-in-batches.ensures.value) ∙ c.batches.invariant.room;
-      same = λ tells name. c.add_batch.ensures.same (subst IsTrue (sym c.batches.invariant.tells) tells) name ∙ c.batches.invariant.same tells name;
-      tells = c.add_batch.ensures.tells ∙ c.batches.invariant.tells;
       later = omega (arith, c.batches.invariant.later, c.add_batch.ensures.later);
-      log = c.add_batch.ensures.log ∙ c.batches.invariant.log;
+      reads = reads-both _ _ _ c.batches.invariant.reads c.add_batch.ensures.reads;
     }
+
+pub returns-in_err-add_batch-clause-reads : goal.returns-in_err-add_batch-clause-reads
+returns-in_err-add_batch-clause-reads g c = reads-both _ _ _ c.batches.invariant.reads c.add_batch.ensures.reads

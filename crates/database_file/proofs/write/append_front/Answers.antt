@@ -12,11 +12,11 @@ pub returns-in_err-append-clause-adds : goal.returns-in_err-append-clause-adds
 returns-in_err-append-clause-adds g c =
     let old = g.F.Files.log c.args.files.now in
     let new = g.F.Files.log c.append.new.self in
-    let once = added-once {T = Unit {0}} {E = Failed} c.args.name.now (front_text c.args.version c.args.head.now) old new (Err c.in_err-append.field-0.0) c.in_err-append.ensures.log in
+    let once = added-once {T = Unit {0}} {E = Failed} c.args.name.now (front_text c.args.version c.args.head.now) old new (Err c.in_err-append.field-0.0) c.in_err-append.ensures in
     failed c.args.name.now (front_text c.args.version c.args.head.now) old new c.from_residual.result c.from_residual.ensures.0 once.leaves once.cause.later once.cause.failed
 
 pub returns-clause-adds : goal.returns-clause-adds
 returns-clause-adds g c =
     let old = g.F.Files.log c.args.files.now in
     let new = g.F.Files.log c.append.new.self in
-    added-once {T = List ℕ} {E = Failed} c.args.name.now (front_text c.args.version c.args.head.now) old new (Ok c.put_front-digest.result) (rw (c.as_slice.ensures.value, c.put_front-digest.ensures.text) at c.in_ok-append.ensures.log)
+    added-once {T = List ℕ} {E = Failed} c.args.name.now (front_text c.args.version c.args.head.now) old new (Ok c.put_front-digest.result) (rw (c.as_slice.ensures.value, c.put_front-digest.ensures.text) at c.in_ok-append.ensures)

@@ -1,4 +1,4 @@
-use Rattle.std.proofs.Common.{List, ℕ, IsTrue, Option, Some, Ok, Err, sym, subst}
+use Rattle.std.proofs.Common.{List, ℕ, Option, Some, Ok, Err, subst}
 use Rattle.std.specs.Prelude.{IfSome}
 use Rattle.roll_table.specs.Rolls.{Dice, IsRoll}
 use Rattle.play_analyser.specs.Rankings.{IsRanking, MayFollowRoll}
@@ -6,6 +6,8 @@ use Rattle.base_head.specs.Heads.{stakes_of}
 use Rattle.base_head.specs.declared.header.Header.{Header}
 use Rattle.database_file.specs.Paged.{paged_source, told_notes}
 use Rattle.top_call.proofs.AdviseFiles.{not-looked-up, ranked, same-sought}
+use Rattle.outside_log.specs.Log.{standing}
+use Rattle.outside_log.proofs.Readings.{reads-before, reads-both, reads-file}
 use Rattle.top_call.proofs.advise.find_ranking.Goals as goal
 
 pub returns-in-Ok-ranking_of-clause-told : goal.returns-in-Ok-ranking_of-clause-told
@@ -18,10 +20,10 @@ returns-in-Ok-ranking_of-clause-told g c =
     let right : IsRoll roll = subst (λ (o : Option Dice). IfSome o IsRoll) c.requires.roll c.requires.right.roll in (
       base.head,
       λ told. ranked task base kind (λ roll bytes ranking state right is. c.looked_up_rankings_are_of_the_file.ensures task roll bytes base.head kind ranking state right is)
-          roll right (g.F.Files.held c.args.files.now task.file) c.in-Ok-ranking_of.ranking (c.in-Ok.ensures.told told)
+          roll right (standing (g.F.Files.log c.args.files.now) task.file) c.in-Ok-ranking_of.ranking (c.in-Ok.ensures.told (reads-before c.ranking_of.ensures.reads told))
           (same-sought (λ (header : Header) (file : Option (List ℕ)). IsRanking stakes task.position kind.number roll (paged_source header file) (told_notes header file)) base.header
-          (MayFollowRoll stakes task.position kind.number roll) (g.F.Files.held c.args.files.now) (g.F.Files.held c.open_asked.new.files) task.file base.name (Ok c.in-Ok-ranking_of.ranking)
-          c.in-Ok.ensures.name (c.in-Ok.ensures.same told task.file) (c.in-Ok-ranking_of.ensures.told (subst IsTrue (sym c.in-Ok.ensures.tells) told))),
+          (MayFollowRoll stakes task.position kind.number roll) (standing (g.F.Files.log c.args.files.now)) (standing (g.F.Files.log c.open_asked.new.files)) task.file base.name (Ok c.in-Ok-ranking_of.ranking)
+          c.in-Ok.ensures.name (reads-file c.in-Ok.ensures.reads task.file) (c.in-Ok-ranking_of.ensures.told told)),
     )
 
 pub returns-clause-told : goal.returns-clause-told
@@ -31,10 +33,16 @@ returns-clause-told g c told =
     let kind = c.in-Ok.opened.kind in
     let roll = c.args.roll in
     let stakes = stakes_of base.head in
-    let held = g.F.Files.held c.args.files.now task.file in
+    let held = standing (g.F.Files.log c.args.files.now) task.file in
     let stop = c.in-Err-ranking_of.stop in
     rw (c.look_refusal.ensures)
-    (not-looked-up task base kind (IsRanking stakes task.position kind.number roll (paged_source base.header held) (told_notes base.header held)) (Some roll) c.requires.roll held stop (c.in-Ok.ensures.told told)
+    (not-looked-up task base kind (IsRanking stakes task.position kind.number roll (paged_source base.header held) (told_notes base.header held)) (Some roll) c.requires.roll held stop (c.in-Ok.ensures.told (reads-before c.ranking_of.ensures.reads told))
     (same-sought (λ (header : Header) (file : Option (List ℕ)). IsRanking stakes task.position kind.number roll (paged_source header file) (told_notes header file)) base.header
-    (MayFollowRoll stakes task.position kind.number roll) (g.F.Files.held c.args.files.now) (g.F.Files.held c.open_asked.new.files) task.file base.name (Err stop)
-    c.in-Ok.ensures.name (c.in-Ok.ensures.same told task.file) (c.in-Err-ranking_of.ensures.told (subst IsTrue (sym c.in-Ok.ensures.tells) told))))
+    (MayFollowRoll stakes task.position kind.number roll) (standing (g.F.Files.log c.args.files.now)) (standing (g.F.Files.log c.open_asked.new.files)) task.file base.name (Err stop)
+    c.in-Ok.ensures.name (reads-file c.in-Ok.ensures.reads task.file) (c.in-Err-ranking_of.ensures.told told)))
+
+pub returns-in-Ok-ranking_of-clause-reads : goal.returns-in-Ok-ranking_of-clause-reads
+returns-in-Ok-ranking_of-clause-reads g c = reads-both _ _ _ c.open_asked.ensures.reads c.ranking_of.ensures.reads
+
+pub returns-clause-reads : goal.returns-clause-reads
+returns-clause-reads g c = reads-both _ _ _ c.open_asked.ensures.reads c.ranking_of.ensures.reads

@@ -7,12 +7,13 @@ use Rattle.top_call.proofs.AnalyseFiles.{another-game, base-not-opened, opened-f
 use Rattle.top_call.proofs.analyse.open_for.Goals as goal
 use Rattle.top_call.specs.Analyses.{IsGameOf}
 use Rattle.top_call.specs.Loads.{game_told}
+use Rattle.outside_log.specs.Log.{standing}
 use Rattle.turn_rule.specs.Games.{IsGame}
 
 pub returns-in-Err-clause-told : goal.returns-in-Err-clause-told
 returns-in-Err-clause-told g c told =
     let name = c.args.name.now in
-    base-not-opened name c.args.rec.now (g.F.Files.held c.args.files.now name) c.in-Err.stop c.refusal_of.result (c.in-Err.ensures.told told) c.refusal_of.ensures
+    base-not-opened name c.args.rec.now (standing (g.F.Files.log c.args.files.now) name) c.in-Err.stop c.refusal_of.result (c.in-Err.ensures.told told) c.refusal_of.ensures
 
 pub returns-in-Err-clause-kinds : goal.returns-in-Err-clause-kinds
 returns-in-Err-clause-kinds g c = opening-kind c.args.name.now c.in-Err.stop c.refusal_of.result c.refusal_of.ensures
@@ -28,13 +29,13 @@ returns-then-is_of-clause-told g c told =
       checkers = sym (ap (λ (h : FileHead). h.checkers) c.head.ensures.head) ∙ same.0 ∙ ap (λ (n : GameName). n.checkers) c.game_recorded-game.ensures;
       stakes = sym (ap (λ (h : FileHead). h.name) c.head.ensures.head) ∙ same.1 ∙ ap (λ (n : GameName). n.stakes) c.game_recorded-game.ensures;
     } in
-    opened-for rec (g.F.Files.held c.args.files.now c.args.name.now) base (c.in-Ok.ensures.told told) c.head.ensures.valid c.head.ensures.checkers c.head.ensures.name game is
+    opened-for rec (standing (g.F.Files.log c.args.files.now) c.args.name.now) base (c.in-Ok.ensures.told told) c.head.ensures.valid c.head.ensures.checkers c.head.ensures.name game is
 
 pub returns-else-is_of-clause-told : goal.returns-else-is_of-clause-told
 returns-else-is_of-clause-told g c told =
     let rec = c.args.rec.now in
     let base = c.in-Ok.base in
-    another-game c.args.name.now rec (g.F.Files.held c.args.files.now c.args.name.now) base c.game_recorded-game.result c.game_told.result (c.in-Ok.ensures.told told) c.game_recorded-game.ensures
+    another-game c.args.name.now rec (standing (g.F.Files.log c.args.files.now) c.args.name.now) base c.game_recorded-game.result c.game_told.result (c.in-Ok.ensures.told told) c.game_recorded-game.ensures
     (c.game_told.ensures ∙ ap (λ (h : FileHead). game_told h) c.head-else-is_of.ensures.head)
     (λ is. false≢true (sym c.if-is_of.false ∙ c.is_of.ensures.same.1 (
       ap (λ (h : FileHead). h.checkers) c.head.ensures.head ∙ is.checkers ∙ sym (ap (λ (n : GameName). n.checkers) c.game_recorded-game.ensures),

@@ -1,10 +1,13 @@
-use Rattle.std.proofs.Common.{◌∙◌, ◌<◌, List, length, IsTrue, Ok, arith, ap, sym, subst}
+use Rattle.std.proofs.Common.{◌∙◌, ◌<◌, List, length, Ok, arith, ap, subst}
 use Rattle.game_record.specs.declared.decision.Decision.{Decision}
 use Rattle.outside_log.specs.Files.{Contents}
 use Rattle.record_study.specs.Keeping.{IsDecisionInMatch, decisions_in}
 use Rattle.top_call.specs.MatchAnalyses.{AnswersNext, RefusesAt}
 use Rattle.top_call.specs.Records.{match_length}
-use Rattle.top_call.proofs.MatchLaws.{all-decisions, decisions-long, judged-all, judged-next, same-contents}
+use Rattle.top_call.proofs.MatchLaws.{all-decisions, decisions-long, judged-all, judged-next}
+use Rattle.outside_log.specs.Log.{standing}
+use Rattle.outside_log.specs.Readings.{is_faithful}
+use Rattle.outside_log.proofs.Readings.{reads-before, reads-both, reads-same}
 use Rattle.top_call.proofs.analyse_match.judge_scores.Goals as goal
 
 pub judge_next-requires-clause-place : goal.judge_next-requires-clause-place
@@ -24,21 +27,21 @@ judge_next-requires-clause-decisions g c =
 pub returns-in-Err-clause-told : goal.returns-in-Err-clause-told
 returns-in-Err-clause-told g c = λ tells.
     let inv = c.loop-place.invariant in
-    let held = g.F.Files.held c.args.files.now in
-    let now = g.F.Files.held c.loop-place.files in
+    let held = standing (g.F.Files.log c.args.files.now) in
+    let now = standing (g.F.Files.log c.loop-place.files) in
     let place = c.loop-place.place in
     let prefix = c.args.prefix.now in
     let rec = c.args.rec.now in
-    let one = c.in-Err.ensures.told (subst IsTrue (sym inv.tells) tells) in
-    let two = subst (λ (h : Contents). RefusesAt prefix rec h c.in-Err.refusal place (decisions_in c.loop-place.analysis)) (same-contents held now (inv.same tells)) one in
+    let one = c.in-Err.ensures.told tells in
+    let two = subst (λ (h : Contents). RefusesAt prefix rec h c.in-Err.refusal place (decisions_in c.loop-place.analysis)) (reads-same inv.reads) one in
     (place, subst (λ (ds : List Decision). RefusesAt prefix rec held c.in-Err.refusal place ds) inv.decisions two)
 
 pub loop-place-preserved : goal.loop-place-preserved
 loop-place-preserved g c =
     let inv = c.loop-place.invariant in
-    let held = g.F.Files.held c.args.files.now in
-    let now = g.F.Files.held c.loop-place.files in
-    let told = g.F.Files.tells c.loop-place.files in
+    let held = standing (g.F.Files.log c.args.files.now) in
+    let now = standing (g.F.Files.log c.loop-place.files) in
+    let told = is_faithful (g.F.Files.log c.judge_next.new.files) in
     let place = c.loop-place.place in
     let prefix = c.args.prefix.now in
     let rec = c.args.rec.now in
@@ -54,21 +57,19 @@ loop-place-preserved g c =
     record {
       end = inv.end;
       decisions = c.judge_next.ensures.decisions ∙ inv.decisions;
-      same = λ tells name. c.judge_next.ensures.same (subst IsTrue (sym inv.tells) tells) name ∙ inv.same tells name;
-      tells = c.judge_next.ensures.tells ∙ inv.tells;
-      log = c.judge_next.ensures.log ∙ inv.log;
+      reads = reads-both _ _ _ inv.reads c.judge_next.ensures.reads;
       later = (let one = inv.later in let two = c.judge_next.ensures.later in omega (arith, one, two));
       judged = λ tells.
           (let next : AnswersNext prefix rec place told held old new (Ok tt) =
-          subst (λ (h : Contents). AnswersNext prefix rec place told h old new (Ok tt)) (same-contents held now (inv.same tells)) c.in-Ok.ensures.told in
-          judged-next prefix rec held c.args.analysis.now old new place below inv.decisions (inv.judged tells) (next (subst IsTrue (sym inv.tells) tells)) _ (omega arith));
+          subst (λ (h : Contents). AnswersNext prefix rec place told h old new (Ok tt)) (reads-same inv.reads) c.in-Ok.ensures.told in
+          judged-next prefix rec held c.args.analysis.now old new place below inv.decisions (inv.judged (reads-before c.judge_next.ensures.reads tells)) (next tells) _ (omega arith));
     }
 
 pub returns-clause-told : goal.returns-clause-told
 returns-clause-told g c = λ tells.
     let inv = c.loop-place.invariant in
-    judged-all c.args.prefix.now c.args.rec.now (g.F.Files.held c.args.files.now) c.args.analysis.now c.loop-place.analysis inv.decisions c.loop-place.place
+    judged-all c.args.prefix.now c.args.rec.now (standing (g.F.Files.log c.args.files.now)) c.args.analysis.now c.loop-place.analysis inv.decisions c.loop-place.place
     (let end = inv.end in let past = c.loop-place-test.false in omega (arith, end, past)) (inv.judged tells)
 
-pub returns-in-Err-clause-log : goal.returns-in-Err-clause-log
-returns-in-Err-clause-log g c = c.judge_next.ensures.log ∙ c.loop-place.invariant.log
+pub returns-in-Err-clause-reads : goal.returns-in-Err-clause-reads
+returns-in-Err-clause-reads g c = reads-both _ _ _ c.loop-place.invariant.reads c.judge_next.ensures.reads

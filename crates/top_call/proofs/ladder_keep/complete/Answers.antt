@@ -1,4 +1,3 @@
-use Rattle.outside_log.specs.Log.{Adds}
 use Rattle.word_pages.specs.declared.version.Version.TheVariants.{Three}
 use Rattle.database_file.specs.Texts.{file_text}
 use Rattle.equity_report.specs.Ladder.{ladder_score_text}
@@ -16,10 +15,10 @@ pub returns-in-Err : goal.returns-in-Err
 returns-in-Err g c =
     let line = c.args.line.now in
     not-told c.args.name.now (file_text Three c.args.head.now c.args.words.now.list) (ladder_score_text line.score line.start line.widest) (g.F.Files.log c.args.files.now) (g.F.Files.log c.append_base.new.files) (g.F.Files.log c.give_up.new.self) (g.O.Sink.output c.args.out.now) (g.O.Sink.output c.write_ladder_score.new.out)
-    c.in_ok-append_base.ensures.adds c.give_up.ensures.log c.in-Err.failed c.in-Err.ensures
+    c.in_ok-append_base.ensures.adds c.give_up.ensures c.in-Err.failed c.in-Err.ensures
 
 pub returns-in-Ok : goal.returns-in-Ok
 returns-in-Ok g c =
     let line = c.args.line.now in
     ended c.args.name.now (file_text Three c.args.head.now c.args.words.now.list) (ladder_score_text line.score line.start line.widest) (g.F.Files.log c.args.files.now) (g.F.Files.log c.append_base.new.files) (g.F.Files.log c.finish.new.self) (g.O.Sink.output c.args.out.now) (g.O.Sink.output c.write_ladder_score.new.out)
-    tt c.finish.result c.in_ok-append_base.ensures.adds c.in-Ok.ensures c.finish.ensures.log
+    tt c.finish.result c.in_ok-append_base.ensures.adds c.in-Ok.ensures c.finish.ensures

@@ -12,7 +12,7 @@ use Rattle.top_call.proofs.ladder_keep.write_score.Goals as goal
 
 pub returns-in_err-start-clause-cause : goal.returns-in_err-start-clause-cause
 returns-in_err-start-clause-cause g c =
-    begun-cause _ (g.F.Files.log c.args.files.now) (g.F.Files.log c.start.new.self) (g.O.Sink.output c.args.out.now) c.from_residual.result c.from_residual.ensures.0 c.in_err-start.ensures.log
+    begun-cause _ (g.F.Files.log c.args.files.now) (g.F.Files.log c.start.new.self) (g.O.Sink.output c.args.out.now) c.from_residual.result c.from_residual.ensures.0 c.in_err-start.ensures
 
 pub returns-clause-file : goal.returns-clause-file
 returns-clause-file g c =
@@ -28,7 +28,7 @@ returns-clause-file g c =
     let new = g.O.Sink.output c.complete.new.out in
     let named = c.as_str-2.ensures.value ∙ c.score_file-name.ensures ∙ ap (λ (prefix : List ℕ). score_file prefix line.score) c.as_str.ensures in
     let named_too = c.as_str-3.ensures.value ∙ c.score_file-name.ensures ∙ ap (λ (prefix : List ℕ). score_file prefix line.score) c.as_str.ensures in
-    let begins : begun ≡ before ++ Started name ∷ [] = subst (λ (n : List ℕ). begun ≡ before ++ Started n ∷ []) named c.in_ok-start.ensures.log in
+    let begins : begun ≡ before ++ Started name ∷ [] = subst (λ (n : List ℕ). begun ≡ before ++ Started n ∷ []) named c.in_ok-start.ensures in
     let completes : Completes name text report begun after old new c.complete.result =
     subst (λ (head : FileHead). Completes name (file_text Three head c.args.words.now.list) report begun after old new c.complete.result) c.head_for-head.ensures
     (subst (λ (n : List ℕ). Completes n (file_text Three c.head_for-head.result c.args.words.now.list) report begun after old new c.complete.result) named_too c.complete.ensures) in
@@ -48,7 +48,7 @@ returns-clause-leaves g c =
     let new = g.O.Sink.output c.complete.new.out in
     let named = c.as_str-2.ensures.value ∙ c.score_file-name.ensures ∙ ap (λ (prefix : List ℕ). score_file prefix line.score) c.as_str.ensures in
     let named_too = c.as_str-3.ensures.value ∙ c.score_file-name.ensures ∙ ap (λ (prefix : List ℕ). score_file prefix line.score) c.as_str.ensures in
-    let begins : begun ≡ before ++ Started name ∷ [] = subst (λ (n : List ℕ). begun ≡ before ++ Started n ∷ []) named c.in_ok-start.ensures.log in
+    let begins : begun ≡ before ++ Started name ∷ [] = subst (λ (n : List ℕ). begun ≡ before ++ Started n ∷ []) named c.in_ok-start.ensures in
     let completes : Completes name text report begun after old new c.complete.result =
     subst (λ (head : FileHead). Completes name (file_text Three head c.args.words.now.list) report begun after old new c.complete.result) c.head_for-head.ensures
     (subst (λ (n : List ℕ). Completes n (file_text Three c.head_for-head.result c.args.words.now.list) report begun after old new c.complete.result) named_too c.complete.ensures) in
@@ -68,11 +68,11 @@ returns-clause-cause g c =
     let new = g.O.Sink.output c.complete.new.out in
     let named = c.as_str-2.ensures.value ∙ c.score_file-name.ensures ∙ ap (λ (prefix : List ℕ). score_file prefix line.score) c.as_str.ensures in
     let named_too = c.as_str-3.ensures.value ∙ c.score_file-name.ensures ∙ ap (λ (prefix : List ℕ). score_file prefix line.score) c.as_str.ensures in
-    let begins : begun ≡ before ++ Started name ∷ [] = subst (λ (n : List ℕ). begun ≡ before ++ Started n ∷ []) named c.in_ok-start.ensures.log in
+    let begins : begun ≡ before ++ Started name ∷ [] = subst (λ (n : List ℕ). begun ≡ before ++ Started n ∷ []) named c.in_ok-start.ensures in
     let completes : Completes name text report begun after old new c.complete.result =
     subst (λ (head : FileHead). Completes name (file_text Three head c.args.words.now.list) report begun after old new c.complete.result) c.head_for-head.ensures
     (subst (λ (n : List ℕ). Completes n (file_text Three c.head_for-head.result c.args.words.now.list) report begun after old new c.complete.result) named_too c.complete.ensures) in
     caused name text report before begun after begins old new c.complete.result completes
 
 pub returns-in_err-start-clause-leaves : goal.returns-in_err-start-clause-leaves
-returns-in_err-start-clause-leaves g c = on-err c.from_residual.result c.from_residual.ensures.0 (leaves-one (g.F.Files.log c.args.files.now) (g.F.Files.log c.start.new.self) (Failed _) tt c.in_err-start.ensures.log)
+returns-in_err-start-clause-leaves g c = on-err c.from_residual.result c.from_residual.ensures.0 (leaves-one (g.F.Files.log c.args.files.now) (g.F.Files.log c.start.new.self) (Failed _) tt c.in_err-start.ensures)

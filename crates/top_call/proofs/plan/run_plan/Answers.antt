@@ -2,13 +2,15 @@ use Rattle.match_plan.specs.Plans.{plan_text}
 use Rattle.top_call.specs.Plans.{HasPlanned, MayRefusePlanning, first_file}
 use Rattle.top_call.proofs.PlanFiles.{has-planned}
 use Rattle.top_call.proofs.Telling.{has-told, not-told}
+use Rattle.outside_log.specs.Log.{standing}
+use Rattle.outside_log.specs.Readings.{is_faithful}
 use Rattle.top_call.proofs.plan.run_plan.Goals as goal
 
 pub returns-in-Ok-write_plan-clause-tells : goal.returns-in-Ok-write_plan-clause-tells
 returns-in-Ok-write_plan-clause-tells g c =
     let task = c.args.task.now in
-    let told = g.F.Files.tells c.args.files.now in
-    let held = g.F.Files.held c.args.files.now (first_file task) in
+    let told = is_faithful (g.F.Files.log c.load_first.new.files) in
+    let held = standing (g.F.Files.log c.args.files.now) (first_file task) in
     let starts = c.planned_starts-starts.result in
     has-told (HasPlanned task told held) (MayRefusePlanning task told held) (g.O.Sink.output c.args.out.now) (g.O.Sink.output c.write_plan.new.out)
     (plan_text starts) c.in-Ok-write_plan.field-0 c.in-Ok-write_plan.ensures
@@ -18,8 +20,8 @@ returns-in-Ok-write_plan-clause-tells g c =
 pub returns-clause-tells : goal.returns-clause-tells
 returns-clause-tells g c =
     let task = c.args.task.now in
-    let told = g.F.Files.tells c.args.files.now in
-    let held = g.F.Files.held c.args.files.now (first_file task) in
+    let told = is_faithful (g.F.Files.log c.load_first.new.files) in
+    let held = standing (g.F.Files.log c.args.files.now) (first_file task) in
     let starts = c.planned_starts-starts.result in
     not-told (HasPlanned task told held) (MayRefusePlanning task told held) (g.O.Sink.output c.args.out.now) (g.O.Sink.output c.refuse-in-Err-write_plan.new.out)
     (g.O.Sink.output c.write_plan.new.out) (plan_text starts) c.in-Err-write_plan.field-0 c.in-Err-write_plan.ensures

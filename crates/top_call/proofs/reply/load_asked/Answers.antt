@@ -6,13 +6,15 @@ use Rattle.top_call.proofs.AnalyseFiles.{opening-kind}
 use Rattle.top_call.proofs.Loaded.{not-loaded, of-file}
 use Rattle.top_call.proofs.ReplyFiles.{refuses-replying, state-loaded, unfit}
 use Rattle.top_call.proofs.reply.load_asked.Goals as goal
+use Rattle.outside_log.specs.Log.{standing}
+use Rattle.outside_log.specs.Readings.{is_faithful}
 use Rattle.word_pages.specs.declared.version.Version.TheVariants.{Three}
 
 pub returns-in-Err-clause-told : goal.returns-in-Err-clause-told
 returns-in-Err-clause-told g c =
     let task = c.args.task.now in
-    let told = g.F.Files.tells c.args.files.now in
-    let held = g.F.Files.held c.args.files.now task.file in
+    let told = is_faithful (g.F.Files.log c.load_base.new.files) in
+    let held = standing (g.F.Files.log c.args.files.now) task.file in
     let stop = c.in-Err.stop in
     let refusal = c.refusal_of.result in
     let tells = rw (c.as_str-name.ensures) at c.refusal_of.ensures in
@@ -27,8 +29,8 @@ returns-in-Err-clause-kinds g c = opening-kind c.as_str-name.result.now c.in-Err
 pub returns-in-Ok-asked_kind-clause-told : goal.returns-in-Ok-asked_kind-clause-told
 returns-in-Ok-asked_kind-clause-told g c =
     let task = c.args.task.now in
-    let told = g.F.Files.tells c.args.files.now in
-    let held = g.F.Files.held c.args.files.now task.file in
+    let told = is_faithful (g.F.Files.log c.load_base.new.files) in
+    let held = standing (g.F.Files.log c.args.files.now) task.file in
     let base = c.in-Ok.base in (
       of-file told held (λ file. AnswersBase file (Ok base)) (λ told. rw (c.as_str-name.ensures) at c.in-Ok.ensures.told told) c.in-Ok.ensures.read,
       rw (c.head.ensures.head) at c.in-Ok-asked_kind.ensures.asked,
@@ -45,8 +47,8 @@ returns-in-Ok-asked_kind-clause-state g c =
 pub returns-in-Err-asked_kind-clause-told : goal.returns-in-Err-asked_kind-clause-told
 returns-in-Err-asked_kind-clause-told g c =
     let task = c.args.task.now in
-    let told = g.F.Files.tells c.args.files.now in
-    let held = g.F.Files.held c.args.files.now task.file in
+    let told = is_faithful (g.F.Files.log c.load_base.new.files) in
+    let held = standing (g.F.Files.log c.args.files.now) task.file in
     let base = c.in-Ok.base in
     let refusal = c.in-Err-asked_kind.refusal in
     let wants = rw (c.head.ensures.head) at c.in-Err-asked_kind.ensures.asked in

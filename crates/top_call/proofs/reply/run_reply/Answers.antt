@@ -8,6 +8,8 @@ use Rattle.interval_words.specs.WordLists.{WordList}
 use Rattle.top_call.proofs.Loaded.{of-file}
 use Rattle.top_call.proofs.ReplyFiles.{has-replied}
 use Rattle.top_call.proofs.Telling.{has-told, no-memory, not-told, was-refused}
+use Rattle.outside_log.specs.Log.{standing}
+use Rattle.outside_log.specs.Readings.{is_faithful}
 use Rattle.top_call.proofs.reply.run_reply.Goals as goal
 
 pub replies_after-requires : goal.replies_after-requires
@@ -16,8 +18,8 @@ replies_after-requires g c = subst (λ (w : WordList). IsState w.game c.args.tas
 pub returns-in-Err-clause-tells : goal.returns-in-Err-clause-tells
 returns-in-Err-clause-tells g c =
     let task = c.args.task.now in
-    let told = g.F.Files.tells c.args.files.now in
-    let held = g.F.Files.held c.args.files.now task.file in
+    let told = is_faithful (g.F.Files.log c.load_asked.new.files) in
+    let held = standing (g.F.Files.log c.args.files.now) task.file in
     was-refused (HasReplied task told held) (MayRefuseReplying task told held) (g.O.Sink.output c.args.out.now) (g.O.Sink.output c.refuse.new.out)
     IsOfShowing (λ none. none) c.in-Err.refusal c.in-Err.ensures.kinds c.in-Err.ensures.told c.refuse.result c.refuse.ensures.status c.refuse.ensures.told
 
@@ -27,16 +29,16 @@ returns-in_default-clause-ends g c = inr (inr (Memory, tt, c.refuse-in_default.e
 pub returns-in_default-clause-tells : goal.returns-in_default-clause-tells
 returns-in_default-clause-tells g c =
     let task = c.args.task.now in
-    let told = g.F.Files.tells c.args.files.now in
-    let held = g.F.Files.held c.args.files.now task.file in
+    let told = is_faithful (g.F.Files.log c.load_asked.new.files) in
+    let held = standing (g.F.Files.log c.args.files.now) task.file in
     no-memory (HasReplied task told held) (MayRefuseReplying task told held) (g.O.Sink.output c.args.out.now) (g.O.Sink.output c.refuse-in_default.new.out)
     (of-file told held (RefusesReplying task Memory) (λ _. tt) (None, tt)) c.refuse-in_default.result c.refuse-in_default.ensures.status c.refuse-in_default.ensures.told
 
 pub returns-in-Ok-write_reply-clause-tells : goal.returns-in-Ok-write_reply-clause-tells
 returns-in-Ok-write_reply-clause-tells g c =
     let task = c.args.task.now in
-    let told = g.F.Files.tells c.args.files.now in
-    let held = g.F.Files.held c.args.files.now task.file in
+    let told = is_faithful (g.F.Files.log c.load_asked.new.files) in
+    let held = standing (g.F.Files.log c.args.files.now) task.file in
     let loaded = c.in-Ok.loaded in
     let found = c.in-Ok-replies_after.found in
     let holds : HoldsReplying loaded.base.words task.rounds task.position loaded.kind.number =
@@ -48,8 +50,8 @@ returns-in-Ok-write_reply-clause-tells g c =
 pub returns-clause-tells : goal.returns-clause-tells
 returns-clause-tells g c =
     let task = c.args.task.now in
-    let told = g.F.Files.tells c.args.files.now in
-    let held = g.F.Files.held c.args.files.now task.file in
+    let told = is_faithful (g.F.Files.log c.load_asked.new.files) in
+    let held = standing (g.F.Files.log c.args.files.now) task.file in
     let loaded = c.in-Ok.loaded in
     let found = c.in-Ok-replies_after.found in
     let holds : HoldsReplying loaded.base.words task.rounds task.position loaded.kind.number =

@@ -8,6 +8,8 @@ use Rattle.top_call.proofs.Loaded.{not-loaded, of-file}
 use Rattle.top_call.proofs.ScanFiles.{has-scanned, refuses-scanning, scanning-kind}
 use Rattle.top_call.proofs.Telling.{has-told, no-memory, not-told, was-refused}
 use Rattle.top_call.proofs.scan.run_scan.Goals as goal
+use Rattle.outside_log.specs.Log.{standing}
+use Rattle.outside_log.specs.Readings.{is_faithful}
 use Rattle.word_pages.specs.declared.version.Version.TheVariants.{Three}
 
 pub returns-in-Err-clause-ends : goal.returns-in-Err-clause-ends
@@ -16,8 +18,8 @@ returns-in-Err-clause-ends g c = inr (inr (Condition c.in-Err.bad.word, tt, c.re
 pub returns-in-Err-clause-tells : goal.returns-in-Err-clause-tells
 returns-in-Err-clause-tells g c =
     let task = c.args.task.now in
-    let told = g.F.Files.tells c.args.files.now in
-    let held = g.F.Files.held c.args.files.now task.file in
+    let told = is_faithful (g.F.Files.log c.args.files.now) in
+    let held = standing (g.F.Files.log c.args.files.now) task.file in
     let word = c.in-Err.bad.word in
     let bad = rw (c.as_str.ensures) at c.in-Err.ensures.bad in
     was-refused (HasScanned task told held) (MayRefuseScanning task told held) (g.O.Sink.output c.args.out.now) (g.O.Sink.output c.refuse.new.out)
@@ -32,8 +34,8 @@ returns-in-Err-load_base-clause-ends g c =
 pub returns-in-Err-load_base-clause-tells : goal.returns-in-Err-load_base-clause-tells
 returns-in-Err-load_base-clause-tells g c =
     let task = c.args.task.now in
-    let told = g.F.Files.tells c.args.files.now in
-    let held = g.F.Files.held c.args.files.now task.file in
+    let told = is_faithful (g.F.Files.log c.load_base.new.files) in
+    let held = standing (g.F.Files.log c.args.files.now) task.file in
     let stop = c.in-Err-load_base.stop in
     let refusal = c.refusal_of.result in
     let text : IsConditionText task.condition = (c.in-Ok.condition, rw (c.as_str.ensures) at c.in-Ok.ensures.condition) in
@@ -52,16 +54,16 @@ returns-in_default-clause-ends g c = inr (inr (Memory, tt, c.refuse-in_default.e
 pub returns-in_default-clause-tells : goal.returns-in_default-clause-tells
 returns-in_default-clause-tells g c =
     let task = c.args.task.now in
-    let told = g.F.Files.tells c.args.files.now in
-    let held = g.F.Files.held c.args.files.now task.file in
+    let told = is_faithful (g.F.Files.log c.load_base.new.files) in
+    let held = standing (g.F.Files.log c.args.files.now) task.file in
     no-memory (HasScanned task told held) (MayRefuseScanning task told held) (g.O.Sink.output c.args.out.now) (g.O.Sink.output c.refuse-in_default.new.out)
     (of-file told held (RefusesScanning task Memory) (λ _. tt) (None, tt)) c.refuse-in_default.result c.refuse-in_default.ensures.status c.refuse-in_default.ensures.told
 
 pub returns-in-Ok-write_scan-clause-tells : goal.returns-in-Ok-write_scan-clause-tells
 returns-in-Ok-write_scan-clause-tells g c =
     let task = c.args.task.now in
-    let told = g.F.Files.tells c.args.files.now in
-    let held = g.F.Files.held c.args.files.now task.file in
+    let told = is_faithful (g.F.Files.log c.load_base.new.files) in
+    let held = standing (g.F.Files.log c.args.files.now) task.file in
     let base = c.in-Ok-load_base.base in
     let read = of-file told held (λ file. AnswersBase file (Ok base)) (λ told. rw (c.as_str-name.ensures) at c.in-Ok-load_base.ensures.told told) c.in-Ok-load_base.ensures.read in
     has-told (HasScanned task told held) (MayRefuseScanning task told held) (g.O.Sink.output c.args.out.now) (g.O.Sink.output c.write_scan.new.out)
@@ -72,8 +74,8 @@ returns-in-Ok-write_scan-clause-tells g c =
 pub returns-clause-tells : goal.returns-clause-tells
 returns-clause-tells g c =
     let task = c.args.task.now in
-    let told = g.F.Files.tells c.args.files.now in
-    let held = g.F.Files.held c.args.files.now task.file in
+    let told = is_faithful (g.F.Files.log c.load_base.new.files) in
+    let held = standing (g.F.Files.log c.args.files.now) task.file in
     let base = c.in-Ok-load_base.base in
     let read = of-file told held (λ file. AnswersBase file (Ok base)) (λ told. rw (c.as_str-name.ensures) at c.in-Ok-load_base.ensures.told told) c.in-Ok-load_base.ensures.read in
     not-told (HasScanned task told held) (MayRefuseScanning task told held) (g.O.Sink.output c.args.out.now) (g.O.Sink.output c.refuse-in-Err-write_scan.new.out)

@@ -1,6 +1,10 @@
-use Rattle.std.proofs.Common.{IsTrue, sym, subst, ap}
+use Rattle.std.proofs.Common.{Err, ap}
 use Rattle.database_file.specs.PagedFiles.{PagedFile}
+use Rattle.directed_fixed.specs.declared.bounds.End.TheVariants.{Upper}
 use Rattle.top_call.proofs.LookedUp.{min-max, pair-told}
+use Rattle.top_call.proofs.ShowLaws.{look-moved, pair-stopped}
+use Rattle.outside_log.specs.Log.{standing}
+use Rattle.outside_log.proofs.Readings.{reads-before, reads-both, reads-file, reads-same}
 use Rattle.top_call.proofs.show.pair_of.Goals as goal
 
 pub new-requires : goal.new-requires
@@ -9,9 +13,23 @@ new-requires g c = rw (c.min.ensures, c.max.ensures) (min-max c.in_ok-lower.lowe
 pub returns-clause-told : goal.returns-clause-told
 returns-clause-told g c told =
     let base = c.args.base.now in
-    let file = g.F.Files.held c.args.files.now base.name in
-    let first = c.in_ok-lower.ensures.told told in
+    let file = standing (g.F.Files.log c.args.files.now) base.name in
+    let first = c.in_ok-lower.ensures.told (reads-before c.look-2.ensures.reads told) in
     let header = ap (λ (b : PagedFile). b.header) c.in_ok-lower.ensures.kept in
     let name = ap (λ (b : PagedFile). b.name) c.in_ok-lower.ensures.kept in
-    let second = rw (header, name, c.in_ok-lower.ensures.same told base.name) at c.in_ok-upper.ensures.told (subst IsTrue (sym c.in_ok-lower.ensures.tells) told) in
+    let second = rw (header, name, reads-file c.in_ok-lower.ensures.reads base.name) at c.in_ok-upper.ensures.told told in
     (first.0, pair-told base.header file c.in_ok-lower.ensures.valid c.args.position.now c.args.kind c.requires.state first.0 c.in_ok-lower.lower c.in_ok-upper.upper first.1 second.1 c.new.result (rw (c.min.ensures, c.max.ensures) at c.new.ensures))
+
+pub returns-in_err-upper-clause-reads : goal.returns-in_err-upper-clause-reads
+returns-in_err-upper-clause-reads g c = reads-both _ _ _ c.look.ensures.reads c.look-2.ensures.reads
+
+pub returns-clause-reads : goal.returns-clause-reads
+returns-clause-reads g c = reads-both _ _ _ c.look.ensures.reads c.look-2.ensures.reads
+
+pub returns-in_err-upper-clause-told : goal.returns-in_err-upper-clause-told
+returns-in_err-upper-clause-told g c told =
+    let base = c.args.base.now in
+    let header = ap (λ (b : PagedFile). b.header) c.in_ok-lower.ensures.kept in
+    let name = ap (λ (b : PagedFile). b.name) c.in_ok-lower.ensures.kept in
+    let answers = look-moved _ base.header _ base.name _ (standing (g.F.Files.log c.args.files.now)) Upper c.args.position.now c.args.kind (Err c.in_err-upper.field-0.0) header name (reads-same c.in_ok-lower.ensures.reads) (c.in_err-upper.ensures.told told) in
+    pair-stopped base.header (standing (g.F.Files.log c.args.files.now) base.name) Upper c.args.position.now c.args.kind c.in_err-upper.field-0.0 c.from_residual-in_err-upper.result answers c.from_residual-in_err-upper.ensures.1

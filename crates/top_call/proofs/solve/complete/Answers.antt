@@ -16,7 +16,7 @@ returns-in-Err g c =
     let middle = g.F.Files.log c.append_base.new.files in
     let adds : Adds task.file (solved_file task c.args.words.now) (g.F.Files.log c.args.files.now) middle = rw (c.as_str-name.ensures, c.head_of.ensures) at c.in_ok-append_base.ensures.adds in
     not-told task.file (solved_file task c.args.words.now) (solved_report task c.args.widest) (g.F.Files.log c.args.files.now) middle (g.F.Files.log c.give_up.new.self) (g.O.Sink.output c.args.out.now) (g.O.Sink.output c.report.new.out)
-    adds (rw (c.as_str-name.ensures) at c.give_up.ensures.log) c.in-Err.failed c.in-Err.ensures
+    adds (rw (c.as_str-name.ensures) at c.give_up.ensures) c.in-Err.failed c.in-Err.ensures
 
 pub returns-in-Ok : goal.returns-in-Ok
 returns-in-Ok g c =
@@ -24,4 +24,4 @@ returns-in-Ok g c =
     let middle = g.F.Files.log c.append_base.new.files in
     let adds : Adds task.file (solved_file task c.args.words.now) (g.F.Files.log c.args.files.now) middle = rw (c.as_str-name.ensures, c.head_of.ensures) at c.in_ok-append_base.ensures.adds in
     ended task.file (solved_file task c.args.words.now) (solved_report task c.args.widest) (g.F.Files.log c.args.files.now) middle (g.F.Files.log c.finish.new.self) (g.O.Sink.output c.args.out.now) (g.O.Sink.output c.report.new.out)
-    tt c.finish.result adds c.in-Ok.ensures (rw (c.as_str-name.ensures) at c.finish.ensures.log)
+    tt c.finish.result adds c.in-Ok.ensures (rw (c.as_str-name.ensures) at c.finish.ensures)

@@ -9,7 +9,7 @@ use Rattle.top_call.proofs.top.run.Goals as goal
 
 pub returns-in-Err-clause-has_run : goal.returns-in-Err-clause-has_run
 returns-in-Err-clause-has_run g c =
-    unread (g.F.Files.tells c.args.files.now) (g.F.Files.held c.args.files.now) (g.F.Files.log c.args.files.now) (g.F.Files.log c.args.files.now) refl (g.O.Sink.output c.args.out.now) (g.O.Sink.output c.refuse.new.out) c.refuse.result
+    unread (g.F.Files.log c.args.files.now) (g.F.Files.log c.args.files.now) refl (g.O.Sink.output c.args.out.now) (g.O.Sink.output c.refuse.new.out) c.refuse.result
     (asked c.args.words.now) c.in-Err.refusal c.in-Err.ensures.due c.refuse.ensures.status c.refuse.ensures.told
 
 pub returns-in-Err-clause-kept : goal.returns-in-Err-clause-kept

@@ -4,6 +4,7 @@ use Rattle.outside_log.specs.Files.{Fills, bytes_from}
 use Rattle.word_pages.specs.Words.{words_of}
 use Rattle.word_pages.specs.Pages.{page_size, page_flaw}
 use Rattle.word_pages.proofs.PageFlaws.{answers_on, answers_bad}
+use Rattle.outside_log.specs.Log.{standing}
 use Rattle.word_pages.proofs.load.load_page.Goals as goal
 
 -- what was read is the file's
@@ -15,7 +16,7 @@ pub returns-in_err-read_page-clause-told : goal.returns-in_err-read_page-clause-
 returns-in_err-read_page-clause-told g c = λ tells.
     let version = c.args.version in
     let n = length c.args.words.now in
-    let file = g.F.Files.held c.args.files.now c.args.name.now in
+    let file = standing (g.F.Files.log c.args.files.now) c.args.name.now in
     let read = there c.args.at (page_size version n) file c.args.buf.now c.fill.new.buf c.in_ok-count.count c.requires.room (c.in_ok-count.ensures.fills tells) in
     answers_on version c.args.binding.now c.args.bound n c.args.at (bytes_from c.args.at file) c.read_page.new.words c.from_residual-in_err-read_page.result
     (answers_bad version c.args.binding.now c.args.bound n c.args.at (take (page_size version n) (bytes_from c.args.at file)) c.read_page.new.words c.in_err-read_page.field-0.0 c.from_residual-in_err-read_page.result c.from_residual-in_err-read_page.ensures.1
@@ -25,7 +26,7 @@ pub returns-clause-told : goal.returns-clause-told
 returns-clause-told g c = λ tells.
     let version = c.args.version in
     let n = length c.args.words.now in
-    let file = g.F.Files.held c.args.files.now c.args.name.now in
+    let file = standing (g.F.Files.log c.args.files.now) c.args.name.now in
     let read = there c.args.at (page_size version n) file c.args.buf.now c.fill.new.buf c.in_ok-count.count c.requires.room (c.in_ok-count.ensures.fills tells) in
     answers_on version c.args.binding.now c.args.bound n c.args.at (bytes_from c.args.at file) c.read_page.new.words (Ok c.in_ok-read_page.field-0)
     (sym (c.in_ok-read_page.ensures.flaw ∙ ap (page_flaw version c.args.binding.now c.args.bound n c.args.at) read), c.in_ok-read_page.ensures.words ∙ ap (words_of version n) read)

@@ -1,4 +1,4 @@
-use Rattle.std.proofs.Common.{◌≡◌, ◌∙◌, IsTrue, Ok, Err, refl, sym, ap, subst}
+use Rattle.std.proofs.Common.{◌≡◌, ◌∙◌, Ok, Err, refl, sym, ap, subst}
 use Rattle.database_file.specs.Faults.{pages_behind}
 use Rattle.database_file.specs.Pages.{ArePages}
 use Rattle.database_file.specs.Paged.{ArePagesKept, digest_told, pages_told, spot_of}
@@ -6,6 +6,9 @@ use Rattle.database_file.specs.PagedFiles.{PagedFile}
 use Rattle.database_file.specs.declared.pages.Pages.{Pages}
 use Rattle.database_file.proofs.Bases.{pages-valid}
 use Rattle.database_file.proofs.PagedLooks.{look-stopped, moved-answer, of-file}
+use Rattle.outside_log.specs.Log.{standing}
+use Rattle.outside_log.specs.Readings.{is_faithful}
+use Rattle.outside_log.proofs.Readings.{reads-before, reads-file}
 use Rattle.database_file.proofs.paged.PagedBase.look.Goals as goal
 
 pub word_on-requires-clause-pages : goal.word_on-requires-clause-pages
@@ -14,19 +17,19 @@ word_on-requires-clause-pages g c = subst ArePages (sym c.pages_behind-pages.ens
 pub word_on-requires-clause-of_file : goal.word_on-requires-clause-of_file
 word_on-requires-clause-of_file g c =
     let base = c.args.self.now in
-    let held = g.F.Files.held c.args.files.now in
+    let held = standing (g.F.Files.log c.args.files.now) in
     let view = c.self.view_is in
     let name = c.as_str.ensures.value ∙ ap (λ (file : PagedFile). file.name) view in
-    of-file c.pages_behind-pages.result (pages_behind base.header base.digest) (g.F.Files.tells c.args.files.now) (held c.as_str.result.now) (held base.name) c.self.inside.kept.entries base.kept
+    of-file c.pages_behind-pages.result (pages_behind base.header base.digest) (is_faithful (g.F.Files.log c.args.files.now)) (held c.as_str.result.now) (held base.name) c.self.inside.kept.entries base.kept
     (c.pages_behind-pages.ensures ∙ ap (λ (file : PagedFile). pages_behind file.header file.digest) view) (ap held name) (ap (λ (file : PagedFile). file.kept) view) c.requires.of_file.pages
 
 pub returns-in_err-word-clause-told : goal.returns-in_err-word-clause-told
 returns-in_err-word-clause-told g c tells =
     let base = c.args.self.now in
-    let held = g.F.Files.held c.args.files.now in
+    let held = standing (g.F.Files.log c.args.files.now) in
     let view = c.self.view_is in
     let name = c.as_str.ensures.value ∙ ap (λ (file : PagedFile). file.name) view in
-    let pages = c.pages_behind-pages.ensures ∙ ap (λ (file : PagedFile). pages_behind file.header file.digest) view ∙ ap (pages_behind base.header) (c.requires.of_file.digest tells) in
+    let pages = c.pages_behind-pages.ensures ∙ ap (λ (file : PagedFile). pages_behind file.header file.digest) view ∙ ap (pages_behind base.header) (c.requires.of_file.digest (reads-before c.word_on.ensures.reads tells)) in
     look-stopped base.header (held base.name) c.args.end c.args.position.now c.args.kind c.in_err-word.field-0.0 c.from_residual.result
     (moved-answer held c.pages_behind-pages.result (pages_told base.header (held base.name)) c.as_str.result.now base.name c.spot-spot.result (spot_of base.header.kinds c.args.position.now c.args.kind c.args.end) (Err c.in_err-word.field-0.0) pages name c.spot-spot.ensures.spot (c.in_err-word.ensures.told tells))
     c.from_residual.ensures.1
@@ -34,13 +37,13 @@ returns-in_err-word-clause-told g c tells =
 pub returns-in_err-word-clause-of_file : goal.returns-in_err-word-clause-of_file
 returns-in_err-word-clause-of_file g c =
     let base = c.args.self.now in
-    let held = g.F.Files.held c.word_on.new.files in
+    let held = standing (g.F.Files.log c.word_on.new.files) in
     record {
       digest = λ tells.
-          let told = subst IsTrue c.in_err-word.ensures.tells tells in
+          let told = reads-before c.in_err-word.ensures.reads tells in
           subst (λ (file : PagedFile). file.digest ≡ digest_told file.header (held file.name)) (sym c.self.view_is)
-          (c.requires.of_file.digest told ∙ ap (digest_told base.header) (sym (c.in_err-word.ensures.same told base.name)));
-      pages = of-file (pages_behind c.self.inside.front.header c.self.inside.front.digest) c.pages_behind-pages.result (g.F.Files.tells c.word_on.new.files) (held _) (held c.as_str.result.now) c.word_on.new.kept.entries c.word_on.new.kept.entries
+          (c.requires.of_file.digest told ∙ ap (digest_told base.header) (sym (reads-file c.in_err-word.ensures.reads base.name)));
+      pages = of-file (pages_behind c.self.inside.front.header c.self.inside.front.digest) c.pages_behind-pages.result (is_faithful (g.F.Files.log c.word_on.new.files)) (held _) (held c.as_str.result.now) c.word_on.new.kept.entries c.word_on.new.kept.entries
           (sym c.pages_behind-pages.ensures) (ap held (sym c.as_str.ensures.value)) refl c.in_err-word.ensures.of_file;
     }
 
@@ -59,21 +62,21 @@ invariant_of-self-2 g c =
 pub returns-clause-told : goal.returns-clause-told
 returns-clause-told g c tells =
     let base = c.args.self.now in
-    let held = g.F.Files.held c.args.files.now in
+    let held = standing (g.F.Files.log c.args.files.now) in
     let view = c.self.view_is in
     let name = c.as_str.ensures.value ∙ ap (λ (file : PagedFile). file.name) view in
-    let pages = c.pages_behind-pages.ensures ∙ ap (λ (file : PagedFile). pages_behind file.header file.digest) view ∙ ap (pages_behind base.header) (c.requires.of_file.digest tells) in
+    let pages = c.pages_behind-pages.ensures ∙ ap (λ (file : PagedFile). pages_behind file.header file.digest) view ∙ ap (pages_behind base.header) (c.requires.of_file.digest (reads-before c.word_on.ensures.reads tells)) in
     moved-answer held c.pages_behind-pages.result (pages_told base.header (held base.name)) c.as_str.result.now base.name c.spot-spot.result (spot_of base.header.kinds c.args.position.now c.args.kind c.args.end) (Ok c.in_ok-word.word) pages name c.spot-spot.ensures.spot (c.in_ok-word.ensures.told tells)
 
 pub returns-clause-of_file : goal.returns-clause-of_file
 returns-clause-of_file g c =
     let base = c.args.self.now in
-    let held = g.F.Files.held c.word_on.new.files in
+    let held = standing (g.F.Files.log c.word_on.new.files) in
     record {
       digest = λ tells.
-          let told = subst IsTrue c.in_ok-word.ensures.tells tells in
+          let told = reads-before c.in_ok-word.ensures.reads tells in
           subst (λ (file : PagedFile). file.digest ≡ digest_told file.header (held file.name)) (sym c.self.view_is)
-          (c.requires.of_file.digest told ∙ ap (digest_told base.header) (sym (c.in_ok-word.ensures.same told base.name)));
-      pages = of-file (pages_behind c.self.inside.front.header c.self.inside.front.digest) c.pages_behind-pages.result (g.F.Files.tells c.word_on.new.files) (held _) (held c.as_str.result.now) c.word_on.new.kept.entries c.word_on.new.kept.entries
+          (c.requires.of_file.digest told ∙ ap (digest_told base.header) (sym (reads-file c.in_ok-word.ensures.reads base.name)));
+      pages = of-file (pages_behind c.self.inside.front.header c.self.inside.front.digest) c.pages_behind-pages.result (is_faithful (g.F.Files.log c.word_on.new.files)) (held _) (held c.as_str.result.now) c.word_on.new.kept.entries c.word_on.new.kept.entries
           (sym c.pages_behind-pages.ensures) (ap held (sym c.as_str.ensures.value)) refl c.in_ok-word.ensures.of_file;
     }

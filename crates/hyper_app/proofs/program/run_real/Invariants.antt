@@ -1,0 +1,5 @@
+use Rattle.hyper_app.proofs.program.run_real.Given as goal
+
+-- any files may have stood there
+abbrev pub ghost-new : goal.ghost-new
+ghost-new g a = g.found

@@ -1,0 +1,27 @@
+use Rattle.std.proofs.Common.{[], ◌++◌, inl, inr}
+use contract.BorrowLft.{⊑_meet, ⊑_refl, ⊑_static}
+use Rattle.equity_report.specs.declared.refusal.Refusal.TheVariants.{Memory}
+use Rattle.top_call.specs.Runs.{no_text}
+use Rattle.top_call.proofs.Refused.{ends-status}
+use Rattle.hyper_app.proofs.program.start.Goals as goal
+
+pub returns-in-Ok : goal.returns-in-Ok
+returns-in-Ok g c = ends-status _ c.run_real.result.0 c.run_real.ensures.ends
+
+pub returns-in-Err : goal.returns-in-Err
+returns-in-Err g c = elim c.refuse_unread.ensures.refused [
+  | inl text ↦ inr (no_text, text)
+  | inr memory ↦ inr (Memory, memory)
+]
+
+-- the runtime lives as long as the call that it is lent to
+pub run_real-requires-sync-R : goal.run_real-requires-sync-R
+run_real-requires-sync-R g c κs within =
+    let κ = κs.1.1.1.0 in
+    let lives = g.row.R.lives in (
+      within.0,
+      (
+        ⊑_meet κ (lives ++ []) ((κ ++ lives) ++ []) (⊑_meet κ lives [] within.1.0 (⊑_static κ)) (⊑_meet κ (κ ++ lives) [] (⊑_meet κ κ lives (⊑_refl κ) within.1.0) (⊑_static κ)),
+        (within.1.1.0, (within.1.1.1, c.type_bounds.sync-R)),
+      ),
+    )

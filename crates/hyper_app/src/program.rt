@@ -1,0 +1,66 @@
+ghost use Rattle.std.specs.Prelude.{ℕ, List, [], ◌∷◌, Some};
+ghost use Rattle.outside_log.specs.Log.{Found};
+ghost use Rattle.system_files.specs.Written.{output_of};
+ghost use Rattle.top_call.specs.Outcomes.{HasRun, KeepsFiles};
+ghost use Rattle.top_call.specs.Tasks.{asked};
+ghost use Rattle.top_call.specs.Runs.{Ends, IsStatus};
+
+use progress_line::ProgressGate;
+use std::alloc::Global;
+use std::io::{Eprint, Write};
+use std::rt::{Clock, Env, Files as System};
+use std::thread::Threads;
+use std::{env, io};
+use system_files::{RealFiles, RealSink};
+use top_call::{refuse_unread, run};
+
+/// The words after the program's name. A word that isn't text is `InvalidData`.
+fn words_of<R: Env + AllocGlobal>(rt: &R) -> io::Result<Vec<String>> {
+    let mut words = Vec::new(rt.alloc());
+    for word in env::args(rt)?.skip(1) {
+        words.push(word)?;
+    }
+    Ok(words)
+}
+
+/// Runs the program on these words, over the files of the system and this writer, and answers its status, with the log of what calls have done
+/// and were answered, and with what was put. Which files may have stood there at first, `found`, is free: what a clause says of a file that was
+/// read holds of that of any files that agree with all answers. Where it is to show it, a run that solves or checks tells on standard error how
+/// far it has come.
+pub fn run_real<'a, R: Threads + Sync + Eprint + Clock + System, W: Write>(
+    rt: &'a R,
+    alloc: Global,
+    words: &[String],
+    writer: W,
+    shows: bool,
+) -> (u8, RealFiles<&'a R>, RealSink<W>)
+    ghost found: { List (List ℕ × List ℕ) }
+    ensures ends { Ends (asked words.now) result.0 }
+    ensures has_run { HasRun (asked words.now) (Found found ∷ []) result.1.log.events
+        (record { told = Some []; faults = 0 }) (output_of result.2) result.0 }
+    ensures kept { KeepsFiles (asked words.now) (Found found ∷ []) result.1.log.events result.0 }
+{
+    let mut files = RealFiles::new(rt, alloc);
+    let mut out = RealSink::new(writer);
+    let gate = ProgressGate::new(rt, shows);
+    let status = run(rt, alloc, words, &mut files, &mut out, &gate);
+    gate.end();
+    (status, files, out)
+}
+
+/// Runs the program on its own words, over standard output and real files, and answers the status with which it ends. What its words are no
+/// contract can say; `run_real` and `refuse_unread` say what is done with them.
+pub fn start<R: Threads + Sync + Env + Print + Eprint + Clock + System + AllocGlobal>(
+    rt: &R,
+    shows: bool,
+) -> u8
+    ensures { IsStatus result }
+{
+    match words_of(rt) {
+        Ok(words) => run_real(rt, rt.alloc(), words.as_slice(), io::writer(rt), shows).0,
+        Err(error) => refuse_unread(
+            &mut RealSink::new(io::writer(rt)),
+            error.kind() == io::ErrorKind::InvalidData,
+        ),
+    }
+}
