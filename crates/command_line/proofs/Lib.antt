@@ -1,5 +1,5 @@
 mod Faulty
 mod Mapped
 mod Numbers
-mod Readings
+mod Positions
 pub mod Rightness

@@ -2,7 +2,6 @@
 use Rattle.std.specs.Prelude.{ℕ, [], ◌∷◌, codes, Option, Some, None, Result, Ok, Err, if◌then◌else◌}
 use Rattle.std.specs.Option.{option_map_or}
 use Rattle.std.specs.Str.{bytes_eq}
-use Rattle.hyper_outside.specs.declared.outside.BadWords.{BadWords}
 use Rattle.hyper_outside.specs.declared.outside.WordsKind.{WordsKind}
 use Rattle.hyper_outside.specs.declared.outside.WordsKind.TheVariants.{Value}
 use Rattle.cube_actions.specs.declared.name.StakesName.TheVariants.{Jacoby}
@@ -11,22 +10,29 @@ use Rattle.command_line.specs.declared.command.Command.{Command}
 use Rattle.command_line.specs.declared.command.Command.TheVariants.{Bound, Race, Solve, Show, Migrate, Advise, Verify, Ladder, Analyse, Study, Make, Plan, Scan, Reply}
 use Rattle.command_line.specs.declared.command.CommandName.{CommandName}
 use Rattle.command_line.specs.declared.command.CommandName.TheVariants as name
+use Rattle.command_line.specs.declared.stop.WordsFault.{WordsFault}
+use Rattle.command_line.specs.declared.stop.WordsFault.TheVariants.{Words}
 use Rattle.command_line.specs.declared.values.TheConstants.{MOST_CHECKERS, MOST_GAMES, MOST_POINTS, MOST_ROUNDS, MOST_WORKERS, USUAL_POINTS, USUAL_REPLY_ROUNDS, USUAL_ROUNDS}
-use Rattle.command_line.specs.Values.{long_number_given, number_given, number_or, stakes_or, kind_given, file_name, other_name, prefix}
+use Rattle.command_line.specs.Values.{long_number_given, number_given, number_or, stakes_or, kind_given, file_name, other_name, prefix, position_given, roll_given}
 
--- what right words ask for
+-- what words ask for, or why for nothing
 abbrev pub Asked : Type 0
-Asked = Command
+Asked = Result Command WordsFault
 
-abbrev pub refused : WordsKind → ℕ → Result Asked BadWords
-refused kind place = Err (record { kind = kind; place = place })
+abbrev pub refused : WordsKind → ℕ → Asked
+refused kind place = Err (Words (record { kind = kind; place = place }))
 
 -- with the value of this number, which is refused where it is out of its form
-abbrev pub checked : {X : Type 0} → ℕ → Option X → (X → Result Asked BadWords)
-    → Result Asked BadWords
+abbrev pub checked : {X : Type 0} → ℕ → Option X → (X → Asked) → Asked
 checked number value next = option_map_or next value (refused Value number)
 
--- ---- each command: its form, and its values in the order of their numbers
+-- with what a text was read as, unless that was refused
+abbrev pub read : {X : Type 0} → Result X WordsFault → (X → Asked) → Asked
+read (Ok value) next = next value
+read (Err fault) next = Err fault
+
+-- ---- each command: its form, and its values in the order of their numbers; then its position, then
+-- its roll
 
 abbrev pub bound_form : Form
 bound_form = record {
@@ -34,22 +40,23 @@ bound_form = record {
   options = [];
 }
 
--- a position has no form here
-abbrev pub bound_values : Values → Result Asked BadWords
+abbrev pub bound_values : Values → Asked
 bound_values given =
     checked 1 (number_given MOST_CHECKERS (value_of (codes "CHECKERS") given)) (λ checkers.
     checked 2 (number_given MOST_ROUNDS (value_of (codes "ROUNDS") given)) (λ rounds.
-    checked 3 (value_of (codes "POSITION") given) (λ position.
-    Ok (Bound (record { checkers = checkers; rounds = rounds; position = position })))))
+    checked 3 (value_of (codes "POSITION") given) (λ text.
+    read (position_given text) (λ position.
+    Ok (Bound (record { checkers = checkers; rounds = rounds; position = position }))))))
 
 abbrev pub race_form : Form
 race_form = record { arguments = codes "CHECKERS" ∷ codes "POSITION" ∷ []; options = [] }
 
-abbrev pub race_values : Values → Result Asked BadWords
+abbrev pub race_values : Values → Asked
 race_values given =
     checked 1 (number_given MOST_CHECKERS (value_of (codes "CHECKERS") given)) (λ checkers.
-    checked 2 (value_of (codes "POSITION") given) (λ position.
-    Ok (Race (record { checkers = checkers; position = position }))))
+    checked 2 (value_of (codes "POSITION") given) (λ text.
+    read (position_given text) (λ position.
+    Ok (Race (record { checkers = checkers; position = position })))))
 
 abbrev pub solve_form : Form
 solve_form = record {
@@ -57,7 +64,7 @@ solve_form = record {
   options = codes "checkers" ∷ codes "stakes" ∷ codes "rounds" ∷ codes "workers" ∷ [];
 }
 
-abbrev pub solve_values : Values → Result Asked BadWords
+abbrev pub solve_values : Values → Asked
 solve_values given =
     checked 1 (file_name (value_of (codes "FILE") given)) (λ file.
     checked 2 (number_or MOST_CHECKERS MOST_CHECKERS (value_of (codes "checkers") given))
@@ -76,11 +83,12 @@ solve_values given =
 abbrev pub show_form : Form
 show_form = record { arguments = codes "FILE" ∷ codes "POSITION" ∷ []; options = [] }
 
-abbrev pub show_values : Values → Result Asked BadWords
+abbrev pub show_values : Values → Asked
 show_values given =
     checked 1 (file_name (value_of (codes "FILE") given)) (λ file.
-    checked 2 (value_of (codes "POSITION") given) (λ position.
-    Ok (Show (record { file = file; position = position }))))
+    checked 2 (value_of (codes "POSITION") given) (λ text.
+    read (position_given text) (λ position.
+    Ok (Show (record { file = file; position = position })))))
 
 abbrev pub migrate_form : Form
 migrate_form = record {
@@ -89,7 +97,7 @@ migrate_form = record {
 }
 
 -- the new name is another one
-abbrev pub migrate_values : Values → Result Asked BadWords
+abbrev pub migrate_values : Values → Asked
 migrate_values given =
     checked 1 (file_name (value_of (codes "OLD") given)) (λ old.
     checked 2 (other_name old (value_of (codes "NEW") given)) (λ new.
@@ -102,19 +110,19 @@ advise_form = record {
   options = codes "kind" ∷ codes "roll" ∷ [];
 }
 
--- neither a position nor a roll has a form here
-abbrev pub advise_values : Values → Result Asked BadWords
+abbrev pub advise_values : Values → Asked
 advise_values given =
     checked 1 (file_name (value_of (codes "FILE") given)) (λ file.
-    checked 2 (value_of (codes "POSITION") given) (λ position.
+    checked 2 (value_of (codes "POSITION") given) (λ text.
     checked 3 (kind_given (value_of (codes "kind") given)) (λ kind.
-    Ok (Advise (record
-    { file = file; position = position; kind = kind; roll = value_of (codes "roll") given })))))
+    read (position_given text) (λ position.
+    read (roll_given (value_of (codes "roll") given)) (λ roll.
+    Ok (Advise (record { file = file; position = position; kind = kind; roll = roll })))))))
 
 abbrev pub verify_form : Form
 verify_form = record { arguments = codes "FILE" ∷ []; options = codes "workers" ∷ [] }
 
-abbrev pub verify_values : Values → Result Asked BadWords
+abbrev pub verify_values : Values → Asked
 verify_values given =
     checked 1 (file_name (value_of (codes "FILE") given)) (λ file.
     checked 2 (number_or MOST_WORKERS 1 (value_of (codes "workers") given)) (λ workers.
@@ -126,7 +134,7 @@ ladder_form = record {
   options = codes "checkers" ∷ codes "length" ∷ codes "rounds" ∷ codes "workers" ∷ [];
 }
 
-abbrev pub ladder_values : Values → Result Asked BadWords
+abbrev pub ladder_values : Values → Asked
 ladder_values given =
     checked 1 (prefix (value_of (codes "PREFIX") given)) (λ prefix.
     checked 2 (number_or MOST_CHECKERS MOST_CHECKERS (value_of (codes "checkers") given))
@@ -145,7 +153,7 @@ ladder_values given =
 abbrev pub analyse_form : Form
 analyse_form = record { arguments = codes "BASE" ∷ codes "RECORD" ∷ []; options = [] }
 
-abbrev pub analyse_values : Values → Result Asked BadWords
+abbrev pub analyse_values : Values → Asked
 analyse_values given =
     checked 1 (file_name (value_of (codes "BASE") given)) (λ base.
     checked 2 (file_name (value_of (codes "RECORD") given)) (λ rec.
@@ -157,7 +165,7 @@ study_form = record {
   options = codes "rounds" ∷ codes "workers" ∷ [];
 }
 
-abbrev pub study_values : Values → Result Asked BadWords
+abbrev pub study_values : Values → Asked
 study_values given =
     checked 1 (file_name (value_of (codes "RECORD") given)) (λ rec.
     checked 2 (number_or MOST_ROUNDS USUAL_ROUNDS (value_of (codes "rounds") given)) (λ rounds.
@@ -168,7 +176,7 @@ abbrev pub make_form : Form
 make_form = record { arguments = codes "NUMBER" ∷ codes "GAMES" ∷ codes "FILE" ∷ []; options = [] }
 
 -- any number of 64 bits names a record, 0 too
-abbrev pub make_values : Values → Result Asked BadWords
+abbrev pub make_values : Values → Asked
 make_values given =
     checked 1 (long_number_given (value_of (codes "NUMBER") given)) (λ number.
     checked 2 (number_given MOST_GAMES (value_of (codes "GAMES") given)) (λ games.
@@ -178,7 +186,7 @@ make_values given =
 abbrev pub plan_form : Form
 plan_form = record { arguments = codes "PREFIX" ∷ []; options = codes "length" ∷ [] }
 
-abbrev pub plan_values : Values → Result Asked BadWords
+abbrev pub plan_values : Values → Asked
 plan_values given =
     checked 1 (prefix (value_of (codes "PREFIX") given)) (λ prefix.
     checked 2 (number_or MOST_POINTS USUAL_POINTS (value_of (codes "length") given)) (λ points.
@@ -191,7 +199,7 @@ scan_form = record {
 }
 
 -- a condition has no form here
-abbrev pub scan_values : Values → Result Asked BadWords
+abbrev pub scan_values : Values → Asked
 scan_values given =
     checked 1 (file_name (value_of (codes "FILE") given)) (λ file.
     checked 2 (value_of (codes "CONDITION") given) (λ condition.
@@ -204,15 +212,15 @@ reply_form = record {
   options = codes "kind" ∷ codes "rounds" ∷ [];
 }
 
--- a position has no form here
-abbrev pub reply_values : Values → Result Asked BadWords
+abbrev pub reply_values : Values → Asked
 reply_values given =
     checked 1 (file_name (value_of (codes "FILE") given)) (λ file.
-    checked 2 (value_of (codes "POSITION") given) (λ position.
+    checked 2 (value_of (codes "POSITION") given) (λ text.
     checked 3 (kind_given (value_of (codes "kind") given)) (λ kind.
     checked 4 (number_or MOST_ROUNDS USUAL_REPLY_ROUNDS (value_of (codes "rounds") given))
     (λ rounds.
-    Ok (Reply (record { file = file; position = position; kind = kind; rounds = rounds }))))))
+    read (position_given text) (λ position.
+    Ok (Reply (record { file = file; position = position; kind = kind; rounds = rounds })))))))
 
 -- ---- all of them
 
@@ -249,7 +257,7 @@ command_form name.Plan = plan_form
 command_form name.Scan = scan_form
 command_form name.Reply = reply_form
 
-abbrev pub command_values : CommandName → Values → Result Asked BadWords
+abbrev pub command_values : CommandName → Values → Asked
 command_values name.Bound given = bound_values given
 command_values name.Race given = race_values given
 command_values name.Solve given = solve_values given

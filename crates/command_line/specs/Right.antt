@@ -1,5 +1,7 @@
 -- What the commands that are read keep to.
-use Rattle.std.specs.Prelude.{◌≢◌, ◌^◌, ◌<◌, ◌≤◌, length}
+use Rattle.std.specs.Prelude.{◌≢◌, ◌^◌, ◌<◌, ◌≤◌, length, IfSome}
+use Rattle.position_rank.specs.Placement.{IsPosition, IsLive}
+use Rattle.roll_table.specs.Rolls.{IsRoll}
 use Rattle.cube_actions.specs.Scores.{MatchScore}
 use Rattle.cube_actions.specs.declared.name.StakesName.TheVariants.{Match}
 use Rattle.word_forms.specs.Form.{Bytes}
@@ -36,10 +38,14 @@ pub record IsRightBound (bound : BoundWords) : Type 0 where
   pub few : bound.checkers ≤ MOST_CHECKERS
   pub begun : 1 ≤ bound.rounds
   pub ended : bound.rounds ≤ MOST_ROUNDS
+  pub position : IsPosition bound.position
+  pub live : IsLive bound.position
 
 pub record IsRightRace (race : RaceWords) : Type 0 where
   pub some : 1 ≤ race.checkers
   pub few : race.checkers ≤ MOST_CHECKERS
+  pub position : IsPosition race.position
+  pub live : IsLive race.position
 
 pub record IsRightSolve (solve : SolveWords) : Type 0 where
   pub file : IsName solve.file
@@ -51,8 +57,10 @@ pub record IsRightSolve (solve : SolveWords) : Type 0 where
   pub one : 1 ≤ solve.workers
   pub most : solve.workers ≤ MOST_WORKERS
 
-abbrev pub IsRightShow : ShowWords → Type 0
-IsRightShow show = IsName show.file
+pub record IsRightShow (show : ShowWords) : Type 0 where
+  pub file : IsName show.file
+  pub position : IsPosition show.position
+  pub live : IsLive show.position
 
 pub record IsRightMigrate (migrate : MigrateWords) : Type 0 where
   pub old : IsName migrate.old
@@ -61,8 +69,11 @@ pub record IsRightMigrate (migrate : MigrateWords) : Type 0 where
   pub one : 1 ≤ migrate.workers
   pub most : migrate.workers ≤ MOST_WORKERS
 
-abbrev pub IsRightAdvise : AdviseWords → Type 0
-IsRightAdvise advise = IsName advise.file
+pub record IsRightAdvise (advise : AdviseWords) : Type 0 where
+  pub file : IsName advise.file
+  pub position : IsPosition advise.position
+  pub live : IsLive advise.position
+  pub roll : IfSome advise.roll IsRoll
 
 pub record IsRightVerify (verify : VerifyWords) : Type 0 where
   pub file : IsName verify.file
@@ -109,10 +120,13 @@ pub record IsRightScan (scan : ScanWords) : Type 0 where
 
 pub record IsRightReply (reply : ReplyWords) : Type 0 where
   pub file : IsName reply.file
+  pub position : IsPosition reply.position
+  pub live : IsLive reply.position
   pub begun : 1 ≤ reply.rounds
   pub ended : reply.rounds ≤ MOST_ROUNDS
 
--- numbers within their limits, names of files within theirs, and stakes that aren't a match
+-- numbers within their limits, names of files within theirs, stakes that aren't a match, live
+-- positions, and rolls of two dice
 abbrev pub IsRightCommand : Command → Type 0
 IsRightCommand (Bound bound) = IsRightBound bound
 IsRightCommand (Race race) = IsRightRace race

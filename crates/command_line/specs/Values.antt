@@ -1,13 +1,20 @@
 -- The forms of values.
-use Rattle.std.specs.Prelude.{ℕ, ◌^◌, ◌==◌, nat_lt, nat_le, Bool, not, ◌&&◌, ◌||◌, length, slice_index, codes, Option, Some, None, if◌then◌else◌, option_and_then, option_map}
+use Rattle.std.specs.Prelude.{ℕ, ◌^◌, ◌==◌, nat_lt, nat_le, Bool, not, ◌&&◌, ◌||◌, length, slice_index, codes, Option, Some, None, Result, Ok, if◌then◌else◌, option_and_then, option_map}
 use Rattle.std.specs.List.{list_any}
+use Rattle.std.specs.Result.{result_map_both}
 use Rattle.std.specs.Str.{bytes_eq, all_ascii_digits}
 use Rattle.std.specs.Str.Parse.{digits_value}
+use Rattle.position_rank.specs.Placement.{Placement}
+use Rattle.position_rank.specs.Text.{read_position}
+use Rattle.roll_table.specs.Rolls.{Dice}
+use Rattle.roll_table.specs.Text.{read_roll}
 use Rattle.word_forms.specs.Form.{Bytes}
 use Rattle.cube_actions.specs.declared.name.KindName.{KindName}
 use Rattle.cube_actions.specs.declared.name.StakesName.{StakesName}
 use Rattle.cube_actions.specs.declared.name.StakesName.TheVariants.{Cubeless, Money, Jacoby, MoneyBeavers, JacobyBeavers}
 use Rattle.cube_actions.specs.Names.{read_name}
+use Rattle.command_line.specs.declared.stop.WordsFault.{WordsFault}
+use Rattle.command_line.specs.declared.stop.WordsFault.TheVariants.{Position, Roll}
 
 -- decimal digits without a leading zero
 abbrev pub is_number : Bytes → Bool
@@ -57,6 +64,15 @@ stakes_or usual (Some word) = stakes_named word
 abbrev pub kind_given : Option Bytes → Option (Option KindName)
 kind_given None = Some None
 kind_given (Some word) = option_map (λ kind. Some kind) (read_name word)
+
+abbrev pub position_given : Bytes → Result Placement WordsFault
+position_given word =
+    result_map_both (λ position. position) (λ bad. Position bad) (read_position word)
+
+-- the roll that is given, if one is
+abbrev pub roll_given : Option Bytes → Result (Option Dice) WordsFault
+roll_given None = Ok None
+roll_given (Some word) = result_map_both (λ roll. Some roll) (λ bad. Roll bad) (read_roll word)
 
 -- 1 to so many bytes, none of them 0
 abbrev pub is_name_within : ℕ → Bytes → Bool

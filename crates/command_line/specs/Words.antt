@@ -1,9 +1,8 @@
 -- How the words after the program's name are read.
-use Rattle.std.specs.Prelude.{ℕ, ◌+◌, ◌-◌, ◌^◌, min, ◌==◌, nat_eq, nat_lt, Bool, not, ◌&&◌, ◌||◌, List, [], ◌∷◌, length, position, codes, Result}
+use Rattle.std.specs.Prelude.{ℕ, ◌+◌, ◌-◌, ◌^◌, min, ◌==◌, nat_eq, nat_lt, Bool, not, ◌&&◌, ◌||◌, List, [], ◌∷◌, length, position, codes}
 use Rattle.std.specs.List.{starts_with, ends_with}
 use Rattle.std.specs.Option.{option_map_or}
 use Rattle.std.specs.Str.{bytes_eq}
-use Rattle.hyper_outside.specs.declared.outside.BadWords.{BadWords}
 use Rattle.hyper_outside.specs.declared.outside.WordsKind.TheVariants.{Command, Word, Form}
 use Rattle.word_forms.specs.Form.{Bytes, values_of}
 use Rattle.command_line.specs.declared.command.CommandName.{CommandName}
@@ -25,17 +24,17 @@ abbrev pub place_at : ℕ → ℕ
 place_at i = min (i + 1) (2 ^ 32 - 1)
 
 -- the command's form, then its values
-abbrev pub form_reading : CommandName → List Bytes → Result Asked BadWords
+abbrev pub form_reading : CommandName → List Bytes → Asked
 form_reading name words =
     option_map_or (command_values name) (values_of (command_form name) words) (refused Form 0)
 
 -- no faulty word, then the rest
-abbrev pub words_reading : CommandName → List Bytes → Result Asked BadWords
+abbrev pub words_reading : CommandName → List Bytes → Asked
 words_reading name words = option_map_or (λ i. refused Word (place_at i)) (position is_faulty words)
     (form_reading name words)
 
 -- a command, no faulty word, its form, its values: the first of these that fails is refused
-abbrev pub reading : List Bytes → Result Asked BadWords
+abbrev pub reading : List Bytes → Asked
 reading [] = refused Command 0
 reading (name ∷ words) =
     option_map_or (λ command. words_reading command words) (command_named name) (refused Command 0)

@@ -4,6 +4,8 @@ ghost use Rattle.command_line.specs.Commands.{command_named, command_form};
 
 use crate::text::Text;
 use cube_actions::{KindName, StakesName};
+use position_rank::Position;
+use roll_table::Roll;
 
 /// A position whose pair is found by some rounds in a game without a cube.
 #[derive(Drop)]
@@ -12,8 +14,7 @@ pub struct Bound {
     pub checkers: u8,
     /// 1 to 4096.
     pub rounds: u32,
-    /// In any form.
-    pub position: Text,
+    pub position: Position,
 }
 
 /// A race whose turns and pair are found in a game without a cube.
@@ -21,8 +22,7 @@ pub struct Bound {
 pub struct Race {
     /// 1 to 3 a side.
     pub checkers: u8,
-    /// In any form.
-    pub position: Text,
+    pub position: Position,
 }
 
 /// A game that is solved by some rounds and written to a file.
@@ -45,8 +45,7 @@ pub struct Solve {
 pub struct Show {
     /// The file's name, 1 to 255 bytes.
     pub file: Text,
-    /// In any form.
-    pub position: Text,
+    pub position: Position,
 }
 
 /// A file whose words are checked by some workers, and which is written anew under another name, in the latest
@@ -66,12 +65,11 @@ pub struct Migrate {
 pub struct Advise {
     /// The file's name, 1 to 255 bytes.
     pub file: Text,
-    /// In any form.
-    pub position: Text,
+    pub position: Position,
     /// The kind of state; where none is given, the first of the file's game.
     pub kind: Option<KindName>,
-    /// In any form; where none is given, the advice is on the cube.
-    pub roll: Option<Text>,
+    /// Where none is given, the advice is on the cube.
+    pub roll: Option<Roll>,
 }
 
 /// A file whose words are checked by some workers.
@@ -153,8 +151,7 @@ pub struct Scan {
 pub struct Reply {
     /// The file's name, 1 to 255 bytes.
     pub file: Text,
-    /// In any form.
-    pub position: Text,
+    pub position: Position,
     /// The kind of state; where none is given, the first of the file's game.
     pub kind: Option<KindName>,
     /// 1 to 4096.

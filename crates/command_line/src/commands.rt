@@ -12,13 +12,14 @@ use crate::text::Text;
 use crate::values::{
     MOST_CHECKERS, MOST_GAMES, MOST_POINTS, MOST_ROUNDS, MOST_WORKERS, USUAL_POINTS,
     USUAL_REPLY_ROUNDS, USUAL_ROUNDS, file_name, kind_given, long_number_given, number_given,
-    number_or, other_name, prefix, stakes_or, text_given,
+    number_or, other_name, position_given, prefix, roll_given, stakes_or,
 };
 use clap::ArgMatches;
 use cube_actions::StakesName;
 use std::alloc::Global;
 
-/// What a command's values ask for. Of those that are out of their form the first by number is refused.
+/// What a command's values ask for. Of those that are out of their form the first by number is refused; where all are in theirs, the
+/// position is read, and then the roll.
 pub(crate) fn read_values(
     alloc: Global,
     name: CommandName,
@@ -28,8 +29,8 @@ pub(crate) fn read_values(
         → Gives (command_values name given) result }
 {
     match name {
-        CommandName::Bound => read_bound(alloc, values),
-        CommandName::Race => read_race(alloc, values),
+        CommandName::Bound => read_bound(values),
+        CommandName::Race => read_race(values),
         CommandName::Solve => read_solve(alloc, values),
         CommandName::Show => read_show(alloc, values),
         CommandName::Migrate => read_migrate(alloc, values),
@@ -45,7 +46,7 @@ pub(crate) fn read_values(
     }
 }
 
-fn read_bound(alloc: Global, values: &ArgMatches<'_>) -> Result<Command, WordsStop>
+fn read_bound(values: &ArgMatches<'_>) -> Result<Command, WordsStop>
     ensures { (given : Values) → HasValues given values.now
         → Gives (bound_values given) result }
 {
@@ -61,11 +62,11 @@ fn read_bound(alloc: Global, values: &ArgMatches<'_>) -> Result<Command, WordsSt
     Ok(Command::Bound(Bound {
         checkers: checkers as u8,
         rounds,
-        position: Text::new(alloc, position)?,
+        position: position_given(position)?,
     }))
 }
 
-fn read_race(alloc: Global, values: &ArgMatches<'_>) -> Result<Command, WordsStop>
+fn read_race(values: &ArgMatches<'_>) -> Result<Command, WordsStop>
     ensures { (given : Values) → HasValues given values.now
         → Gives (race_values given) result }
 {
@@ -77,7 +78,7 @@ fn read_race(alloc: Global, values: &ArgMatches<'_>) -> Result<Command, WordsSto
     };
     Ok(Command::Race(Race {
         checkers: checkers as u8,
-        position: Text::new(alloc, position)?,
+        position: position_given(position)?,
     }))
 }
 
@@ -121,8 +122,8 @@ fn read_show(alloc: Global, values: &ArgMatches<'_>) -> Result<Command, WordsSto
         return Err(bad_value(2));
     };
     Ok(Command::Show(Show {
+        position: position_given(position)?,
         file: Text::new(alloc, file)?,
-        position: Text::new(alloc, position)?,
     }))
 }
 
@@ -161,10 +162,10 @@ fn read_advise(alloc: Global, values: &ArgMatches<'_>) -> Result<Command, WordsS
         return Err(bad_value(3));
     };
     Ok(Command::Advise(Advise {
+        position: position_given(position)?,
+        roll: roll_given(values.get_str("roll"))?,
         file: Text::new(alloc, file)?,
-        position: Text::new(alloc, position)?,
         kind,
-        roll: text_given(alloc, values.get_str("roll"))?,
     }))
 }
 
@@ -330,8 +331,8 @@ fn read_reply(alloc: Global, values: &ArgMatches<'_>) -> Result<Command, WordsSt
         return Err(bad_value(4));
     };
     Ok(Command::Reply(Reply {
+        position: position_given(position)?,
         file: Text::new(alloc, file)?,
-        position: Text::new(alloc, position)?,
         kind,
         rounds,
     }))

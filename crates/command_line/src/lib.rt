@@ -14,7 +14,7 @@ pub use command::{
     Show, Solve, Study, Verify,
 };
 pub use laws::commands_are_right;
-pub use stop::WordsStop;
+pub use stop::{WordsFault, WordsStop};
 pub use text::Text;
 pub use values::{
     MOST_CHECKERS, MOST_GAMES, MOST_POINTS, MOST_ROUNDS, MOST_WORKERS, USUAL_POINTS,

@@ -1,12 +1,12 @@
-ghost use Rattle.std.specs.Prelude.{◌≡◌, ◌==◌, ℕ, ◌≤◌, List, IfOk, IfSome, option_map};
+ghost use Rattle.std.specs.Prelude.{◌≡◌, ◌==◌, ℕ, ◌≤◌, IfSome, option_map};
 ghost use Rattle.std.specs.List.{list_any};
-ghost use Rattle.command_line.specs.Values.{number_within, long_number, long_number_given, number_given, number_or, stakes_named, stakes_or, kind_given, is_name_within, name_within, file_name, other_name, prefix};
+ghost use Rattle.command_line.specs.Values.{number_within, long_number, long_number_given, number_given, number_or, stakes_named, stakes_or, kind_given, is_name_within, name_within, file_name, other_name, prefix, position_given, roll_given};
 ghost use Rattle.command_line.specs.Words.{is_option, is_faulty};
 
-use crate::text::Text;
+use crate::stop::WordsFault;
 use cube_actions::{KindName, StakesName};
-use hyper_outside::NoMemory;
-use std::alloc::Global;
+use position_rank::{Position, read_position};
+use roll_table::Roll;
 
 /// The most checkers per side, and those that `solve` and `ladder` take where none are given.
 pub const MOST_CHECKERS: u8 = 3;
@@ -127,12 +127,22 @@ pub(crate) fn kind_given(word: Option<&str>) -> Option<Option<KindName>>
     }
 }
 
-/// A copy of the word that is given.
-pub(crate) fn text_given(alloc: Global, word: Option<&str>) -> Result<Option<Text>, NoMemory>
-    ensures { IfOk result (λ text. text ≡ option_map (λ w. w.now) word.entry) }
+/// The position that is given.
+pub(crate) fn position_given(word: &str) -> Result<Position, WordsFault>
+    ensures { result ≡ position_given word.now }
+{
+    read_position(word).map_err(WordsFault::Position)
+}
+
+/// The roll that is given, if one is.
+pub(crate) fn roll_given(word: Option<&str>) -> Result<Option<Roll>, WordsFault>
+    ensures { result ≡ roll_given (option_map (λ w. w.now) word.entry) }
 {
     match word {
-        Some(word) => Ok(Some(Text::new(alloc, word)?)),
+        Some(word) => match Roll::read(word) {
+            Ok(roll) => Ok(Some(roll)),
+            Err(bad) => Err(WordsFault::Roll(bad)),
+        },
         None => Ok(None),
     }
 }

@@ -1,8 +1,9 @@
-ghost use Rattle.std.specs.Prelude.{◌≡◌, ℕ, ◌∷◌, List, false, position, map, string_bytes};
+ghost use Rattle.std.specs.Prelude.{◌≡◌, ℕ, ◌∷◌, List, false, IfOk, position, map, string_bytes};
 ghost use Rattle.std.specs.List.{list_any};
 ghost use Rattle.word_forms.specs.Form.{is_misread};
 ghost use Rattle.word_forms.specs.Clap.{bytes_of};
 ghost use Rattle.command_line.specs.Reading.{Gives};
+ghost use Rattle.command_line.specs.Right.{IsRightCommand};
 ghost use Rattle.command_line.specs.Words.{is_faulty, place_at, form_reading, words_reading, reading};
 
 use crate::command::{Command, CommandName};
@@ -18,9 +19,11 @@ use word_forms::read_form;
 /// Of these refusals the first that holds is answered. `Command` comes at place 0 where no word is there or the first is no command's
 /// name. `Word` comes at the place of the first faulty word; the word after the name has place 1. `Form` comes at place 0 where an
 /// argument is missing or one is too many, or an option is another command's, repeated or without a value. `Value` comes at the lowest
-/// number of an argument or option out of its form.
+/// number of an argument or option out of its form. `Position` comes where the position's text describes none, and then `Roll` where the
+/// roll's text shows none.
 pub fn read_words(alloc: Global, words: &[String]) -> Result<Command, WordsStop>
-    ensures { Gives (reading (bytes_of words.now)) result }
+    ensures reads { Gives (reading (bytes_of words.now)) result }
+    ensures right { IfOk result IsRightCommand }
 {
     let Some((name, words)) = words.split_first() else {
         return Err(bad(WordsKind::Command, 0));

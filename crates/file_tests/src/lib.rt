@@ -1,4 +1,4 @@
-//! Tests of the crates on files of bounds and on records, through their public calls.
+//! Tests of the crates on files of bounds, words and workers, through their public calls.
 #![tactic(auto)]
 
 #[cfg(test)]

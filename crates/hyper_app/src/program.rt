@@ -1,18 +1,18 @@
-ghost use Rattle.std.specs.Prelude.{ℕ, List, [], ◌∷◌, Some};
+ghost use Rattle.std.specs.Prelude.{◌≡◌, ℕ, List, [], ◌∷◌, Some};
 ghost use Rattle.outside_log.specs.Log.{Found};
 ghost use Rattle.system_files.specs.Written.{output_of};
-ghost use Rattle.top_call.specs.Outcomes.{HasRun, KeepsFiles};
-ghost use Rattle.top_call.specs.Tasks.{asked};
-ghost use Rattle.top_call.specs.Runs.{Ends, IsStatus};
+ghost use Rattle.run_endings.specs.Endings.{Ending, IsStatus};
+ghost use Rattle.top_call.specs.Outcomes.{LeavesAllFiles, Runs, asked};
 
 use progress_line::ProgressGate;
+use run_endings::refuse_unread;
 use std::alloc::Global;
 use std::io::{Eprint, Write};
 use std::rt::{Clock, Env, Files as System};
 use std::thread::Threads;
 use std::{env, io};
 use system_files::{RealFiles, RealSink};
-use top_call::{refuse_unread, run};
+use top_call::run;
 
 /// The words after the program's name. A word that isn't text is `InvalidData`.
 fn words_of<R: Env + AllocGlobal>(rt: &R) -> io::Result<Vec<String>> {
@@ -35,10 +35,11 @@ pub fn run_real<'a, R: Threads + Sync + Eprint + Clock + System, W: Write>(
     shows: bool,
 ) -> (u8, RealFiles<&'a R>, RealSink<W>)
     ghost found: { List (List ℕ × List ℕ) }
-    ensures ends { Ends (asked words.now) result.0 }
-    ensures has_run { HasRun (asked words.now) (Found found ∷ []) result.1.log.events
-        (record { told = Some []; faults = 0 }) (output_of result.2) result.0 }
-    ensures kept { KeepsFiles (asked words.now) (Found found ∷ []) result.1.log.events result.0 }
+    ensures { (ending : Ending)
+        × Runs (asked words.now) (Found found ∷ []) result.1.log.events
+        (record { told = Some []; faults = 0 }) (output_of result.2) result.0 ending
+        × (LeavesAllFiles (asked words.now) ending
+        → result.1.log.events ≡ Found found ∷ []) }
 {
     let mut files = RealFiles::new(rt, alloc);
     let mut out = RealSink::new(writer);

@@ -1,28 +1,3 @@
-pub mod Refused
-mod Enclosed
-mod Right
-mod Loaded
-mod LookedUp
-mod ShowLaws
-mod AdviseLaws
-mod AdviseFiles
-mod TwoRuns
-mod Verified
+pub mod Endings
 mod SolvedFiles
-mod Telling
-mod Unread
-mod AnalyseLaws
-mod MatchFiles
-mod MatchLaws
-mod AnalyseFiles
-mod Completing
-mod Begun
-mod LadderSteps
-mod LadderEnds
-mod LadderKeeping
-mod LadderTries
-mod PlanLaws
-mod PlanFiles
-mod ScanFiles
-mod ReplyFiles
-mod Asked
+mod TwoRuns

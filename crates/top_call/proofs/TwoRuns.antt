@@ -18,15 +18,18 @@ use Rattle.base_head.specs.Heads.{AreStartsOf, FileHead, IsHead, no_starts}
 use Rattle.database_file.specs.Bases.{IsBaseOf, words_of_file}
 use Rattle.database_file.specs.Faults.{header_of_file, whole}
 use Rattle.database_file.specs.FileBases.{FileBase}
-use Rattle.top_call.proofs.SolvedFiles.{Law, three-takes}
+use Rattle.top_call.proofs.SolvedFiles.{Law}
+use Rattle.run_endings.proofs.Loaded.{three-takes}
 use Rattle.database_file.specs.Texts.{IsText, game_in}
 use Rattle.command_line.specs.declared.command.Solve.{Solve as SolveTask}
 use Rattle.command_line.specs.Right.{IsRightSolve}
-use Rattle.top_call.specs.declared.advise.AskedKind.{AskedKind}
-use Rattle.top_call.specs.declared.task.AdviseTask.{AdviseTask}
-use Rattle.top_call.specs.Runs.{IsPut}
-use Rattle.top_call.specs.Solves.{AreSolved, HasSolved, head_of, solved_file}
-use Rattle.top_call.specs.Advises.{HasAdvised, HasAdvisedOn, HavePairsOf, InTheEnd, IsKindAsked, IsStateIn}
+use Rattle.base_commands.specs.declared.advise.AskedKind.{AskedKind}
+use Rattle.command_line.specs.declared.command.Advise.{Advise as AdviseTask}
+use Rattle.run_endings.specs.Endings.{IsPut}
+use Rattle.solve_commands.specs.Solves.{AreSolved, HasSolved, head_of, solved_file}
+use Rattle.base_commands.specs.Advises.{HasAdvised, HasAdvisedOn, IsStateIn}
+use Rattle.base_commands.specs.Games.{IsKindAsked}
+use Rattle.run_endings.specs.Pages.{HavePairsOf, InTheEnd}
 use Rattle.top_call.specs.Headline.{PrintsGoodAdvice, PrintsGoodFor}
 
 no-starts-of : (name : StakesName) → ((score : MatchScore) → name ≢ Match score) → AreStartsOf name no_starts

@@ -7,10 +7,11 @@ use Rattle.play_analyser.specs.Advised.{ActionLosesAtMost, FirstLosesAtMost}
 use Rattle.database_file.specs.Texts.{game_in}
 use Rattle.equity_report.specs.Advice.{cube_text, ranking_text}
 use Rattle.command_line.specs.declared.command.Solve.{Solve as SolveTask}
-use Rattle.top_call.specs.declared.advise.AskedKind.{AskedKind}
-use Rattle.top_call.specs.declared.task.AdviseTask.{AdviseTask}
-use Rattle.top_call.specs.Advises.{InTheEnd, IsKindAsked}
-use Rattle.top_call.specs.Solves.{head_of}
+use Rattle.base_commands.specs.declared.advise.AskedKind.{AskedKind}
+use Rattle.command_line.specs.declared.command.Advise.{Advise as AdviseTask}
+use Rattle.run_endings.specs.Pages.{InTheEnd}
+use Rattle.base_commands.specs.Games.{IsKindAsked}
+use Rattle.solve_commands.specs.Solves.{head_of}
 
 -- The plays of a roll were printed from the best to the worst, and in the game that was solved, of enough turns and however its unfinished end is
 -- scored, the first of them loses at most the printed bound.

@@ -1,33 +1,74 @@
-ghost use Rattle.std.specs.Prelude.{◌≡◌, ◌⊎◌};
+ghost use Rattle.std.specs.Prelude.{◌≡◌, ◌⊎◌, Err};
 ghost use Rattle.hyper_outside.specs.Causes.{Rose};
-ghost use Rattle.outside_log.specs.Readings.{read_faults};
 ghost use Rattle.outside_log.specs.Log.{failures};
-ghost use Rattle.equity_report.specs.declared.refusal.Refusal.TheVariants.{Memory, Read, Write};
-ghost use Rattle.equity_report.specs.Refusals.{status_of};
-ghost use Rattle.top_call.specs.Outcomes.{HasRun, KeepsFiles, LeavesFiles, TellsMemory};
-ghost use Rattle.top_call.specs.Runs.{Ends};
-ghost use Rattle.top_call.specs.Tasks.{asked};
+ghost use Rattle.outside_log.specs.Readings.{read_faults};
+ghost use Rattle.command_line.specs.Right.{IsRightCommand};
+ghost use Rattle.equity_report.specs.declared.refusal.Refusal.TheVariants.{Read};
+ghost use Rattle.run_endings.specs.declared.ending.RunStop.TheVariants.{NotWritten, Refused};
+ghost use Rattle.run_endings.specs.Endings.{Ending};
+ghost use Rattle.top_call.specs.Outcomes.{Ends, HasRun, KeepsFiles, LeavesAllFiles, LeavesFiles, Runs, asked, unread_refusal};
 
-use crate::advise::run_advise;
-use crate::analyse::run_analyse;
-use crate::bound::run_bound;
-use crate::ladder::run_ladder;
-use crate::make::run_make;
-use crate::migrate::run_migrate;
-use crate::plan::run_plan;
-use crate::put::refuse;
-use crate::race::run_race;
-use crate::reply::run_reply;
-use crate::scan::run_scan;
-use crate::show::run_show;
-use crate::solve::run_solve;
-use crate::studying::run_study;
-use crate::task::{Task, read_task};
-use crate::verify::run_verify;
+use base_commands::{run_advise, run_migrate, run_plan, run_reply, run_scan, run_show, run_verify};
+use command_line::{Command, WordsFault, WordsStop, read_words};
+use equity_report::Refusal;
 use hyper_outside::Gate;
 use outside_log::{Files, Sink};
+use record_commands::{run_analyse, run_make, run_study};
+use run_endings::{RunStop, end};
+use solve_commands::{run_bound, run_ladder, run_race, run_solve};
 use std::alloc::Global;
 use std::thread::Threads;
+
+/// The refusal of words that weren't read.
+fn words_refusal(stop: WordsStop) -> Refusal
+    ensures { result ≡ unread_refusal stop }
+{
+    match stop {
+        WordsStop::Bad(WordsFault::Words(bad)) => Refusal::Words(bad),
+        WordsStop::Bad(WordsFault::Position(bad)) => Refusal::Position(bad),
+        WordsStop::Bad(WordsFault::Roll(bad)) => Refusal::Roll(bad),
+        WordsStop::NoMemory => Refusal::Memory,
+    }
+}
+
+/// Does what is asked for, up to the line of a refusal.
+fn perform<R: Threads + Sync, F: Files, O: Sink, G: Gate + Sync>(
+    rt: &R,
+    alloc: Global,
+    command: Command,
+    files: &mut F,
+    out: &mut O,
+    gate: &G,
+) -> Result<(), RunStop>
+    requires { IsRightCommand command }
+    ensures ends { Ends command result }
+    ensures has_run { HasRun command (F.log files.old) (F.log files.new)
+        (O.output out.old) (O.output out.new) result }
+    ensures cause { result ≡ Err NotWritten
+        → Rose (failures (F.log files.old)) (failures (F.log files.new))
+        ⊎ Rose (O.output out.old).faults (O.output out.new).faults }
+    ensures read_cause { result ≡ Err (Refused Read)
+        → Rose (read_faults (F.log files.old)) (read_faults (F.log files.new)) }
+    ensures kept { KeepsFiles command (F.log files.old) (F.log files.new) result }
+    ensures untouched { LeavesFiles command result → files.new ≡ files.old }
+{
+    match command {
+        Command::Bound(task) => run_bound(alloc, &task, out),
+        Command::Race(task) => run_race(alloc, &task, out),
+        Command::Solve(task) => run_solve(rt, alloc, &task, files, out, gate),
+        Command::Show(task) => run_show(alloc, &task, files, out),
+        Command::Migrate(task) => run_migrate(rt, alloc, &task, files, out, gate),
+        Command::Advise(task) => run_advise(alloc, &task, files, out),
+        Command::Verify(task) => run_verify(rt, alloc, &task, files, out, gate),
+        Command::Ladder(task) => run_ladder(rt, alloc, &task, files, out, gate),
+        Command::Study(task) => run_study(rt, alloc, &task, files, out, gate),
+        Command::Make(task) => run_make(rt, alloc, &task, files, out, gate),
+        Command::Analyse(task) => run_analyse(alloc, &task, files, out),
+        Command::Plan(task) => run_plan(rt, alloc, &task, files, out),
+        Command::Scan(task) => run_scan(rt, alloc, &task, files, out),
+        Command::Reply(task) => run_reply(rt, alloc, &task, files, out),
+    }
+}
 
 /// Runs the program on the words after its name, over these files, this output and this gate, and answers its status.
 ///
@@ -103,34 +144,16 @@ pub fn run<R: Threads + Sync, F: Files, O: Sink, G: Gate + Sync>(
     out: &mut O,
     gate: &G,
 ) -> u8
-    ensures ends { Ends (asked words.now) result }
-    ensures has_run { HasRun (asked words.now) (F.log files.old) (F.log files.new)
-        (O.output out.old) (O.output out.new) result }
-    ensures memory { result ≡ status_of Memory
-        → TellsMemory (asked words.now) (O.output out.old) (O.output out.new) }
-    ensures cause { result ≡ status_of Write
-        → Rose (failures (F.log files.old)) (failures (F.log files.new))
-        ⊎ Rose (O.output out.old).faults (O.output out.new).faults }
-    ensures read_cause { result ≡ status_of Read
-        → Rose (read_faults (F.log files.old)) (read_faults (F.log files.new)) }
-    ensures kept { KeepsFiles (asked words.now) (F.log files.old) (F.log files.new) result }
-    ensures untouched { LeavesFiles (asked words.now) result → files.new ≡ files.old }
+    ensures { (ending : Ending)
+        × Runs (asked words.now) (F.log files.old) (F.log files.new)
+        (O.output out.old) (O.output out.new) result ending
+        × (LeavesAllFiles (asked words.now) ending → files.new ≡ files.old) }
 {
-    match read_task(alloc, words) {
-        Ok(Task::Bound(task)) => run_bound(alloc, &task, out),
-        Ok(Task::Race(task)) => run_race(alloc, &task, out),
-        Ok(Task::Solve(task)) => run_solve(rt, alloc, &task, files, out, gate),
-        Ok(Task::Show(task)) => run_show(alloc, &task, files, out),
-        Ok(Task::Migrate(task)) => run_migrate(rt, alloc, &task, files, out, gate),
-        Ok(Task::Advise(task)) => run_advise(alloc, &task, files, out),
-        Ok(Task::Verify(task)) => run_verify(rt, alloc, &task, files, out, gate),
-        Ok(Task::Ladder(task)) => run_ladder(rt, alloc, &task, files, out, gate),
-        Ok(Task::Study(task)) => run_study(rt, alloc, &task, files, out, gate),
-        Ok(Task::Make(task)) => run_make(rt, alloc, &task, files, out, gate),
-        Ok(Task::Analyse(task)) => run_analyse(alloc, &task, files, out),
-        Ok(Task::Plan(task)) => run_plan(rt, alloc, &task, files, out),
-        Ok(Task::Scan(task)) => run_scan(rt, alloc, &task, files, out),
-        Ok(Task::Reply(task)) => run_reply(rt, alloc, &task, files, out),
-        Err(refusal) => refuse(out, &refusal),
+    match read_words(alloc, words) {
+        Ok(command) => {
+            let ending = perform(rt, alloc, command, files, out, gate);
+            end(out, ending)
+        }
+        Err(stop) => end(out, Err(RunStop::Refused(words_refusal(stop)))),
     }
 }

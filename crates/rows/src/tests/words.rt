@@ -3,9 +3,9 @@ use super::steps::Step;
 use super::steps::Step::{FailPut, Row};
 use hyper_outside::NoMemory;
 use memory_files::HonestSink;
+use run_endings::refuse_unread;
 use std::alloc::Global;
 use std::test::Fail;
-use top_call::refuse_unread;
 
 static BOUNDS: [Step; 8] = [
     Row(

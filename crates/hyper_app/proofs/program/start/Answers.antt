@@ -1,12 +1,12 @@
-use Rattle.std.proofs.Common.{[], ◌++◌, inl, inr}
+use Rattle.std.proofs.Common.{[], ◌++◌, inl, inr, subst, sym}
 use contract.BorrowLft.{⊑_meet, ⊑_refl, ⊑_static}
 use Rattle.equity_report.specs.declared.refusal.Refusal.TheVariants.{Memory}
-use Rattle.top_call.specs.Runs.{no_text}
-use Rattle.top_call.proofs.Refused.{ends-status}
+use Rattle.run_endings.specs.Endings.{IsStatus, no_text}
+use Rattle.top_call.proofs.Endings.{is-status}
 use Rattle.hyper_app.proofs.program.start.Goals as goal
 
 pub returns-in-Ok : goal.returns-in-Ok
-returns-in-Ok g c = ends-status _ c.run_real.result.0 c.run_real.ensures.ends
+returns-in-Ok g c = let (ending, runs, rest) = c.run_real.ensures in subst IsStatus (sym runs.is_status) (is-status ending)
 
 pub returns-in-Err : goal.returns-in-Err
 returns-in-Err g c = elim c.refuse_unread.ensures.refused [

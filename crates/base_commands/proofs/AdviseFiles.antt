@@ -1,0 +1,81 @@
+-- What is advised from a file, and what refuses it.
+use Rattle.std.proofs.Common.{◌≡◌, ◌∙◌, ◌<◌, ℕ, List, Option, Some, None, Ok, Err, inl, inr, sym, ap, subst}
+use Rattle.std.specs.Option.{option_map}
+use Rattle.std.specs.Prelude.{⊤}
+use Rattle.roll_table.specs.Rolls.{Dice, IsRoll}
+use Rattle.hyper_outside.specs.declared.outside.LookStop.{LookStop}
+use Rattle.hyper_outside.specs.declared.outside.LookStop.TheVariants as looks
+use Rattle.turn_rule.specs.Games.{IsGame, kinds_of}
+use Rattle.turn_rule.specs.Looks.{HasDamage}
+use Rattle.play_analyser.specs.declared.advice.CubeAdvice.{CubeAdvice}
+use Rattle.play_analyser.specs.declared.ranking.Ranking.{Ranking}
+use Rattle.play_analyser.specs.Advice.{IsCubeAdvice}
+use Rattle.play_analyser.specs.Rankings.{IsRanking}
+use Rattle.base_head.specs.Heads.{stakes_of}
+use Rattle.base_head.specs.Headers.{IsHeader}
+use Rattle.base_head.specs.declared.header.Header.{Header}
+use Rattle.database_file.specs.Faults.{header_of_file, whole}
+use Rattle.database_file.specs.Opened.{AnswersPaged}
+use Rattle.database_file.specs.Paged.{paged_source, told_notes}
+use Rattle.database_file.specs.PagedFiles.{PagedFile}
+use Rattle.database_file.specs.Texts.{game_in}
+use Rattle.base_commands.specs.declared.advise.AskedKind.{AskedKind}
+use Rattle.command_line.specs.declared.command.Advise.{Advise as AdviseTask}
+use Rattle.run_endings.specs.Loads.{look_refusal}
+use Rattle.command_line.specs.Right.{IsRightAdvise}
+use Rattle.base_commands.specs.Advises.{Advises, AnswersAdvice, AnswersRanking, IsStateIn, Ranks, RefusesAdvice, RestsOn}
+use Rattle.base_commands.specs.Games.{AnswersAsked}
+use Rattle.run_endings.specs.Pages.{AnswersSought, IsOnBadPage, OfHeld}
+use Rattle.run_endings.proofs.Pages.{bad-page, noted_in, same-kinds, source_in}
+
+pub state-opened : (task : AdviseTask) (held : Option (List ℕ)) (base : PagedFile) (kind : AskedKind) → AnswersPaged (option_map whole held) (Ok base)
+    → IsRightAdvise task → IsHeader base.header → base.head.checkers ≡ base.header.checkers → base.head.name ≡ base.header.name
+    → AnswersAsked task.position task.kind base.head (Ok kind) → IsGame (game_in base.head) → kind.number < kinds_of (game_in base.head)
+    → OfHeld held (λ bytes. IsStateIn task bytes base.head kind × (base.header ≡ header_of_file bytes))
+state-opened task None base kind a right valid many name asked game inside = absurd a
+state-opened task (Some bytes) base kind a right valid many name asked game inside = (
+  record {
+    asked = record { front = a.right; head_is = a.head; checkers = asked.0; kind_is = asked.1 };
+    valid = subst IsHeader a.header valid;
+    game = game;
+    checkers = sym (many ∙ ap (λ (h : Header). h.checkers) a.header);
+    kinds = ap (λ (h : Header). h.kinds) (sym a.header) ∙ same-kinds base.header base.head valid name;
+    state = record { position = right.position; many = sym asked.0; live = right.live; kind = inside };
+  },
+  a.header,
+)
+
+module _ (task : AdviseTask) (base : PagedFile) (kind : AskedKind) where
+  abbrev Opened : Option (List ℕ) → Type 0
+  Opened held = OfHeld held (λ bytes. IsStateIn task bytes base.head kind × (base.header ≡ header_of_file bytes))
+
+  pub ranked : ((roll : Dice) (bytes : List ℕ) (ranking : Ranking) → IsStateIn task bytes base.head kind → IsRoll roll
+      → IsRanking (stakes_of base.head) task.position kind.number roll (source_in bytes) (noted_in bytes) ranking → Ranks task roll bytes base.head kind ranking)
+      → (roll : Dice) → IsRoll roll → (held : Option (List ℕ)) (ranking : Ranking) → Opened held
+      → AnswersRanking base.header held (stakes_of base.head) task.position kind.number roll (Ok ranking) → OfHeld held (λ bytes. Ranks task roll bytes base.head kind ranking)
+  ranked law roll right None ranking opened is = absurd opened
+  ranked law roll right (Some bytes) ranking opened is =
+      law roll bytes ranking opened.0 right (subst (λ (h : Header). IsRanking (stakes_of base.head) task.position kind.number roll (paged_source h (Some bytes)) (told_notes h (Some bytes)) ranking) opened.1 is)
+
+  pub cube-advised : ((bytes : List ℕ) (advice : CubeAdvice) → IsStateIn task bytes base.head kind
+      → IsCubeAdvice (stakes_of base.head) task.position kind.number (source_in bytes) (noted_in bytes) advice → Advises task bytes base.head kind advice)
+      → (held : Option (List ℕ)) (advice : CubeAdvice) → Opened held
+      → AnswersAdvice base.header held (stakes_of base.head) task.position kind.number (Ok advice) → OfHeld held (λ bytes. Advises task bytes base.head kind advice)
+  cube-advised law None advice opened is = absurd opened
+  cube-advised law (Some bytes) advice opened is =
+      law bytes advice opened.0 (subst (λ (h : Header). IsCubeAdvice (stakes_of base.head) task.position kind.number (paged_source h (Some bytes)) (told_notes h (Some bytes)) advice) opened.1 is)
+
+  pub not-looked-up : (roll : Option Dice) → task.roll ≡ roll → (held : Option (List ℕ)) (stop : LookStop) → Opened held
+      → AnswersSought {A = Unit {0}} base.header held (RestsOn roll (stakes_of base.head) task.position kind.number) (λ none. ⊤) (Err stop) → RefusesAdvice task (look_refusal stop) held
+  not-looked-up roll is held looks.ReadFault opened told = inl (inl tt)
+  not-looked-up roll is held looks.NoMemory opened told = inl (inl tt)
+  not-looked-up roll is None (looks.BadPage fault at) opened told = absurd opened
+  not-looked-up roll is (Some bytes) (looks.BadPage fault at) opened told =
+      let states = RestsOn roll (stakes_of base.head) task.position kind.number in
+      let page = bad-page bytes states (record { fault = fault; at = at }) (subst (λ (h : Header). HasDamage (paged_source h (Some bytes)) states (record { fault = fault; at = at })) opened.1 told) in
+      inr (record {
+        head = base.head;
+        kind = kind;
+        asked = opened.0.asked;
+        page = subst (λ (r : Option Dice). IsOnBadPage bytes (RestsOn r (stakes_of base.head) task.position kind.number) (look_refusal (looks.BadPage fault at))) (sym is) page;
+      })

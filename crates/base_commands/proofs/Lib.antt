@@ -1,0 +1,10 @@
+pub mod Fitting
+mod LookedUp
+mod ShowLaws
+mod AdviseLaws
+mod AdviseFiles
+mod Verified
+mod PlanLaws
+mod PlanFiles
+mod ScanFiles
+mod ReplyFiles

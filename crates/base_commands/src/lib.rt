@@ -1,0 +1,26 @@
+//! The commands over a file of bounds: they show, advise, search, check, follow, plan by and renew it.
+#![tactic(auto)]
+
+mod advise;
+mod advise_laws;
+mod migrate;
+mod plan;
+mod plan_laws;
+mod reply;
+mod reply_laws;
+mod scan;
+mod scan_laws;
+mod show;
+mod verify;
+
+pub use advise::{AskedKind, FoundAdvice, FoundRanking, OpenedFile, run_advise};
+pub use advise_laws::{looked_up_advice_is_of_the_file, looked_up_rankings_are_of_the_file};
+pub use migrate::run_migrate;
+pub use plan::run_plan;
+pub use plan_laws::{plans_hold_inside_their_pairs, plans_of_solved_matches_hold_in_the_end};
+pub use reply::{FoundReply, LoadedFile, run_reply};
+pub use reply_laws::{replies_hold_for_any_words, right_replies_are_done};
+pub use scan::run_scan;
+pub use scan_laws::right_searches_are_done;
+pub use show::{Rows, Shown, run_show};
+pub use verify::run_verify;

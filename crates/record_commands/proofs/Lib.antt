@@ -1,0 +1,5 @@
+mod Losses
+mod ByFile
+mod Recorded
+mod Matches
+mod MatchTruth

@@ -1,0 +1,19 @@
+use Rattle.std.proofs.Common.{inr, refl}
+use Rattle.record_commands.proofs.studying.run_study.Goals as goal
+
+pub returns-in-Err-clause-tells : goal.returns-in-Err-clause-tells
+returns-in-Err-clause-tells g c = (λ told. inr (rw (c.as_str.ensures) at c.in-Err.ensures.told told), refl)
+
+pub returns-in-Ok-write_analysis-clause-tells : goal.returns-in-Ok-write_analysis-clause-tells
+returns-in-Ok-write_analysis-clause-tells g c = record {
+  list = c.in-Ok-study_replayed.analysis;
+  studied = record { replayed = c.in-Ok.replayed; record_file = λ told. rw (c.as_str.ensures) at c.in-Ok.ensures.told told; studied = c.in-Ok-study_replayed.ensures };
+  report = c.in-Ok-write_analysis.ensures;
+}
+
+pub returns-clause-tells : goal.returns-clause-tells
+returns-clause-tells g c = record {
+  list = c.in-Ok-study_replayed.analysis;
+  studied = record { replayed = c.in-Ok.replayed; record_file = λ told. rw (c.as_str.ensures) at c.in-Ok.ensures.told told; studied = c.in-Ok-study_replayed.ensures };
+  report = (c.in-Err-write_analysis.field-0, c.in-Err-write_analysis.ensures);
+}

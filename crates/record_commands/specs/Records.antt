@@ -1,0 +1,96 @@
+-- What is known of a file that holds a recorded game.
+use Rattle.std.specs.Prelude.{◌≡◌, ◌⊎◌, ◌≤◌, ℕ, List, length, Bool, IsTrue, All, Option, Some, None, Result, Ok, Err, ⊤}
+use Rattle.cube_actions.specs.declared.name.StakesName.{StakesName}
+use Rattle.game_record.specs.Faults.{IsBad}
+use Rattle.game_record.specs.Kinds.{game_stakes}
+use Rattle.game_record.specs.Lines.{IsRecord, IsTextOf}
+use Rattle.game_record.specs.Replay.{IsBroken, IsReplay}
+use Rattle.game_record.specs.RightDecisions.{IsRightDecision}
+use Rattle.game_record.specs.Standings.{first_standing}
+use Rattle.game_record.specs.declared.fault.BadRecord.{BadRecord}
+use Rattle.game_record.specs.declared.fault.RecordFault.TheVariants.{TooLong}
+use Rattle.game_record.specs.declared.fault.RecordStop.{RecordStop}
+use Rattle.game_record.specs.declared.fault.RecordStop.TheVariants as stops
+use Rattle.game_record.specs.declared.record.Record.{Record as RecordRead}
+use Rattle.game_record.specs.declared.record.RecordStakes.{RecordStakes}
+use Rattle.game_record.specs.declared.record.RecordStakes.TheVariants.{Match}
+use Rattle.outside_log.specs.declared.reading.WholeStop.{WholeStop}
+use Rattle.outside_log.specs.declared.reading.WholeStop.TheVariants as whole
+use Rattle.equity_report.specs.declared.text.GameName.{GameName}
+use Rattle.equity_report.specs.declared.refusal.Refusal.{Refusal}
+use Rattle.equity_report.specs.declared.refusal.Refusal.TheVariants.{Missing, Read, Memory, Record}
+use Rattle.run_endings.specs.Pages.{OfHeld}
+use Rattle.record_commands.specs.declared.record.Replayed.{Replayed}
+
+-- ---- the game of a record
+
+-- what a record is played for, in a match at the score of its first game
+abbrev pub stakes_recorded : RecordStakes → StakesName
+stakes_recorded stakes = game_stakes stakes (first_standing stakes)
+
+-- the points that a match is played to; where there is none, a match of one
+abbrev pub match_length : RecordStakes → ℕ
+match_length (Match points) = points
+match_length _ = 1
+
+-- the game that a record is played in, in a match that of its first score
+abbrev pub game_recorded : RecordRead → GameName
+game_recorded rec = record {
+  checkers = rec.checkers;
+  stakes = stakes_recorded rec.stakes;
+  match_length = match_length rec.stakes;
+}
+
+-- ---- records in files
+
+-- these bytes are the text of a record that breaks no rule, with these decisions
+pub record HoldsRecord (bytes : List ℕ) (replayed : Replayed) : Type 0 where
+  pub text : IsTextOf bytes replayed.rec
+  pub replay : IsReplay replayed.rec replayed.decisions
+
+-- the first line that is wrong in these bytes: they are no record's text, or else that record breaks a rule
+abbrev pub IsWrongIn : List ℕ → BadRecord → Type 0
+IsWrongIn bytes bad = IsBad bytes bad ⊎ ((rec : RecordRead) × IsTextOf bytes rec × IsBroken rec bad)
+
+-- a right record, and no more decisions than one can have, each of which could be made
+pub record IsRightReplayed (replayed : Replayed) : Type 0 where
+  pub valid : IsRecord replayed.rec
+  pub right : All (IsRightDecision replayed.rec) replayed.decisions
+  pub few : length replayed.decisions ≤ 131072
+
+-- A recorded game in a file of this name is refused: there is no file, or a line of it is wrong. Memory is asked for only where the file isn't
+-- too long for a record, and a fault of the files says nothing of it.
+abbrev pub RefusesRecord : List ℕ → Refusal → Option (List ℕ) → Type 0
+RefusesRecord name (Missing missing) held = (missing.bytes ≡ name) × (held ≡ None)
+RefusesRecord name (Record bad) (Some bytes) = IsWrongIn bytes bad
+RefusesRecord name Memory (Some bytes) = length bytes ≤ 1048576
+RefusesRecord name Read held = ⊤
+RefusesRecord name _ _ = ⊥
+
+-- ---- what reading a record may answer
+
+-- the refusal that tells why a file of this name, which is to hold a record, was not read
+abbrev pub TellsUnread : List ℕ → WholeStop → Refusal → Type 0
+TellsUnread name whole.Missing (Missing missing) = missing.bytes ≡ name
+TellsUnread name whole.Missing _ = ⊥
+TellsUnread name whole.TooLong refusal = refusal ≡ Record (record { line = 0; fault = TooLong })
+TellsUnread name whole.ReadFault refusal = refusal ≡ Read
+TellsUnread name whole.NoMemory refusal = refusal ≡ Memory
+
+-- the refusal of a text that is no record's, or of a record that breaks a rule
+abbrev pub record_refusal : RecordStop → Refusal
+record_refusal (stops.Bad bad) = Record bad
+record_refusal stops.NoMemory = Memory
+
+-- what is read of a text, or its first wrong line; want of memory says nothing of it
+abbrev pub AnswersText : List ℕ → Result Replayed Refusal → Type 0
+AnswersText text (Ok replayed) = HoldsRecord text replayed
+AnswersText text (Err (Record bad)) = IsWrongIn text bad
+AnswersText text (Err Memory) = ⊤
+AnswersText text (Err _) = ⊥
+
+-- what is read of a record in a file of this name, or what refuses it
+abbrev pub AnswersRecord : List ℕ → Bool → Option (List ℕ) → Result Replayed Refusal → Type 0
+AnswersRecord name told held (Ok replayed) =
+    IsTrue told → OfHeld held (λ bytes. HoldsRecord bytes replayed)
+AnswersRecord name told held (Err refusal) = IsTrue told → RefusesRecord name refusal held

@@ -1,0 +1,83 @@
+ghost use Rattle.std.specs.Prelude.{◌≡◌, IfOk, Err};
+ghost use Rattle.hyper_outside.specs.Causes.{Rose};
+ghost use Rattle.outside_log.specs.Log.{standing};
+ghost use Rattle.outside_log.specs.Readings.{ReadsOn, is_faithful, read_faults};
+ghost use Rattle.equity_report.specs.declared.refusal.Refusal.TheVariants.{Read};
+ghost use Rattle.command_line.specs.Right.{IsRightStudy};
+ghost use Rattle.run_endings.specs.Endings.{EndsBy, IsOfReplaying};
+ghost use Rattle.run_endings.specs.declared.ending.RunStop.TheVariants.{Refused};
+ghost use Rattle.record_commands.specs.Records.{IsRightReplayed};
+ghost use Rattle.record_commands.specs.Studies.{IsStudiedBy, TellsStudy};
+
+use crate::record::{Replayed, is_match, match_length, read_recorded};
+use command_line::Study;
+use equity_report::{Refusal, write_analysis};
+use hyper_outside::{Failed, Gate, NoMemory};
+use outside_log::{Files, Sink};
+use position_rank::layout_count;
+use record_analysis::Analysis;
+use record_study::{study, study_match};
+use run_endings::{RunStop, ladder_rounds};
+use std::alloc::Global;
+use std::thread::Threads;
+
+/// What the decisions of a recorded game lose by what is solved for it, in a match by all its scores.
+fn study_replayed<R: Threads + Sync, G: Gate + Sync>(
+    rt: &R,
+    alloc: Global,
+    task: &Study,
+    replayed: Replayed,
+    gate: &G,
+) -> Result<Analysis, NoMemory>
+    requires task { IsRightStudy task.now }
+    requires right { IsRightReplayed replayed }
+    ensures { IfOk result (IsStudiedBy replayed task.now.rounds) }
+{
+    let Replayed { rec, decisions } = replayed;
+    let Study {
+        rounds,
+        workers,
+        ..
+    } = task;
+    let columns = layout_count(rec.checkers);
+    if is_match(rec.stakes) {
+        let points = match_length(rec.stakes);
+        gate.expect(ladder_rounds(points, *rounds), columns);
+        study_match(rt, alloc, &rec, points, decisions, *rounds, *workers, gate)
+    } else {
+        gate.expect(*rounds, columns);
+        study(rt, alloc, &rec, decisions, *rounds, *workers, gate)
+    }
+}
+
+/// Solves what a recorded game is played for, and puts what each of its decisions loses by that and each player's total. It is refused where
+/// the record's file isn't there or can't be read, a line of it is wrong, or there is no memory.
+pub fn run_study<R: Threads + Sync, F: Files, O: Sink, G: Gate + Sync>(
+    rt: &R,
+    alloc: Global,
+    task: &Study,
+    files: &mut F,
+    out: &mut O,
+    gate: &G,
+) -> Result<(), RunStop>
+    requires { IsRightStudy task.now }
+    ensures ends { EndsBy IsOfReplaying result }
+    ensures tells { TellsStudy task.now (is_faithful (F.log files.new))
+        (standing (F.log files.old) task.now.rec)
+        (O.output out.old) (O.output out.new) result }
+    ensures read_cause { result ≡ Err (Refused Read)
+        → Rose (read_faults (F.log files.old)) (read_faults (F.log files.new)) }
+    ensures reads { ReadsOn (F.log files.old) (F.log files.new) }
+{
+    let replayed = match read_recorded(alloc, task.rec.as_str(), files) {
+        Ok(replayed) => replayed,
+        Err(refusal) => return Err(RunStop::Refused(refusal)),
+    };
+    let Ok(analysis) = study_replayed(rt, alloc, task, replayed, gate) else {
+        return Err(RunStop::Refused(Refusal::Memory));
+    };
+    match write_analysis(out, &analysis) {
+        Ok(()) => Ok(()),
+        Err(Failed) => Err(RunStop::NotWritten),
+    }
+}

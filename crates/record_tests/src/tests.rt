@@ -1,0 +1,10 @@
+mod analyses;
+mod asserts;
+mod commands;
+mod games;
+mod judging;
+mod made_records;
+mod progress;
+mod records;
+mod reports;
+mod studies;

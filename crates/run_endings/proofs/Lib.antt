@@ -1,0 +1,4 @@
+pub mod Beginning
+pub mod Completing
+pub mod Loaded
+pub mod Pages

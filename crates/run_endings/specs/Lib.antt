@@ -1,0 +1,5 @@
+pub mod Endings
+pub mod Beginnings
+pub mod Loads
+pub mod Pages
+pub mod Scores

@@ -1,0 +1,14 @@
+//! How a run ends: what a command answers, what is put of it, and what refuses the files that it reads and writes.
+#![tactic(auto)]
+
+mod ending;
+mod load;
+mod put;
+mod scores;
+mod writing;
+
+pub use ending::RunStop;
+pub use load::{game_told, load_file, look_refusal, open_file};
+pub use put::{DONE, end, refuse_unread};
+pub use scores::{ladder_rounds, score_file};
+pub use writing::{begin, settle};

@@ -1,0 +1,6 @@
+mod Puts
+mod Residuals
+mod LadderSteps
+mod LadderEnds
+mod Written
+mod LadderKeeping

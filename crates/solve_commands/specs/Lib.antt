@@ -1,0 +1,5 @@
+pub mod Checkers
+pub mod Truth
+pub mod Races
+pub mod Solves
+pub mod Ladders

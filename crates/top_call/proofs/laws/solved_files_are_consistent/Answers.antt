@@ -1,0 +1,5 @@
+use Rattle.top_call.proofs.SolvedFiles.{solved-consistent}
+use Rattle.top_call.proofs.laws.solved_files_are_consistent.Goals as goal
+
+pub returns : goal.returns
+returns c = solved-consistent c.texts_are_read_back.ensures.held

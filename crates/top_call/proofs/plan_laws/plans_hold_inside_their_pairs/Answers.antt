@@ -1,5 +1,0 @@
-use Rattle.top_call.proofs.PlanLaws.{holds-inside}
-use Rattle.top_call.proofs.plan_laws.plans_hold_inside_their_pairs.Goals as goal
-
-pub returns : goal.returns
-returns c = holds-inside
