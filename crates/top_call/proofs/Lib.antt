@@ -1,3 +1,4 @@
 pub mod Endings
-mod SolvedFiles
+mod HeldWords
 mod TwoRuns
+mod MatchRuns

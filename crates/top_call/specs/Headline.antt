@@ -1,48 +1,96 @@
--- Two runs: a game is solved, and then advice is taken from the file that was written.
-use Rattle.std.specs.Prelude.{ℕ, List, Option, Some, None}
+-- Two runs: a game or a match is solved, and then advice is taken from the files that were written, or a recorded game is analysed by them.
+use Rattle.std.specs.Prelude.{◌≡◌, ◌<◌, ℕ, List, Option, Some, None}
+use Rattle.outside_log.specs.Files.{Contents}
+use Rattle.cube_actions.specs.Starts.{StartPairs}
 use Rattle.roll_table.specs.Rolls.{Dice}
 use Rattle.play_analyser.specs.declared.advice.CubeAdvice.{CubeAdvice}
 use Rattle.play_analyser.specs.declared.ranking.Ranking.{Ranking}
 use Rattle.play_analyser.specs.Advised.{ActionLosesAtMost, FirstLosesAtMost}
+use Rattle.base_head.specs.Heads.{FileHead}
 use Rattle.database_file.specs.Texts.{game_in}
 use Rattle.equity_report.specs.Advice.{cube_text, ranking_text}
-use Rattle.command_line.specs.declared.command.Solve.{Solve as SolveTask}
+use Rattle.equity_report.specs.Analyses.{analysis_text}
+use Rattle.match_scores.specs.Ladders.{starts_till}
+use Rattle.record_analysis.specs.Truth.{IsTrueAnalysis}
+use Rattle.record_analysis.specs.declared.analysis.Judged.{Judged}
+use Rattle.record_study.specs.Matches.{IsTrueMatch}
+use Rattle.command_line.specs.declared.command.Ladder.{Ladder as LadderTask}
 use Rattle.base_commands.specs.declared.advise.AskedKind.{AskedKind}
 use Rattle.command_line.specs.declared.command.Advise.{Advise as AdviseTask}
 use Rattle.run_endings.specs.Pages.{InTheEnd}
+use Rattle.match_plan.specs.Plans.{plan_text}
+use Rattle.base_commands.specs.Plans.{HoldsInTheEnd}
 use Rattle.base_commands.specs.Games.{IsKindAsked}
-use Rattle.solve_commands.specs.Solves.{head_of}
+use Rattle.solve_commands.specs.Ladders.{SolvedScore, file_of, score_bytes, score_head, score_of, scores_in}
 
--- The plays of a roll were printed from the best to the worst, and in the game that was solved, of enough turns and however its unfinished end is
+-- The plays of a roll were printed from the best to the worst, and in the game of the head, of enough turns and however its unfinished end is
 -- scored, the first of them loses at most the printed bound.
-pub record PrintsGoodPlay (solve : SolveTask) (advise : AdviseTask) (roll : Dice)
+pub record PrintsGoodPlay (head : FileHead) (advise : AdviseTask) (roll : Dice)
     (IsPrinted : List ℕ → Type 0) : Type 0 where
   pub kind : AskedKind
   pub ranking : Ranking
-  pub asked : IsKindAsked (head_of solve) advise.kind kind
+  pub asked : IsKindAsked head advise.kind kind
   pub printed : IsPrinted (ranking_text advise.position roll kind.name ranking)
   pub loses :
-      InTheEnd (game_in (head_of solve)) (λ scoring turns.
-      FirstLosesAtMost (game_in (head_of solve)) scoring turns advise.position kind.number roll
+      InTheEnd (game_in head) (λ scoring turns.
+      FirstLosesAtMost (game_in head) scoring turns advise.position kind.number roll
       ranking.rows.items ranking.loss_bound)
 
--- An offer and an answer were printed, where there is a double, and in the game that was solved, of enough turns and however its unfinished end is
+-- An offer and an answer were printed, where there is a double, and in the game of the head, of enough turns and however its unfinished end is
 -- scored, each loses at most its printed bound.
-pub record PrintsGoodActions (solve : SolveTask) (advise : AdviseTask)
+pub record PrintsGoodActions (head : FileHead) (advise : AdviseTask)
     (IsPrinted : List ℕ → Type 0) : Type 0 where
   pub kind : AskedKind
   pub advice : CubeAdvice
-  pub asked : IsKindAsked (head_of solve) advise.kind kind
+  pub asked : IsKindAsked head advise.kind kind
   pub printed : IsPrinted (cube_text advise.position kind.name advice)
   pub loses :
-      InTheEnd (game_in (head_of solve)) (λ scoring turns.
-      ActionLosesAtMost (game_in (head_of solve)) scoring turns advise.position kind.number
+      InTheEnd (game_in head) (λ scoring turns.
+      ActionLosesAtMost (game_in head) scoring turns advise.position kind.number
       advice.action)
 
-abbrev pub PrintsGoodFor : Option Dice → SolveTask → AdviseTask → (List ℕ → Type 0) → Type 0
-PrintsGoodFor (Some roll) solve advise IsPrinted = PrintsGoodPlay solve advise roll IsPrinted
-PrintsGoodFor None solve advise IsPrinted = PrintsGoodActions solve advise IsPrinted
+abbrev pub PrintsGoodFor : Option Dice → FileHead → AdviseTask → (List ℕ → Type 0) → Type 0
+PrintsGoodFor (Some roll) head advise IsPrinted = PrintsGoodPlay head advise roll IsPrinted
+PrintsGoodFor None head advise IsPrinted = PrintsGoodActions head advise IsPrinted
 
 -- the play of the roll, or, where there is none, the cube action that is advised loses at most its printed bound
-abbrev pub PrintsGoodAdvice : SolveTask → AdviseTask → (List ℕ → Type 0) → Type 0
-PrintsGoodAdvice solve advise = PrintsGoodFor advise.roll solve advise
+abbrev pub PrintsGoodAdvice : FileHead → AdviseTask → (List ℕ → Type 0) → Type 0
+PrintsGoodAdvice head advise = PrintsGoodFor advise.roll head advise
+
+-- ---- analyses
+
+-- The losses of a recorded game's decisions were printed, and from some number of turns on each pair encloses what its decision loses exactly in the
+-- game of the head, however its unfinished end is scored.
+pub record PrintsTrueLosses (head : FileHead) (IsPrinted : List ℕ → Type 0) : Type 0 where
+  pub list : List Judged
+  pub printed : IsPrinted (analysis_text list)
+  pub true : IsTrueAnalysis (game_in head) list
+
+-- the same of a match of so many checkers a side, with the payoffs of the match, from one number of turns on for all its games
+pub record PrintsTrueMatch (checkers : ℕ) (IsPrinted : List ℕ → Type 0) : Type 0 where
+  pub list : List Judged
+  pub printed : IsPrinted (analysis_text list)
+  pub true : IsTrueMatch checkers list
+
+-- The take points and gammon prices of a match were printed, and from some number of turns on they enclose those of the match itself.
+pub record PrintsTruePlan (checkers : ℕ) (IsPrinted : List ℕ → Type 0) : Type 0 where
+  pub plan : StartPairs
+  pub printed : IsPrinted (plan_text plan)
+  pub holds : HoldsInTheEnd checkers plan
+
+-- ---- the files of a match
+
+-- the head of the file of the score at a place, for these start pairs
+abbrev pub ladder_head : LadderTask → StartPairs → ℕ → FileHead
+ladder_head task starts place = score_head task (score_of task place) (starts_till starts place)
+
+-- the file of the score at a place, as it was written for these start pairs
+abbrev pub ladder_file : LadderTask → StartPairs → (ℕ → SolvedScore) → ℕ → List ℕ
+ladder_file task starts scores place =
+    score_bytes task (score_of task place) (starts_till starts place) (scores place).words
+
+-- the files of a match's scores hold what solving it wrote
+abbrev pub HoldLadder : (task : LadderTask) → StartPairs → (ℕ → SolvedScore) → Contents → Type 0
+HoldLadder task starts scores held =
+    (place : ℕ) → place < scores_in task
+    → held (file_of task place) ≡ Some (ladder_file task starts scores place)

@@ -1,18 +1,29 @@
-ghost use Rattle.std.specs.Prelude.{List, true};
+ghost use Rattle.std.specs.Prelude.{◌≡◌, ◌<◌, ℕ, List, Option, Some, false, true};
+ghost use Rattle.outside_log.specs.Files.{Contents};
+ghost use Rattle.game_record.specs.Turns.{is_match};
 ghost use Rattle.outside_log.specs.Log.{Event, standing};
 ghost use Rattle.outside_log.specs.Sink.{Output};
 ghost use Rattle.word_pages.specs.declared.version.Version.TheVariants.{Three};
 ghost use Rattle.equity_report.specs.declared.refusal.Refusal.{Refusal};
 ghost use Rattle.command_line.specs.declared.command.Advise.{Advise};
+ghost use Rattle.command_line.specs.declared.command.Analyse.{Analyse};
+ghost use Rattle.command_line.specs.declared.command.Ladder.{Ladder};
 ghost use Rattle.command_line.specs.declared.command.Solve.{Solve};
-ghost use Rattle.command_line.specs.Right.{IsRightSolve};
+ghost use Rattle.game_record.specs.declared.record.RecordStakes.TheVariants.{Match};
+ghost use Rattle.solve_commands.specs.Ladders.{HasSolvedLadder, scores_in};
+ghost use Rattle.command_line.specs.Right.{IsRightLadder, IsRightSolve};
 ghost use Rattle.run_endings.specs.Endings.{IsOutside, IsPut};
-ghost use Rattle.solve_commands.specs.Solves.{HasSolved};
+ghost use Rattle.solve_commands.specs.Solves.{HasSolved, head_of};
 ghost use Rattle.base_commands.specs.Advises.{HasAdvised};
+ghost use Rattle.base_commands.specs.Plans.{HasPlanned, first_file};
+ghost use Rattle.command_line.specs.declared.command.Plan.{Plan};
 ghost use Rattle.base_commands.specs.Verifies.{MayRefuseVerifying};
-ghost use Rattle.top_call.specs.Headline.{PrintsGoodAdvice};
+ghost use Rattle.top_call.specs.Headline.{HoldLadder, PrintsGoodAdvice, PrintsTrueLosses, PrintsTrueMatch, PrintsTruePlan, ladder_file, ladder_head};
+ghost use Rattle.record_commands.specs.Analyses.{HasAnalysed};
 
+use cube_actions::ladders_are_exact;
 use database_file::texts_are_read_back;
+use game_record::decisions_are_right;
 
 /// Every play or cube action advised from the file that solve wrote loses at most its printed bound.
 ///
@@ -24,7 +35,7 @@ pub fn advice_from_a_solved_file_loses_at_most_its_printed_bounds()
         → IsRightSolve solve
         → HasSolved solve before after put_before put_after
         → HasAdvised advise true (standing after solve.file) (λ text. IsPut old new text)
-        → PrintsGoodAdvice solve advise (λ text. IsPut old new text) }
+        → PrintsGoodAdvice (head_of solve) advise (λ text. IsPut old new text) }
 {
     texts_are_read_back();
 }
@@ -37,6 +48,81 @@ pub fn solved_files_are_consistent()
         → IsRightSolve task → HasSolved task before after put_before put_after
         → MayRefuseVerifying Three task.file true (standing after task.file) refusal
         → IsOutside refusal }
+{
+    texts_are_read_back();
+}
+
+/// The losses that `analyse` prints of a recorded game outside a match, by a file that `solve` wrote, enclose what its decisions lose exactly in
+/// the game that was solved, from one number of turns on for all of them.
+pub fn analyses_by_a_solved_file_are_true()
+    ensures { (solve : Solve) (analyse : Analyse) (held : Contents) (before after : List Event)
+        (put_before put_after old new : Output)
+        → IsRightSolve solve → HasSolved solve before after put_before put_after
+        → held analyse.base ≡ standing after solve.file
+        → (analysed : HasAnalysed analyse true held (λ text. IsPut old new text))
+        → is_match analysed.analysed.replayed.rec.stakes ≡ false
+        → PrintsTrueLosses (head_of solve) (λ text. IsPut old new text) }
+{
+    texts_are_read_back();
+}
+
+/// The losses that `analyse` prints of a recorded match, by the files that `ladder` wrote of all its scores, enclose what its decisions lose exactly
+/// with the payoffs of the match, from one number of turns on for all its games.
+pub fn analyses_by_a_solved_match_are_true()
+    ensures { (ladder : Ladder) (analyse : Analyse) (held : Contents) (before after : List Event)
+        (put_before put_after old new : Output)
+        → IsRightLadder ladder
+        → (solved : HasSolvedLadder ladder before after put_before put_after)
+        → HoldLadder ladder solved.starts solved.scores.scores held
+        → analyse.base ≡ ladder.prefix
+        → (analysed : HasAnalysed analyse true held (λ text. IsPut old new text))
+        → analysed.analysed.replayed.rec.stakes ≡ Match ladder.match_length
+        → PrintsTrueMatch analysed.analysed.replayed.rec.checkers (λ text. IsPut old new text) }
+{
+    texts_are_read_back();
+    ladders_are_exact();
+    decisions_are_right();
+}
+
+/// Every play or cube action advised from the file that `ladder` wrote of a score loses at most its printed bound, for the stakes that the start
+/// pairs of the scores before it give.
+pub fn advice_at_a_solved_score_loses_at_most_its_printed_bounds()
+    ensures { (ladder : Ladder) (advise : Advise) (before after : List Event)
+        (put_before put_after old new : Output) (held : Option (List ℕ))
+        (solved : HasSolvedLadder ladder before after put_before put_after) (place : ℕ)
+        → place < scores_in ladder
+        → held ≡ Some (ladder_file ladder solved.starts solved.scores.scores place)
+        → HasAdvised advise true held (λ text. IsPut old new text)
+        → PrintsGoodAdvice (ladder_head ladder solved.starts place) advise
+        (λ text. IsPut old new text) }
+{
+    texts_are_read_back();
+}
+
+/// So is each file that `ladder` wrote of a score.
+pub fn files_of_a_solved_match_are_consistent()
+    ensures { (ladder : Ladder) (before after : List Event) (put_before put_after : Output)
+        (name : List ℕ) (held : Option (List ℕ)) (refusal : Refusal)
+        (solved : HasSolvedLadder ladder before after put_before put_after) (place : ℕ)
+        → place < scores_in ladder
+        → held ≡ Some (ladder_file ladder solved.starts solved.scores.scores place)
+        → MayRefuseVerifying Three name true held refusal
+        → IsOutside refusal }
+{
+    texts_are_read_back();
+}
+
+/// The take points and gammon prices that `plan` prints by the files that `ladder` wrote enclose, from one number of turns on, those of the match
+/// itself.
+pub fn plans_by_a_solved_match_are_true()
+    ensures { (ladder : Ladder) (plan : Plan) (held : Contents) (before after : List Event)
+        (put_before put_after old new : Output)
+        → IsRightLadder ladder
+        → (solved : HasSolvedLadder ladder before after put_before put_after)
+        → HoldLadder ladder solved.starts solved.scores.scores held
+        → plan.prefix ≡ ladder.prefix → plan.match_length ≡ ladder.match_length
+        → HasPlanned plan true (held (first_file plan)) (λ text. IsPut old new text)
+        → PrintsTruePlan ladder.checkers (λ text. IsPut old new text) }
 {
     texts_are_read_back();
 }

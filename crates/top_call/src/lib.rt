@@ -5,6 +5,9 @@ mod laws;
 mod top;
 
 pub use laws::{
-    advice_from_a_solved_file_loses_at_most_its_printed_bounds, solved_files_are_consistent,
+    advice_at_a_solved_score_loses_at_most_its_printed_bounds,
+    advice_from_a_solved_file_loses_at_most_its_printed_bounds, analyses_by_a_solved_file_are_true,
+    analyses_by_a_solved_match_are_true, files_of_a_solved_match_are_consistent,
+    plans_by_a_solved_match_are_true, solved_files_are_consistent,
 };
 pub use top::run;

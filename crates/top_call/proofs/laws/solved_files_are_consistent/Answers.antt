@@ -1,4 +1,4 @@
-use Rattle.top_call.proofs.SolvedFiles.{solved-consistent}
+use Rattle.top_call.proofs.TwoRuns.{solved-consistent}
 use Rattle.top_call.proofs.laws.solved_files_are_consistent.Goals as goal
 
 pub returns : goal.returns
