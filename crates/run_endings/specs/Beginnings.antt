@@ -5,7 +5,7 @@ use Rattle.equity_report.specs.declared.refusal.Refusal.{Refusal}
 use Rattle.equity_report.specs.declared.refusal.Refusal.TheVariants.{Read, Memory, Other}
 use Rattle.run_endings.specs.declared.ending.RunStop.{RunStop}
 use Rattle.run_endings.specs.declared.ending.RunStop.TheVariants.{Refused, NotWritten}
-use Rattle.run_endings.specs.Endings.{IsOfWriting}
+use Rattle.run_endings.specs.Endings.{IsOfBeginning}
 
 -- A file that is to begin so isn't written under a name: what stands there has a byte and begins otherwise. A fault of the files or of memory says
 -- nothing of what stands there.
@@ -25,7 +25,7 @@ MayRefuseBeginning start name told held refusal =
 abbrev pub StopsBeginning : List ℕ → List ℕ → Bool → Option (List ℕ) → RunStop → Type 0
 StopsBeginning start name told held NotWritten = ⊤
 StopsBeginning start name told held (Refused refusal) =
-    IsOfWriting refusal × MayRefuseBeginning start name told held refusal
+    IsOfBeginning refusal × MayRefuseBeginning start name told held refusal
 
 -- it may take the place of what stands there, where each call was answered that: nothing, no byte, or a
 -- file that begins so too

@@ -72,6 +72,12 @@ abbrev pub IsOfAnalysing : Refusal → Type 0
 IsOfAnalysing (Record bad) = ⊤
 IsOfAnalysing refusal = IsOfShowing refusal
 
+-- a refusal to begin a file under a name: what stands there can't be looked at, or is of another kind
+abbrev pub IsOfBeginning : Refusal → Type 0
+IsOfBeginning Read = ⊤
+IsOfBeginning (Other name) = ⊤
+IsOfBeginning _ = ⊥
+
 -- a refusal of a run that writes a file: the name can't be looked at, a file of another kind stands there, or there was no memory
 abbrev pub IsOfWriting : Refusal → Type 0
 IsOfWriting Read = ⊤

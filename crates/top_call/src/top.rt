@@ -120,8 +120,8 @@ fn perform<R: Threads + Sync, F: Files, O: Sink, G: Gate + Sync>(
 /// 2. 2 where a position's text is, or else a roll's; 10 where `bound` or `race` asks for another number of checkers than
 ///    its position has; 12 where the position of `race` isn't a race;
 ///    11 where the text of `scan` isn't that of a condition, with the first word with which none can go on.
-/// 3. 13 comes where what stands under the name of a file that `solve`, `migrate` or `make` is to write has a byte and begins otherwise
-///    than files of its kind. That the file can be begun is seen before any work is done.
+/// 3. 13 comes where what stands under the name of a file that `solve`, `migrate`, `make` or `ladder` is to write has a byte and
+///    begins otherwise than files of its kind. That the file can be begun, of `ladder` each, is seen before any work is done.
 /// 4. Of a record that is to be read: 3 where it isn't there; 5 where its file is too long, or a line of it is wrong, with the
 ///    first.
 /// 5. Of a file of bounds that is to be read: 3 where it isn't there; 4 where it isn't one of version 3, or of any for `migrate`, of
