@@ -13,7 +13,7 @@ use Rattle.database_file.specs.FileBases.{FileBase}
 use Rattle.database_file.specs.Faults.{Read as FileRead, whole}
 use Rattle.command_line.specs.declared.command.Scan.{Scan}
 use Rattle.equity_report.specs.declared.refusal.Refusal.{Refusal}
-use Rattle.equity_report.specs.Scans.{scan_text}
+use Rattle.base_reports.specs.Scans.{scan_text}
 use Rattle.run_endings.specs.Loads.{OfFile}
 use Rattle.run_endings.specs.Endings.{IsOutside}
 use Rattle.base_commands.specs.Scans.{HasScanned, IsTextOf, MayRefuseScanning, RefusesScanning}

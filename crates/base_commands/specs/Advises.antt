@@ -25,7 +25,7 @@ use Rattle.database_file.specs.Faults.{fault_before_pages, header_of_file, whole
 use Rattle.database_file.specs.Paged.{paged_source, told_notes}
 use Rattle.database_file.specs.Texts.{game_in}
 use Rattle.equity_report.specs.declared.refusal.Refusal.{Refusal}
-use Rattle.equity_report.specs.Advice.{cube_text, ranking_text}
+use Rattle.base_reports.specs.Advice.{cube_text, ranking_text}
 use Rattle.base_commands.specs.declared.advise.AskedKind.{AskedKind}
 use Rattle.base_commands.specs.declared.advise.FoundAdvice.{FoundAdvice}
 use Rattle.base_commands.specs.declared.advise.FoundRanking.{FoundRanking}

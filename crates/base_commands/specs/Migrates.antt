@@ -13,7 +13,7 @@ use Rattle.database_file.specs.Texts.{file_text}
 use Rattle.command_line.specs.declared.command.Migrate.{Migrate}
 use Rattle.base_head.specs.declared.header.TheConstants.{BASE_START}
 use Rattle.equity_report.specs.declared.refusal.Refusal.{Refusal}
-use Rattle.equity_report.specs.Files.{migrated_text}
+use Rattle.base_reports.specs.Files.{migrated_text}
 use Rattle.run_endings.specs.Beginnings.{MayRefuseBeginning, MayTakePlace}
 use Rattle.run_endings.specs.Loads.{OfFile, game_told}
 use Rattle.base_commands.specs.Verifies.{AreVerified, MayRefuseVerifying}

@@ -14,7 +14,7 @@ use Rattle.database_file.specs.Bases.{AnswersBase}
 use Rattle.database_file.specs.FileBases.{FileBase}
 use Rattle.database_file.specs.Faults.{Read as FileRead}
 use Rattle.equity_report.specs.declared.refusal.Refusal.{Refusal}
-use Rattle.equity_report.specs.Replies.{reply_text}
+use Rattle.base_reports.specs.Replies.{reply_text}
 use Rattle.base_commands.specs.declared.advise.AskedKind.{AskedKind}
 use Rattle.base_commands.specs.declared.reply.FoundReply.{FoundReply}
 use Rattle.base_commands.specs.declared.reply.LoadedFile.{LoadedFile}

@@ -20,10 +20,10 @@ use Rattle.base_verify.specs.declared.finding.Finding.{Finding}
 use Rattle.base_verify.specs.Findings.{AlwaysEnclose, IsFirstFinding}
 use Rattle.outside_log.specs.Sink.{Output}
 use Rattle.command_line.specs.declared.command.Verify.{Verify}
-use Rattle.equity_report.specs.declared.verify.Unheld.{Unheld}
+use Rattle.equity_report.specs.declared.unheld.Unheld.{Unheld}
 use Rattle.equity_report.specs.declared.refusal.Refusal.{Refusal}
 use Rattle.equity_report.specs.declared.refusal.Refusal.TheVariants.{Inconsistent, Memory}
-use Rattle.equity_report.specs.Verify.{verified_text}
+use Rattle.base_reports.specs.Files.{verified_text}
 use Rattle.run_endings.specs.Loads.{OfFile, RefusesFrom, game_told}
 use Rattle.run_endings.specs.Endings.{Ending, Tells}
 

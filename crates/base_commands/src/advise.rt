@@ -17,10 +17,11 @@ ghost use Rattle.base_commands.specs.Advises.{AnswersAdvice, AnswersCube, Answer
 
 use crate::advise_laws::{looked_up_advice_is_of_the_file, looked_up_rankings_are_of_the_file};
 use base_head::Head;
+use base_reports::{write_cube, write_ranking};
 use command_line::Advise;
 use cube_actions::KindName;
 use database_file::PagedBase;
-use equity_report::{Refusal, Wanted, write_cube, write_ranking};
+use equity_report::{Refusal, Wanted};
 use hyper_outside::{Failed, LookStop};
 use outside_log::{Files, Sink};
 use play_analyser::{CubeAdvice, Ranking, cube_advice, rank_plays};

@@ -11,9 +11,9 @@ ghost use Rattle.run_endings.specs.declared.ending.RunStop.TheVariants.{NotWritt
 
 use crate::verify::load_verified;
 use base_head::{BASE_START, Head, Header};
+use base_reports::write_migrated;
 use command_line::Migrate;
 use database_file::{Base, append_base};
-use equity_report::write_migrated;
 use hyper_outside::{Failed, Gate};
 use outside_log::{Files, Sink};
 use run_endings::{RunStop, begin, game_told, settle};

@@ -12,11 +12,12 @@ ghost use Rattle.run_endings.specs.declared.ending.RunStop.TheVariants.{Refused}
 
 use crate::advise::{AskedKind, asked_kind};
 use crate::reply_laws::replies_hold_for_any_words;
+use base_reports::write_reply;
 use best_reply::ReplyTable;
 use command_line::Reply;
 use database_file::Base;
 use directed_fixed::Pair;
-use equity_report::{Refusal, write_reply};
+use equity_report::Refusal;
 use hyper_outside::{Failed, NoMemory};
 use interval_words::Words;
 use outside_log::{Files, Sink};

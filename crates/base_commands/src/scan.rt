@@ -8,9 +8,10 @@ ghost use Rattle.run_endings.specs.Endings.{EndsBy, IsOfScanning};
 ghost use Rattle.run_endings.specs.declared.ending.RunStop.TheVariants.{Refused};
 ghost use Rattle.base_commands.specs.Scans.{TellsScan};
 
+use base_reports::write_scan;
 use base_scan::{read_condition, scan};
 use command_line::Scan;
-use equity_report::{Refusal, write_scan};
+use equity_report::Refusal;
 use hyper_outside::Failed;
 use outside_log::{Files, Sink};
 use run_endings::{RunStop, load_file};

@@ -13,10 +13,11 @@ ghost use Rattle.run_endings.specs.declared.ending.RunStop.TheVariants.{Refused}
 ghost use Rattle.base_commands.specs.Shows.{AnswersPair, AnswersRows, AnswersShow, TellsShown};
 
 use arrayvec::ArrayVec;
+use base_reports::{KindRow, write_shown};
 use command_line::Show;
 use database_file::PagedBase;
 use directed_fixed::{End, Pair};
-use equity_report::{GameName, KindRow, Refusal, Wanted, write_shown};
+use equity_report::{GameName, Refusal, Wanted};
 use hyper_outside::{Failed, LookStop};
 use outside_log::{Files, Sink};
 use position_rank::Position;

@@ -11,10 +11,11 @@ ghost use Rattle.run_endings.specs.declared.ending.RunStop.TheVariants.{Refused}
 ghost use Rattle.base_commands.specs.Verifies.{AnswersCheck, AnswersVerify, TellsFinding, TellsVerified, verified_report};
 
 use base_head::{Head, Header};
+use base_reports::write_verified;
 use base_verify::{Finding, VerifyStop, findings_tell_inconsistency, verify};
 use command_line::Verify;
 use database_file::Base;
-use equity_report::{Refusal, Unheld, write_verified};
+use equity_report::{Refusal, Unheld};
 use hyper_outside::{Failed, Gate};
 use outside_log::{Files, Sink};
 use play_analyser::losses_enclose_regrets;

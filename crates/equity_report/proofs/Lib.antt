@@ -1,1 +1,1 @@
-mod PutLemmas
+pub mod PutLemmas

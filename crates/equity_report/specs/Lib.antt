@@ -1,12 +1,6 @@
 pub mod Reports
-pub mod Races
 pub mod Games
 pub mod Files
-pub mod Verify
+pub mod Unheld
 pub mod Records
 pub mod Refusals
-pub mod Advice
-pub mod Analyses
-pub mod Ladder
-pub mod Scans
-pub mod Replies

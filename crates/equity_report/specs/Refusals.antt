@@ -20,7 +20,7 @@ use Rattle.equity_report.specs.declared.refusal.Wanted.TheVariants.{Checkers, Ki
 use Rattle.equity_report.specs.Reports.{line, counted_text}
 use Rattle.equity_report.specs.Games.{game_text, stakes_text}
 use Rattle.equity_report.specs.Records.{bad_record_text}
-use Rattle.equity_report.specs.Verify.{unheld_text}
+use Rattle.equity_report.specs.Unheld.{unheld_text}
 
 -- what is wrong with the words
 abbrev pub words_text : WordsKind → List ℕ

@@ -1,9 +1,6 @@
--- The texts of reports. Each line ends with a line feed, the byte 10.
+-- The parts of reports. Each line ends with a line feed, the byte 10.
 use Rattle.std.specs.Prelude.{ℕ, List, ◌++◌, codes, decimal}
-use Rattle.std.specs.List.{flat_map}
 use Rattle.std.specs.Fmt.{signed_decimal}
-use Rattle.position_rank.specs.Placement.{Placement}
-use Rattle.position_rank.specs.Text.{position_text}
 use Rattle.directed_fixed.specs.Bounds.{Bounds}
 use Rattle.directed_fixed.specs.Decimal.{millionths_down, millionths_up, millionths_text}
 
@@ -27,9 +24,3 @@ units_text pair = signed_decimal pair.lower ++ codes " " ++ signed_decimal pair.
 -- a pair in points and in units
 abbrev pub pair_text : Bounds → List ℕ
 pair_text pair = points_text pair ++ codes " " ++ units_text pair
-
--- a position's pair after so many rounds of a game without a cube
-abbrev pub bound_text : Placement → ℕ → Bounds → List ℕ
-bound_text p rounds pair =
-    line (codes "position") (position_text p) ++ line (codes "rounds") (decimal rounds)
-    ++ line (codes "alone") (pair_text pair)

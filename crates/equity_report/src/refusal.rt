@@ -4,7 +4,7 @@ ghost use Rattle.outside_log.specs.Sink.{Puts};
 
 use crate::record::add_bad_record;
 use crate::text::{GameName, Report, add_counted, add_game, add_number, add_stakes};
-use crate::verify::{Unheld, add_unheld};
+use crate::unheld::{Unheld, add_unheld};
 use arrayvec::ArrayString;
 use base_head::{BadFile, FileFault};
 use cube_actions::{KindName, Score, StakesName};

@@ -7,8 +7,8 @@ use cube_actions::StakesName;
 use directed_fixed::{Pair, print_down, print_units, print_up};
 use itoa::Buffer;
 
-/// A report, at most so long.
-pub(crate) type Report = ArrayString<3072>;
+/// A report, or a part of it, of at most 3,072 bytes.
+pub type Report = ArrayString<3072>;
 
 /// A game told by its name.
 #[derive(Clone, Copy, Debug, PartialEq, Eq)]
@@ -22,7 +22,7 @@ pub struct GameName {
 }
 
 /// Adds a number in decimal digits.
-pub(crate) fn add_number(report: &mut Report, number: u64)
+pub fn add_number(report: &mut Report, number: u64)
     requires { length report.old.bytes ≤ 3000 }
     ensures bytes { report.new.bytes ≡ report.old.bytes ++ decimal number }
     ensures length { length report.new.bytes ≤ length report.old.bytes + 20 }
@@ -32,7 +32,7 @@ pub(crate) fn add_number(report: &mut Report, number: u64)
 
 /// Adds a word of so many bytes at most, and a number.
 #[tactic(auto, unfolding(crate::specs::Reports::counted_text))]
-pub(crate) fn add_counted(report: &mut Report, thing: &str, number: u64)
+pub fn add_counted(report: &mut Report, thing: &str, number: u64)
     requires thing { length thing.now ≤ 16 }
     requires room { length report.old.bytes ≤ 2900 }
     ensures bytes { report.new.bytes ≡ report.old.bytes ++ counted_text thing.now number }
@@ -44,7 +44,7 @@ pub(crate) fn add_counted(report: &mut Report, thing: &str, number: u64)
 }
 
 /// Adds both ends of a pair in points, rounded to the safe side.
-pub(crate) fn add_points(report: &mut Report, pair: Pair)
+pub fn add_points(report: &mut Report, pair: Pair)
     requires { length report.old.bytes ≤ 2900 }
     ensures bytes { report.new.bytes ≡ report.old.bytes ++ points_text pair }
     ensures length { length report.new.bytes ≤ length report.old.bytes + 65 }
@@ -55,7 +55,7 @@ pub(crate) fn add_points(report: &mut Report, pair: Pair)
 }
 
 /// Adds both ends of a pair in units.
-pub(crate) fn add_units(report: &mut Report, pair: Pair)
+pub fn add_units(report: &mut Report, pair: Pair)
     requires { length report.old.bytes ≤ 2900 }
     ensures bytes { report.new.bytes ≡ report.old.bytes ++ units_text pair }
     ensures length { length report.new.bytes ≤ length report.old.bytes + 65 }
@@ -66,7 +66,7 @@ pub(crate) fn add_units(report: &mut Report, pair: Pair)
 }
 
 /// Adds what is played for.
-pub(crate) fn add_stakes(report: &mut Report, stakes: StakesName, match_length: u8)
+pub fn add_stakes(report: &mut Report, stakes: StakesName, match_length: u8)
     requires { length report.old.bytes ≤ 2900 }
     ensures bytes { report.new.bytes ≡ report.old.bytes ++ stakes_text match_length stakes }
     ensures length { length report.new.bytes ≤ length report.old.bytes + 51 }
@@ -86,7 +86,7 @@ pub(crate) fn add_stakes(report: &mut Report, stakes: StakesName, match_length: 
 }
 
 /// Adds a game: its checkers and what it is played for.
-pub(crate) fn add_game(report: &mut Report, game: GameName)
+pub fn add_game(report: &mut Report, game: GameName)
     requires { length report.old.bytes ≤ 2800 }
     ensures bytes { report.new.bytes ≡ report.old.bytes ++ game_text game }
     ensures length { length report.new.bytes ≤ length report.old.bytes + 100 }

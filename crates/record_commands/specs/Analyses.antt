@@ -12,7 +12,7 @@ use Rattle.record_analysis.specs.declared.analysis.Judged.{Judged}
 use Rattle.record_study.specs.Keeping.{decisions_in}
 use Rattle.database_file.specs.Texts.{game_in}
 use Rattle.command_line.specs.declared.command.Analyse.{Analyse}
-use Rattle.equity_report.specs.Analyses.{analysis_text}
+use Rattle.record_reports.specs.Analyses.{analysis_text}
 use Rattle.equity_report.specs.declared.refusal.Refusal.{Refusal}
 use Rattle.run_endings.specs.Endings.{Ending, IsOutside, Tells}
 use Rattle.run_endings.specs.Pages.{HavePairsOf, OfHeld}

@@ -11,7 +11,7 @@ use Rattle.game_record.specs.declared.record.Record.{Record}
 use Rattle.record_maker.specs.Making.{IsMade}
 use Rattle.record_study.specs.Studies.{AreStudied, game_of_record}
 use Rattle.command_line.specs.declared.command.Make.{Make}
-use Rattle.equity_report.specs.Analyses.{made_text}
+use Rattle.record_reports.specs.Analyses.{made_text}
 use Rattle.run_endings.specs.Beginnings.{MayRefuseBeginning, MayTakePlace}
 use Rattle.run_endings.specs.Endings.{Ending, IsPut, WasPut}
 use Rattle.run_endings.specs.declared.ending.RunStop.TheVariants.{NotWritten, Refused}

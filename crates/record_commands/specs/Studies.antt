@@ -6,7 +6,7 @@ use Rattle.record_analysis.specs.declared.analysis.Judged.{Judged}
 use Rattle.record_study.specs.Matches.{AreStudiedInMatch}
 use Rattle.record_study.specs.Studies.{AreStudied, game_of_record}
 use Rattle.command_line.specs.declared.command.Study.{Study}
-use Rattle.equity_report.specs.Analyses.{analysis_text}
+use Rattle.record_reports.specs.Analyses.{analysis_text}
 use Rattle.equity_report.specs.declared.refusal.Refusal.{Refusal}
 use Rattle.run_endings.specs.Pages.{OfHeld}
 use Rattle.record_commands.specs.Records.{HoldsRecord, RefusesRecord, match_length}

@@ -17,11 +17,12 @@ use crate::analyse_match::judge_match;
 use crate::by_file::judge_by;
 use crate::record::{Replayed, game_recorded, is_match, read_recorded};
 use command_line::Analyse;
-use equity_report::{Refusal, write_analysis};
+use equity_report::Refusal;
 use game_record::Record;
 use hyper_outside::Failed;
 use outside_log::{Files, Sink};
 use record_analysis::{Analysis, analyses_enclose_what_is_lost, right_decisions_can_be_judged};
+use record_reports::write_analysis;
 use run_endings::RunStop;
 use std::alloc::Global;
 

@@ -11,12 +11,13 @@ ghost use Rattle.run_endings.specs.Endings.{Completes, EndsBy, IsOfWriting};
 ghost use Rattle.run_endings.specs.declared.ending.RunStop.TheVariants.{NotWritten, Refused};
 
 use command_line::Make;
-use equity_report::{Refusal, write_made};
+use equity_report::Refusal;
 use game_record::{RECORD_START, print_record, replay};
 use hyper_outside::{Failed, Gate, NoMemory};
 use outside_log::{Files, Sink};
 use record_analysis::Analysis;
 use record_maker::make_record;
+use record_reports::write_made;
 use record_study::study;
 use run_endings::{RunStop, begin, settle};
 use std::alloc::Global;

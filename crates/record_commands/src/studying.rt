@@ -11,11 +11,12 @@ ghost use Rattle.record_commands.specs.Studies.{IsStudiedBy, TellsStudy};
 
 use crate::record::{Replayed, is_match, match_length, read_recorded};
 use command_line::Study;
-use equity_report::{Refusal, write_analysis};
+use equity_report::Refusal;
 use hyper_outside::{Failed, Gate, NoMemory};
 use outside_log::{Files, Sink};
 use position_rank::layout_count;
 use record_analysis::Analysis;
+use record_reports::write_analysis;
 use record_study::{study, study_match};
 use run_endings::{RunStop, ladder_rounds};
 use std::alloc::Global;

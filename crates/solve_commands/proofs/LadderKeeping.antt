@@ -14,7 +14,7 @@ use Rattle.match_scores.specs.Ladders.{score_at, with_pair, AreWordsOf}
 use Rattle.match_scores.specs.Openings.{start_over}
 use Rattle.command_line.specs.declared.command.Ladder.{Ladder}
 use Rattle.command_line.specs.Right.{IsRightLadder}
-use Rattle.equity_report.specs.Ladder.{ladder_score_text}
+use Rattle.solve_reports.specs.Ladder.{ladder_score_text}
 use Rattle.solve_commands.specs.Ladders.{HasKeptSince, IsScoreSolved, LadderPast, SolvedScore, score_bytes, score_line, score_of, scores_in}
 use Rattle.run_endings.specs.Scores.{score_file}
 use Rattle.run_endings.specs.Endings.{IsPut, WasPut}

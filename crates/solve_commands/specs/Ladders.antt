@@ -21,7 +21,7 @@ use Rattle.database_file.specs.Texts.{IsText, file_text}
 use Rattle.command_line.specs.declared.command.Ladder.{Ladder}
 use Rattle.equity_report.specs.declared.refusal.Refusal.{Refusal}
 use Rattle.equity_report.specs.declared.refusal.Refusal.TheVariants.{Memory}
-use Rattle.equity_report.specs.Ladder.{ladder_end_text, ladder_score_text}
+use Rattle.solve_reports.specs.Ladder.{ladder_end_text, ladder_score_text}
 use Rattle.run_endings.specs.declared.ending.RunStop.{RunStop}
 use Rattle.run_endings.specs.declared.ending.RunStop.TheVariants.{Refused, NotWritten}
 use Rattle.run_endings.specs.Beginnings.{MayTakePlace, StopsBeginning}

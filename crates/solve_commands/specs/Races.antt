@@ -6,7 +6,7 @@ use Rattle.race_table.specs.RacePairs.{IsTrueOfRace, race_pair}
 use Rattle.race_table.specs.TurnsLeft.{turns_left}
 use Rattle.equity_report.specs.declared.refusal.Refusal.{Refusal}
 use Rattle.equity_report.specs.declared.refusal.Refusal.TheVariants.{Contact, Memory}
-use Rattle.equity_report.specs.Races.{race_text}
+use Rattle.solve_reports.specs.Races.{race_text}
 use Rattle.run_endings.specs.Endings.{Ending, Tells}
 use Rattle.command_line.specs.declared.command.Race.{Race as RaceTask}
 use Rattle.solve_commands.specs.Checkers.{IsOfOtherCheckers}

@@ -15,7 +15,7 @@ use Rattle.base_head.specs.Headers.{text_length}
 use Rattle.base_head.specs.declared.header.TheConstants.{BASE_START}
 use Rattle.database_file.specs.Texts.{AreWordsOf, file_text}
 use Rattle.command_line.specs.declared.command.Solve.{Solve}
-use Rattle.equity_report.specs.Files.{solved_text}
+use Rattle.solve_reports.specs.Files.{solved_text}
 use Rattle.run_endings.specs.Beginnings.{MayRefuseBeginning, MayTakePlace}
 use Rattle.run_endings.specs.declared.ending.RunStop.TheVariants.{Refused, NotWritten}
 use Rattle.run_endings.specs.Endings.{Ending, IsPut, WasPut}

@@ -10,7 +10,7 @@ use Rattle.turn_rule.specs.Turn.{rounds}
 use Rattle.turn_rule.specs.Truth.{IsScoring, EnclosesAt}
 use Rattle.equity_report.specs.declared.refusal.Refusal.{Refusal}
 use Rattle.equity_report.specs.declared.refusal.Refusal.TheVariants.{Memory}
-use Rattle.equity_report.specs.Reports.{bound_text}
+use Rattle.solve_reports.specs.Bounds.{bound_text}
 use Rattle.run_endings.specs.Endings.{Ending, Tells}
 use Rattle.command_line.specs.declared.command.Bound.{Bound as BoundTask}
 use Rattle.solve_commands.specs.Checkers.{IsOfOtherCheckers}

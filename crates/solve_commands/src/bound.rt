@@ -7,11 +7,11 @@ use crate::checkers::count_checkers;
 use command_line::Bound;
 use cube_actions::Stakes;
 use directed_fixed::Pair;
-use equity_report::write_bound;
 use hyper_outside::NoMemory;
 use outside_log::Sink;
 use plain_table::PlainTable;
 use run_endings::RunStop;
+use solve_reports::write_bound;
 use std::alloc::Global;
 
 /// The position's pair after the rounds, in a game without a cube of as many checkers.

@@ -14,12 +14,13 @@ use crate::ladder_keep::LadderKeep;
 use base_head::BASE_START;
 use command_line::Ladder;
 use cube_actions::{Starts, ladder};
-use equity_report::{Refusal, write_ladder_end};
+use equity_report::Refusal;
 use hyper_outside::{Failed, Gate};
 use match_scores::{LadderStop, solve_ladder, solved_ladders_are_true_and_tight};
 use outside_log::{Files, Sink};
 use position_rank::layout_count;
 use run_endings::{RunStop, begin, ladder_rounds, score_file};
+use solve_reports::write_ladder_end;
 use std::alloc::Global;
 use std::thread::Threads;
 

@@ -4,7 +4,7 @@ ghost use Rattle.word_pages.specs.declared.version.Version.TheVariants.{Three};
 ghost use Rattle.base_head.specs.Heads.{HasText, IsHead};
 ghost use Rattle.command_line.specs.Right.{IsRightLadder};
 ghost use Rattle.database_file.specs.Texts.{AreWordsOf, file_text};
-ghost use Rattle.equity_report.specs.Ladder.{ladder_score_text};
+ghost use Rattle.solve_reports.specs.Ladder.{ladder_score_text};
 ghost use Rattle.match_scores.specs.Keepers.{no_pairs};
 ghost use Rattle.solve_commands.specs.Ladders.{HasKeptSince, LadderPast, LadderStays, WritesAndTells, score_bytes, score_head};
 ghost use Rattle.run_endings.specs.Scores.{score_file};
@@ -15,12 +15,12 @@ use command_line::Ladder;
 use cube_actions::{Score, Starts, ladders_are_exact};
 use database_file::append_base;
 use directed_fixed::{Fixed, Pair};
-use equity_report::write_ladder_score;
 use hyper_outside::Failed;
 use interval_words::{Closed, Words};
 use match_scores::{Keep, solved_ladders_are_true_and_tight, start_pair};
 use outside_log::{Files, Sink};
 use run_endings::{score_file, settle};
+use solve_reports::write_ladder_score;
 use word_pages::Version;
 
 /// What the line of a score tells.

@@ -4,10 +4,11 @@ ghost use Rattle.command_line.specs.Right.{IsRightRace};
 
 use crate::checkers::count_checkers;
 use command_line::Race;
-use equity_report::{Refusal, write_race};
+use equity_report::Refusal;
 use outside_log::Sink;
 use race_table::{RaceTable, is_race};
 use run_endings::RunStop;
+use solve_reports::write_race;
 use std::alloc::Global;
 
 /// Puts the task's report. Where the position has another number of checkers than is asked for, or isn't a race, that refuses it; else want of

@@ -8,8 +8,8 @@ use Rattle.play_analyser.specs.declared.ranking.Ranking.{Ranking}
 use Rattle.play_analyser.specs.Advised.{ActionLosesAtMost, FirstLosesAtMost}
 use Rattle.base_head.specs.Heads.{FileHead}
 use Rattle.database_file.specs.Texts.{game_in}
-use Rattle.equity_report.specs.Advice.{cube_text, ranking_text}
-use Rattle.equity_report.specs.Analyses.{analysis_text}
+use Rattle.base_reports.specs.Advice.{cube_text, ranking_text}
+use Rattle.record_reports.specs.Analyses.{analysis_text}
 use Rattle.match_scores.specs.Ladders.{starts_till}
 use Rattle.record_analysis.specs.Truth.{IsTrueAnalysis}
 use Rattle.record_analysis.specs.declared.analysis.Judged.{Judged}

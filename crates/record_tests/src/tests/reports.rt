@@ -3,13 +3,12 @@ use crate::tests::asserts::{holds, same};
 use crate::tests::judging::{decisions, judged};
 use cube_actions::{Phase, Score, StakesName};
 use directed_fixed::{Fixed, Pair};
-use equity_report::{
-    FileName, GameName, Refusal, Wanted, write_analysis, write_ladder_end, write_ladder_score,
-    write_made, write_refusal,
-};
+use equity_report::{FileName, GameName, Refusal, Wanted, write_refusal};
 use game_record::{BadRecord, RecordFault};
 use memory_files::{HonestSink, MemSink};
 use move_rules::BadPlay;
+use record_reports::{write_analysis, write_made};
+use solve_reports::{write_ladder_end, write_ladder_score};
 use std::alloc::Global;
 use std::process::Abort;
 use std::test::Fail;

@@ -1,0 +1,11 @@
+use Rattle.std.proofs.Common.{take, Ok}
+use Rattle.std.specs.List.{flat_map}
+use Rattle.outside_log.specs.Sink.{Puts}
+use Rattle.hyper_outside.specs.declared.outside.Failed.{Failed}
+use Rattle.base_reports.specs.Scans.{found_text}
+use Rattle.base_reports.proofs.scan.put_states.Given as goal
+
+-- the lines so far were put
+abbrev pub invariant-states : goal.invariant-states
+invariant-states g l =
+    Puts {T = Unit {0}} {E = Failed} (g.O.Sink.output l.fn.out) (g.O.Sink.output l.out) (flat_map (found_text l.words) (take l.state-index l.fn.states)) (Ok tt)

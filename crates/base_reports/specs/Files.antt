@@ -1,0 +1,30 @@
+-- The reports on a file of bounds: of a position, of its words, and of writing it anew.
+use Rattle.std.specs.Prelude.{ℕ, List, ◌++◌, codes}
+use Rattle.std.specs.List.{flat_map}
+use Rattle.position_rank.specs.Placement.{Placement}
+use Rattle.position_rank.specs.Text.{position_text}
+use Rattle.cube_actions.specs.Names.{kind_text}
+use Rattle.equity_report.specs.declared.text.GameName.{GameName}
+use Rattle.equity_report.specs.Files.{rounds_text, written_text}
+use Rattle.equity_report.specs.Reports.{line, counted_text, pair_text}
+use Rattle.base_reports.specs.declared.files.KindRow.{KindRow}
+
+-- a file that was written anew
+abbrev pub migrated_text : GameName → ℕ → List ℕ → ℕ → List ℕ
+migrated_text game rounds file bytes =
+    line (codes "migrated") (rounds_text game rounds) ++ written_text file bytes
+
+-- a file whose words are consistent, and how many positions its game has
+abbrev pub verified_text : GameName → ℕ → ℕ → List ℕ
+verified_text game rounds positions = line (codes "consistent")
+    (rounds_text game rounds ++ codes " " ++ counted_text (codes "positions") positions)
+
+-- a kind with its pair
+abbrev pub row_text : KindRow → List ℕ
+row_text row = line (kind_text row.kind) (pair_text row.pair)
+
+-- a position's pairs in each kind
+abbrev pub shown_text : Placement → GameName → ℕ → List KindRow → List ℕ
+shown_text p game rounds rows =
+    line (codes "position") (position_text p) ++ rounds_text game rounds ++ codes "\n"
+    ++ flat_map row_text rows

@@ -1,0 +1,4 @@
+pub mod Files
+pub mod Advice
+pub mod Scans
+pub mod Replies

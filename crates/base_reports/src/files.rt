@@ -1,0 +1,105 @@
+ghost use Rattle.std.specs.Prelude.{◌≡◌, ◌≤◌, ◌++◌, ◌+◌, ◌*◌, codes, length};
+ghost use Rattle.std.specs.List.{flat_map};
+ghost use Rattle.outside_log.specs.Sink.{Puts};
+ghost use Rattle.base_reports.specs.Files.{migrated_text, row_text, shown_text, verified_text};
+
+use cube_actions::KindName;
+use directed_fixed::Pair;
+use equity_report::{
+    GameName, Report, add_counted, add_points, add_position, add_rounds, add_units, add_written,
+};
+use hyper_outside::Failed;
+use outside_log::Sink;
+use position_rank::Position;
+
+/// A kind of state with a position's pair in it.
+#[derive(Clone, Copy, Debug, Default, PartialEq, Eq)]
+pub struct KindRow {
+    pub kind: KindName,
+    pub pair: Pair,
+}
+
+/// Puts the report of a file that was written anew under this name, of at most 255 bytes, and has so many bytes. `Failed` comes only where `put`
+/// failed; then a front of the text was put.
+pub fn write_migrated<O: Sink>(
+    out: &mut O,
+    game: GameName,
+    rounds: u32,
+    file: &str,
+    bytes: u64,
+) -> Result<(), Failed>
+    requires { length file.now ≤ 255 }
+    ensures { Puts (O.output out.old) (O.output out.new)
+        (migrated_text game rounds file.now bytes) result }
+{
+    let mut report = Report::new();
+    report.push_str("migrated ");
+    add_rounds(&mut report, game, rounds);
+    report.push_str("\n");
+    add_written(&mut report, file, bytes);
+    out.put(report.as_str().as_bytes())
+}
+
+/// Puts the report of a file whose words are consistent, of a game with so many live positions. `Failed` comes only where `put` failed; then a
+/// front of the text was put.
+pub fn write_verified<O: Sink>(
+    out: &mut O,
+    game: GameName,
+    rounds: u32,
+    positions: u64,
+) -> Result<(), Failed>
+    ensures { Puts (O.output out.old) (O.output out.new)
+        (verified_text game rounds positions) result }
+{
+    let mut report = Report::new();
+    report.push_str("consistent ");
+    add_rounds(&mut report, game, rounds);
+    report.push_str(" ");
+    add_counted(&mut report, "positions", positions);
+    report.push_str("\n");
+    out.put(report.as_str().as_bytes())
+}
+
+fn add_row(report: &mut Report, row: &KindRow)
+    requires { length report.old.bytes ≤ 2700 }
+    ensures bytes { report.new.bytes ≡ report.old.bytes ++ row_text row.now }
+    ensures length { length report.new.bytes ≤ length report.old.bytes + 149 }
+{
+    report.push_str(row.kind.print().as_str());
+    report.push_str(" ");
+    add_points(report, row.pair);
+    report.push_str(" ");
+    add_units(report, row.pair);
+    report.push_str("\n");
+}
+
+fn add_rows(report: &mut Report, rows: &[KindRow])
+    requires many { length rows.now ≤ 14 }
+    requires room { length report.old.bytes ≤ 200 }
+    ensures { report.new.bytes ≡ report.old.bytes ++ flat_map row_text rows.now }
+{
+    'rows: for row in rows {
+        add_row(report, row);
+    }
+}
+
+/// Puts a position's pairs in a game after so many rounds, one for each of at most 14 kinds. `Failed` comes only where `put` failed; then a
+/// front of the text was put.
+pub fn write_shown<O: Sink>(
+    out: &mut O,
+    position: &Position,
+    game: GameName,
+    rounds: u32,
+    rows: &[KindRow],
+) -> Result<(), Failed>
+    requires { length rows.now ≤ 14 }
+    ensures { Puts (O.output out.old) (O.output out.new)
+        (shown_text position.now game rounds rows.now) result }
+{
+    let mut report = Report::new();
+    add_position(&mut report, position);
+    add_rounds(&mut report, game, rounds);
+    report.push_str("\n");
+    add_rows(&mut report, rows);
+    out.put(report.as_str().as_bytes())
+}

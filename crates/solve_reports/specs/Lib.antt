@@ -1,0 +1,4 @@
+pub mod Bounds
+pub mod Races
+pub mod Files
+pub mod Ladder

@@ -1,0 +1,38 @@
+ghost use Rattle.std.specs.Prelude.{◌≡◌, ◌≤◌, ◌++◌, codes, decimal, length};
+ghost use Rattle.outside_log.specs.Sink.{Puts};
+ghost use Rattle.equity_report.specs.Reports.{line};
+ghost use Rattle.solve_reports.specs.Bounds.{bound_text};
+
+use directed_fixed::Pair;
+use equity_report::{Report, add_alone, add_number, add_position};
+use hyper_outside::Failed;
+use outside_log::Sink;
+use position_rank::Position;
+
+fn add_rounds(report: &mut Report, rounds: u32)
+    requires { length report.old.bytes ≤ 42 }
+    ensures bytes { report.new.bytes ≡ report.old.bytes ++ line (codes "rounds") (decimal rounds) }
+    ensures length { length report.new.bytes ≤ 70 }
+{
+    report.push_str("rounds ");
+    add_number(report, u64::from(rounds));
+    report.push_str("\n");
+}
+
+/// Puts a position's pair after so many rounds of a game without a cube, in three lines: the position, the rounds, and both ends in points,
+/// rounded outwards, and in units. `Failed` comes only where `put` failed; then a front of the text was put.
+pub fn write_bound<O: Sink>(
+    out: &mut O,
+    position: &Position,
+    rounds: u32,
+    pair: Pair,
+) -> Result<(), Failed>
+    ensures { Puts (O.output out.old) (O.output out.new)
+        (bound_text position.now rounds pair) result }
+{
+    let mut report = Report::new();
+    add_position(&mut report, position);
+    add_rounds(&mut report, rounds);
+    add_alone(&mut report, pair);
+    out.put(report.as_str().as_bytes())
+}
