@@ -6,9 +6,6 @@ use Rattle.outside_log.specs.Readings.{ReadsOn}
 use Rattle.outside_log.specs.Reading.{begins_otherwise}
 use Rattle.outside_log.proofs.Logs.{failures-later, leaves-both, leaves-one, stay}
 use Rattle.database_file.specs.Faults.{Read as FileRead, whole}
-use Rattle.equity_report.specs.declared.refusal.Refusal.{Refusal}
-use Rattle.equity_report.specs.declared.refusal.Refusal.TheVariants.{Read, Other}
-use Rattle.run_endings.specs.Endings.{IsOfBeginning, IsOfWriting}
 use Rattle.run_endings.specs.declared.ending.RunStop.{RunStop}
 use Rattle.run_endings.specs.declared.ending.RunStop.TheVariants.{Refused, NotWritten}
 use Rattle.run_endings.specs.Beginnings.{MayTakePlace, RefusesBeginning, StopsBeginning}
@@ -17,12 +14,6 @@ use Rattle.run_endings.specs.Loads.{OfFile}
 -- what was read of a file is of what stood there before
 pub of-file-before : (told now : Bool) (held there : Option (List ℕ)) (P : Option FileRead → Type 0) → (IsTrue told → IsTrue now) → there ≡ held → OfFile now there P → OfFile told held P
 of-file-before told now held there P was stays of = (of.0, λ is. of.1 (was is) ∙ ap (λ (bytes : Option (List ℕ)). option_map whole bytes) stays, of.2)
-
--- whatever refuses to begin a file refuses a run that writes one
-pub of-beginning : (refusal : Refusal) → IsOfBeginning refusal → IsOfWriting refusal
-of-beginning Read is = tt
-of-beginning (Other name) is = tt
-of-beginning refusal is = absurd is
 
 pub leaves-failures : {old new : List Event} → LeavesPlaces old new → failures old ≤ failures new
 leaves-failures {old} {new} leaves = failures-later old new leaves.added leaves.grown
