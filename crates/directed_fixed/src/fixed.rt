@@ -1,7 +1,6 @@
 ghost use Rattle.std.specs.Prelude.{◌≡◌, ◌^◌, ◌↔◌, ℕ, ℤ, pos, neg_ℤ, ◌+ℤ◌, ◌-ℤ◌, ◌*ℤ◌, ◌≤ℤ◌, IsSome, IfSome};
 ghost use Rattle.std.specs.Int.{int_max, int_min};
 ghost use Rattle.directed_fixed.specs.Bounds.{IsWithinUnits};
-ghost use Rattle.directed_fixed.specs.declared.word.TheConstants.{WORD_OFFSET};
 
 use crate::word::WORD_OFFSET;
 use std::marker::Model;
@@ -84,8 +83,8 @@ impl Fixed {
     /// The value that a word stands for.
     #[inline]
     pub fn of_word(word: u64) -> Fixed
-        requires { IsWithinUnits (pos (2 ^ 56)) (pos word -ℤ WORD_OFFSET) }
-        ensures { result ≡ (pos word -ℤ WORD_OFFSET) }
+        requires { IsWithinUnits (pos (2 ^ 56)) (pos word -ℤ pos (2 ^ 36)) }
+        ensures { result ≡ (pos word -ℤ pos (2 ^ 36)) }
     {
         Fixed {
             units: word as i64 - WORD_OFFSET,

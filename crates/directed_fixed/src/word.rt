@@ -1,6 +1,5 @@
 ghost use Rattle.std.specs.Prelude.{◌≡◌, ◌^◌, ◌↔◌, ℕ, ℤ, pos, ◌+ℤ◌, ◌-ℤ◌, ◌≤ℤ◌, IsSome, IfSome};
 ghost use Rattle.directed_fixed.specs.Bounds.{IsWithinUnits};
-ghost use Rattle.directed_fixed.specs.declared.word.TheConstants.{WORD_OFFSET};
 
 use crate::fixed::Fixed;
 
@@ -9,8 +8,8 @@ pub const WORD_OFFSET: i64 = 1 << 36;
 
 /// The word that stands for a value of at most 2 ^ 36 units on either side of 0.
 pub fn to_word(value: Fixed) -> u64
-    requires { IsWithinUnits (WORD_OFFSET) value }
-    ensures { pos result ≡ value +ℤ WORD_OFFSET }
+    requires { IsWithinUnits (pos (2 ^ 36)) value }
+    ensures { pos result ≡ value +ℤ pos (2 ^ 36) }
 {
     (value.units() + WORD_OFFSET) as u64
 }
@@ -19,9 +18,9 @@ pub fn to_word(value: Fixed) -> u64
 /// `Fixed::of_word` is for words that are known to stand for a value.
 pub fn from_word(word: u64, bound: Fixed) -> Option<Fixed>
     requires from { pos 0 ≤ℤ bound }
-    requires to { bound ≤ℤ WORD_OFFSET }
-    ensures within { IsSome result ↔ IsWithinUnits bound (pos word -ℤ WORD_OFFSET) }
-    ensures value { IfSome result (λ value. value ≡ pos word -ℤ WORD_OFFSET) }
+    requires to { bound ≤ℤ pos (2 ^ 36) }
+    ensures within { IsSome result ↔ IsWithinUnits bound (pos word -ℤ pos (2 ^ 36)) }
+    ensures value { IfSome result (λ value. value ≡ pos word -ℤ pos (2 ^ 36)) }
 {
     if word > 1 << 37 {
         return None;
