@@ -1,7 +1,6 @@
 -- What is wrong with pairs and with pages, and at which place of the file. Words come in pairs, the lower one first.
-use Rattle.std.specs.Prelude.{ℕ, ◌+◌, ◌*◌, ◌<◌, ◌&&◌, Bool, not, if◌then◌else◌, nat_lt, int_le, ℤ, pos, neg_ℤ, ◌-ℤ◌, List, [], ◌∷◌, length, slice_index, Option, Some, None}
+use Rattle.std.specs.Prelude.{ℕ, ◌+◌, ◌*◌, ◌^◌, ◌<◌, ◌&&◌, Bool, not, if◌then◌else◌, nat_lt, int_le, ℤ, pos, neg_ℤ, ◌-ℤ◌, List, [], ◌∷◌, length, slice_index, Option, Some, None}
 use Rattle.std.specs.Option.{option_or}
-use Rattle.directed_fixed.specs.declared.word.TheConstants.{WORD_OFFSET}
 use Rattle.directed_fixed.specs.Bounds.{Bounds, IsWithin}
 use Rattle.hyper_outside.specs.declared.outside.PageFault.{PageFault}
 use Rattle.hyper_outside.specs.declared.outside.PageFault.TheVariants.{Word, Crossed}
@@ -11,7 +10,7 @@ use Rattle.word_pages.specs.Words.{word_size}
 
 -- the value that a word stands for
 abbrev pub value_of : ℕ → ℤ
-value_of word = pos word -ℤ WORD_OFFSET
+value_of word = pos word -ℤ pos (2 ^ 36)
 
 -- the word's value lies within the bound on both sides of 0
 abbrev pub is_in_range : ℤ → ℕ → Bool

@@ -1,6 +1,5 @@
 ghost use Rattle.std.specs.Prelude.{◌≡◌, ◌≤◌, ◌<◌, ◌+◌, ◌*◌, ◌^◌, ℕ, ℤ, pos, ◌≤ℤ◌, length};
 ghost use Rattle.std.specs.Result.{result_err};
-ghost use Rattle.directed_fixed.specs.declared.word.TheConstants.{WORD_OFFSET};
 ghost use Rattle.word_pages.specs.Words.{word_size, words_of};
 ghost use Rattle.word_pages.specs.Flaws.{pair_flaw, pairs_flaw};
 
@@ -20,7 +19,7 @@ pub struct Flaw {
 /// The first flaw of pairs of words, the first of which stands at the place `at` of a file.
 pub fn check_pairs(version: Version, bound: Fixed, at: u64, words: &[u64]) -> Result<(), Flaw>
     requires from { pos 0 ≤ℤ bound }
-    requires to { bound ≤ℤ WORD_OFFSET }
+    requires to { bound ≤ℤ pos (2 ^ 36) }
     requires places { at + word_size version * length words.now < 2 ^ 64 }
     ensures { result_err result ≡ pairs_flaw version bound at words.now }
 {
@@ -40,7 +39,7 @@ pub fn check_pairs(version: Version, bound: Fixed, at: u64, words: &[u64]) -> Re
 /// The first flaw of a pair that stands at the place `at`.
 fn check_pair(version: Version, bound: Fixed, at: u64, lower: u64, upper: u64) -> Result<(), Flaw>
     requires from { pos 0 ≤ℤ bound }
-    requires to { bound ≤ℤ WORD_OFFSET }
+    requires to { bound ≤ℤ pos (2 ^ 36) }
     requires places { at + word_size version < 2 ^ 64 }
     ensures { result_err result ≡ pair_flaw version bound at lower upper }
 {
@@ -76,7 +75,7 @@ pub fn read_pairs(
     words: &mut [u64],
 ) -> Result<(), Flaw>
     requires from { pos 0 ≤ℤ bound }
-    requires to { bound ≤ℤ WORD_OFFSET }
+    requires to { bound ≤ℤ pos (2 ^ 36) }
     requires long { word_size version * length words.old ≤ length bytes.now }
     requires places { at + length bytes.now < 2 ^ 64 }
     ensures words { words.new ≡ words_of version (length words.old) bytes.now }

@@ -1,5 +1,4 @@
 ghost use Rattle.std.specs.Prelude.{◌≡◌, ◌≢◌, ◌≤◌, ◌<◌, ◌+◌, ◌-◌, ◌*◌, ◌^◌, ◌↔◌, ◌++◌, ◌∷◌, [], ℕ, ℤ, pos, neg_ℤ, ◌≤ℤ◌, List, All, Some, None, IsTrue, length, take, drop};
-ghost use Rattle.directed_fixed.specs.declared.word.TheConstants.{WORD_OFFSET};
 ghost use Rattle.hyper_outside.specs.declared.outside.PageFault.TheVariants.{Short, PageDigest, Word, Crossed};
 ghost use Rattle.word_pages.specs.declared.version.Version.{Version};
 ghost use Rattle.word_pages.specs.declared.version.Version.TheVariants.{One, Two, Three};
@@ -66,7 +65,7 @@ pub fn right_pairs_are_within()
     ensures exactly { (version : Version) (bound : ℤ) (at : ℕ) (words : List ℕ)
         → (pairs_flaw version bound at words ≡ None) ↔ AreWithin bound words }
     ensures fit { (version : Version) (bound : ℤ) (count : ℕ) (words : List ℕ)
-        → bound ≤ℤ WORD_OFFSET → length words ≡ 2 * count → AreWithin bound words
+        → bound ≤ℤ pos (2 ^ 36) → length words ≡ 2 * count → AreWithin bound words
         → All (Fits version) words }
 {}
 

@@ -1,5 +1,4 @@
 ghost use Rattle.std.specs.Prelude.{◌≡◌, ◌≤◌, ◌<◌, ◌+◌, ◌^◌, ℕ, ℤ, pos, ◌≤ℤ◌, IsTrue, Err, length, take};
-ghost use Rattle.directed_fixed.specs.declared.word.TheConstants.{WORD_OFFSET};
 ghost use Rattle.hyper_outside.specs.Causes.{Rose};
 ghost use Rattle.outside_log.specs.Log.{standing};
 ghost use Rattle.outside_log.specs.Readings.{ReadsOn, is_faithful, read_faults};
@@ -55,7 +54,7 @@ pub fn load_page<F: Files>(
     words: &mut [u64],
 ) -> Result<(), PageStop>
     requires from { pos 0 ≤ℤ bound }
-    requires to { bound ≤ℤ WORD_OFFSET }
+    requires to { bound ≤ℤ pos (2 ^ 36) }
     requires room { length buf.old ≡ page_size version (length words.old) }
     requires places { at + length buf.old < 2 ^ 64 }
     ensures page { (count : ℕ) × (count ≤ length buf.new)

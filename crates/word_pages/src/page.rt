@@ -1,6 +1,5 @@
 ghost use Rattle.std.specs.Prelude.{◌≡◌, ◌≤◌, ◌<◌, ◌+◌, ◌*◌, ◌^◌, ℕ, ℤ, pos, ◌≤ℤ◌, OnOk, length};
 ghost use Rattle.std.specs.Result.{result_err};
-ghost use Rattle.directed_fixed.specs.declared.word.TheConstants.{WORD_OFFSET};
 ghost use Rattle.word_pages.specs.Words.{words_of};
 ghost use Rattle.word_pages.specs.Pages.{page_size, page_flaw};
 
@@ -22,7 +21,7 @@ pub fn read_page(
     words: &mut [u64],
 ) -> Result<(), Flaw>
     requires from { pos 0 ≤ℤ bound }
-    requires to { bound ≤ℤ WORD_OFFSET }
+    requires to { bound ≤ℤ pos (2 ^ 36) }
     requires places { at + length bytes.now < 2 ^ 64 }
     ensures flaw { result_err result
         ≡ page_flaw version binding.now bound (length words.old) at bytes.now }
