@@ -1,9 +1,8 @@
 -- The head's part of a file: the header, the starts, and the digest of both.
-use Rattle.std.specs.Prelude.{ℕ, ◌*◌, ℤ, ◌+ℤ◌, nat_abs, List, [], ◌∷◌, ◌++◌, flat_map, take, drop, Option, Some, Result, if◌then◌else◌}
+use Rattle.std.specs.Prelude.{ℕ, ◌*◌, ◌^◌, ℤ, pos, ◌+ℤ◌, nat_abs, List, [], ◌∷◌, ◌++◌, flat_map, take, drop, Option, Some, Result, if◌then◌else◌}
 use Rattle.std.specs.Option.{option_map}
 use Rattle.sha2.specs.Sha256.{sha256}
 use Rattle.directed_fixed.specs.Bounds.{Bounds}
-use Rattle.directed_fixed.specs.declared.word.TheConstants.{WORD_OFFSET}
 use Rattle.hyper_outside.specs.declared.outside.PageFault.{PageFault}
 use Rattle.hyper_outside.specs.declared.outside.PageFault.TheVariants as pages
 use Rattle.cube_actions.specs.declared.name.StakesName.{StakesName}
@@ -24,7 +23,7 @@ use Rattle.base_head.specs.declared.header.Header.{Header}
 
 -- the word that stands for a value
 abbrev pub word_of : ℤ → ℕ
-word_of value = nat_abs (value +ℤ WORD_OFFSET)
+word_of value = nat_abs (value +ℤ pos (2 ^ 36))
 
 -- the words of pairs, of each the lower one and then the upper one
 abbrev pub words_of_pair : Bounds → List ℕ

@@ -28,8 +28,11 @@ pub struct Header {
 /// The bytes with which every file of bounds begins.
 pub const BASE_START: [u8; 8] = *b"HYPGAMMN";
 
-/// Positions on a page.
-const PAGE: u64 = 1024;
+/// How many positions a page has.
+pub const PAGE_POSITIONS: usize = 1024;
+
+/// How many bytes the longest front has: a header, 17 pairs of version 1, and a digest.
+pub const LONGEST_FRONT: usize = 368;
 
 impl Header {
     ghost use Rattle.base_head.specs.Heads.{HasText};
@@ -106,7 +109,8 @@ impl Header {
         requires { IsHeader self.now }
         ensures { result ≡ file_length self.now }
     {
-        let pages = (self.positions + PAGE - 1) / PAGE;
+        let page = PAGE_POSITIONS as u64;
+        let pages = (self.positions + page - 1) / page;
         self.front_length()
             + pair_size(self.version) * u64::from(self.kinds) * self.positions
             + 32 * pages

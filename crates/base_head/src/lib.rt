@@ -12,6 +12,6 @@ mod reading;
 pub use fault::{BadFile, FileFault};
 pub use front::put_front;
 pub use head::Head;
-pub use header::{BASE_START, Header};
+pub use header::{BASE_START, Header, LONGEST_FRONT, PAGE_POSITIONS};
 pub use laws::{fronts_are_read_back, header_examples};
 pub use reading::read_header;
