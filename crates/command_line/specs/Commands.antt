@@ -12,7 +12,6 @@ use Rattle.command_line.specs.declared.command.CommandName.{CommandName}
 use Rattle.command_line.specs.declared.command.CommandName.TheVariants as name
 use Rattle.command_line.specs.declared.stop.WordsFault.{WordsFault}
 use Rattle.command_line.specs.declared.stop.WordsFault.TheVariants.{Words}
-use Rattle.command_line.specs.declared.values.TheConstants.{MOST_CHECKERS, MOST_GAMES, MOST_POINTS, MOST_ROUNDS, MOST_WORKERS, USUAL_POINTS, USUAL_REPLY_ROUNDS, USUAL_ROUNDS}
 use Rattle.command_line.specs.Values.{long_number_given, number_given, number_or, stakes_or, kind_given, file_name, other_name, prefix, position_given, roll_given}
 
 -- what words ask for, or why for nothing
@@ -32,7 +31,8 @@ read (Ok value) next = next value
 read (Err fault) next = Err fault
 
 -- ---- each command: its form, and its values in the order of their numbers; then its position, then
--- its roll
+-- its roll. Behind `number_or` stand the limit and the number that is taken where none is given: at most 3
+-- checkers, 4,096 rounds, 64 workers and 5 points, and mostly 64 rounds, but 16 of `reply`.
 
 abbrev pub bound_form : Form
 bound_form = record {
@@ -42,8 +42,8 @@ bound_form = record {
 
 abbrev pub bound_values : Values → Asked
 bound_values given =
-    checked 1 (number_given MOST_CHECKERS (value_of (codes "CHECKERS") given)) (λ checkers.
-    checked 2 (number_given MOST_ROUNDS (value_of (codes "ROUNDS") given)) (λ rounds.
+    checked 1 (number_given 3 (value_of (codes "CHECKERS") given)) (λ checkers.
+    checked 2 (number_given 4096 (value_of (codes "ROUNDS") given)) (λ rounds.
     checked 3 (value_of (codes "POSITION") given) (λ text.
     read (position_given text) (λ position.
     Ok (Bound (record { checkers = checkers; rounds = rounds; position = position }))))))
@@ -53,7 +53,7 @@ race_form = record { arguments = codes "CHECKERS" ∷ codes "POSITION" ∷ []; o
 
 abbrev pub race_values : Values → Asked
 race_values given =
-    checked 1 (number_given MOST_CHECKERS (value_of (codes "CHECKERS") given)) (λ checkers.
+    checked 1 (number_given 3 (value_of (codes "CHECKERS") given)) (λ checkers.
     checked 2 (value_of (codes "POSITION") given) (λ text.
     read (position_given text) (λ position.
     Ok (Race (record { checkers = checkers; position = position })))))
@@ -67,11 +67,10 @@ solve_form = record {
 abbrev pub solve_values : Values → Asked
 solve_values given =
     checked 1 (file_name (value_of (codes "FILE") given)) (λ file.
-    checked 2 (number_or MOST_CHECKERS MOST_CHECKERS (value_of (codes "checkers") given))
-    (λ checkers.
+    checked 2 (number_or 3 3 (value_of (codes "checkers") given)) (λ checkers.
     checked 3 (stakes_or Jacoby (value_of (codes "stakes") given)) (λ stakes.
-    checked 4 (number_or MOST_ROUNDS USUAL_ROUNDS (value_of (codes "rounds") given)) (λ rounds.
-    checked 5 (number_or MOST_WORKERS 1 (value_of (codes "workers") given)) (λ workers.
+    checked 4 (number_or 4096 64 (value_of (codes "rounds") given)) (λ rounds.
+    checked 5 (number_or 64 1 (value_of (codes "workers") given)) (λ workers.
     Ok (Solve (record {
       file = file;
       checkers = checkers;
@@ -101,7 +100,7 @@ abbrev pub migrate_values : Values → Asked
 migrate_values given =
     checked 1 (file_name (value_of (codes "OLD") given)) (λ old.
     checked 2 (other_name old (value_of (codes "NEW") given)) (λ new.
-    checked 3 (number_or MOST_WORKERS 1 (value_of (codes "workers") given)) (λ workers.
+    checked 3 (number_or 64 1 (value_of (codes "workers") given)) (λ workers.
     Ok (Migrate (record { old = old; new = new; workers = workers })))))
 
 abbrev pub advise_form : Form
@@ -125,7 +124,7 @@ verify_form = record { arguments = codes "FILE" ∷ []; options = codes "workers
 abbrev pub verify_values : Values → Asked
 verify_values given =
     checked 1 (file_name (value_of (codes "FILE") given)) (λ file.
-    checked 2 (number_or MOST_WORKERS 1 (value_of (codes "workers") given)) (λ workers.
+    checked 2 (number_or 64 1 (value_of (codes "workers") given)) (λ workers.
     Ok (Verify (record { file = file; workers = workers }))))
 
 abbrev pub ladder_form : Form
@@ -137,11 +136,10 @@ ladder_form = record {
 abbrev pub ladder_values : Values → Asked
 ladder_values given =
     checked 1 (prefix (value_of (codes "PREFIX") given)) (λ prefix.
-    checked 2 (number_or MOST_CHECKERS MOST_CHECKERS (value_of (codes "checkers") given))
-    (λ checkers.
-    checked 3 (number_or MOST_POINTS USUAL_POINTS (value_of (codes "length") given)) (λ points.
-    checked 4 (number_or MOST_ROUNDS USUAL_ROUNDS (value_of (codes "rounds") given)) (λ rounds.
-    checked 5 (number_or MOST_WORKERS 1 (value_of (codes "workers") given)) (λ workers.
+    checked 2 (number_or 3 3 (value_of (codes "checkers") given)) (λ checkers.
+    checked 3 (number_or 5 3 (value_of (codes "length") given)) (λ points.
+    checked 4 (number_or 4096 64 (value_of (codes "rounds") given)) (λ rounds.
+    checked 5 (number_or 64 1 (value_of (codes "workers") given)) (λ workers.
     Ok (Ladder (record {
       prefix = prefix;
       checkers = checkers;
@@ -168,8 +166,8 @@ study_form = record {
 abbrev pub study_values : Values → Asked
 study_values given =
     checked 1 (file_name (value_of (codes "RECORD") given)) (λ rec.
-    checked 2 (number_or MOST_ROUNDS USUAL_ROUNDS (value_of (codes "rounds") given)) (λ rounds.
-    checked 3 (number_or MOST_WORKERS 1 (value_of (codes "workers") given)) (λ workers.
+    checked 2 (number_or 4096 64 (value_of (codes "rounds") given)) (λ rounds.
+    checked 3 (number_or 64 1 (value_of (codes "workers") given)) (λ workers.
     Ok (Study (record { rec = rec; rounds = rounds; workers = workers })))))
 
 abbrev pub make_form : Form
@@ -179,7 +177,7 @@ make_form = record { arguments = codes "NUMBER" ∷ codes "GAMES" ∷ codes "FIL
 abbrev pub make_values : Values → Asked
 make_values given =
     checked 1 (long_number_given (value_of (codes "NUMBER") given)) (λ number.
-    checked 2 (number_given MOST_GAMES (value_of (codes "GAMES") given)) (λ games.
+    checked 2 (number_given 1000 (value_of (codes "GAMES") given)) (λ games.
     checked 3 (file_name (value_of (codes "FILE") given)) (λ file.
     Ok (Make (record { number = number; games = games; file = file })))))
 
@@ -189,7 +187,7 @@ plan_form = record { arguments = codes "PREFIX" ∷ []; options = codes "length"
 abbrev pub plan_values : Values → Asked
 plan_values given =
     checked 1 (prefix (value_of (codes "PREFIX") given)) (λ prefix.
-    checked 2 (number_or MOST_POINTS USUAL_POINTS (value_of (codes "length") given)) (λ points.
+    checked 2 (number_or 5 3 (value_of (codes "length") given)) (λ points.
     Ok (Plan (record { prefix = prefix; match_length = points }))))
 
 abbrev pub scan_form : Form
@@ -203,7 +201,7 @@ abbrev pub scan_values : Values → Asked
 scan_values given =
     checked 1 (file_name (value_of (codes "FILE") given)) (λ file.
     checked 2 (value_of (codes "CONDITION") given) (λ condition.
-    checked 3 (number_or MOST_WORKERS 1 (value_of (codes "workers") given)) (λ workers.
+    checked 3 (number_or 64 1 (value_of (codes "workers") given)) (λ workers.
     Ok (Scan (record { file = file; condition = condition; workers = workers })))))
 
 abbrev pub reply_form : Form
@@ -217,8 +215,7 @@ reply_values given =
     checked 1 (file_name (value_of (codes "FILE") given)) (λ file.
     checked 2 (value_of (codes "POSITION") given) (λ text.
     checked 3 (kind_given (value_of (codes "kind") given)) (λ kind.
-    checked 4 (number_or MOST_ROUNDS USUAL_REPLY_ROUNDS (value_of (codes "rounds") given))
-    (λ rounds.
+    checked 4 (number_or 4096 16 (value_of (codes "rounds") given)) (λ rounds.
     read (position_given text) (λ position.
     Ok (Reply (record { file = file; position = position; kind = kind; rounds = rounds })))))))
 

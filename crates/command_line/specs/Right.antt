@@ -21,7 +21,6 @@ use Rattle.command_line.specs.declared.command.Reply.{Reply as ReplyWords}
 use Rattle.command_line.specs.declared.command.Scan.{Scan as ScanWords}
 use Rattle.command_line.specs.declared.command.Study.{Study as StudyWords}
 use Rattle.command_line.specs.declared.command.Verify.{Verify as VerifyWords}
-use Rattle.command_line.specs.declared.values.TheConstants.{MOST_CHECKERS, MOST_GAMES, MOST_POINTS, MOST_ROUNDS, MOST_WORKERS}
 
 -- a file's name has 1 to 255 bytes
 pub record IsName (name : Bytes) : Type 0 where
@@ -35,27 +34,27 @@ pub record IsPrefix (prefix : Bytes) : Type 0 where
 
 pub record IsRightBound (bound : BoundWords) : Type 0 where
   pub some : 1 ≤ bound.checkers
-  pub few : bound.checkers ≤ MOST_CHECKERS
+  pub few : bound.checkers ≤ 3
   pub begun : 1 ≤ bound.rounds
-  pub ended : bound.rounds ≤ MOST_ROUNDS
+  pub ended : bound.rounds ≤ 4096
   pub position : IsPosition bound.position
   pub live : IsLive bound.position
 
 pub record IsRightRace (race : RaceWords) : Type 0 where
   pub some : 1 ≤ race.checkers
-  pub few : race.checkers ≤ MOST_CHECKERS
+  pub few : race.checkers ≤ 3
   pub position : IsPosition race.position
   pub live : IsLive race.position
 
 pub record IsRightSolve (solve : SolveWords) : Type 0 where
   pub file : IsName solve.file
   pub some : 1 ≤ solve.checkers
-  pub few : solve.checkers ≤ MOST_CHECKERS
+  pub few : solve.checkers ≤ 3
   pub no_match : (score : MatchScore) → solve.stakes ≢ Match score
   pub begun : 1 ≤ solve.rounds
-  pub ended : solve.rounds ≤ MOST_ROUNDS
+  pub ended : solve.rounds ≤ 4096
   pub one : 1 ≤ solve.workers
-  pub most : solve.workers ≤ MOST_WORKERS
+  pub most : solve.workers ≤ 64
 
 pub record IsRightShow (show : ShowWords) : Type 0 where
   pub file : IsName show.file
@@ -67,7 +66,7 @@ pub record IsRightMigrate (migrate : MigrateWords) : Type 0 where
   pub new : IsName migrate.new
   pub apart : migrate.old ≢ migrate.new
   pub one : 1 ≤ migrate.workers
-  pub most : migrate.workers ≤ MOST_WORKERS
+  pub most : migrate.workers ≤ 64
 
 pub record IsRightAdvise (advise : AdviseWords) : Type 0 where
   pub file : IsName advise.file
@@ -78,18 +77,18 @@ pub record IsRightAdvise (advise : AdviseWords) : Type 0 where
 pub record IsRightVerify (verify : VerifyWords) : Type 0 where
   pub file : IsName verify.file
   pub one : 1 ≤ verify.workers
-  pub most : verify.workers ≤ MOST_WORKERS
+  pub most : verify.workers ≤ 64
 
 pub record IsRightLadder (ladder : LadderWords) : Type 0 where
   pub prefix : IsPrefix ladder.prefix
   pub some : 1 ≤ ladder.checkers
-  pub few : ladder.checkers ≤ MOST_CHECKERS
+  pub few : ladder.checkers ≤ 3
   pub point : 1 ≤ ladder.match_length
-  pub points : ladder.match_length ≤ MOST_POINTS
+  pub points : ladder.match_length ≤ 5
   pub begun : 1 ≤ ladder.rounds
-  pub ended : ladder.rounds ≤ MOST_ROUNDS
+  pub ended : ladder.rounds ≤ 4096
   pub one : 1 ≤ ladder.workers
-  pub most : ladder.workers ≤ MOST_WORKERS
+  pub most : ladder.workers ≤ 64
 
 pub record IsRightAnalyse (analyse : AnalyseWords) : Type 0 where
   pub base : IsName analyse.base
@@ -98,32 +97,32 @@ pub record IsRightAnalyse (analyse : AnalyseWords) : Type 0 where
 pub record IsRightStudy (study : StudyWords) : Type 0 where
   pub rec : IsName study.rec
   pub begun : 1 ≤ study.rounds
-  pub ended : study.rounds ≤ MOST_ROUNDS
+  pub ended : study.rounds ≤ 4096
   pub one : 1 ≤ study.workers
-  pub most : study.workers ≤ MOST_WORKERS
+  pub most : study.workers ≤ 64
 
 pub record IsRightMake (make : MakeWords) : Type 0 where
   pub number : make.number < 2 ^ 64
   pub some : 1 ≤ make.games
-  pub few : make.games ≤ MOST_GAMES
+  pub few : make.games ≤ 1000
   pub file : IsName make.file
 
 pub record IsRightPlan (plan : PlanWords) : Type 0 where
   pub prefix : IsPrefix plan.prefix
   pub point : 1 ≤ plan.match_length
-  pub points : plan.match_length ≤ MOST_POINTS
+  pub points : plan.match_length ≤ 5
 
 pub record IsRightScan (scan : ScanWords) : Type 0 where
   pub file : IsName scan.file
   pub one : 1 ≤ scan.workers
-  pub most : scan.workers ≤ MOST_WORKERS
+  pub most : scan.workers ≤ 64
 
 pub record IsRightReply (reply : ReplyWords) : Type 0 where
   pub file : IsName reply.file
   pub position : IsPosition reply.position
   pub live : IsLive reply.position
   pub begun : 1 ≤ reply.rounds
-  pub ended : reply.rounds ≤ MOST_ROUNDS
+  pub ended : reply.rounds ≤ 4096
 
 -- numbers within their limits, names of files within theirs, stakes that aren't a match, live
 -- positions, and rolls of two dice

@@ -84,10 +84,11 @@ abbrev pub name_within : ℕ → Option Bytes → Option Bytes
 name_within most given =
     option_and_then (λ word. if is_name_within most word then Some word else None) given
 
+-- a file's name of 1 to 255 bytes
 abbrev pub file_name : Option Bytes → Option Bytes
 file_name = name_within 255
 
--- what the names of a ladder's files begin with
+-- what the names of a ladder's files begin with, 1 to 240 bytes
 abbrev pub prefix : Option Bytes → Option Bytes
 prefix = name_within 240
 

@@ -6,16 +6,16 @@ use Rattle.std.specs.Str.{bytes_eq}
 use Rattle.hyper_outside.specs.declared.outside.WordsKind.TheVariants.{Command, Word, Form}
 use Rattle.word_forms.specs.Form.{Bytes, values_of}
 use Rattle.command_line.specs.declared.command.CommandName.{CommandName}
-use Rattle.command_line.specs.declared.values.TheConstants.{LONGEST_WORD}
 use Rattle.command_line.specs.Commands.{Asked, refused, command_named, command_form, command_values}
 
 abbrev pub is_option : Bytes → Bool
 is_option word = starts_with nat_eq word (codes "--")
 
--- a word that can't stand in any command
+-- a word that can't stand in any command: it is empty or has more than 4,096 bytes, or is no option but begins
+-- with a -, or is one with no name or with an empty value
 abbrev pub is_faulty : Bytes → Bool
 is_faulty word =
-    length word == 0 || nat_lt LONGEST_WORD (length word) || bytes_eq word (codes "--")
+    length word == 0 || nat_lt 4096 (length word) || bytes_eq word (codes "--")
     || starts_with nat_eq word (codes "-") && not (is_option word)
     || is_option word && ends_with nat_eq word (codes "=")
 

@@ -10,12 +10,13 @@ use crate::command::{
 use crate::stop::{WordsStop, bad_value};
 use crate::text::Text;
 use crate::values::{
-    MOST_CHECKERS, MOST_GAMES, MOST_POINTS, MOST_ROUNDS, MOST_WORKERS, USUAL_POINTS,
-    USUAL_REPLY_ROUNDS, USUAL_ROUNDS, file_name, kind_given, long_number_given, number_given,
-    number_or, other_name, position_given, prefix, roll_given, stakes_or,
+    MOST_GAMES, MOST_POINTS, MOST_ROUNDS, MOST_WORKERS, USUAL_POINTS, USUAL_REPLY_ROUNDS,
+    USUAL_ROUNDS, file_name, kind_given, long_number_given, number_given, number_or, other_name,
+    position_given, prefix, roll_given, stakes_or,
 };
 use clap::ArgMatches;
 use cube_actions::StakesName;
+use position_rank::MOST_CHECKERS;
 use std::alloc::Global;
 
 /// What a command's values ask for. Of those that are out of their form the first by number is refused; where all are in theirs, the

@@ -17,7 +17,7 @@ pub use laws::commands_are_right;
 pub use stop::{WordsFault, WordsStop};
 pub use text::Text;
 pub use values::{
-    MOST_CHECKERS, MOST_GAMES, MOST_POINTS, MOST_ROUNDS, MOST_WORKERS, USUAL_POINTS,
-    USUAL_REPLY_ROUNDS, USUAL_ROUNDS,
+    MOST_GAMES, MOST_POINTS, MOST_ROUNDS, MOST_WORKERS, USUAL_POINTS, USUAL_REPLY_ROUNDS,
+    USUAL_ROUNDS,
 };
 pub use words::read_words;

@@ -8,9 +8,6 @@ use cube_actions::{KindName, StakesName};
 use position_rank::{Position, read_position};
 use roll_table::Roll;
 
-/// The most checkers per side, and those that `solve` and `ladder` take where none are given.
-pub const MOST_CHECKERS: u8 = 3;
-
 /// The most rounds.
 pub const MOST_ROUNDS: u32 = 4096;
 
