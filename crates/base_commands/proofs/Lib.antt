@@ -8,3 +8,4 @@ mod PlanLaws
 mod PlanFiles
 mod ScanFiles
 mod ReplyFiles
+pub mod RightFiles

@@ -1,5 +1,5 @@
 -- The file whose states are searched, and why a search is refused.
-use Rattle.std.proofs.Common.{◌≡◌, ◌+◌, ◌-◌, inl, inr, ℕ, zero, suc, Bool, true, List, length, drop, Option, Some, Ok, refl, sym, subst, arith}
+use Rattle.std.proofs.Common.{◌≡◌, ◌+◌, ◌-◌, ℕ, zero, suc, Bool, List, length, drop, Option, Ok, sym, subst, arith}
 use Rattle.std.specs.List.{All}
 use Rattle.std.proofs.lemmas.List.{take-append-drop}
 use Rattle.position_rank.specs.Text.{words}
@@ -8,16 +8,12 @@ use Rattle.base_scan.specs.declared.found.State.{State}
 use Rattle.base_scan.specs.Conditions.{AreWordsOf, IsFirstBad}
 use Rattle.base_scan.specs.Found.{AreFound, IsStateIn, meeting}
 use Rattle.interval_words.specs.WordLists.{WordList}
-use Rattle.database_file.specs.Bases.{AnswersBase, IsBaseOf}
+use Rattle.database_file.specs.Bases.{AnswersBase}
 use Rattle.database_file.specs.FileBases.{FileBase}
-use Rattle.database_file.specs.Faults.{Read as FileRead, whole}
 use Rattle.command_line.specs.declared.command.Scan.{Scan}
-use Rattle.equity_report.specs.declared.refusal.Refusal.{Refusal}
 use Rattle.base_reports.specs.Scans.{scan_text}
 use Rattle.run_endings.specs.Loads.{OfFile}
-use Rattle.run_endings.specs.Endings.{IsOutside}
-use Rattle.base_commands.specs.Scans.{HasScanned, IsTextOf, MayRefuseScanning, RefusesScanning}
-use Rattle.base_commands.proofs.Fitting.{right-loads}
+use Rattle.base_commands.specs.Scans.{HasScanned, IsTextOf}
 
 -- the report was put of the states that were found
 pub has-scanned : (task : Scan) (told : Bool) (held : Option (List ℕ)) (groups : List (List Test)) → IsTextOf task.condition groups → (base : FileBase) → OfFile told held (λ file. AnswersBase file (Ok base))
@@ -33,7 +29,7 @@ has-scanned task told held groups text base read words is states all right IsRep
   report = report;
 }
 
--- ---- right searches
+-- ---- texts of conditions
 
 -- a text that is a condition's has no first wrong word
 no-bad-before : (groups : List (List Test)) (all : List (List ℕ)) (n rest : ℕ) → AreWordsOf groups all → IsFirstBad all n → length all ≡ n + rest → ⊥
@@ -41,13 +37,5 @@ no-bad-before groups all n zero are bad long = bad.end (omega (arith, long)) gro
 no-bad-before groups all n (suc rest) are bad long =
     bad.here (omega (arith, long)) (groups, drop (n + 1) all, subst (AreWordsOf groups) (sym (take-append-drop (n + 1) all)) are)
 
-no-bad : (groups : List (List Test)) (all : List (List ℕ)) (n : ℕ) → AreWordsOf groups all → IsFirstBad all n → ⊥
+pub no-bad : (groups : List (List Test)) (all : List (List ℕ)) (n : ℕ) → AreWordsOf groups all → IsFirstBad all n → ⊥
 no-bad groups all n are bad = no-bad-before groups all n (length all - n) are bad (omega (arith, bad.inside))
-
-pub right-searched : (task : Scan) (groups : List (List Test)) (bytes : List ℕ) (base : FileBase) (refusal : Refusal) → IsTextOf task.condition groups → IsBaseOf (whole bytes) base
-    → MayRefuseScanning task true (Some bytes) refusal → IsOutside refusal
-right-searched task groups bytes base refusal text is may =
-    by_cause (subst (λ (file : Option FileRead). RefusesScanning task refusal file) (may.1 refl) may.2) where
-      by_cause : RefusesScanning task refusal (Some (whole bytes)) → IsOutside refusal
-      by_cause (inl bad) = absurd (no-bad groups (words task.condition) bad.word text bad.first)
-      by_cause (inr loading) = right-loads task.file (whole bytes) base is refusal loading.1

@@ -1,5 +1,5 @@
 -- When a file is of another game than the one that is asked for.
-use Rattle.std.specs.Prelude.{◌≡◌, ◌≢◌, ◌⊎◌, ℕ, List, Contains, sum, slice_get, Option, Some, None, Result, Ok, Err}
+use Rattle.std.specs.Prelude.{◌≡◌, ◌≢◌, ◌⊎◌, ℕ, List, Contains, sum, slice_get, Option, Some, None, IfSome, Result, Ok, Err}
 use Rattle.position_rank.specs.Placement.{Placement}
 use Rattle.cube_actions.specs.declared.name.KindName.{KindName}
 use Rattle.cube_actions.specs.Names.{names_of}
@@ -24,6 +24,11 @@ IsAsAsked (Some name) kind = kind.name ≡ name
 pub record IsKindAsked (head : FileHead) (asked : Option KindName) (kind : AskedKind) : Type 0 where
   pub named : slice_get (names_of head.name) kind.number ≡ Some kind.name
   pub as_asked : IsAsAsked asked kind
+
+-- the head's game has the position's checkers, and the kind that is asked for, where one is
+pub record HasState (p : Placement) (asked : Option KindName) (head : FileHead) : Type 0 where
+  pub checkers : head.checkers ≡ sum p.mover
+  pub kind : IfSome asked (Contains (names_of head.name))
 
 -- ---- another game
 

@@ -6,3 +6,4 @@ pub mod Migrates
 pub mod Plans
 pub mod Scans
 pub mod Replies
+pub mod RightFiles

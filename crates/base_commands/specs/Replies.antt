@@ -1,15 +1,13 @@
 -- What following the advice of a file's words is worth, and what is told of it.
-use Rattle.std.specs.Prelude.{◌≡◌, ◌≤◌, ℕ, List, Contains, sum, Bool, Option, IfSome, Result, Ok, Err}
+use Rattle.std.specs.Prelude.{◌≡◌, ◌≤◌, ℕ, List, sum, Bool, Option, Result, Ok, Err}
 use Rattle.position_rank.specs.Placement.{Placement}
 use Rattle.outside_log.specs.Sink.{Output}
-use Rattle.cube_actions.specs.Names.{names_of}
 use Rattle.turn_rule.specs.Exact.{Scoring, exact}
 use Rattle.turn_rule.specs.States.{pair_of}
 use Rattle.interval_words.specs.WordLists.{WordList, words_in_list}
 use Rattle.best_reply.specs.Replies.{AreScored, IsBetween, Worths, same_worths, worths}
 use Rattle.best_reply.specs.ReplyPairs.{EncloseWorths, ReplyWords, reply_rounds}
 use Rattle.best_reply.specs.Tables.{policy_of}
-use Rattle.base_head.specs.Heads.{FileHead}
 use Rattle.database_file.specs.Bases.{AnswersBase}
 use Rattle.database_file.specs.FileBases.{FileBase}
 use Rattle.database_file.specs.Faults.{Read as FileRead}
@@ -90,11 +88,6 @@ MayRefuseReplying task told held refusal = OfFile told held (RefusesReplying tas
 -- how a reply ends
 abbrev pub TellsReply : ReplyTask → Bool → Option (List ℕ) → Output → Output → Ending → Type 0
 TellsReply task told held = Tells (HasReplied task told held) (MayRefuseReplying task told held)
-
--- the head's game has the position's checkers, and the kind that is asked for, where one is
-pub record IsFitting (task : ReplyTask) (head : FileHead) : Type 0 where
-  pub checkers : head.checkers ≡ sum task.position.mover
-  pub kind : IfSome task.kind (Contains (names_of head.name))
 
 -- ---- what loading may answer
 
