@@ -3,3 +3,4 @@ mod ByFile
 mod Recorded
 mod Matches
 mod MatchTruth
+mod RightRecords

@@ -6,9 +6,11 @@ mod analyse_match;
 mod by_file;
 mod make;
 mod record;
+mod right_laws;
 mod studying;
 
 pub use analyse::run_analyse;
 pub use make::{MadeRecord, run_make};
 pub use record::Replayed;
+pub use right_laws::right_records_are_not_refused;
 pub use studying::run_study;

@@ -1,0 +1,149 @@
+-- Right records and right files are refused for no fault of theirs.
+use Rattle.std.proofs.Common.{◌≡◌, ◌∙◌, List, ℕ, All, Bool, true, false, Contains, Option, Some, None, IfSome, IsSomeAnd, inl, inr, refl, sym, ap, subst}
+use Rattle.std.specs.Option.{option_map}
+use Rattle.std.proofs.lemmas.Option.{none-some}
+use Rattle.outside_log.specs.Files.{Contents}
+use Rattle.cube_actions.specs.Scores.{MatchScore}
+use Rattle.game_record.specs.Faults.{IsBad}
+use Rattle.game_record.specs.Lines.{IsTextOf}
+use Rattle.game_record.specs.Replay.{IsBroken, IsReplay}
+use Rattle.game_record.specs.Turns.{is_match}
+use Rattle.game_record.specs.declared.decision.Decision.{Decision}
+use Rattle.game_record.specs.declared.fault.BadRecord.{BadRecord}
+use Rattle.game_record.specs.declared.record.Record.{Record as RecordRead}
+use Rattle.word_pages.specs.declared.flaws.Flaw.{Flaw}
+use Rattle.base_head.specs.Fronts.{bad_of}
+use Rattle.database_file.specs.Faults.{fault_before_pages, whole}
+use Rattle.command_line.specs.declared.command.Analyse.{Analyse}
+use Rattle.command_line.specs.declared.command.Study.{Study}
+use Rattle.equity_report.specs.declared.text.GameName.{GameName}
+use Rattle.equity_report.specs.declared.refusal.Refusal.{Refusal}
+use Rattle.equity_report.specs.declared.refusal.Refusal.TheVariants.{Missing, File, Record, Read, Memory}
+use Rattle.run_endings.specs.Endings.{IsOutside}
+use Rattle.run_endings.specs.Pages.{OfHeld, RefusesOpening}
+use Rattle.run_endings.specs.Scores.{score_file}
+use Rattle.record_commands.specs.Analyses.{MayRefuseAnalysis, RefusesAnalysis, RefusesBy}
+use Rattle.record_commands.specs.ByFile.{IsBadFor, RefusesFile, RefusesFront}
+use Rattle.record_commands.specs.MatchAnalyses.{RefusesMatch, game_at, score_there}
+use Rattle.record_commands.specs.Records.{HoldsRecord, RefusesRecord, game_recorded}
+use Rattle.record_commands.specs.RightRecords.{CanJudge, CanJudgeAll, CanJudgeAtScore, CanJudgeBy, HasRightFront, IsRightForAnalysing, IsRightForStudying}
+use Rattle.record_commands.specs.Studies.{MayRefuseStudy}
+use Rattle.record_commands.specs.declared.record.Replayed.{Replayed}
+use Rattle.record_commands.proofs.Matches.{there}
+
+-- ---- records
+
+-- the laws on texts and replays of records
+abbrev NoFault : Type 0
+NoFault = (text : List ℕ) (rec : RecordRead) (bad : BadRecord) → IsTextOf text rec → IsBad text bad → ⊥
+
+abbrev OneRecord : Type 0
+OneRecord = (text : List ℕ) (rec other : RecordRead) → IsTextOf text rec → IsTextOf text other → rec ≡ other
+
+abbrev OneReplay : Type 0
+OneReplay = (rec : RecordRead) (told others : List Decision) → IsReplay rec told → IsReplay rec others → told ≡ others
+
+abbrev NoBreach : Type 0
+NoBreach = (rec : RecordRead) (told : List Decision) (bad : BadRecord) → IsReplay rec told → IsBroken rec bad → ⊥
+
+abbrev Holds : Option (List ℕ) → Replayed → Type 0
+Holds held replayed = OfHeld held (λ bytes. HoldsRecord bytes replayed)
+
+-- a right record is refused by no line of it
+right-record : NoFault → OneRecord → NoBreach → (name : List ℕ) (held : Option (List ℕ)) (replayed : Replayed) → Holds held replayed → (refusal : Refusal) → RefusesRecord name refusal held → IsOutside refusal
+right-record no_fault one no_breach name None replayed holds refusal r = absurd holds
+right-record no_fault one no_breach name (Some bytes) replayed holds (Missing missing) r = absurd (none-some bytes (sym r.1))
+right-record no_fault one no_breach name (Some bytes) replayed holds (Record bad) (inl wrong) = absurd (no_fault bytes replayed.rec bad holds.text wrong)
+right-record no_fault one no_breach name (Some bytes) replayed holds (Record bad) (inr (rec, text, broken)) =
+    absurd (no_breach replayed.rec replayed.decisions bad holds.replay (subst (λ (r : RecordRead). IsBroken r bad) (one bytes rec replayed.rec text holds.text) broken))
+right-record no_fault one no_breach name (Some bytes) replayed holds Memory r = tt
+right-record no_fault one no_breach name (Some bytes) replayed holds Read r = tt
+right-record no_fault one no_breach name (Some bytes) replayed holds refusal r = absurd r
+
+-- a file holds one record, with one list of decisions
+same-record : OneRecord → OneReplay → (held : Option (List ℕ)) (replayed other : Replayed) → Holds held replayed → Holds held other → replayed ≡ other
+same-record one replay None replayed other holds also = absurd holds
+same-record one replay (Some bytes) replayed other holds also =
+    let rec = one bytes replayed.rec other.rec holds.text also.text in
+    let told = replay other.rec replayed.decisions other.decisions (subst (λ (r : RecordRead). IsReplay r replayed.decisions) rec holds.replay) also.replay in
+    λ i. record { rec = rec i; decisions = told i }
+
+-- ---- files that can judge
+
+right-opens : (name bytes : List ℕ) → fault_before_pages (whole bytes) ≡ None → (refusal : Refusal) → RefusesOpening name refusal (Some bytes) → IsOutside refusal
+right-opens name bytes front (Missing missing) r = absurd (none-some bytes (sym r.1))
+right-opens name bytes front (File bad) r = absurd (none-some bad (sym front ∙ r))
+right-opens name bytes front Read r = tt
+right-opens name bytes front Memory r = tt
+right-opens name bytes front refusal r = absurd r
+
+right-front : (wanted : GameName) (name : List ℕ) (held : Option (List ℕ)) (refusal : Refusal) → OfHeld held (HasRightFront wanted) → RefusesFront wanted name refusal held → IsOutside refusal
+right-front wanted name None refusal has r = absurd has
+right-front wanted name (Some bytes) refusal has (inl r) = right-opens name bytes has.front refusal r
+right-front wanted name (Some bytes) refusal has (inr other) = absurd (other.other.1 has.game)
+
+right-page : (wanted : GameName) (decision : Decision) (held : Option (List ℕ)) (refusal : Refusal) → OfHeld held (CanJudge wanted decision) → OfHeld held (IsBadFor wanted decision refusal) → ⊥
+right-page wanted decision None refusal can bad = can
+right-page wanted decision (Some bytes) refusal can bad =
+    none-some refusal (sym (ap (option_map (λ (flaw : Flaw). File (bad_of flaw))) (can.pages bad.page.position bad.page.kind bad.page.among)) ∙ bad.page.page)
+
+-- what holds of all holds of one among them
+at-one : (P : Decision → Type 0) (decisions : List Decision) (decision : Decision) → All P decisions → Contains decisions decision → P decision
+at-one P decisions decision all (k, below, is) = subst P is (all k decision below)
+
+right-file : (wanted : GameName) (name : List ℕ) (decisions : List Decision) (score : Option MatchScore) (held : Option (List ℕ)) (refusal : Refusal) → OfHeld held (CanJudgeAll wanted decisions)
+    → RefusesFile wanted name score decisions refusal held → IsOutside refusal
+right-file wanted name decisions score None refusal can r = absurd can
+right-file wanted name decisions score (Some bytes) refusal can (inl front) = right-front wanted name (Some bytes) refusal can.front front
+right-file wanted name decisions score (Some bytes) refusal can (inr one) =
+    absurd (right-page wanted one.decision (Some bytes) refusal (at-one (λ (decision : Decision). CanJudge wanted decision bytes) decisions one.decision can.each one.among) one.cause)
+
+module _ (prefix : List ℕ) (rec : RecordRead) (held : Contents) where
+  -- the file of a score is of its game, and right up to its pages
+  abbrev HasFront : Option MatchScore → Type 0
+  HasFront score = IfSome score (λ score. OfHeld (held (score_file prefix score)) (HasRightFront (game_at rec score)))
+
+  front-of : (decision : Decision) (score : Option MatchScore) → IfSome score (λ score. OfHeld (held (score_file prefix score)) (CanJudge (game_at rec score) decision)) → HasFront score
+  front-of decision None can = tt
+  front-of decision (Some score) can = by_held (held (score_file prefix score)) can where
+    by_held : (file : Option (List ℕ)) → OfHeld file (CanJudge (game_at rec score) decision) → OfHeld file (HasRightFront (game_at rec score))
+    by_held None can = absurd can
+    by_held (Some bytes) can = can.front
+
+  right-score : (score : Option MatchScore) (refusal : Refusal) → HasFront score → IsSomeAnd score (λ score. RefusesFront (game_at rec score) (score_file prefix score) refusal (held (score_file prefix score))) → IsOutside refusal
+  right-score None refusal has r = absurd r
+  right-score (Some score) refusal has r = right-front (game_at rec score) (score_file prefix score) (held (score_file prefix score)) refusal has r
+
+  right-one : (decision : Decision) (score : Option MatchScore) (refusal : Refusal) → IfSome score (λ score. OfHeld (held (score_file prefix score)) (CanJudge (game_at rec score) decision))
+      → IsSomeAnd score (λ score. OfHeld (held (score_file prefix score)) (IsBadFor (game_at rec score) decision refusal)) → ⊥
+  right-one decision None refusal can bad = bad
+  right-one decision (Some score) refusal can bad = right-page (game_at rec score) decision (held (score_file prefix score)) refusal can bad
+
+  right-match : (decisions : List Decision) (refusal : Refusal) → All (CanJudgeAtScore prefix rec held) decisions → RefusesMatch prefix rec decisions refusal held → IsOutside refusal
+  right-match decisions refusal can (inl first) =
+      let fronts : All (λ (decision : Decision). HasFront decision.score) decisions = λ k d below. front-of _ _ (can k d below) in
+      right-score (score_there decisions first.place) refusal (there HasFront tt decisions fronts first.place) first.cause
+  right-match decisions refusal can (inr page) =
+      absurd (right-one page.decision page.decision.score refusal (at-one (CanJudgeAtScore prefix rec held) decisions page.decision can page.among) page.cause)
+
+right-judged : (in_match : Bool) (name : List ℕ) (replayed : Replayed) (held : Contents) (refusal : Refusal) → CanJudgeBy in_match name replayed held → RefusesBy in_match name replayed refusal held → IsOutside refusal
+right-judged true name replayed held refusal can r = right-match name replayed.rec held replayed.decisions refusal can r
+right-judged false name replayed held refusal can r = right-file (game_recorded replayed.rec) name replayed.decisions None (held name) refusal can r
+
+-- ---- the commands
+
+pub right-studied : NoFault → OneRecord → NoBreach → (task : Study) (held : Option (List ℕ)) (refusal : Refusal) → IsRightForStudying task held → MayRefuseStudy task true held refusal → IsOutside refusal
+right-studied no_fault one no_breach task held refusal right may = elim (may refl) [
+  | inl outside ↦ outside
+  | inr r ↦ right-record no_fault one no_breach task.rec held right.0 right.1 refusal r
+]
+
+pub right-analysed : NoFault → OneRecord → OneReplay → NoBreach → (task : Analyse) (held : Contents) (refusal : Refusal) → IsRightForAnalysing task held → MayRefuseAnalysis task true held refusal → IsOutside refusal
+right-analysed no_fault one replay no_breach task held refusal right may = by_cause (may refl) where
+  by_cause : RefusesAnalysis task refusal held → IsOutside refusal
+  by_cause (inl outside) = outside
+  by_cause (inr (inl r)) = right-record no_fault one no_breach task.rec (held task.rec) right.replayed right.record_file refusal r
+  by_cause (inr (inr not)) =
+      let same = same-record one replay (held task.rec) right.replayed not.replayed right.record_file not.record_file in
+      let can = subst (λ (replayed : Replayed). CanJudgeBy (is_match replayed.rec.stakes) task.base replayed held) same right.base_files in
+      right-judged (is_match not.replayed.rec.stakes) task.base not.replayed held refusal can not.cause
