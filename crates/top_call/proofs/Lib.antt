@@ -2,3 +2,5 @@ pub mod Endings
 mod HeldWords
 mod TwoRuns
 mod MatchRuns
+mod RightRuns
+mod SolvedFiles

@@ -62,7 +62,7 @@ solved-head solve right = record {
   starts = no-starts-of solve.stakes right.no_match;
 }
 
-solved-text : (solve : SolveTask) (words : WordList) → IsRightSolve solve → AreSolved solve words → IsText Three (head_of solve) words (solved_file solve words)
+pub solved-text : (solve : SolveTask) (words : WordList) → IsRightSolve solve → AreSolved solve words → IsText Three (head_of solve) words (solved_file solve words)
 solved-text solve words right solved = record {
   valid = solved-head solve right;
   takes = three-takes solve.stakes;

@@ -1,2 +1,4 @@
 pub mod Headline
 pub mod Outcomes
+pub mod RightRuns
+pub mod SolvedFiles

@@ -1,4 +1,4 @@
-ghost use Rattle.std.specs.Prelude.{◌≡◌, ◌<◌, ℕ, List, Option, Some, false, true};
+ghost use Rattle.std.specs.Prelude.{◌≡◌, ◌<◌, ℕ, List, Option, Some, Ok, false, true};
 ghost use Rattle.outside_log.specs.Files.{Contents};
 ghost use Rattle.game_record.specs.Turns.{is_match};
 ghost use Rattle.outside_log.specs.Log.{Event, standing};
@@ -7,23 +7,29 @@ ghost use Rattle.word_pages.specs.declared.version.Version.TheVariants.{Three};
 ghost use Rattle.equity_report.specs.declared.refusal.Refusal.{Refusal};
 ghost use Rattle.command_line.specs.declared.command.Advise.{Advise};
 ghost use Rattle.command_line.specs.declared.command.Analyse.{Analyse};
+ghost use Rattle.command_line.specs.declared.command.Command.{Command};
 ghost use Rattle.command_line.specs.declared.command.Ladder.{Ladder};
 ghost use Rattle.command_line.specs.declared.command.Solve.{Solve};
 ghost use Rattle.game_record.specs.declared.record.RecordStakes.TheVariants.{Match};
 ghost use Rattle.solve_commands.specs.Ladders.{HasSolvedLadder, scores_in};
-ghost use Rattle.command_line.specs.Right.{IsRightLadder, IsRightSolve};
-ghost use Rattle.run_endings.specs.Endings.{IsOutside, IsPut};
+ghost use Rattle.command_line.specs.Right.{IsRightCommand, IsRightLadder, IsRightSolve};
+ghost use Rattle.run_endings.specs.Endings.{Ending, IsOutside, IsPut};
 ghost use Rattle.solve_commands.specs.Solves.{HasSolved, head_of};
 ghost use Rattle.base_commands.specs.Advises.{HasAdvised};
 ghost use Rattle.base_commands.specs.Plans.{HasPlanned, first_file};
 ghost use Rattle.command_line.specs.declared.command.Plan.{Plan};
 ghost use Rattle.base_commands.specs.Verifies.{MayRefuseVerifying};
 ghost use Rattle.top_call.specs.Headline.{HoldLadder, PrintsGoodAdvice, PrintsTrueLosses, PrintsTrueMatch, PrintsTruePlan, ladder_file, ladder_head};
+ghost use Rattle.top_call.specs.Outcomes.{Runs};
+ghost use Rattle.top_call.specs.RightRuns.{AreAnswered, IsDoneUnlessHindered, IsRightFor};
+ghost use Rattle.top_call.specs.SolvedFiles.{AsksOf, file_read};
 ghost use Rattle.record_commands.specs.Analyses.{HasAnalysed};
 
+use base_commands::right_files_are_not_refused;
 use cube_actions::ladders_are_exact;
 use database_file::texts_are_read_back;
 use game_record::decisions_are_right;
+use record_commands::right_records_are_not_refused;
 
 /// Every play or cube action advised from the file that solve wrote loses at most its printed bound.
 ///
@@ -123,6 +129,46 @@ pub fn plans_by_a_solved_match_are_true()
         → plan.prefix ≡ ladder.prefix → plan.match_length ≡ ladder.match_length
         → HasPlanned plan true (held (first_file plan)) (λ text. IsPut old new text)
         → PrintsTruePlan ladder.checkers (λ text. IsPut old new text) }
+{
+    texts_are_read_back();
+}
+
+/// A run whose words are right, and that finds what is right for them under its names, is done. Where each call was answered what stood
+/// there and none that reads failed, it ends with 0, or with 7 where writing failed, or with 8 where there was no memory: it is
+/// refused for no other cause.
+pub fn right_runs_are_done()
+    ensures { (command : Command) (before after : List Event) (old new : Output)
+        (status : ℕ) (ending : Ending)
+        → AreAnswered before after → IsRightFor command (standing before)
+        → Runs (Ok command) before after old new status ending
+        → IsDoneUnlessHindered before after old new status }
+{
+    right_files_are_not_refused();
+    right_records_are_not_refused();
+}
+
+/// What `solve` wrote is right for each command that reads one file of bounds and asks for what its game has: a position of its checkers,
+/// a kind of its states, the text of a condition. So such a run over it is done.
+pub fn solved_files_are_right()
+    ensures { (solve : Solve) (before after : List Event) (put_before put_after : Output)
+        → IsRightSolve solve → HasSolved solve before after put_before put_after
+        → (command : Command) (held : Contents) → IsRightCommand command
+        → AsksOf (head_of solve) command → held (file_read command) ≡ standing after solve.file
+        → IsRightFor command held }
+{
+    texts_are_read_back();
+}
+
+/// So is each file that `ladder` wrote of a score, that of the first game of the match for `plan` too.
+pub fn files_of_a_solved_match_are_right()
+    ensures { (ladder : Ladder) (before after : List Event) (put_before put_after : Output)
+        (solved : HasSolvedLadder ladder before after put_before put_after) (place : ℕ)
+        → place < scores_in ladder
+        → (command : Command) (held : Contents) → IsRightCommand command
+        → AsksOf (ladder_head ladder solved.starts place) command
+        → held (file_read command)
+        ≡ Some (ladder_file ladder solved.starts solved.scores.scores place)
+        → IsRightFor command held }
 {
     texts_are_read_back();
 }

@@ -1,0 +1,134 @@
+-- A file that was solved is right for each command that asks for what its game has.
+use Rattle.std.proofs.Common.{◌≡◌, ◌∙◌, ◌<◌, ◌≢◌, ℕ, List, Option, Some, None, IfSome, sum, refl, sym, ap, subst, rules}
+use Rattle.std.specs.Prelude.{⊤}
+use Rattle.std.proofs.lemmas.Option.{slice_get_within}
+use Rattle.position_rank.specs.Placement.{Placement}
+use Rattle.roll_table.specs.Rolls.{Dice, IsRoll}
+use Rattle.outside_log.specs.Files.{Contents}
+use Rattle.outside_log.specs.Log.{Event, standing}
+use Rattle.outside_log.specs.Sink.{Output}
+use Rattle.outside_log.proofs.Written.{stands}
+use Rattle.cube_actions.specs.Names.{names_of}
+use Rattle.cube_actions.specs.Scores.{MatchScore}
+use Rattle.cube_actions.specs.Stakes.{IsValid}
+use Rattle.cube_actions.specs.declared.name.StakesName.{StakesName}
+use Rattle.cube_actions.specs.declared.name.StakesName.TheVariants.{Cubeless, Money, Jacoby, MoneyBeavers, JacobyBeavers, Match}
+use Rattle.move_rules.specs.Ends.{legal_ends}
+use Rattle.move_rules.proofs.EndsExact.{legal_ends-complete}
+use Rattle.move_rules.proofs.Members.{Contains-Among}
+use Rattle.cube_actions.specs.Stakes.{kind_at}
+use Rattle.turn_rule.specs.declared.game.Game.{Game}
+use Rattle.turn_rule.specs.Games.{IsGame}
+use Rattle.turn_rule.specs.States.{IsState}
+use Rattle.turn_rule.specs.Truth.{AreConsistent}
+use Rattle.turn_rule.proofs.Within.{follow-turn-state, next_state}
+use Rattle.interval_words.specs.WordLists.{WordList, words_in_list}
+use Rattle.word_pages.specs.declared.version.Version.TheVariants.{Three}
+use Rattle.play_analyser.specs.Rankings.{MayFollowRoll}
+use Rattle.base_head.specs.Fronts.{head_in}
+use Rattle.base_head.specs.Heads.{FileHead, no_starts, stakes_named}
+use Rattle.database_file.specs.Faults.{header_of_file}
+use Rattle.database_file.specs.Texts.{IsText, game_in}
+use Rattle.database_file.proofs.Bases.{kinds-named}
+use Rattle.command_line.specs.declared.command.Advise.{Advise as AdviseTask}
+use Rattle.command_line.specs.declared.command.Command.{Command}
+use Rattle.command_line.specs.declared.command.Command.TheVariants.{Show, Advise, Verify, Plan, Scan, Reply}
+use Rattle.command_line.specs.declared.command.Ladder.{Ladder as LadderTask}
+use Rattle.command_line.specs.declared.command.Show.{Show as ShowTask}
+use Rattle.command_line.specs.declared.command.Solve.{Solve as SolveTask}
+use Rattle.command_line.specs.Right.{IsRightAdvise, IsRightCommand, IsRightShow, IsRightSolve}
+use Rattle.base_commands.specs.Advises.{RestsOn}
+use Rattle.base_commands.specs.Games.{HasState}
+use Rattle.base_commands.specs.Plans.{IsOfFirstGame}
+use Rattle.base_commands.specs.RightFiles.{AdviceRestsOn, CanLoad, CanLookUp, HasConsistentWords, IsRightForPlanning, IsRightForReplying, IsRightForVerifying}
+use Rattle.run_endings.specs.Pages.{OfHeld}
+use Rattle.solve_commands.specs.Ladders.{HasSolvedLadder, scores_in}
+use Rattle.solve_commands.specs.Solves.{HasSolved, head_of, solved_file}
+use Rattle.top_call.specs.Headline.{ladder_file, ladder_head}
+use Rattle.top_call.specs.RightRuns.{IsRightFor}
+use Rattle.top_call.specs.SolvedFiles.{AsksOf, file_read}
+use Rattle.top_call.proofs.HeldWords.{Law, held-head, held-load, held-look-up}
+use Rattle.top_call.proofs.TwoRuns.{solved-text}
+
+-- ---- states on which advice rests
+
+module _ (game : Game) (right : IsGame game) (p : Placement) (k : ℕ) (state : IsState game p k) where
+  roll-state : (roll : Dice) → IsRoll roll → (q : Placement) (j : ℕ) → MayFollowRoll game.stakes p k roll q j → IsState game q j
+  roll-state roll dice q j may =
+      let there = next_state game right.stakes p k state roll may.end dice (Contains-Among may.end (legal_ends p roll) (legal_ends-complete p roll may.end may.legal)) may.left.goes_on in
+      subst (λ (n : ℕ). IsState game q n) (sym may.left.kind) (subst (λ (r : Placement). IsState game r (kind_at game.stakes k).next) (sym may.left.sides) there)
+
+  rests-state : (roll : Option Dice) → IfSome roll IsRoll → (q : Placement) (j : ℕ) → RestsOn roll game.stakes p k q j → IsState game q j
+  rests-state (Some roll) dice q j may = roll-state roll dice q j may
+  rests-state None dice q j may = follow-turn-state game right.stakes p k state q j may
+
+-- ---- a file that holds the text of a head and words
+
+module _ (law : Law) (head : FileHead) (words : WordList) (bytes : List ℕ) (text : IsText Three head words bytes) (right : IsGame (game_in head)) (consistent : AreConsistent words.game (words_in_list words)) where
+  abbrev there : FileHead
+  there = head_in (header_of_file bytes) bytes
+
+  same : there ≡ head
+  same = held-head law head words bytes text
+
+  right-there : IsGame (game_in there)
+  right-there = subst (λ (h : FileHead). IsGame (game_in h)) (sym same) right
+
+  show-file : (task : ShowTask) → IsRightShow task → head.checkers ≡ sum task.position.mover → CanLookUp (λ head. head.checkers ≡ sum task.position.mover) (λ head q k. q ≡ task.position) bytes
+  show-file task fit many =
+      let state : IsState (game_in there) task.position 0 = record {
+        position = fit.position;
+        many = sym (ap (λ (h : FileHead). h.checkers) same ∙ many);
+        live = fit.live;
+        kind = right-there.stakes.some;
+      } in
+      held-look-up law head words bytes text (λ head. head.checkers ≡ sum task.position.mover) (λ head q k. q ≡ task.position) many
+      (λ q k is. (0, subst (λ (r : Placement). IsState (game_in there) r 0) (sym is) state))
+
+  advise-file : (task : AdviseTask) → IsRightAdvise task → HasState task.position task.kind head → CanLookUp (HasState task.position task.kind) (AdviceRestsOn task) bytes
+  advise-file task fit has = held-look-up law head words bytes text (HasState task.position task.kind) (AdviceRestsOn task) has (λ q j (kind, asked, rests). (
+    j,
+    rests-state (game_in there) right-there task.position kind.number (record {
+      position = fit.position;
+      many = sym (ap (λ (h : FileHead). h.checkers) same ∙ has.checkers);
+      live = fit.live;
+      kind = subst (λ (n : ℕ). kind.number < n) (kinds-named there.name there.starts) (slice_get_within (names_of there.name) kind.number kind.name asked.named);
+    }) task.roll fit.roll q j rests,
+  ))
+
+  right-for : (command : Command) → IsRightCommand command → AsksOf head command → (held : Contents) → held (file_read command) ≡ Some bytes → IsRightFor command held
+  right-for (Show task) fit asks held is = subst (λ (file : Option (List ℕ)). OfHeld file (CanLookUp (λ head. head.checkers ≡ sum task.position.mover) (λ head q k. q ≡ task.position))) (sym is) (show-file task fit asks)
+  right-for (Advise task) fit asks held is = subst (λ (file : Option (List ℕ)). OfHeld file (CanLookUp (HasState task.position task.kind) (AdviceRestsOn task))) (sym is) (advise-file task fit asks)
+  right-for (Verify task) fit asks held is = subst (λ (file : Option (List ℕ)). IsRightForVerifying Three file) (sym is) (held-load law head words bytes text HasConsistentWords consistent)
+  right-for (Plan task) fit asks held is = subst (λ (file : Option (List ℕ)). IsRightForPlanning task file) (sym is) (held-load law head words bytes text (λ base. IsOfFirstGame task.match_length base.head) asks)
+  right-for (Scan task) fit asks held is = (asks, subst (λ (file : Option (List ℕ)). OfHeld file (CanLoad Three (λ base. ⊤))) (sym is) (held-load law head words bytes text (λ base. ⊤) tt))
+  right-for (Reply task) fit asks held is = subst (λ (file : Option (List ℕ)). IsRightForReplying task file) (sym is) (held-load law head words bytes text (λ base. HasState task.position task.kind base.head) asks)
+  right-for _ fit asks held is = absurd asks
+
+-- ---- what was written
+
+-- the stakes of a game outside a match are right
+plain-stakes : (name : StakesName) → ((score : MatchScore) → name ≢ Match score) → IsValid (stakes_named name no_starts)
+plain-stakes Cubeless apart = search rules
+plain-stakes Money apart = search rules
+plain-stakes Jacoby apart = search rules
+plain-stakes MoneyBeavers apart = search rules
+plain-stakes JacobyBeavers apart = search rules
+plain-stakes (Match score) apart = absurd (apart score refl)
+
+pub right-solved : Law → (solve : SolveTask) (before after : List Event) (put_before put_after : Output) → IsRightSolve solve → HasSolved solve before after put_before put_after
+    → (command : Command) (held : Contents) → IsRightCommand command → AsksOf (head_of solve) command → held (file_read command) ≡ standing after solve.file → IsRightFor command held
+right-solved law solve before after put_before put_after right solved command held fit asks is =
+    let words = solved.words in
+    let bytes = solved_file solve words in
+    let game : IsGame (game_in (head_of solve)) = record { low = right.some; high = right.few; stakes = plain-stakes solve.stakes right.no_match } in
+    right-for law (head_of solve) words bytes (solved-text solve words right solved.solved) game solved.solved.consistent command fit asks held
+    (is ∙ stands solve.file bytes before after solved.file)
+
+pub right-score : Law → (task : LadderTask) (before after : List Event) (put_before put_after : Output) (solved : HasSolvedLadder task before after put_before put_after) (place : ℕ) → place < scores_in task
+    → (command : Command) (held : Contents) → IsRightCommand command → AsksOf (ladder_head task solved.starts place) command
+    → held (file_read command) ≡ Some (ladder_file task solved.starts solved.scores.scores place) → IsRightFor command held
+right-score law task before after put_before put_after solved place inside command held fit asks is =
+    let score = solved.scores.solved.each place (subst (λ (n : ℕ). place < n) (sym solved.whole) inside) in
+    right-for law (ladder_head task solved.starts place) (solved.scores.scores place).words (ladder_file task solved.starts solved.scores.scores place) score.text
+    (subst IsGame score.closed.game score.closed.valid) score.closed.closed.consistent command fit asks held is
