@@ -124,7 +124,7 @@ module _ (law : LossLaw) (wanted : GameName) (bytes : List ℕ) (opened : IsOpen
         let told : pair ≡ loss_of stakes (told_in bytes) decision.position decision.kind decision.choice = law (source_in bytes) (noted_in bytes) stakes decision.position decision.kind decision.choice pair refl of.choice (λ end q j may. refl) h in
         let in_order = subst (λ (b : Bounds). b.lower ≤ℤ b.upper) told h.in_order in
         let agree = λ (end : End) (q : Placement) (j : ℕ) (may : MayFollowChoice stakes decision.position decision.kind decision.choice q j).
-        told-agrees bytes head opened.valid opened.source.checkers opened.source.stakes.kinds u have end q j (choice-state law (game_in head) opened.file.valid decision.position decision.kind of.state decision.choice of.choice q j may) (pages q j may) in
+        told-agrees bytes head opened.valid opened.source.checkers opened.source.stakes.kinds u have end q j (choice-state (game_in head) opened.file.valid decision.position decision.kind of.state decision.choice of.choice q j may) (pages q j may) in
         told ∙ same-loss law (game_in head) opened.file.valid decision.position decision.kind of.state decision.choice of.choice (told_in bytes) u agree in_order
 
   one-judged : (score : Option MatchScore) (old new : Judged) → Judges score (stakes_of head) (source_in bytes) (noted_in bytes) old new → (IsAt score old → IsDecisionOf (game_in head) old.decision) → JudgesAt wanted score bytes old new

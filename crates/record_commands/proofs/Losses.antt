@@ -96,7 +96,8 @@ module _ (law : LossLaw) (game : Game) (right : IsGame game) (p : Placement) (k 
       sym (looser-same wide u (λ end q j is. hull-left u v end q j) left ordered)
       ∙ looser-same wide v (λ end q j is. hull-right u v end q j) (λ end q j may. left end q j may ∙ agree end q j may) ordered
 
-  -- the states that may follow are the game's
+-- the states that may follow are the game's
+module _ (game : Game) (right : IsGame game) (p : Placement) (k : ℕ) (state : IsState game p k) (choice : Choice) (can : IsChoice game.stakes p k choice) where
   pub choice-state : (q : Placement) (j : ℕ) → MayFollowChoice game.stakes p k choice q j → IsState game q j
   choice-state = by_choice choice can where
     by_choice : (c : Choice) → IsChoice game.stakes p k c → (q : Placement) (j : ℕ) → MayFollowChoice game.stakes p k c q j → IsState game q j

@@ -73,7 +73,7 @@ abbrev pub TruthLaw : Type 0
 TruthLaw = (game : Game) → IsGame game → (u : Words) → AreSound game u → (decisions : List Decision) → All (IsDecisionOf game) decisions → IsTrueAnalysis game (analysis_of game.stakes u decisions)
 
 module _ (law : Law) (rec : Record) (plain : is_match rec.stakes ≡ false) where
-  plain-decision : (decision : Decision) → IsRightDecision rec decision → IsDecisionFor (game_recorded rec) decision
+  pub plain-decision : (decision : Decision) → IsRightDecision rec decision → IsDecisionFor (game_recorded rec) decision
   plain-decision decision right head is game =
       let source : Source = record { checkers = head.checkers; kinds = kinds_of (game_in head); bound = (stakes_of head).bound; sure = true; floor = bound_words (stakes_of head); damage = λ _ _. None } in
       let can = law rec head.starts decision right source (stakes_of head) (ap (λ (g : GameName). g.checkers) is)

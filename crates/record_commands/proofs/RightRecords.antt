@@ -1,19 +1,26 @@
 -- Right records and right files are refused for no fault of theirs.
-use Rattle.std.proofs.Common.{◌≡◌, ◌∙◌, List, ℕ, All, Bool, true, false, Contains, Option, Some, None, IfSome, IsSomeAnd, inl, inr, refl, sym, ap, subst}
+use Rattle.std.proofs.Common.{◌≡◌, ◌∙◌, List, ℕ, get_or, All, Bool, true, false, Contains, Option, Some, None, IfSome, IsSomeAnd, inl, inr, refl, sym, ap, subst}
 use Rattle.std.specs.Option.{option_map}
 use Rattle.std.proofs.lemmas.Option.{none-some}
 use Rattle.outside_log.specs.Files.{Contents}
+use Rattle.cube_actions.specs.Ladder.{IsOfMatch}
 use Rattle.cube_actions.specs.Scores.{MatchScore}
 use Rattle.game_record.specs.Faults.{IsBad}
-use Rattle.game_record.specs.Lines.{IsTextOf}
+use Rattle.game_record.specs.Lines.{IsRecord, IsTextOf}
 use Rattle.game_record.specs.Replay.{IsBroken, IsReplay}
+use Rattle.game_record.specs.RightDecisions.{IsRightDecision}
 use Rattle.game_record.specs.Turns.{is_match}
 use Rattle.game_record.specs.declared.decision.Decision.{Decision}
 use Rattle.game_record.specs.declared.fault.BadRecord.{BadRecord}
 use Rattle.game_record.specs.declared.record.Record.{Record as RecordRead}
+use Rattle.game_record.specs.declared.record.RecordStakes.TheVariants.{Match}
+use Rattle.record_study.specs.Keeping.{IsDecisionInMatch}
+use Rattle.record_study.proofs.Matches.{if-given}
+use Rattle.record_study.proofs.Records.{Law, in-match}
 use Rattle.word_pages.specs.declared.flaws.Flaw.{Flaw}
 use Rattle.base_head.specs.Fronts.{bad_of}
 use Rattle.database_file.specs.Faults.{fault_before_pages, whole}
+use Rattle.database_file.specs.Texts.{game_in}
 use Rattle.command_line.specs.declared.command.Analyse.{Analyse}
 use Rattle.command_line.specs.declared.command.Study.{Study}
 use Rattle.equity_report.specs.declared.text.GameName.{GameName}
@@ -23,13 +30,16 @@ use Rattle.run_endings.specs.Endings.{IsOutside}
 use Rattle.run_endings.specs.Pages.{OfHeld, RefusesOpening}
 use Rattle.run_endings.specs.Scores.{score_file}
 use Rattle.record_commands.specs.Analyses.{MayRefuseAnalysis, RefusesAnalysis, RefusesBy}
-use Rattle.record_commands.specs.ByFile.{IsBadFor, RefusesFile, RefusesFront}
+use Rattle.record_commands.specs.ByFile.{IsBadFor, IsDecisionFor, RefusesFile, RefusesFront, head_of}
 use Rattle.record_commands.specs.MatchAnalyses.{RefusesMatch, game_at, score_there}
 use Rattle.record_commands.specs.Records.{HoldsRecord, RefusesRecord, game_recorded}
-use Rattle.record_commands.specs.RightRecords.{CanJudge, CanJudgeAll, CanJudgeAtScore, CanJudgeBy, HasRightFront, IsRightForAnalysing, IsRightForStudying}
+use Rattle.record_commands.specs.RightRecords.{CanJudge, CanJudgeAll, CanJudgeAtScore, CanJudgeBy, HasRightFront, HasRightPages, IsRightForAnalysing, IsRightForStudying}
 use Rattle.record_commands.specs.Studies.{MayRefuseStudy}
 use Rattle.record_commands.specs.declared.record.Replayed.{Replayed}
+use Rattle.record_commands.proofs.Losses.{choice-state}
 use Rattle.record_commands.proofs.Matches.{there}
+use Rattle.record_commands.proofs.MatchTruth.{decision-at}
+use Rattle.record_commands.proofs.Recorded.{plain-decision}
 
 -- ---- records
 
@@ -147,3 +157,36 @@ right-analysed no_fault one replay no_breach task held refusal right may = by_ca
       let same = same-record one replay (held task.rec) right.replayed not.replayed right.record_file not.record_file in
       let can = subst (λ (replayed : Replayed). CanJudgeBy (is_match replayed.rec.stakes) task.base replayed held) same right.base_files in
       right-judged (is_match not.replayed.rec.stakes) task.base not.replayed held refusal can not.cause
+
+-- ---- files with right pages
+
+-- the law on the decisions of a record
+abbrev RightDecisions : Type 0
+RightDecisions = (rec : RecordRead) (told : List Decision) → IsRecord rec → IsReplay rec told → All (IsRightDecision rec) told
+
+-- a file of a decision's game can judge it
+can-judge : (wanted : GameName) (decision : Decision) (bytes : List ℕ) → HasRightPages wanted bytes → IsDecisionFor wanted decision → CanJudge wanted decision bytes
+can-judge wanted decision bytes has for_game =
+    let of = for_game (head_of bytes) has.front.game has.game in
+    record {
+      front = has.front;
+      pages = λ q j may. has.pages q j (choice-state (game_in (head_of bytes)) has.game decision.position decision.kind of.state decision.choice of.choice q j may);
+    }
+
+pub plain-can-judge : Law → RightDecisions → (rec : RecordRead) (decisions : List Decision) (bytes : List ℕ) → IsRecord rec → IsReplay rec decisions → is_match rec.stakes ≡ false → HasRightPages (game_recorded rec) bytes
+    → CanJudgeAll (game_recorded rec) decisions bytes
+plain-can-judge law decisions_right rec decisions bytes valid replay plain has =
+    let right = decisions_right rec decisions valid replay in
+    record { front = has.front; each = λ k d below. can-judge (game_recorded rec) _ bytes has (plain-decision law rec plain _ (right k d below)) }
+
+pub match-can-judge : Law → RightDecisions → (prefix : List ℕ) (rec : RecordRead) (decisions : List Decision) (held : Contents) (points : ℕ) → IsRecord rec → IsReplay rec decisions → rec.stakes ≡ Match points
+    → ((score : MatchScore) → IsOfMatch points score → OfHeld (held (score_file prefix score)) (HasRightPages (game_at rec score))) → All (CanJudgeAtScore prefix rec held) decisions
+match-can-judge law decisions_right prefix rec decisions held points valid replay is has k d below =
+    let right = in-match law rec points is decisions (decisions_right rec decisions valid replay) k d below in
+    one (get_or decisions k d) right (has right.score right.of_match)
+  where
+    one : (decision : Decision) → (right : IsDecisionInMatch rec.checkers points decision) → OfHeld (held (score_file prefix right.score)) (HasRightPages (game_at rec right.score)) → CanJudgeAtScore prefix rec held decision
+    one decision right has = if-given (λ (score : MatchScore). OfHeld (held (score_file prefix score)) (CanJudge (game_at rec score) decision)) decision.score right.score right.at (by_held (held (score_file prefix right.score)) has) where
+      by_held : (file : Option (List ℕ)) → OfHeld file (HasRightPages (game_at rec right.score)) → OfHeld file (CanJudge (game_at rec right.score) decision)
+      by_held None has = absurd has
+      by_held (Some bytes) has = can-judge (game_at rec right.score) decision bytes has (decision-at rec points right.score decision right right.at)

@@ -4,7 +4,10 @@ use Rattle.outside_log.specs.Files.{Contents}
 use Rattle.game_record.specs.Turns.{is_match}
 use Rattle.game_record.specs.declared.decision.Decision.{Decision}
 use Rattle.game_record.specs.declared.record.Record.{Record as RecordRead}
+use Rattle.turn_rule.specs.Games.{IsGame}
+use Rattle.turn_rule.specs.States.{IsState}
 use Rattle.database_file.specs.Faults.{fault_before_pages, whole}
+use Rattle.database_file.specs.Texts.{game_in}
 use Rattle.equity_report.specs.declared.text.GameName.{GameName}
 use Rattle.command_line.specs.declared.command.Analyse.{Analyse}
 use Rattle.command_line.specs.declared.command.Study.{Study}
@@ -21,10 +24,16 @@ pub record HasRightFront (wanted : GameName) (bytes : List ℕ) : Type 0 where
   pub front : fault_before_pages (whole bytes) ≡ None
   pub game : game_told (head_of bytes) ≡ wanted
 
--- the same, and the pages are right on which it rests what the decision loses
+-- so it is, and the pages are right on which it rests what the decision loses
 pub record CanJudge (wanted : GameName) (decision : Decision) (bytes : List ℕ) : Type 0 where
   pub front : HasRightFront wanted bytes
   pub pages : AreOnRightPages bytes (MayFollowIn bytes decision)
+
+-- the same, and each state of its game stands on a right page
+pub record HasRightPages (wanted : GameName) (bytes : List ℕ) : Type 0 where
+  pub front : HasRightFront wanted bytes
+  pub game : IsGame (game_in (head_of bytes))
+  pub pages : AreOnRightPages bytes (IsState (game_in (head_of bytes)))
 
 -- the file can judge each of these decisions of its game
 pub record CanJudgeAll (wanted : GameName) (decisions : List Decision)

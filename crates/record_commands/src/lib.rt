@@ -12,5 +12,5 @@ mod studying;
 pub use analyse::run_analyse;
 pub use make::{MadeRecord, run_make};
 pub use record::Replayed;
-pub use right_laws::right_records_are_not_refused;
+pub use right_laws::{files_with_right_pages_can_judge, right_records_are_not_refused};
 pub use studying::run_study;

@@ -55,20 +55,20 @@ module _ (law : Law) (head : FileHead) (words : WordList) (bytes : List ℕ) (te
   held-game = text.fitting.game ∙ ap game_in (sym held-head)
 
   -- it has no fault up to its pages, and the header is right
-  front : front_fault_from Three (whole bytes) ≡ None
-  front = (none_or (front_fault_from Three (whole bytes)) (pages_fault (whole bytes)) base.right).0
+  pub held-front : front_fault_from Three (whole bytes) ≡ None
+  held-front = (none_or (front_fault_from Three (whole bytes)) (pages_fault (whole bytes)) base.right).0
 
   valid : IsHeader (header_of_file bytes)
   valid =
       let file = whole bytes in
-      let behind = (none_or (short_fault file) (option_or (header_fault Three file.size bytes) (starts_wrong (header_of_file bytes) bytes)) front).1 in
+      let behind = (none_or (short_fault file) (option_or (header_fault Three file.size bytes) (starts_wrong (header_of_file bytes) bytes)) held-front).1 in
       right-header Three file.size bytes (none_or (header_fault Three file.size bytes) (starts_wrong (header_of_file bytes) bytes) behind).0
 
   kinds-there : (header_of_file bytes).kinds ≡ kinds_of (game_in (head_in (header_of_file bytes) bytes))
   kinds-there = same-kinds (header_of_file bytes) (head_in (header_of_file bytes) bytes) valid refl
 
   -- each of its states stands on a page without a flaw
-  held-page : (p : Placement) (k : ℕ) → IsState (game_in (head_in (header_of_file bytes) bytes)) p k → flaw_at (header_of_file bytes) (Some bytes) p ≡ None
+  pub held-page : (p : Placement) (k : ℕ) → IsState (game_in (head_in (header_of_file bytes) bytes)) p k → flaw_at (header_of_file bytes) (Some bytes) p ≡ None
   held-page p k is =
       let header = header_of_file bytes in
       let pages = pages_in_file bytes in
@@ -81,7 +81,7 @@ module _ (law : Law) (head : FileHead) (words : WordList) (bytes : List ℕ) (te
   pub held-look-up : (Fits : FileHead → Type 0) (Rests : FileHead → States) → Fits head
       → ((p : Placement) (k : ℕ) → Rests (head_in (header_of_file bytes) bytes) p k → (j : ℕ) × IsState (game_in (head_in (header_of_file bytes) bytes)) p j) → CanLookUp Fits Rests bytes
   held-look-up Fits Rests fits states = record {
-    front = front;
+    front = held-front;
     fits = subst Fits (sym held-head) fits;
     pages = λ p k rests. (let state = states p k rests in held-page p state.0 state.1);
   }

@@ -100,7 +100,7 @@ module _ (law : Law) (exact : (n : ℕ) → 1 ≤ n → n ≤ 5 → (score : Mat
       one-holds rec.stakes is one.decision.score right.score
 
 -- a record that was read breaks no rule
-read-right : (file : Option (List ℕ)) (replayed : Replayed) → OfHeld file (λ bytes. HoldsRecord bytes replayed) → IsRecord replayed.rec × IsReplay replayed.rec replayed.decisions
+pub read-right : (file : Option (List ℕ)) (replayed : Replayed) → OfHeld file (λ bytes. HoldsRecord bytes replayed) → IsRecord replayed.rec × IsReplay replayed.rec replayed.decisions
 read-right None replayed holds = absurd holds
 read-right (Some text) replayed holds = (holds.text.valid, holds.replay)
 

@@ -1,6 +1,7 @@
 -- A file that was solved is right for each command that asks for what its game has.
-use Rattle.std.proofs.Common.{◌≡◌, ◌∙◌, ◌<◌, ◌≢◌, ℕ, List, Option, Some, None, IfSome, sum, refl, sym, ap, subst, rules}
-use Rattle.std.specs.Prelude.{⊤}
+use Rattle.std.proofs.Common.{◌≡◌, ◌∙◌, ◌<◌, ◌≤◌, ◌≢◌, ℕ, Bool, false, List, All, Contains, Option, Some, None, IfSome, sum, refl, sym, ap, subst, rules}
+use Rattle.std.specs.Prelude.{◌↔◌, ⊤}
+use Rattle.std.proofs.lemmas.List.{get_or_default}
 use Rattle.std.proofs.lemmas.Option.{slice_get_within}
 use Rattle.position_rank.specs.Placement.{Placement}
 use Rattle.roll_table.specs.Rolls.{Dice, IsRoll}
@@ -9,7 +10,16 @@ use Rattle.outside_log.specs.Log.{Event, standing}
 use Rattle.outside_log.specs.Sink.{Output}
 use Rattle.outside_log.proofs.Written.{stands}
 use Rattle.cube_actions.specs.Names.{names_of}
-use Rattle.cube_actions.specs.Scores.{MatchScore}
+use Rattle.cube_actions.specs.Ladder.{IsOfMatch, ladder}
+use Rattle.cube_actions.specs.Scores.{MatchScore, last_game}
+use Rattle.cube_actions.specs.Starts.{StartPairs}
+use Rattle.game_record.specs.Lines.{IsRecord}
+use Rattle.game_record.specs.Replay.{IsReplay}
+use Rattle.game_record.specs.Turns.{is_match}
+use Rattle.game_record.specs.declared.decision.Decision.{Decision}
+use Rattle.game_record.specs.declared.record.Record.{Record as RecordRead}
+use Rattle.game_record.specs.declared.record.RecordStakes.TheVariants.{Match as OfMatch}
+use Rattle.equity_report.specs.declared.text.GameName.{GameName}
 use Rattle.cube_actions.specs.Stakes.{IsValid}
 use Rattle.cube_actions.specs.declared.name.StakesName.{StakesName}
 use Rattle.cube_actions.specs.declared.name.StakesName.TheVariants.{Cubeless, Money, Jacoby, MoneyBeavers, JacobyBeavers, Match}
@@ -31,23 +41,31 @@ use Rattle.database_file.specs.Faults.{header_of_file}
 use Rattle.database_file.specs.Texts.{IsText, game_in}
 use Rattle.database_file.proofs.Bases.{kinds-named}
 use Rattle.command_line.specs.declared.command.Advise.{Advise as AdviseTask}
+use Rattle.command_line.specs.declared.command.Analyse.{Analyse as AnalyseTask}
 use Rattle.command_line.specs.declared.command.Command.{Command}
-use Rattle.command_line.specs.declared.command.Command.TheVariants.{Show, Advise, Verify, Plan, Scan, Reply}
+use Rattle.command_line.specs.declared.command.Command.TheVariants.{Show, Advise, Verify, Analyse, Plan, Scan, Reply}
 use Rattle.command_line.specs.declared.command.Ladder.{Ladder as LadderTask}
 use Rattle.command_line.specs.declared.command.Show.{Show as ShowTask}
 use Rattle.command_line.specs.declared.command.Solve.{Solve as SolveTask}
-use Rattle.command_line.specs.Right.{IsRightAdvise, IsRightCommand, IsRightShow, IsRightSolve}
+use Rattle.command_line.specs.Right.{IsRightAdvise, IsRightCommand, IsRightLadder, IsRightShow, IsRightSolve}
 use Rattle.base_commands.specs.Advises.{RestsOn}
 use Rattle.base_commands.specs.Games.{HasState}
 use Rattle.base_commands.specs.Plans.{IsOfFirstGame}
 use Rattle.base_commands.specs.RightFiles.{AdviceRestsOn, CanLoad, CanLookUp, HasConsistentWords, IsRightForPlanning, IsRightForReplying, IsRightForVerifying}
+use Rattle.run_endings.specs.Loads.{game_told}
 use Rattle.run_endings.specs.Pages.{OfHeld}
-use Rattle.solve_commands.specs.Ladders.{HasSolvedLadder, scores_in}
+use Rattle.run_endings.specs.Scores.{score_file}
+use Rattle.record_commands.specs.MatchAnalyses.{game_at}
+use Rattle.record_commands.specs.Records.{HoldsRecord, game_recorded, match_length}
+use Rattle.record_commands.specs.RightRecords.{CanJudgeAll, CanJudgeAtScore, CanJudgeBy, HasRightPages}
+use Rattle.record_commands.specs.declared.record.Replayed.{Replayed}
+use Rattle.solve_commands.specs.Ladders.{HasSolvedLadder, SolvedScore, score_of, scores_in}
 use Rattle.solve_commands.specs.Solves.{HasSolved, head_of, solved_file}
-use Rattle.top_call.specs.Headline.{ladder_file, ladder_head}
+use Rattle.top_call.specs.Headline.{HoldLadder, ladder_file, ladder_head}
 use Rattle.top_call.specs.RightRuns.{IsRightFor}
 use Rattle.top_call.specs.SolvedFiles.{AsksOf, file_read}
-use Rattle.top_call.proofs.HeldWords.{Law, held-head, held-load, held-look-up}
+use Rattle.top_call.proofs.HeldWords.{Law, held-front, held-head, held-load, held-look-up, held-page}
+use Rattle.top_call.proofs.MatchRuns.{read-right}
 use Rattle.top_call.proofs.TwoRuns.{solved-text}
 
 -- ---- states on which advice rests
@@ -105,6 +123,14 @@ module _ (law : Law) (head : FileHead) (words : WordList) (bytes : List ℕ) (te
   right-for (Reply task) fit asks held is = subst (λ (file : Option (List ℕ)). IsRightForReplying task file) (sym is) (held-load law head words bytes text (λ base. HasState task.position task.kind base.head) asks)
   right-for _ fit asks held is = absurd asks
 
+  -- the file has right pages for a game that is its head's
+  right-pages : (wanted : GameName) → game_told head ≡ wanted → HasRightPages wanted bytes
+  right-pages wanted is = record {
+    front = record { front = held-front law head words bytes text; game = ap game_told same ∙ is };
+    game = right-there;
+    pages = held-page law head words bytes text;
+  }
+
 -- ---- what was written
 
 -- the stakes of a game outside a match are right
@@ -132,3 +158,76 @@ right-score law task before after put_before put_after solved place inside comma
     let score = solved.scores.solved.each place (subst (λ (n : ℕ). place < n) (sym solved.whole) inside) in
     right-for law (ladder_head task solved.starts place) (solved.scores.scores place).words (ladder_file task solved.starts solved.scores.scores place) score.text
     (subst IsGame score.closed.game score.closed.valid) score.closed.closed.consistent command fit asks held is
+
+-- ---- records that are judged by what was written
+
+-- the laws on files that can judge
+abbrev PlainLaw : Type 0
+PlainLaw = (rec : RecordRead) (decisions : List Decision) (bytes : List ℕ) → IsRecord rec → IsReplay rec decisions → is_match rec.stakes ≡ false → HasRightPages (game_recorded rec) bytes → CanJudgeAll (game_recorded rec) decisions bytes
+
+abbrev MatchLaw : Type 0
+MatchLaw = (prefix : List ℕ) (rec : RecordRead) (decisions : List Decision) (held : Contents) (points : ℕ) → IsRecord rec → IsReplay rec decisions → rec.stakes ≡ OfMatch points
+    → ((score : MatchScore) → IsOfMatch points score → OfHeld (held (score_file prefix score)) (HasRightPages (game_at rec score))) → All (CanJudgeAtScore prefix rec held) decisions
+
+pub right-analysis : Law → PlainLaw → (solve : SolveTask) (analyse : AnalyseTask) (held : Contents) (before after : List Event) (put_before put_after : Output) (replayed : Replayed) → IsRightSolve solve
+    → HasSolved solve before after put_before put_after → held analyse.base ≡ standing after solve.file → OfHeld (held analyse.rec) (λ bytes. HoldsRecord bytes replayed) → is_match replayed.rec.stakes ≡ false
+    → game_recorded replayed.rec ≡ game_told (head_of solve) → IsRightFor (Analyse analyse) held
+right-analysis law judges solve analyse held before after put_before put_after replayed right solved is holds plain same = record {
+  replayed = replayed;
+  record_file = holds;
+  base_files = subst (λ (b : Bool). CanJudgeBy b analyse.base replayed held) (sym plain) (subst (λ (file : Option (List ℕ)). OfHeld file (CanJudgeAll (game_recorded replayed.rec) replayed.decisions)) (sym there) can);
+} where
+  words : WordList
+  words = solved.words
+
+  bytes : List ℕ
+  bytes = solved_file solve words
+
+  there : held analyse.base ≡ Some bytes
+  there = is ∙ stands solve.file bytes before after solved.file
+
+  can : CanJudgeAll (game_recorded replayed.rec) replayed.decisions bytes
+  can =
+      let (valid, replay) = read-right (held analyse.rec) replayed holds in
+      let game : IsGame (game_in (head_of solve)) = record { low = right.some; high = right.few; stakes = plain-stakes solve.stakes right.no_match } in
+      judges replayed.rec replayed.decisions bytes valid replay plain
+      (right-pages law (head_of solve) words bytes (solved-text solve words right solved.solved) game solved.solved.consistent (game_recorded replayed.rec) (sym same))
+
+pub right-match-analysis : Law → MatchLaw → ((n : ℕ) → 1 ≤ n → n ≤ 5 → (score : MatchScore) → Contains (ladder n) score ↔ IsOfMatch n score)
+    → (task : LadderTask) (analyse : AnalyseTask) (held : Contents) (before after : List Event) (put_before put_after : Output) (replayed : Replayed) → IsRightLadder task → (solved : HasSolvedLadder task before after put_before put_after)
+    → HoldLadder task solved.starts solved.scores.scores held → analyse.base ≡ task.prefix → OfHeld (held analyse.rec) (λ bytes. HoldsRecord bytes replayed) → replayed.rec.stakes ≡ OfMatch task.match_length → replayed.rec.checkers ≡ task.checkers
+    → IsRightFor (Analyse analyse) held
+right-match-analysis law judges exact task analyse held before after put_before put_after replayed right solved files named holds stakes checkers = record {
+  replayed = replayed;
+  record_file = holds;
+  base_files = subst (λ (b : Bool). CanJudgeBy b analyse.base replayed held) (sym (ap is_match stakes)) (subst (λ (prefix : List ℕ). All (CanJudgeAtScore prefix replayed.rec held) replayed.decisions) (sym named) can);
+} where
+  starts : StartPairs
+  starts = solved.starts
+
+  scores : ℕ → SolvedScore
+  scores = solved.scores.scores
+
+  rec : RecordRead
+  rec = replayed.rec
+
+  place-pages : (place : ℕ) → place < scores_in task → HasRightPages (game_at rec (score_of task place)) (ladder_file task starts scores place)
+  place-pages place inside =
+      let score = solved.scores.solved.each place (subst (λ (n : ℕ). place < n) (sym solved.whole) inside) in
+      let same_checkers = sym checkers in
+      let same_length = solved.scores.solved.of_length ∙ ap match_length (sym stakes) in
+      let game : game_told (ladder_head task starts place) ≡ game_at rec (score_of task place) = λ i. record { checkers = same_checkers i; stakes = Match (score_of task place); match_length = same_length i } in
+      right-pages law (ladder_head task starts place) (scores place).words (ladder_file task starts scores place) score.text
+      (subst IsGame score.closed.game score.closed.valid) score.closed.closed.consistent (game_at rec (score_of task place)) game
+
+  score-pages : (score : MatchScore) → IsOfMatch task.match_length score → OfHeld (held (score_file task.prefix score)) (HasRightPages (game_at rec score))
+  score-pages score of_match =
+      let (place, inside, is) = (exact task.match_length right.point right.points score).1 of_match in
+      let at : score_of task place ≡ score = get_or_default (ladder task.match_length) place last_game score inside ∙ is in
+      subst (λ (s : MatchScore). OfHeld (held (score_file task.prefix s)) (HasRightPages (game_at rec s))) at
+      (subst (λ (file : Option (List ℕ)). OfHeld file (HasRightPages (game_at rec (score_of task place)))) (sym (files place inside)) (place-pages place inside))
+
+  can : All (CanJudgeAtScore task.prefix rec held) replayed.decisions
+  can =
+      let (valid, replay) = read-right (held analyse.rec) replayed holds in
+      judges task.prefix rec replayed.decisions held task.match_length valid replay stakes score-pages

@@ -8,12 +8,17 @@ ghost use Rattle.equity_report.specs.declared.refusal.Refusal.{Refusal};
 ghost use Rattle.command_line.specs.declared.command.Advise.{Advise};
 ghost use Rattle.command_line.specs.declared.command.Analyse.{Analyse};
 ghost use Rattle.command_line.specs.declared.command.Command.{Command};
+ghost use Rattle.command_line.specs.declared.command.Command.TheVariants.{Analyse as ToAnalyse};
 ghost use Rattle.command_line.specs.declared.command.Ladder.{Ladder};
 ghost use Rattle.command_line.specs.declared.command.Solve.{Solve};
 ghost use Rattle.game_record.specs.declared.record.RecordStakes.TheVariants.{Match};
 ghost use Rattle.solve_commands.specs.Ladders.{HasSolvedLadder, scores_in};
 ghost use Rattle.command_line.specs.Right.{IsRightCommand, IsRightLadder, IsRightSolve};
 ghost use Rattle.run_endings.specs.Endings.{Ending, IsOutside, IsPut};
+ghost use Rattle.run_endings.specs.Loads.{game_told};
+ghost use Rattle.run_endings.specs.Pages.{OfHeld};
+ghost use Rattle.record_commands.specs.Records.{HoldsRecord, game_recorded};
+ghost use Rattle.record_commands.specs.declared.record.Replayed.{Replayed};
 ghost use Rattle.solve_commands.specs.Solves.{HasSolved, head_of};
 ghost use Rattle.base_commands.specs.Advises.{HasAdvised};
 ghost use Rattle.base_commands.specs.Plans.{HasPlanned, first_file};
@@ -29,7 +34,7 @@ use base_commands::right_files_are_not_refused;
 use cube_actions::ladders_are_exact;
 use database_file::texts_are_read_back;
 use game_record::decisions_are_right;
-use record_commands::right_records_are_not_refused;
+use record_commands::{files_with_right_pages_can_judge, right_records_are_not_refused};
 
 /// Every play or cube action advised from the file that solve wrote loses at most its printed bound.
 ///
@@ -171,4 +176,37 @@ pub fn files_of_a_solved_match_are_right()
         → IsRightFor command held }
 {
     texts_are_read_back();
+}
+
+/// It is right for `analyse` of a record of the same game outside a match, which breaks no rule.
+pub fn records_are_analysed_by_a_solved_file()
+    ensures { (solve : Solve) (analyse : Analyse) (held : Contents) (before after : List Event)
+        (put_before put_after : Output) (replayed : Replayed)
+        → IsRightSolve solve → HasSolved solve before after put_before put_after
+        → held analyse.base ≡ standing after solve.file
+        → OfHeld (held analyse.rec) (λ bytes. HoldsRecord bytes replayed)
+        → is_match replayed.rec.stakes ≡ false
+        → game_recorded replayed.rec ≡ game_told (head_of solve)
+        → IsRightFor (ToAnalyse analyse) held }
+{
+    texts_are_read_back();
+    files_with_right_pages_can_judge();
+}
+
+/// So are the files that `ladder` wrote of all scores, for a record of a match to as many points, with as many checkers.
+pub fn records_are_analysed_by_a_solved_match()
+    ensures { (ladder : Ladder) (analyse : Analyse) (held : Contents) (before after : List Event)
+        (put_before put_after : Output) (replayed : Replayed)
+        → IsRightLadder ladder
+        → (solved : HasSolvedLadder ladder before after put_before put_after)
+        → HoldLadder ladder solved.starts solved.scores.scores held
+        → analyse.base ≡ ladder.prefix
+        → OfHeld (held analyse.rec) (λ bytes. HoldsRecord bytes replayed)
+        → replayed.rec.stakes ≡ Match ladder.match_length
+        → replayed.rec.checkers ≡ ladder.checkers
+        → IsRightFor (ToAnalyse analyse) held }
+{
+    texts_are_read_back();
+    files_with_right_pages_can_judge();
+    ladders_are_exact();
 }
