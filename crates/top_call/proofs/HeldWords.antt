@@ -9,7 +9,7 @@ use Rattle.turn_rule.specs.States.{IsState, IsStateOf}
 use Rattle.turn_rule.specs.Truth.{AreConsistent, AreSound}
 use Rattle.turn_rule.specs.declared.game.Game.{Game}
 use Rattle.interval_words.specs.WordLists.{WordList, words_in_list}
-use Rattle.word_pages.specs.declared.version.Version.TheVariants.{Three}
+use Rattle.word_pages.specs.declared.version.Version.TheVariants.{One, Three}
 use Rattle.word_pages.specs.declared.flaws.Flaw.{Flaw}
 use Rattle.base_head.specs.Fronts.{bad_of, digest_in, head_in}
 use Rattle.base_head.specs.Heads.{FileHead}
@@ -88,6 +88,10 @@ module _ (law : Law) (head : FileHead) (words : WordList) (bytes : List ℕ) (te
 
   pub held-load : (Fits : FileBase → Type 0) → Fits (record { head = head; words = words }) → CanLoad Three Fits bytes
   held-load Fits fits = record { base = record { head = head; words = words }; read = base; fits = fits }
+
+  -- so it can where older versions are read too
+  pub held-load-any : (Fits : FileBase → Type 0) → Fits (record { head = head; words = words }) → CanLoad One Fits bytes
+  held-load-any Fits fits = record { base = record { head = head; words = words }; read = law One Three head words bytes (omega arith) text; fits = fits }
 
   -- the words have the pairs of the file
   pub held-pairs : HavePairsOf bytes (words_in_list words)

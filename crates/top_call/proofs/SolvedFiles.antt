@@ -33,7 +33,7 @@ use Rattle.turn_rule.specs.States.{IsState}
 use Rattle.turn_rule.specs.Truth.{AreConsistent}
 use Rattle.turn_rule.proofs.Within.{follow-turn-state, next_state}
 use Rattle.interval_words.specs.WordLists.{WordList, words_in_list}
-use Rattle.word_pages.specs.declared.version.Version.TheVariants.{Three}
+use Rattle.word_pages.specs.declared.version.Version.TheVariants.{One, Three}
 use Rattle.play_analyser.specs.Rankings.{MayFollowRoll}
 use Rattle.base_head.specs.Fronts.{head_in}
 use Rattle.base_head.specs.Heads.{FileHead, no_starts, stakes_named}
@@ -43,7 +43,7 @@ use Rattle.database_file.proofs.Bases.{kinds-named}
 use Rattle.command_line.specs.declared.command.Advise.{Advise as AdviseTask}
 use Rattle.command_line.specs.declared.command.Analyse.{Analyse as AnalyseTask}
 use Rattle.command_line.specs.declared.command.Command.{Command}
-use Rattle.command_line.specs.declared.command.Command.TheVariants.{Show, Advise, Verify, Analyse, Plan, Scan, Reply}
+use Rattle.command_line.specs.declared.command.Command.TheVariants.{Show, Migrate, Advise, Verify, Analyse, Plan, Scan, Reply}
 use Rattle.command_line.specs.declared.command.Ladder.{Ladder as LadderTask}
 use Rattle.command_line.specs.declared.command.Show.{Show as ShowTask}
 use Rattle.command_line.specs.declared.command.Solve.{Solve as SolveTask}
@@ -64,7 +64,7 @@ use Rattle.solve_commands.specs.Solves.{HasSolved, head_of, solved_file}
 use Rattle.top_call.specs.Headline.{HoldLadder, ladder_file, ladder_head}
 use Rattle.top_call.specs.RightRuns.{IsRightFor}
 use Rattle.top_call.specs.SolvedFiles.{AsksOf, file_read}
-use Rattle.top_call.proofs.HeldWords.{Law, held-front, held-head, held-load, held-look-up, held-page}
+use Rattle.top_call.proofs.HeldWords.{Law, held-front, held-head, held-load, held-load-any, held-look-up, held-page}
 use Rattle.top_call.proofs.MatchRuns.{read-right}
 use Rattle.top_call.proofs.TwoRuns.{solved-text}
 
@@ -114,14 +114,15 @@ module _ (law : Law) (head : FileHead) (words : WordList) (bytes : List ℕ) (te
     }) task.roll fit.roll q j rests,
   ))
 
-  right-for : (command : Command) → IsRightCommand command → AsksOf head command → (held : Contents) → held (file_read command) ≡ Some bytes → IsRightFor command held
-  right-for (Show task) fit asks held is = subst (λ (file : Option (List ℕ)). OfHeld file (CanLookUp (λ head. head.checkers ≡ sum task.position.mover) (λ head q k. q ≡ task.position))) (sym is) (show-file task fit asks)
-  right-for (Advise task) fit asks held is = subst (λ (file : Option (List ℕ)). OfHeld file (CanLookUp (HasState task.position task.kind) (AdviceRestsOn task))) (sym is) (advise-file task fit asks)
-  right-for (Verify task) fit asks held is = subst (λ (file : Option (List ℕ)). IsRightForVerifying Three file) (sym is) (held-load law head words bytes text HasConsistentWords consistent)
-  right-for (Plan task) fit asks held is = subst (λ (file : Option (List ℕ)). IsRightForPlanning task file) (sym is) (held-load law head words bytes text (λ base. IsOfFirstGame task.match_length base.head) asks)
-  right-for (Scan task) fit asks held is = (asks, subst (λ (file : Option (List ℕ)). OfHeld file (CanLoad Three (λ base. ⊤))) (sym is) (held-load law head words bytes text (λ base. ⊤) tt))
-  right-for (Reply task) fit asks held is = subst (λ (file : Option (List ℕ)). IsRightForReplying task file) (sym is) (held-load law head words bytes text (λ base. HasState task.position task.kind base.head) asks)
-  right-for _ fit asks held is = absurd asks
+  right-for : (command : Command) → IsRightCommand command → (held : Contents) → AsksOf head held command → held (file_read command) ≡ Some bytes → IsRightFor command held
+  right-for (Show task) fit held asks is = subst (λ (file : Option (List ℕ)). OfHeld file (CanLookUp (λ head. head.checkers ≡ sum task.position.mover) (λ head q k. q ≡ task.position))) (sym is) (show-file task fit asks)
+  right-for (Advise task) fit held asks is = subst (λ (file : Option (List ℕ)). OfHeld file (CanLookUp (HasState task.position task.kind) (AdviceRestsOn task))) (sym is) (advise-file task fit asks)
+  right-for (Verify task) fit held asks is = subst (λ (file : Option (List ℕ)). IsRightForVerifying Three file) (sym is) (held-load law head words bytes text HasConsistentWords consistent)
+  right-for (Migrate task) fit held asks is = (subst (λ (file : Option (List ℕ)). IsRightForVerifying One file) (sym is) (held-load-any law head words bytes text HasConsistentWords consistent), asks)
+  right-for (Plan task) fit held asks is = subst (λ (file : Option (List ℕ)). IsRightForPlanning task file) (sym is) (held-load law head words bytes text (λ base. IsOfFirstGame task.match_length base.head) asks)
+  right-for (Scan task) fit held asks is = (asks, subst (λ (file : Option (List ℕ)). OfHeld file (CanLoad Three (λ base. ⊤))) (sym is) (held-load law head words bytes text (λ base. ⊤) tt))
+  right-for (Reply task) fit held asks is = subst (λ (file : Option (List ℕ)). IsRightForReplying task file) (sym is) (held-load law head words bytes text (λ base. HasState task.position task.kind base.head) asks)
+  right-for _ fit held asks is = absurd asks
 
   -- the file has right pages for a game that is its head's
   right-pages : (wanted : GameName) → game_told head ≡ wanted → HasRightPages wanted bytes
@@ -143,21 +144,21 @@ plain-stakes JacobyBeavers apart = search rules
 plain-stakes (Match score) apart = absurd (apart score refl)
 
 pub right-solved : Law → (solve : SolveTask) (before after : List Event) (put_before put_after : Output) → IsRightSolve solve → HasSolved solve before after put_before put_after
-    → (command : Command) (held : Contents) → IsRightCommand command → AsksOf (head_of solve) command → held (file_read command) ≡ standing after solve.file → IsRightFor command held
+    → (command : Command) (held : Contents) → IsRightCommand command → AsksOf (head_of solve) held command → held (file_read command) ≡ standing after solve.file → IsRightFor command held
 right-solved law solve before after put_before put_after right solved command held fit asks is =
     let words = solved.words in
     let bytes = solved_file solve words in
     let game : IsGame (game_in (head_of solve)) = record { low = right.some; high = right.few; stakes = plain-stakes solve.stakes right.no_match } in
-    right-for law (head_of solve) words bytes (solved-text solve words right solved.solved) game solved.solved.consistent command fit asks held
+    right-for law (head_of solve) words bytes (solved-text solve words right solved.solved) game solved.solved.consistent command fit held asks
     (is ∙ stands solve.file bytes before after solved.file)
 
 pub right-score : Law → (task : LadderTask) (before after : List Event) (put_before put_after : Output) (solved : HasSolvedLadder task before after put_before put_after) (place : ℕ) → place < scores_in task
-    → (command : Command) (held : Contents) → IsRightCommand command → AsksOf (ladder_head task solved.starts place) command
+    → (command : Command) (held : Contents) → IsRightCommand command → AsksOf (ladder_head task solved.starts place) held command
     → held (file_read command) ≡ Some (ladder_file task solved.starts solved.scores.scores place) → IsRightFor command held
 right-score law task before after put_before put_after solved place inside command held fit asks is =
     let score = solved.scores.solved.each place (subst (λ (n : ℕ). place < n) (sym solved.whole) inside) in
     right-for law (ladder_head task solved.starts place) (solved.scores.scores place).words (ladder_file task solved.starts solved.scores.scores place) score.text
-    (subst IsGame score.closed.game score.closed.valid) score.closed.closed.consistent command fit asks held is
+    (subst IsGame score.closed.game score.closed.valid) score.closed.closed.consistent command fit held asks is
 
 -- ---- records that are judged by what was written
 

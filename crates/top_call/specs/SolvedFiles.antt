@@ -1,29 +1,34 @@
 -- What a command asks of a file of bounds that was solved.
 use Rattle.std.specs.Prelude.{◌≡◌, ℕ, List, [], sum, ⊤}
+use Rattle.outside_log.specs.Files.{Contents}
 use Rattle.base_head.specs.Heads.{FileHead}
+use Rattle.base_head.specs.declared.header.TheConstants.{BASE_START}
 use Rattle.command_line.specs.declared.command.Command.{Command}
-use Rattle.command_line.specs.declared.command.Command.TheVariants.{Show, Advise, Verify, Plan, Scan, Reply}
+use Rattle.command_line.specs.declared.command.Command.TheVariants.{Show, Migrate, Advise, Verify, Plan, Scan, Reply}
 use Rattle.base_commands.specs.Games.{HasState}
 use Rattle.base_commands.specs.Plans.{IsOfFirstGame, first_file}
 use Rattle.base_commands.specs.Scans.{IsConditionText}
+use Rattle.top_call.specs.RightRuns.{MayBeReplaced}
 
 -- the name of the one file of bounds that a command reads
 abbrev pub file_read : Command → List ℕ
 file_read (Show task) = task.file
 file_read (Advise task) = task.file
 file_read (Verify task) = task.file
+file_read (Migrate task) = task.old
 file_read (Plan task) = first_file task
 file_read (Scan task) = task.file
 file_read (Reply task) = task.file
 file_read _ = []
 
 -- A command that reads one file of bounds asks for what a game with this head has: a position of its checkers, a kind of its states, the
--- first game of its match. The text of a search is that of a condition.
-abbrev pub AsksOf : FileHead → Command → Type 0
-AsksOf head (Show task) = head.checkers ≡ sum task.position.mover
-AsksOf head (Advise task) = HasState task.position task.kind head
-AsksOf head (Verify task) = ⊤
-AsksOf head (Plan task) = IsOfFirstGame task.match_length head
-AsksOf head (Scan task) = IsConditionText task.condition
-AsksOf head (Reply task) = HasState task.position task.kind head
-AsksOf head _ = ⊥
+-- first game of its match. The text of a search is that of a condition, and what stands under a new name may be replaced.
+abbrev pub AsksOf : FileHead → Contents → Command → Type 0
+AsksOf head held (Show task) = head.checkers ≡ sum task.position.mover
+AsksOf head held (Advise task) = HasState task.position task.kind head
+AsksOf head held (Verify task) = ⊤
+AsksOf head held (Migrate task) = MayBeReplaced BASE_START held task.new
+AsksOf head held (Plan task) = IsOfFirstGame task.match_length head
+AsksOf head held (Scan task) = IsConditionText task.condition
+AsksOf head held (Reply task) = HasState task.position task.kind head
+AsksOf head held _ = ⊥

@@ -153,12 +153,12 @@ pub fn right_runs_are_done()
 }
 
 /// What `solve` wrote is right for each command that reads one file of bounds and asks for what its game has: a position of its checkers,
-/// a kind of its states, the text of a condition. So such a run over it is done.
+/// a kind of its states, the text of a condition, a new name that may be written. So by the law above such a run over it is done.
 pub fn solved_files_are_right()
     ensures { (solve : Solve) (before after : List Event) (put_before put_after : Output)
         → IsRightSolve solve → HasSolved solve before after put_before put_after
         → (command : Command) (held : Contents) → IsRightCommand command
-        → AsksOf (head_of solve) command → held (file_read command) ≡ standing after solve.file
+        → AsksOf (head_of solve) held command → held (file_read command) ≡ standing after solve.file
         → IsRightFor command held }
 {
     texts_are_read_back();
@@ -170,7 +170,7 @@ pub fn files_of_a_solved_match_are_right()
         (solved : HasSolvedLadder ladder before after put_before put_after) (place : ℕ)
         → place < scores_in ladder
         → (command : Command) (held : Contents) → IsRightCommand command
-        → AsksOf (ladder_head ladder solved.starts place) command
+        → AsksOf (ladder_head ladder solved.starts place) held command
         → held (file_read command)
         ≡ Some (ladder_file ladder solved.starts solved.scores.scores place)
         → IsRightFor command held }
