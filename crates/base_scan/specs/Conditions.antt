@@ -8,7 +8,6 @@ use Rattle.base_scan.specs.declared.condition.Comparison.{Comparison}
 use Rattle.base_scan.specs.declared.condition.Comparison.TheVariants.{Below, Equal, Above}
 use Rattle.base_scan.specs.declared.condition.Part.{Part}
 use Rattle.base_scan.specs.declared.condition.Part.TheVariants.{Bar, Asks}
-use Rattle.base_scan.specs.declared.condition.TheConstants.{MOST_TESTS}
 
 abbrev pub field_text : Field → List ℕ
 field_text LowerWord = codes "lower"
@@ -70,7 +69,7 @@ tests_of groups = flat_map (λ group. group) groups
 pub record AreWordsOf (groups : List (List Test)) (all : List (List ℕ)) : Type 0 where
   pub some : 0 < length groups
   pub each : All (λ group. 0 < length group) groups
-  pub few : length (tests_of groups) ≤ MOST_TESTS
+  pub few : length (tests_of groups) ≤ 64
   pub words : AllZip IsWordOf (flat_map behind_bar groups) (codes "|" ∷ all)
 
 -- some condition's words begin with these
