@@ -2,7 +2,6 @@
 use Rattle.std.specs.Prelude.{◌≡◌, ◌<◌, ℕ, zero, suc, ◌+◌, ◌-◌, ◌*◌, ◌^◌, min, pos, ◌≤ℤ◌, List, [], ◌++◌, drop, Option, None, Some, Result, Ok, Err, Vec, ⊤}
 use Rattle.std.specs.Global.{Global}
 use Rattle.std.specs.Option.{option_or}
-use Rattle.directed_fixed.specs.declared.word.TheConstants.{WORD_OFFSET}
 use Rattle.word_pages.specs.declared.flaws.Flaw.{Flaw}
 use Rattle.word_pages.specs.declared.load.PageStop.{PageStop}
 use Rattle.word_pages.specs.declared.load.PageStop.TheVariants as pages
@@ -70,7 +69,7 @@ pub record ArePages (pages : Pages) : Type 0 where
   pub some : 0 < pages.size
   pub few : pages.size < 2 ^ 32
   pub from : pos 0 ≤ℤ pages.bound
-  pub to : pages.bound ≤ℤ WORD_OFFSET
+  pub to : pages.bound ≤ℤ pos (2 ^ 36)
   pub words : pages.count < 2 ^ 60
   pub places : place_of pages (page_count pages) < 2 ^ 63
 

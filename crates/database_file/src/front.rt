@@ -9,15 +9,12 @@ ghost use Rattle.database_file.specs.declared.stop.LoadStop.TheVariants.{ReadFau
 ghost use Rattle.database_file.specs.Faults.{AnswersFront, IsFrontFrom, Read, ends_before, front_fault_from, short_fault, whole};
 
 use crate::stop::LoadStop;
-use base_head::{BadFile, FileFault, Head, Header, read_header};
+use base_head::{BadFile, FileFault, Head, Header, LONGEST_FRONT, read_header};
 use outside_log::{Files, fill, size_of};
 use word_pages::Version;
 
 /// How many bytes the header has.
 const HEADER: usize = 64;
-
-/// How many bytes the longest front has: a header, 17 pairs of version 1, and a digest.
-const LONGEST_FRONT: usize = 368;
 
 /// What stands in a file before the pages.
 #[derive(Drop)]

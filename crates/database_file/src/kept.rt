@@ -1,6 +1,5 @@
-ghost use Rattle.std.specs.Prelude.{◌≡◌, ◌≤◌, ◌≤ℤ◌, ◌<◌, ◌+◌, ◌*◌, IfOk, IsSome, IsTrue, Err, length, nat_eq, slice_index};
+ghost use Rattle.std.specs.Prelude.{◌≡◌, ◌≤◌, ◌≤ℤ◌, ◌<◌, ◌+◌, ◌*◌, ◌^◌, pos, IfOk, IsSome, IsTrue, Err, length, nat_eq, slice_index};
 ghost use Rattle.std.specs.Map.{lookup};
-ghost use Rattle.directed_fixed.specs.declared.word.TheConstants.{WORD_OFFSET};
 ghost use Rattle.directed_fixed.specs.Bounds.{IsWithinUnits};
 ghost use Rattle.hyper_outside.specs.Causes.{Rose};
 ghost use Rattle.outside_log.specs.Log.{standing};
@@ -60,7 +59,7 @@ fn read_page<F: Files>(
 fn word_in(words: &[u64], state: usize, end: End, bound: Fixed) -> Fixed
     requires state { 2 * state + 1 < length words.now }
     requires within { AreWithin bound words.now }
-    requires bound { bound ≤ℤ WORD_OFFSET }
+    requires bound { bound ≤ℤ pos (2 ^ 36) }
     ensures word { result ≡ value_of (slice_index words.now (word_of end state)) }
     ensures within { IsWithinUnits bound result }
 {

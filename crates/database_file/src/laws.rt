@@ -1,6 +1,5 @@
-ghost use Rattle.std.specs.Prelude.{◌≡◌, ◌⊎◌, ◌<◌, ◌+◌, ◌*◌, ◌↔◌, ◌++◌, [], ℕ, List, All, None, ◌≤ℤ◌, drop, length, true, Some, ℤ};
+ghost use Rattle.std.specs.Prelude.{◌≡◌, ◌⊎◌, ◌<◌, ◌+◌, ◌*◌, ◌^◌, ◌↔◌, ◌++◌, [], ℕ, List, All, None, ◌≤ℤ◌, drop, length, true, Some, ℤ, pos};
 ghost use Rattle.std.specs.Io.{StartsWith};
-ghost use Rattle.directed_fixed.specs.declared.word.TheConstants.{WORD_OFFSET};
 ghost use Rattle.word_pages.specs.declared.version.Version.{Version};
 ghost use Rattle.word_pages.specs.declared.version.Version.TheVariants.{Three};
 ghost use Rattle.word_pages.specs.Sealed.{AreTwins};
@@ -8,10 +7,9 @@ ghost use Rattle.word_pages.specs.Words.{Fits, word_size};
 ghost use Rattle.word_pages.specs.Flaws.{AreWithin};
 ghost use Rattle.word_pages.specs.Pages.{AreBytes, pages_text};
 ghost use Rattle.interval_words.specs.WordLists.{AreRight, WordList, list_of};
-ghost use Rattle.base_head.specs.declared.header.TheConstants.{BASE_START};
 ghost use Rattle.base_head.specs.Fronts.{digest_in, head_in};
 ghost use Rattle.base_head.specs.Heads.{FileHead};
-ghost use Rattle.base_head.specs.Headers.{IsHeader, IsSince, front_length};
+ghost use Rattle.base_head.specs.Headers.{IsHeader, IsSince, front_length, magic};
 ghost use Rattle.database_file.specs.declared.pages.Pages.{Pages};
 ghost use Rattle.database_file.specs.Texts.{IsText, game_in, words_a_page};
 ghost use Rattle.database_file.specs.Faults.{fault_from, file_fault, header_of_file, pages_behind, pages_in_file, whole};
@@ -35,7 +33,7 @@ pub fn right_pages_are_their_words()
     ensures exactly { (pages : Pages) (half all : ℕ) (bytes : List ℕ) → 0 < half
         → pages.size ≡ 2 * half → pages.count ≡ 2 * all → AreBytes bytes
         → length bytes ≡ word_size pages.version * pages.count + 32 * page_count pages
-        → pages.bound ≤ℤ WORD_OFFSET
+        → pages.bound ≤ℤ pos (2 ^ 36)
         → (flaw_in pages bytes ≡ None)
         ↔ ((bytes ≡ pages_text pages.version pages.digest pages.size (words_in pages bytes))
         × AreWithin pages.bound (words_in pages bytes)) }
@@ -88,10 +86,10 @@ pub fn texts_are_read_back()
         → IsText other_version other_head other_words (bytes ++ rest) → rest ≡ [] }
 {}
 
-/// Each text of a file of bounds, of either version, begins with `BASE_START`.
+/// Each text of a file of bounds, of any version, begins with the eight bytes HYPGAMMN.
 pub fn base_texts_begin_so()
     ensures { (version : Version) (head : FileHead) (words : WordList) (bytes : List ℕ)
-        → IsText version head words bytes → StartsWith bytes BASE_START }
+        → IsText version head words bytes → StartsWith bytes magic }
 {}
 
 /// A page can't be taken for another one. Where nothing is wrong with two files of version 3, or with one, and a

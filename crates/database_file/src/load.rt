@@ -15,7 +15,7 @@ ghost use Rattle.database_file.specs.Bases.{AnswersFrom, base_with};
 use crate::front::{Front, read_front};
 use crate::pages::{Pages, read_pages};
 use crate::stop::LoadStop;
-use base_head::{Head, Header};
+use base_head::{Head, Header, PAGE_POSITIONS};
 use cube_actions::StakesName;
 use directed_fixed::Fixed;
 use hyper_outside::NoMemory;
@@ -25,9 +25,6 @@ use std::alloc::Global;
 use std::marker::Model;
 use std::thread::Threads;
 use word_pages::Version;
-
-/// How many positions a page has.
-pub(crate) const PAGE_POSITIONS: usize = 1024;
 
 /// What a file of bounds holds: its head, and the words of the head's game after its rounds.
 #[derive(Drop)]

@@ -15,8 +15,8 @@ ghost use Rattle.database_file.specs.Paged.{AnswersLook, IsPagedFile, IsSourceOf
 
 use crate::front::Front;
 use crate::kept::{Spot, word_on};
-use crate::load::{PAGE_POSITIONS, pages_behind};
-use base_head::Head;
+use crate::load::pages_behind;
+use base_head::{Head, PAGE_POSITIONS};
 use directed_fixed::{End, Fixed};
 use hyper_outside::{LookStop, NoMemory};
 use interval_words::LiveIndex;

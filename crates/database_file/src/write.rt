@@ -8,7 +8,7 @@ ghost use Rattle.base_head.specs.Fronts.{front_text, head_digest};
 ghost use Rattle.database_file.specs.Texts.{AreWordsOf, file_text};
 
 use arrayvec::ArrayVec;
-use base_head::{Head, put_front};
+use base_head::{Head, LONGEST_FRONT, PAGE_POSITIONS, put_front};
 use hyper_outside::Failed;
 use interval_words::Words;
 use outside_log::Files;
@@ -16,12 +16,6 @@ use word_pages::{Version, append_sealed, binding_of, put_words};
 
 /// How many bytes the words of the longest page have: 1,024 positions of a game with 14 kinds, in version 1.
 pub const LONGEST_PAGE: usize = 229_376;
-
-/// Room for a header, 18 pairs of version 1, and a digest.
-const LONGEST_FRONT: usize = 384;
-
-/// How many positions a page has.
-const PAGE_POSITIONS: usize = 1024;
 
 /// The bytes of a page that are put together before they are appended.
 type PageBytes = ArrayVec<u8, LONGEST_PAGE>;

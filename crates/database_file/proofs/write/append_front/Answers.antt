@@ -6,7 +6,7 @@ use Rattle.database_file.proofs.Fronts.{front-short}
 use Rattle.database_file.proofs.write.append_front.Goals as goal
 
 pub put_front-digest-requires : goal.put_front-digest-requires
-put_front-digest-requires g c = (omega arith, (c.new-bytes.ensures, (front-short c.args.version c.args.head.now c.starts-starts.ensures.valid, c.requires)))
+put_front-digest-requires g c = (omega arith, (c.new-bytes.ensures, (front-short c.args.version c.args.head.now c.starts-starts.ensures.valid c.requires, c.requires)))
 
 pub returns-in_err-append-clause-adds : goal.returns-in_err-append-clause-adds
 returns-in_err-append-clause-adds g c =
