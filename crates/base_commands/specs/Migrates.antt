@@ -6,12 +6,11 @@ use Rattle.outside_log.specs.Readings.{WritesFile}
 use Rattle.outside_log.specs.Sink.{Output}
 use Rattle.word_pages.specs.declared.version.Version.TheVariants.{One, Three}
 use Rattle.base_head.specs.Heads.{FileHead}
-use Rattle.base_head.specs.Headers.{text_length}
+use Rattle.base_head.specs.Headers.{magic, text_length}
 use Rattle.database_file.specs.Bases.{AnswersFrom}
 use Rattle.database_file.specs.FileBases.{FileBase}
 use Rattle.database_file.specs.Texts.{file_text}
 use Rattle.command_line.specs.declared.command.Migrate.{Migrate}
-use Rattle.base_head.specs.declared.header.TheConstants.{BASE_START}
 use Rattle.equity_report.specs.declared.refusal.Refusal.{Refusal}
 use Rattle.base_reports.specs.Files.{migrated_text}
 use Rattle.run_endings.specs.Beginnings.{MayRefuseBeginning, MayTakePlace}
@@ -50,7 +49,7 @@ pub record HasToldMigrating (task : Migrate) (told : Bool) (held : Option (List 
 -- writing a file anew is refused: nothing is written under the new name, or the old file can't be loaded or its words aren't consistent
 abbrev pub MayRefuseMigrating : Migrate → Bool → Contents → Refusal → Type 0
 MayRefuseMigrating task told held refusal =
-    MayRefuseBeginning BASE_START task.new told (held task.new) refusal
+    MayRefuseBeginning magic task.new told (held task.new) refusal
     ⊎ MayRefuseVerifying One task.old told (held task.old) refusal
 
 -- How writing a file anew ends: it was written anew, and took its name's place; or writing failed; or it was refused, and nothing was put.
@@ -58,7 +57,7 @@ abbrev pub Migrates : Migrate → Bool → Contents → List Event → List Even
     → Ending → Type 0
 Migrates task told held before after old new (Ok done) =
     HasMigrated task told (held task.old) before after old new
-    × MayTakePlace BASE_START told (held task.new)
+    × MayTakePlace magic told (held task.new)
 Migrates task told held before after old new (Err NotWritten) =
     (new ≡ old) ⊎ HasToldMigrating task told (held task.old) old new
 Migrates task told held before after old new (Err (Refused refusal)) =

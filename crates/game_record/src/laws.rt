@@ -1,17 +1,17 @@
-ghost use Rattle.std.specs.Prelude.{◌≡◌, ℕ, ◌++◌, ◌≤◌, List, [], length};
+ghost use Rattle.std.specs.Prelude.{◌≡◌, ℕ, ◌∷◌, ◌++◌, ◌≤◌, List, [], length};
 ghost use Rattle.std.specs.Io.{StartsWith};
-ghost use Rattle.game_record.specs.declared.print.TheConstants.{RECORD_START};
 ghost use Rattle.game_record.specs.declared.fault.BadRecord.{BadRecord};
 ghost use Rattle.game_record.specs.declared.record.Record.{Record};
-ghost use Rattle.game_record.specs.Lines.{record_lines, IsRecord, IsTextOf};
+ghost use Rattle.game_record.specs.declared.line.Line.TheVariants.{Title};
+ghost use Rattle.game_record.specs.Lines.{lines_text, record_lines, IsRecord, IsTextOf};
 ghost use Rattle.game_record.specs.Faults.{IsBad};
 
 use move_rules::texts_tell_plays;
 
-/// Each text of a record begins with `RECORD_START`.
+/// Each text of a record begins with the line `hypergammon record 1`.
 pub fn record_texts_begin_so()
     ensures { (text : List ℕ) (rec : Record)
-        → IsTextOf text rec → StartsWith text RECORD_START }
+        → IsTextOf text rec → StartsWith text (lines_text (Title ∷ [])) }
 {}
 
 /// A text of a record has no fault.

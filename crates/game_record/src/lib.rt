@@ -38,7 +38,7 @@ pub use moment::Moment;
 pub use player::Player;
 pub use print::{RECORD_START, print_record};
 pub use progress::{Progress, Win};
-pub use read::read_record;
+pub use read::{MOST_RECORD_BYTES, read_record};
 pub use record::{Action, Actions, Ending, Game, Games, Record, RecordStakes, What};
 pub use replay_laws::{
     decisions_are_right, records_have_few_decisions, records_tell_their_decisions,

@@ -14,7 +14,7 @@ use crate::stage::{Next, Stage};
 use std::alloc::Global;
 
 /// How many bytes a record has at most.
-const MOST_BYTES: usize = 1_048_576;
+pub const MOST_RECORD_BYTES: usize = 1_048_576;
 
 /// How many line ends a record has at most.
 const MOST_LINES: usize = 65_536;
@@ -97,7 +97,7 @@ fn take_line(
 fn is_too_long(text: &[u8]) -> bool
     ensures { result ≡ is_too_long text.now }
 {
-    text.len() > MOST_BYTES || line_ends(text) > MOST_LINES
+    text.len() > MOST_RECORD_BYTES || line_ends(text) > MOST_LINES
 }
 
 fn line_ends(text: &[u8]) -> usize

@@ -1,10 +1,10 @@
 -- What making a record leaves.
-use Rattle.std.specs.Prelude.{◌≡◌, ◌⊎◌, ℕ, List, length, count_by, Bool, Option, Ok, Err}
+use Rattle.std.specs.Prelude.{◌≡◌, ◌⊎◌, ℕ, List, [], ◌∷◌, length, count_by, Bool, Option, Ok, Err}
 use Rattle.outside_log.specs.Log.{Event}
 use Rattle.outside_log.specs.Readings.{WritesFile}
 use Rattle.outside_log.specs.Sink.{Output}
-use Rattle.game_record.specs.Lines.{is_line_end, record_text}
-use Rattle.game_record.specs.declared.print.TheConstants.{RECORD_START}
+use Rattle.game_record.specs.declared.line.Line.TheVariants.{Title}
+use Rattle.game_record.specs.Lines.{is_line_end, lines_text, record_text}
 use Rattle.game_record.specs.Replay.{IsReplay}
 use Rattle.game_record.specs.declared.decision.Decision.{Decision}
 use Rattle.game_record.specs.declared.record.Record.{Record}
@@ -44,13 +44,17 @@ pub record HasToldMaking (task : Make) (old new : Output) : Type 0 where
   pub is_made : IsMadeFor task made
   pub report : WasPut old new (made_report made)
 
+-- the first line, with which every record's text begins
+abbrev pub title_line : List ℕ
+title_line = lines_text (Title ∷ [])
+
 -- How making a record ends: it was made; or writing failed, and nothing was put or no more than the report; or it was refused, for what stands
 -- where the file is to be written or for want of memory, and nothing was put.
 abbrev pub Makes : Make → Bool → Option (List ℕ) → List Event → List Event → Output → Output
     → Ending → Type 0
 Makes task told held before after old new (Ok done) =
-    HasMade task before after old new × MayTakePlace RECORD_START told held
+    HasMade task before after old new × MayTakePlace title_line told held
 Makes task told held before after old new (Err NotWritten) =
     (new ≡ old) ⊎ HasToldMaking task old new
 Makes task told held before after old new (Err (Refused refusal)) =
-    MayRefuseBeginning RECORD_START task.file told held refusal × (new ≡ old)
+    MayRefuseBeginning title_line task.file told held refusal × (new ≡ old)

@@ -11,14 +11,11 @@ ghost use Rattle.run_endings.specs.Endings.{IsOfReplaying};
 use cube_actions::{Score, StakesName};
 use equity_report::{FileName, GameName, Refusal};
 use game_record::{
-    BadRecord, Decisions, Record, RecordFault, RecordStakes, RecordStop, Standing, read_record,
-    replay,
+    BadRecord, Decisions, MOST_RECORD_BYTES, Record, RecordFault, RecordStakes, RecordStop, Standing,
+    read_record, replay,
 };
 use outside_log::{Files, WholeStop, read_whole};
 use std::alloc::Global;
-
-/// How many bytes the file of a record has at most.
-const MOST_BYTES: u64 = 1_048_576;
 
 /// A recorded game that breaks no rule, and its decisions in their order.
 #[derive(Drop)]
@@ -137,7 +134,7 @@ pub(crate) fn read_recorded<F: Files>(
     ensures reads { ReadsOn (F.log files.old) (F.log files.new) }
     ensures kinds { IfErr result IsOfReplaying }
 {
-    let text = match read_whole(alloc, files, name, MOST_BYTES) {
+    let text = match read_whole(alloc, files, name, MOST_RECORD_BYTES as u64) {
         Ok(text) => text,
         Err(stop) => return Err(unread_refusal(stop, name)),
     };

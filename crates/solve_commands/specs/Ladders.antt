@@ -16,7 +16,7 @@ use Rattle.match_scores.specs.Ladders.{score_at, starts_till, AreWordsOf, IsLadd
 use Rattle.match_scores.specs.Openings.{start_over}
 use Rattle.word_pages.specs.declared.version.Version.TheVariants.{Three}
 use Rattle.base_head.specs.Heads.{FileHead}
-use Rattle.base_head.specs.declared.header.TheConstants.{BASE_START}
+use Rattle.base_head.specs.Headers.{magic}
 use Rattle.database_file.specs.Texts.{IsText, file_text}
 use Rattle.command_line.specs.declared.command.Ladder.{Ladder}
 use Rattle.equity_report.specs.declared.refusal.Refusal.{Refusal}
@@ -169,14 +169,14 @@ HasRunOut task before after old new =
 -- the files of the first so many scores may take the places of what stands there
 abbrev pub MayTakePlaces : Ladder → ℕ → Bool → Contents → Type 0
 MayTakePlaces task many told held =
-    (place : ℕ) → place < many → MayTakePlace BASE_START told (held (file_of task place))
+    (place : ℕ) → place < many → MayTakePlace magic told (held (file_of task place))
 
 -- the file of one of a ladder's scores isn't begun
 pub record StopsTrying (task : Ladder) (told : Bool) (held : Contents)
     (stop : RunStop) : Type 0 where
   pub place : ℕ
   pub inside : place < scores_in task
-  pub cause : StopsBeginning BASE_START (file_of task place) told (held (file_of task place)) stop
+  pub cause : StopsBeginning magic (file_of task place) told (held (file_of task place)) stop
 
 -- that refuses a ladder
 abbrev pub MayRefuseLadder : Ladder → Bool → Contents → Refusal → Type 0

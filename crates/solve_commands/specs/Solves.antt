@@ -11,8 +11,7 @@ use Rattle.turn_rule.specs.Truth.{AreSound, AreConsistent}
 use Rattle.interval_words.specs.WordLists.{WordList, AreRight, IsWidest, words_in_list}
 use Rattle.word_pages.specs.declared.version.Version.TheVariants.{Three}
 use Rattle.base_head.specs.Heads.{FileHead, no_starts}
-use Rattle.base_head.specs.Headers.{text_length}
-use Rattle.base_head.specs.declared.header.TheConstants.{BASE_START}
+use Rattle.base_head.specs.Headers.{magic, text_length}
 use Rattle.database_file.specs.Texts.{AreWordsOf, file_text}
 use Rattle.command_line.specs.declared.command.Solve.{Solve}
 use Rattle.solve_reports.specs.Files.{solved_text}
@@ -77,8 +76,8 @@ pub record HasToldSolving (task : Solve) (old new : Output) : Type 0 where
 abbrev pub Solves : Solve → Bool → Option (List ℕ) → List Event → List Event → Output → Output
     → Ending → Type 0
 Solves task told held before after old new (Ok done) =
-    HasSolved task before after old new × MayTakePlace BASE_START told held
+    HasSolved task before after old new × MayTakePlace magic told held
 Solves task told held before after old new (Err NotWritten) =
     (new ≡ old) ⊎ HasToldSolving task old new
 Solves task told held before after old new (Err (Refused refusal)) =
-    MayRefuseBeginning BASE_START task.file told held refusal × (new ≡ old)
+    MayRefuseBeginning magic task.file told held refusal × (new ≡ old)

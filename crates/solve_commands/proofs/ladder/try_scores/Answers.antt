@@ -12,7 +12,7 @@ use Rattle.outside_log.specs.Log.{GivenUp, standing}
 use Rattle.outside_log.specs.Reading.{begins_otherwise}
 use Rattle.outside_log.proofs.Logs.{leaves-both, leaves-one, stay}
 use Rattle.outside_log.proofs.Readings.{leaves-before, leaves-faults}
-use Rattle.base_head.specs.declared.header.TheConstants.{BASE_START}
+use Rattle.base_head.specs.Headers.{magic}
 use Rattle.solve_commands.specs.Ladders.{StopsTrying, file_of, scores_in}
 use Rattle.run_endings.specs.Scores.{score_file}
 use Rattle.run_endings.proofs.Beginning.{leaves-failures}
@@ -29,14 +29,14 @@ named given scores score task place name bytes of inside is own text shown =
 
 -- why it isn't begun stops the ladder
 stops : (task : Ladder) (place : ℕ) → place < scores_in task → (told : Bool) (held now : Contents) (name : List ℕ) → name ≡ file_of task place → now name ≡ held name → (stop : RunStop) (result : Result (Unit {0}) RunStop)
-    → StopsBeginning BASE_START name told (now name) stop → IsErrAnd result (λ given. given ≡ stop) → IfErr result (StopsTrying task told held)
+    → StopsBeginning magic name told (now name) stop → IsErrAnd result (λ given. given ≡ stop) → IfErr result (StopsTrying task told held)
 stops task place inside told held now name is same stop (Ok x) cause wrong = absurd wrong
 stops task place inside told held now name is same stop (Err given) cause due = record {
   place = place;
   inside = inside;
-  cause = subst (λ (n : List ℕ). StopsBeginning BASE_START n told (held n) given) is
-      (subst (λ (file : Option (List ℕ)). StopsBeginning BASE_START name told file given) same
-      (subst (StopsBeginning BASE_START name told (now name)) (sym due) cause));
+  cause = subst (λ (n : List ℕ). StopsBeginning magic n told (held n) given) is
+      (subst (λ (file : Option (List ℕ)). StopsBeginning magic name told file given) same
+      (subst (StopsBeginning magic name told (now name)) (sym due) cause));
 }
 
 pub returns-in_err-begin-clause-told : goal.returns-in_err-begin-clause-told
@@ -59,10 +59,10 @@ scores-preserved g c =
     record {
       end = c.scores.invariant.end;
       may = λ earlier less all.
-          let here : IsFalse (begins_otherwise BASE_START (held (file_of task place))) = rw (← name, ← stay _ _ c.scores.invariant.leaves c.as_str-name.result.now) (c.in_ok-begin.ensures.may (leaves-before given all)) in
+          let here : IsFalse (begins_otherwise magic (held (file_of task place))) = rw (← name, ← stay _ _ c.scores.invariant.leaves c.as_str-name.result.now) (c.in_ok-begin.ensures.may (leaves-before given all)) in
           elim (cases_lt earlier place) [
             | inl before ↦ c.scores.invariant.may earlier before (leaves-before last all)
-            | inr behind ↦ subst (λ n. IsFalse (begins_otherwise BASE_START (held (file_of task n)))) (omega (arith, behind, less)) here
+            | inr behind ↦ subst (λ n. IsFalse (begins_otherwise magic (held (file_of task n)))) (omega (arith, behind, less)) here
           ];
       leaves = leaves-both _ _ _ c.scores.invariant.leaves last;
       later = (let one = c.scores.invariant.later in let two = leaves-failures last in omega (arith, one, two));
