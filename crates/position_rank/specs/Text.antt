@@ -2,7 +2,6 @@
 use Rattle.std.specs.Prelude.{ℕ, zero, suc, ◌-◌, ◌==◌, nat_eq, nat_lt, nat_le, Bool, not, ◌&&◌, ◌||◌, List, [], ◌∷◌, ◌++◌, length, map, sum, count_by, find, replicate, take, codes, decimal, Option, is_some, Result, Ok, Err, slice_index, if◌then◌else◌}
 use Rattle.std.specs.List.{slice_split, before_first, after_first, filter_map, flat_map, list_all, list_any, range_with_len, join_with_byte}
 use Rattle.std.specs.Cmp.Lexicographic.{pointwise}
-use Rattle.position_rank.specs.declared.text.TheConstants.{MOST_CHECKERS, KEPT}
 use Rattle.position_rank.specs.declared.text.BadPosition.{BadPosition}
 use Rattle.position_rank.specs.declared.text.BadPosition.TheVariants.{Shape, Place, Count, SharedPoint, Over}
 use Rattle.position_rank.specs.Placement.{Placement}
@@ -39,14 +38,14 @@ have_shape ws = list_all (λ word. nat_lt 0 (length word)) ws && count_by is_sla
 abbrev pub are_places : List (List ℕ) → Bool
 are_places ws = list_all (λ word. is_some (place word)) ws
 
--- the first places of a side, one more than it may have
+-- the first four places of a side, one more than it may have
 abbrev pub kept_places : List (List ℕ) → List ℕ
-kept_places ws = take KEPT (filter_map place ws)
+kept_places ws = take 4 (filter_map place ws)
 
--- both sides have the same number of places, which is neither 0 nor too large
+-- both sides have the same number of places, which is 1 to 3
 abbrev pub numbers_fit : List ℕ → List ℕ → Bool
 numbers_fit mover other =
-    length mover == length other && nat_le 1 (length mover) && nat_le (length mover) MOST_CHECKERS
+    length mover == length other && nat_le 1 (length mover) && nat_le (length mover) 3
 
 -- the mover holds a point and the other side its point on the same spot
 unfoldable pub share_point : Placement → Bool
