@@ -4,7 +4,7 @@ use Rattle.outside_log.specs.Log.{Event}
 use Rattle.outside_log.specs.Readings.{WritesFile}
 use Rattle.outside_log.specs.Sink.{Output}
 use Rattle.game_record.specs.declared.line.Line.TheVariants.{Title}
-use Rattle.game_record.specs.Lines.{is_line_end, lines_text, record_text}
+use Rattle.game_record.specs.Lines.{IsTextOf, is_line_end, lines_text}
 use Rattle.game_record.specs.Replay.{IsReplay}
 use Rattle.game_record.specs.declared.decision.Decision.{Decision}
 use Rattle.game_record.specs.declared.record.Record.{Record}
@@ -17,11 +17,12 @@ use Rattle.run_endings.specs.Endings.{Ending, IsPut, WasPut}
 use Rattle.run_endings.specs.declared.ending.RunStop.TheVariants.{NotWritten, Refused}
 use Rattle.record_commands.specs.declared.make.MadeRecord.{MadeRecord}
 
--- The record of a task was made: it is that of the number and the count of games, this is its text, and its decisions were studied by eight rounds.
+-- The record of a task was made: it is that of the number and the count of games, this is its text, it breaks no rule, and its decisions were
+-- studied by eight rounds.
 pub record IsMadeFor (task : Make) (made : MadeRecord) : Type 0 where
   pub rec : Record
   pub drawn : IsMade task.number task.games rec
-  pub text : made.text.items ≡ record_text rec
+  pub text : IsTextOf made.text.items rec
   pub decisions : List Decision
   pub replay : IsReplay rec decisions
   pub studied : AreStudied (game_of_record rec) 8 decisions made.analysis

@@ -1,4 +1,4 @@
--- A file that was solved is right for each command that asks for what its game has.
+-- What was solved or made is right for each command that asks for what it has.
 use Rattle.std.proofs.Common.{◌≡◌, ◌∙◌, ◌<◌, ◌≤◌, ◌≢◌, ℕ, Bool, false, List, All, Contains, Option, Some, None, IfSome, sum, refl, sym, ap, subst, rules}
 use Rattle.std.specs.Prelude.{◌↔◌, ⊤}
 use Rattle.std.proofs.lemmas.List.{get_or_default}
@@ -43,10 +43,12 @@ use Rattle.database_file.proofs.Bases.{kinds-named}
 use Rattle.command_line.specs.declared.command.Advise.{Advise as AdviseTask}
 use Rattle.command_line.specs.declared.command.Analyse.{Analyse as AnalyseTask}
 use Rattle.command_line.specs.declared.command.Command.{Command}
-use Rattle.command_line.specs.declared.command.Command.TheVariants.{Show, Migrate, Advise, Verify, Analyse, Plan, Scan, Reply}
+use Rattle.command_line.specs.declared.command.Command.TheVariants.{Show, Migrate, Advise, Verify, Analyse, Study, Plan, Scan, Reply}
 use Rattle.command_line.specs.declared.command.Ladder.{Ladder as LadderTask}
+use Rattle.command_line.specs.declared.command.Make.{Make as MakeTask}
 use Rattle.command_line.specs.declared.command.Show.{Show as ShowTask}
 use Rattle.command_line.specs.declared.command.Solve.{Solve as SolveTask}
+use Rattle.command_line.specs.declared.command.Study.{Study as StudyTask}
 use Rattle.command_line.specs.Right.{IsRightAdvise, IsRightCommand, IsRightLadder, IsRightShow, IsRightSolve}
 use Rattle.base_commands.specs.Advises.{RestsOn}
 use Rattle.base_commands.specs.Games.{HasState}
@@ -55,6 +57,7 @@ use Rattle.base_commands.specs.RightFiles.{AdviceRestsOn, CanLoad, CanLookUp, Ha
 use Rattle.run_endings.specs.Loads.{game_told}
 use Rattle.run_endings.specs.Pages.{OfHeld}
 use Rattle.run_endings.specs.Scores.{score_file}
+use Rattle.record_commands.specs.Makes.{HasMade}
 use Rattle.record_commands.specs.MatchAnalyses.{game_at}
 use Rattle.record_commands.specs.Records.{HoldsRecord, game_recorded, match_length}
 use Rattle.record_commands.specs.RightRecords.{CanJudgeAll, CanJudgeAtScore, CanJudgeBy, HasRightPages}
@@ -232,3 +235,14 @@ right-match-analysis law judges exact task analyse held before after put_before 
   can =
       let (valid, replay) = read-right (held analyse.rec) replayed holds in
       judges task.prefix rec replayed.decisions held task.match_length valid replay stakes score-pages
+
+-- ---- records that were made
+
+pub right-made : (make : MakeTask) (study : StudyTask) (held : Contents) (before after : List Event) (put_before put_after : Output) → HasMade make before after put_before put_after → held study.rec ≡ standing after make.file
+    → IsRightFor (Study study) held
+right-made make study held before after put_before put_after made is =
+    let replayed : Replayed = record { rec = made.is_made.rec; decisions = made.is_made.decisions } in (
+      replayed,
+      subst (λ (file : Option (List ℕ)). OfHeld file (λ bytes. HoldsRecord bytes replayed)) (sym (is ∙ stands make.file made.made.text.items before after made.file))
+          (record { text = made.is_made.text; replay = made.is_made.replay }),
+    )

@@ -8,7 +8,7 @@ ghost use Rattle.equity_report.specs.declared.refusal.Refusal.{Refusal};
 ghost use Rattle.command_line.specs.declared.command.Advise.{Advise};
 ghost use Rattle.command_line.specs.declared.command.Analyse.{Analyse};
 ghost use Rattle.command_line.specs.declared.command.Command.{Command};
-ghost use Rattle.command_line.specs.declared.command.Command.TheVariants.{Analyse as ToAnalyse};
+ghost use Rattle.command_line.specs.declared.command.Command.TheVariants.{Analyse as ToAnalyse, Study as ToStudy};
 ghost use Rattle.command_line.specs.declared.command.Ladder.{Ladder};
 ghost use Rattle.command_line.specs.declared.command.Solve.{Solve};
 ghost use Rattle.game_record.specs.declared.record.RecordStakes.TheVariants.{Match};
@@ -17,6 +17,9 @@ ghost use Rattle.command_line.specs.Right.{IsRightCommand, IsRightLadder, IsRigh
 ghost use Rattle.run_endings.specs.Endings.{Ending, IsOutside, IsPut};
 ghost use Rattle.run_endings.specs.Loads.{game_told};
 ghost use Rattle.run_endings.specs.Pages.{OfHeld};
+ghost use Rattle.command_line.specs.declared.command.Make.{Make};
+ghost use Rattle.command_line.specs.declared.command.Study.{Study};
+ghost use Rattle.record_commands.specs.Makes.{HasMade};
 ghost use Rattle.record_commands.specs.Records.{HoldsRecord, game_recorded};
 ghost use Rattle.record_commands.specs.declared.record.Replayed.{Replayed};
 ghost use Rattle.solve_commands.specs.Solves.{HasSolved, head_of};
@@ -210,3 +213,12 @@ pub fn records_are_analysed_by_a_solved_match()
     files_with_right_pages_can_judge();
     ladders_are_exact();
 }
+
+/// What `make` wrote holds a record that breaks no rule, and so is right for `study`.
+pub fn made_records_are_right()
+    ensures { (make : Make) (study : Study) (held : Contents) (before after : List Event)
+        (put_before put_after : Output)
+        → HasMade make before after put_before put_after
+        → held study.rec ≡ standing after make.file
+        → IsRightFor (ToStudy study) held }
+{}
