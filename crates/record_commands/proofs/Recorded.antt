@@ -114,8 +114,8 @@ module _ (name : List ℕ) (replayed : Replayed) (held : Contents) where
 -- what is answered of the files as they are after the record was read is so of them as they were
 module _ (task : Analyse) (replayed : Replayed) (held after : Contents) (same : after ≡ held) where
   pub judging-refused : OfHeld (held task.rec) (λ bytes. HoldsRecord bytes replayed) → (refusal : Refusal) → AnswersJudging task.base replayed after (Err refusal) → RefusesAnalysis task refusal held
-  judging-refused holds refusal (inl outside) = inl outside
-  judging-refused holds refusal (inr cause) = inr (inr (record { replayed = replayed; record_file = holds; cause = subst (RefusesBy (is_match replayed.rec.stakes) task.base replayed refusal) same cause }))
+  judging-refused holds refusal (inl outside) = inr (record { replayed = replayed; record_file = holds; cause = inl outside })
+  judging-refused holds refusal (inr cause) = inr (record { replayed = replayed; record_file = holds; cause = inr (subst (RefusesBy (is_match replayed.rec.stakes) task.base replayed refusal) same cause) })
 
   pub judging-done : (told mid : Bool) (list : List Judged) → (IsTrue told → IsTrue mid) → (IsTrue mid → OfHeld (held task.rec) (λ bytes. HoldsRecord bytes replayed)) → (IsTrue told → AnswersJudging task.base replayed after (Ok list)) → IsAnalysed task told held list
   judging-done told mid list was holds judges = record {

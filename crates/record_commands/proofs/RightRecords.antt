@@ -1,5 +1,5 @@
 -- Right records and right files are refused for no fault of theirs.
-use Rattle.std.proofs.Common.{◌≡◌, ◌∙◌, List, ℕ, get_or, All, Bool, true, false, Contains, Option, Some, None, IfSome, IsSomeAnd, inl, inr, refl, sym, ap, subst}
+use Rattle.std.proofs.Common.{◌≡◌, ◌∙◌, List, ℕ, get_or, All, Bool, true, false, Contains, Option, Some, None, IfSome, IsSomeAnd, ◌⊎◌, inl, inr, refl, sym, ap, subst}
 use Rattle.std.specs.Option.{option_map}
 use Rattle.std.proofs.lemmas.Option.{none-some}
 use Rattle.outside_log.specs.Files.{Contents}
@@ -144,19 +144,21 @@ right-judged false name replayed held refusal can r = right-file (game_recorded 
 
 pub right-studied : NoFault → OneRecord → NoBreach → (task : Study) (held : Option (List ℕ)) (refusal : Refusal) → IsRightForStudying task held → MayRefuseStudy task true held refusal → IsOutside refusal
 right-studied no_fault one no_breach task held refusal right may = elim (may refl) [
-  | inl outside ↦ outside
-  | inr r ↦ right-record no_fault one no_breach task.rec held right.0 right.1 refusal r
+  | inl r ↦ right-record no_fault one no_breach task.rec held right.0 right.1 refusal r
+  | inr lacks ↦ subst IsOutside (sym lacks.line) tt
 ]
 
 pub right-analysed : NoFault → OneRecord → OneReplay → NoBreach → (task : Analyse) (held : Contents) (refusal : Refusal) → IsRightForAnalysing task held → MayRefuseAnalysis task true held refusal → IsOutside refusal
 right-analysed no_fault one replay no_breach task held refusal right may = by_cause (may refl) where
   by_cause : RefusesAnalysis task refusal held → IsOutside refusal
-  by_cause (inl outside) = outside
-  by_cause (inr (inl r)) = right-record no_fault one no_breach task.rec (held task.rec) right.replayed right.record_file refusal r
-  by_cause (inr (inr not)) =
-      let same = same-record one replay (held task.rec) right.replayed not.replayed right.record_file not.record_file in
-      let can = subst (λ (replayed : Replayed). CanJudgeBy (is_match replayed.rec.stakes) task.base replayed held) same right.base_files in
-      right-judged (is_match not.replayed.rec.stakes) task.base not.replayed held refusal can not.cause
+  by_cause (inl r) = right-record no_fault one no_breach task.rec (held task.rec) right.replayed right.record_file refusal r
+  by_cause (inr not) = by_files not.cause where
+    by_files : IsOutside refusal ⊎ RefusesBy (is_match not.replayed.rec.stakes) task.base not.replayed refusal held → IsOutside refusal
+    by_files (inl outside) = outside
+    by_files (inr cause) =
+        let same = same-record one replay (held task.rec) right.replayed not.replayed right.record_file not.record_file in
+        let can = subst (λ (replayed : Replayed). CanJudgeBy (is_match replayed.rec.stakes) task.base replayed held) same right.base_files in
+        right-judged (is_match not.replayed.rec.stakes) task.base not.replayed held refusal can cause
 
 -- ---- files with right pages
 

@@ -65,16 +65,17 @@ RefusesBy true name replayed refusal held =
 RefusesBy false name replayed refusal held =
     RefusesFile (game_recorded replayed.rec) name None replayed.decisions refusal (held name)
 
--- the record breaks no rule, and can't be judged
+-- The record breaks no rule, and can't be judged. A fault of the files or of memory says nothing of the files that judge it.
 pub record RefusesReplayed (task : Analyse) (refusal : Refusal) (held : Contents) : Type 0 where
   pub replayed : Replayed
   pub record_file : OfHeld (held task.rec) (λ bytes. HoldsRecord bytes replayed)
-  pub cause : RefusesBy (is_match replayed.rec.stakes) task.base replayed refusal held
+  pub cause : IsOutside refusal
+      ⊎ RefusesBy (is_match replayed.rec.stakes) task.base replayed refusal held
 
 -- An analysis is refused: the record is, or it breaks no rule and can't be judged by the file, or in a match by the files of its scores.
 abbrev pub RefusesAnalysis : Analyse → Refusal → Contents → Type 0
-RefusesAnalysis task refusal held = IsOutside refusal
-    ⊎ RefusesRecord task.rec refusal (held task.rec) ⊎ RefusesReplayed task refusal held
+RefusesAnalysis task refusal held =
+    RefusesRecord task.rec refusal (held task.rec) ⊎ RefusesReplayed task refusal held
 
 -- this refuses an analysis, of the files that stood there where all answers were faithful
 abbrev pub MayRefuseAnalysis : Analyse → Bool → Contents → Refusal → Type 0

@@ -8,9 +8,10 @@ use Rattle.record_study.specs.Studies.{AreStudied, game_of_record}
 use Rattle.command_line.specs.declared.command.Study.{Study}
 use Rattle.record_reports.specs.Analyses.{analysis_text}
 use Rattle.equity_report.specs.declared.refusal.Refusal.{Refusal}
+use Rattle.equity_report.specs.declared.refusal.Refusal.TheVariants.{Memory}
 use Rattle.run_endings.specs.Pages.{OfHeld}
 use Rattle.record_commands.specs.Records.{HoldsRecord, RefusesRecord, match_length}
-use Rattle.run_endings.specs.Endings.{Ending, IsOutside, Tells}
+use Rattle.run_endings.specs.Endings.{Ending, Tells}
 use Rattle.record_commands.specs.declared.record.Replayed.{Replayed}
 
 -- The decisions of a recorded game were studied by so many rounds: outside a match by the game that it is played for, and in a match by the scores of
@@ -39,9 +40,15 @@ pub record HasStudied (task : Study) (told : Bool) (held : Option (List ℕ))
   pub studied : IsStudied task told held list
   pub report : IsReport (analysis_text list)
 
--- A study is refused: the record is. A fault of the files or of memory says nothing of it.
+-- the record breaks no rule, and there was no memory to study it
+pub record LacksMemory (refusal : Refusal) (held : Option (List ℕ)) : Type 0 where
+  pub replayed : Replayed
+  pub record_file : OfHeld held (λ bytes. HoldsRecord bytes replayed)
+  pub line : refusal ≡ Memory
+
+-- a study is refused: the record is, or there was no memory to study it
 abbrev pub RefusesStudy : Study → Refusal → Option (List ℕ) → Type 0
-RefusesStudy task refusal held = IsOutside refusal ⊎ RefusesRecord task.rec refusal held
+RefusesStudy task refusal held = RefusesRecord task.rec refusal held ⊎ LacksMemory refusal held
 
 -- this refuses a study, of the file that is held where all answers were faithful
 abbrev pub MayRefuseStudy : Study → Bool → Option (List ℕ) → Refusal → Type 0

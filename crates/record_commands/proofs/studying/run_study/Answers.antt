@@ -1,8 +1,11 @@
-use Rattle.std.proofs.Common.{inr, refl}
+use Rattle.std.proofs.Common.{inl, inr, refl}
 use Rattle.record_commands.proofs.studying.run_study.Goals as goal
 
 pub returns-in-Err-clause-tells : goal.returns-in-Err-clause-tells
-returns-in-Err-clause-tells g c = (λ told. inr (rw (c.as_str.ensures) at c.in-Err.ensures.told told), refl)
+returns-in-Err-clause-tells g c = (λ told. inl (rw (c.as_str.ensures) at c.in-Err.ensures.told told), refl)
+
+pub returns-in_default-clause-tells : goal.returns-in_default-clause-tells
+returns-in_default-clause-tells g c = (λ told. inr (record { replayed = c.in-Ok.replayed; record_file = rw (c.as_str.ensures) at c.in-Ok.ensures.told told; line = refl }), refl)
 
 pub returns-in-Ok-write_analysis-clause-tells : goal.returns-in-Ok-write_analysis-clause-tells
 returns-in-Ok-write_analysis-clause-tells g c = record {
