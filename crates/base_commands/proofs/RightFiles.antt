@@ -10,7 +10,7 @@ use Rattle.interval_words.specs.WordLists.{words_in_list}
 use Rattle.word_pages.specs.declared.version.Version.{Version}
 use Rattle.word_pages.specs.declared.version.Version.TheVariants.{One, Three}
 use Rattle.base_head.specs.Heads.{FileHead, stakes_of}
-use Rattle.base_head.specs.declared.header.TheConstants.{BASE_START}
+use Rattle.base_head.specs.Headers.{magic}
 use Rattle.database_file.specs.Faults.{Read as FileRead, whole}
 use Rattle.database_file.specs.FileBases.{FileBase}
 use Rattle.command_line.specs.declared.command.Advise.{Advise as AdviseTask}
@@ -96,5 +96,5 @@ right-begun start name held Memory may r = tt
 right-begun start name held refusal may r = absurd r
 
 pub right-migrated : (task : Migrate) (held : Contents) (refusal : Refusal) → IsRightForMigrating task held → MayRefuseMigrating task true held refusal → IsOutside refusal
-right-migrated task held refusal right (inl beginning) = right-begun BASE_START task.new (held task.new) refusal right.1 (beginning refl)
+right-migrated task held refusal right (inl beginning) = right-begun magic task.new (held task.new) refusal right.1 (beginning refl)
 right-migrated task held refusal right (inr verifying) = right-verified One task.old (held task.old) refusal right.0 verifying

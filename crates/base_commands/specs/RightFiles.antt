@@ -9,7 +9,7 @@ use Rattle.word_pages.specs.declared.version.Version.{Version}
 use Rattle.word_pages.specs.declared.version.Version.TheVariants.{One, Three}
 use Rattle.base_head.specs.Fronts.{head_in}
 use Rattle.base_head.specs.Heads.{FileHead, stakes_of}
-use Rattle.base_head.specs.declared.header.TheConstants.{BASE_START}
+use Rattle.base_head.specs.Headers.{magic}
 use Rattle.database_file.specs.Bases.{IsBaseFrom}
 use Rattle.database_file.specs.Faults.{fault_before_pages, header_of_file, whole}
 use Rattle.database_file.specs.FileBases.{FileBase}
@@ -67,7 +67,7 @@ IsRightForVerifying oldest held = OfHeld held (CanLoad oldest HasConsistentWords
 -- the same of the old file, of any version, and what stands under the new name may be replaced
 abbrev pub IsRightForMigrating : Migrate → Contents → Type 0
 IsRightForMigrating task held =
-    IsRightForVerifying One (held task.old) × IsFalse (begins_otherwise BASE_START (held task.new))
+    IsRightForVerifying One (held task.old) × IsFalse (begins_otherwise magic (held task.new))
 
 -- the text is that of a condition, and nothing is wrong with the file
 abbrev pub IsRightForScanning : Scan → Option (List ℕ) → Type 0

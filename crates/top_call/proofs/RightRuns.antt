@@ -8,8 +8,8 @@ use Rattle.outside_log.specs.Sink.{Output}
 use Rattle.race_table.specs.Races.{IsRaceOf}
 use Rattle.word_pages.specs.declared.version.Version.{Version}
 use Rattle.word_pages.specs.declared.version.Version.TheVariants.{Three}
-use Rattle.base_head.specs.declared.header.TheConstants.{BASE_START}
-use Rattle.game_record.specs.declared.print.TheConstants.{RECORD_START}
+use Rattle.base_head.specs.Headers.{magic}
+use Rattle.record_commands.specs.Makes.{title_line}
 use Rattle.command_line.specs.declared.command.Advise.{Advise as AdviseTask}
 use Rattle.command_line.specs.declared.command.Analyse.{Analyse as AnalyseTask}
 use Rattle.command_line.specs.declared.command.Bound.{Bound as BoundTask}
@@ -76,7 +76,7 @@ right-race task refusal race (inr (inr memory)) = no-memory refusal memory.1
 
 right-ladder : (task : LadderTask) (held : Contents) (refusal : Refusal) → IsRightForLadder task held → MayRefuseLadder task true held refusal → IsOutside refusal
 right-ladder task held refusal right stops =
-    right-begun BASE_START (file_of task stops.place) (held (file_of task stops.place)) refusal (right stops.place stops.inside) (stops.cause.1 refl)
+    right-begun magic (file_of task stops.place) (held (file_of task stops.place)) refusal (right stops.place stops.inside) (stops.cause.1 refl)
 
 -- ---- all commands
 
@@ -88,7 +88,7 @@ module _ (files : FileLaws) (records : RecordLaws) (before after : List Event) (
   not-refused : (command : Command) → IsRightFor command (standing before) → HasRun command before after old new (Err (Refused refusal)) → IsOutside refusal
   not-refused (Bound task) right run = right-bound task refusal right run.0
   not-refused (Race task) right run = right-race task refusal right run.0
-  not-refused (Solve task) right run = right-begun BASE_START task.file (standing before task.file) refusal right (run.0 told)
+  not-refused (Solve task) right run = right-begun magic task.file (standing before task.file) refusal right (run.0 told)
   not-refused (Show task) right run = files.show task (standing before task.file) refusal right (run.0 told)
   not-refused (Migrate task) right run = files.migrate task (standing before) refusal right (faithfully (λ told. MayRefuseMigrating task told (standing before) refusal) run.0)
   not-refused (Advise task) right run = files.advise task (standing before task.file) refusal right (faithfully (λ told. MayRefuseAdvice task told (standing before task.file) refusal) run.0)
@@ -97,7 +97,7 @@ module _ (files : FileLaws) (records : RecordLaws) (before after : List Event) (
   not-refused (Ladder task) right (inr run) = right-ladder task (standing before) refusal right (faithfully (λ told. MayRefuseLadder task told (standing before) refusal) run.0)
   not-refused (Analyse task) right run = records.analyse task (standing before) refusal right (faithfully (λ told. MayRefuseAnalysis task told (standing before) refusal) run.0)
   not-refused (Study task) right run = records.study task (standing before task.rec) refusal right (faithfully (λ told. MayRefuseStudy task told (standing before task.rec) refusal) run.0)
-  not-refused (Make task) right run = right-begun RECORD_START task.file (standing before task.file) refusal right (run.0 told)
+  not-refused (Make task) right run = right-begun title_line task.file (standing before task.file) refusal right (run.0 told)
   not-refused (Plan task) right run = files.plan task (standing before (first_file task)) refusal right (faithfully (λ told. MayRefusePlanning task told (standing before (first_file task)) refusal) run.0)
   not-refused (Scan task) right run = files.scan task (standing before task.file) refusal right (faithfully (λ told. MayRefuseScanning task told (standing before task.file) refusal) run.0)
   not-refused (Reply task) right run = files.reply task (standing before task.file) refusal right (faithfully (λ told. MayRefuseReplying task told (standing before task.file) refusal) run.0)

@@ -7,9 +7,9 @@ use Rattle.outside_log.specs.Reading.{begins_otherwise}
 use Rattle.outside_log.specs.Readings.{is_faithful, read_faults}
 use Rattle.outside_log.specs.Sink.{Output}
 use Rattle.race_table.specs.Races.{IsRaceOf}
-use Rattle.game_record.specs.declared.print.TheConstants.{RECORD_START}
+use Rattle.record_commands.specs.Makes.{title_line}
 use Rattle.word_pages.specs.declared.version.Version.TheVariants.{Three}
-use Rattle.base_head.specs.declared.header.TheConstants.{BASE_START}
+use Rattle.base_head.specs.Headers.{magic}
 use Rattle.command_line.specs.declared.command.Command.{Command}
 use Rattle.command_line.specs.declared.command.Command.TheVariants.{Bound, Race, Solve, Show, Migrate, Advise, Verify, Ladder, Analyse, Study, Make, Plan, Scan, Reply}
 use Rattle.command_line.specs.declared.command.Ladder.{Ladder as LadderTask}
@@ -27,13 +27,13 @@ MayBeReplaced start held name = IsFalse (begins_otherwise start (held name))
 -- no file of a score stands in the way of a ladder
 abbrev pub IsRightForLadder : LadderTask → Contents → Type 0
 IsRightForLadder task held =
-    (place : ℕ) → place < scores_in task → MayBeReplaced BASE_START held (file_of task place)
+    (place : ℕ) → place < scores_in task → MayBeReplaced magic held (file_of task place)
 
 -- What stands under the names of a command is right for what it asks. What asks for no file asks for a position that fits its words.
 abbrev pub IsRightFor : Command → Contents → Type 0
 IsRightFor (Bound task) held = sum task.position.mover ≡ task.checkers
 IsRightFor (Race task) held = IsRaceOf task.checkers task.position
-IsRightFor (Solve task) held = MayBeReplaced BASE_START held task.file
+IsRightFor (Solve task) held = MayBeReplaced magic held task.file
 IsRightFor (Show task) held = IsRightForShowing task (held task.file)
 IsRightFor (Migrate task) held = IsRightForMigrating task held
 IsRightFor (Advise task) held = IsRightForAdvising task (held task.file)
@@ -41,7 +41,7 @@ IsRightFor (Verify task) held = IsRightForVerifying Three (held task.file)
 IsRightFor (Ladder task) held = IsRightForLadder task held
 IsRightFor (Analyse task) held = IsRightForAnalysing task held
 IsRightFor (Study task) held = IsRightForStudying task (held task.rec)
-IsRightFor (Make task) held = MayBeReplaced RECORD_START held task.file
+IsRightFor (Make task) held = MayBeReplaced title_line held task.file
 IsRightFor (Plan task) held = IsRightForPlanning task (held (first_file task))
 IsRightFor (Scan task) held = IsRightForScanning task (held task.file)
 IsRightFor (Reply task) held = IsRightForReplying task (held task.file)

@@ -2,7 +2,7 @@
 use Rattle.std.specs.Prelude.{◌≡◌, ℕ, List, [], sum, ⊤}
 use Rattle.outside_log.specs.Files.{Contents}
 use Rattle.base_head.specs.Heads.{FileHead}
-use Rattle.base_head.specs.declared.header.TheConstants.{BASE_START}
+use Rattle.base_head.specs.Headers.{magic}
 use Rattle.command_line.specs.declared.command.Command.{Command}
 use Rattle.command_line.specs.declared.command.Command.TheVariants.{Show, Migrate, Advise, Verify, Plan, Scan, Reply}
 use Rattle.base_commands.specs.Games.{HasState}
@@ -27,7 +27,7 @@ abbrev pub AsksOf : FileHead → Contents → Command → Type 0
 AsksOf head held (Show task) = head.checkers ≡ sum task.position.mover
 AsksOf head held (Advise task) = HasState task.position task.kind head
 AsksOf head held (Verify task) = ⊤
-AsksOf head held (Migrate task) = MayBeReplaced BASE_START held task.new
+AsksOf head held (Migrate task) = MayBeReplaced magic held task.new
 AsksOf head held (Plan task) = IsOfFirstGame task.match_length head
 AsksOf head held (Scan task) = IsConditionText task.condition
 AsksOf head held (Reply task) = HasState task.position task.kind head
