@@ -15,14 +15,14 @@ use Rattle.turn_rule.specs.declared.game.Game.{Game}
 use Rattle.interval_words.specs.declared.view.Note.{Note}
 use Rattle.interval_words.specs.declared.view.View.{View}
 use Rattle.interval_words.specs.Numbers.{state_of, word_of, value_of, tightest_word}
-use Rattle.interval_words.specs.Core.{Core, IsKept, IsTrueOf, AreReached, words_in_core, noted, with_note, settled, joined, spent}
+use Rattle.interval_words.specs.Core.{Core, IsKept, IsTrueOf, AreReached, words_in_core, noted, with_note, brought, without_work, settled, joined, spent}
 use Rattle.interval_words.specs.Events.{IsLoose, IsRoundDone}
 use Rattle.interval_words.specs.Seats.{AreKnown, Knows, WasHeld}
 use Rattle.interval_words.specs.Rule.{core_of, Holds, Reads, Tightens, Settles}
 use Rattle.interval_words.proofs.Ends.{tight-refl, tight-trans}
 use Rattle.interval_words.proofs.TurnLaws.{all-rounds-within}
 use Rattle.interval_words.proofs.Views.{All-at, contains-at, set-at, noted-opening}
-use Rattle.interval_words.proofs.Steps.{tighter-trans, true-note, true-settled, true-joined, true-blank, kept-view, kept-new, kept-tightens}
+use Rattle.interval_words.proofs.Steps.{tighter-trans, true-note, true-without_work, true-settled, true-joined, true-blank, kept-view, kept-new, kept-tightens}
 
 abbrev St : Type 0
 St = State (Unit {0}) View
@@ -78,7 +78,7 @@ module _ (game : Game) (slots id : ℕ) (me : Mine) (alive : me.0.game ≡ Some 
       let place : ℕ = word_of end (state_of (kinds_of game) p k) in
       let core : Core = core_of game s in
       let is : IsTrueOf game (words_in_core core) me.0 = All-at (IsTrueOf game (words_in_core core)) s.views id me.0 kept.views at in
-      let view : View = with_note me.0 place (value_of word) in
+      let view : View = brought me.0 place (value_of word) in
       let more : Core = record core { words = set s.words place (tightest_word end (get_or s.words place 0) word); views = set s.views id view } in
       let after : IsKept more = kept-tightens core kept me.0 is end p k word loose id in
       let true_of : IsTrueOf game (words_in_core more) view = All-at (IsTrueOf game (words_in_core more)) (set s.views id view) id view after.views (set-at s.views id me.0 view at) in
@@ -91,11 +91,11 @@ module _ (game : Game) (slots id : ℕ) (me : Mine) (alive : me.0.game ≡ Some 
       let true_of : IsTrueOf game (words_in_core core) (settled me.0) = true-settled game (words_in_core core) me.0 is done in
       (settled me.0, keeps, tt, same-words game s.words (set s.views id (settled me.0)) 0 (kept-view core id (settled me.0) kept true_of), (refl, knows-true core kept (settled me.0) true_of alive))
 
-pub splits : (game : Game) (id : ℕ) (view : View) → Splits (Holds game) id view view view
+pub splits : (game : Game) (id : ℕ) (view : View) → Splits (Holds game) id view view (without_work view)
 splits game id view s kept at =
     let core : Core = core_of game s in
     let is : IsTrueOf game (words_in_core core) view = All-at (IsTrueOf game (words_in_core core)) s.views id view kept.views at in
-    kept-new (record core { views = set s.views id view }) view (kept-view core id view kept is) is
+    kept-new (record core { views = set s.views id view }) (without_work view) (kept-view core id view kept is) (true-without_work game (words_in_core core) view is)
 
 pub joins : (game : Game) (id : ℕ) (view : View) (other : ℕ) (those : View) → Joins (Holds game) id view other those (joined view those) spent
 joins game id view other those s kept at differs there =

@@ -15,9 +15,9 @@ use Rattle.turn_rule.specs.declared.game.Game.{Game}
 use Rattle.turn_rule.proofs.Within.{bound-small}
 use Rattle.interval_words.specs.declared.view.View.{View}
 use Rattle.interval_words.specs.Numbers.{state_of, states_in, word_of, value_of, tightest_word}
-use Rattle.interval_words.specs.Core.{Core, IsTrueOf, words_in_core, AreReached, words_in, noted, known, first_view, with_note, settled, joined}
+use Rattle.interval_words.specs.Core.{Core, IsTrueOf, words_in_core, AreReached, words_in, noted, known, first_view, with_note, brought, without_work, settled, joined}
 use Rattle.interval_words.specs.Events.{IsLoose, IsRoundDone}
-use Rattle.interval_words.specs.Seats.{GameSeat, IsNumber, MayTighten, AreKnown, Knows, WasHeld, noting, settling}
+use Rattle.interval_words.specs.Seats.{GameSeat, IsNumber, MayTighten, AreKnown, Knows, WasHeld, noting, bringing, settling}
 use Rattle.interval_words.specs.Rule.{Holds, Reads, Tightens, Settles}
 use Rattle.position_rank.specs.LiveRanks.{live_rank_of, live_positions}
 use Rattle.cube_actions.specs.Stakes.{Terms}
@@ -72,6 +72,17 @@ noting-at seat table later me next place word found value is table_is next_is pl
     let tables : later ≡ seat.table = table_is ∙ ap (λ (s : GameSeat). s.table) is in
     let views : next.0 ≡ with_note seat.view word value = ap (λ (m : Mine). m.0) next_is ∙ (λ i. with_note ((ap (λ (s : GameSeat). s.view) is) i) (place_is i) (found_is i)) in
     λ i. record { table = tables i; view = views i }
+
+-- the seat after a step that brings a value
+pub bringing-at : (seat : GameSeat) (table later : TableId) (me next : Mine) (place word : ℕ) (found value : ℤ) → record { table = table; view = me.0 } ≡ seat → later ≡ table → next ≡ (brought me.0 place found, me.1) → place ≡ word → found ≡ value → record { table = later; view = next.0 } ≡ bringing seat word value
+bringing-at seat table later me next place word found value is table_is next_is place_is found_is =
+    let tables : later ≡ seat.table = table_is ∙ ap (λ (s : GameSeat). s.table) is in
+    let views : next.0 ≡ brought seat.view word value = ap (λ (m : Mine). m.0) next_is ∙ (λ i. brought ((ap (λ (s : GameSeat). s.view) is) i) (place_is i) (found_is i)) in
+    λ i. record { table = tables i; view = views i }
+
+-- what is known without the work
+pub knows-without_work : (view : View) → Knows view → Knows (without_work view)
+knows-without_work view knows = record { notes = knows.notes }
 
 -- the seat after a round
 pub settled-at : (seat : GameSeat) (table later : TableId) (me next : Mine) → record { table = table; view = me.0 } ≡ seat → later ≡ table → next ≡ (settled me.0, me.1) → record { table = later; view = next.0 } ≡ settling seat

@@ -1,5 +1,6 @@
 -- A seat after one note more, and after a value was brought to a word.
-use Rattle.std.proofs.Common.{◌≡◌, ℕ, ℤ, ◌∷◌, ap, refl, sym, subst, ◌∙◌}
+use Rattle.std.proofs.Common.{◌≡◌, ℕ, ℤ, List, [], ◌∷◌, ◌++◌, append_assoc, ap, refl, sym, subst, ◌∙◌}
+use Rattle.std.proofs.lemmas.List.Elements.{All-nil, All-cons, All-append, All-weaker}
 use Rattle.position_rank.specs.Placement.{Placement}
 use Rattle.directed_fixed.specs.declared.bounds.End.{End}
 use Rattle.directed_fixed.specs.Bounds.{IsNoLooser, IsWithinUnits}
@@ -8,8 +9,9 @@ use Rattle.turn_rule.specs.Turn.{turn, rounds}
 use Rattle.turn_rule.specs.States.{IsState, AreWithin, AreNoLooser}
 use Rattle.cube_actions.specs.Stakes.{IsValid}
 use Rattle.interval_words.specs.Numbers.{state_of, word_of}
+use Rattle.interval_words.specs.declared.view.Work.{Work}
 use Rattle.interval_words.specs.Core.{noted}
-use Rattle.interval_words.specs.Seats.{GameTable, GameSeat, SitsAt, KeepsNotes, Brings, MayTighten, noting}
+use Rattle.interval_words.specs.Seats.{GameTable, GameSeat, SitsAt, KeepsNotes, AddsWork, Brings, MayTighten, noting, bringing}
 use Rattle.interval_words.proofs.Ends.{tight-refl, tight-trans}
 use Rattle.interval_words.proofs.Views.{noted-more, noted-own}
 use Rattle.interval_words.proofs.TurnLaws.{turns-tighten}
@@ -24,6 +26,20 @@ keeps-trans a b c one two = record {
   base = two.base ∙ one.base;
   notes = λ game names end p k state. tight-trans end _ _ _ (two.notes game (one.game ∙ names) end p k state) (one.notes game names end p k state);
 }
+
+-- no work, more work, and work that is also otherwise
+pub adds-none : (Such : Work → Type 0) (old new : List Work) → new ≡ old → AddsWork Such old new
+adds-none Such old new same = record { added = []; front = same; each = All-nil Such }
+
+pub adds-trans : (Such : Work → Type 0) (a b c : List Work) → AddsWork Such a b → AddsWork Such b c → AddsWork Such a c
+adds-trans Such a b c one two = record {
+  added = two.added ++ one.added;
+  front = two.front ∙ (ap (λ (works : List Work). two.added ++ works) one.front ∙ sym (append_assoc two.added one.added a));
+  each = All-append Such two.added one.added two.each one.each;
+}
+
+pub adds-weaker : (Such Also : Work → Type 0) (old new : List Work) → ((work : Work) → Such work → Also work) → AddsWork Such old new → AddsWork Also old new
+adds-weaker Such Also old new so adds = record { added = adds.added; front = adds.front; each = All-weaker Such Also so adds.added adds.each }
 
 pub sits-kept : (board : GameTable) (old new : GameSeat) → KeepsNotes old new → SitsAt board old → SitsAt board new
 sits-kept board old new kept sits = record { table = kept.table ∙ sits.table; game = kept.game ∙ sits.game }
@@ -53,6 +69,18 @@ module _ (board : GameTable) (old new : GameSeat) (word : ℕ) (value : ℤ) (no
       subst (λ (s : GameSeat). IsNoLooser end (noted board.game s.view.notes end p k) value) (sym noting_is)
       (subst (λ (w : ℕ). IsNoLooser end (noted board.game (record { word = w; value = value } ∷ old.view.notes) end p k) value) (sym at) (noted-own board.game value old.view.notes end p k))
 
+-- a seat that brought a value keeps its notes, and knows the value
+module _ (board : GameTable) (old new : GameSeat) (word : ℕ) (value : ℤ) (brings : new ≡ bringing old word value) (sits : SitsAt board old) where
+  pub keeps-bringing : KeepsNotes old new
+  keeps-bringing =
+      let kept = keeps-noting board old (noting old word value) word value refl sits in
+      subst (λ (s : GameSeat). KeepsNotes old s) (sym brings) (record { table = kept.table; game = kept.game; base = kept.base; notes = kept.notes })
+
+  pub told-bringing : (end : End) (p : Placement) (k : ℕ) → word ≡ word_of end (state_of (kinds_of board.game) p k) → IsNoLooser end (noted board.game new.view.notes end p k) value
+  told-bringing end p k at =
+      subst (λ (s : GameSeat). IsNoLooser end (noted board.game s.view.notes end p k) value) (sym brings)
+      (told-noting board old (noting old word value) word value refl sits end p k at)
+
 -- a value that is loose enough may be brought, also after other notes
 pub may-tighten : (board : GameTable) (old new : GameSeat) (state : ℕ) (value : ℤ) (end : End) (p : Placement) (k : ℕ) → IsValid board.game.stakes → KeepsNotes old new → SitsAt board old → state ≡ state_of (kinds_of board.game) p k
     → IsState board.game p k → IsWithinUnits board.game.stakes.bound value → IsNoLooser end (turn board.game.stakes (noted board.game old.view.notes) end p k) value → MayTighten end board.game new.view state value
@@ -72,13 +100,20 @@ pub brings-read : (board : GameTable) (old new : GameSeat) (end : End) (state : 
 brings-read board old new end state found value noting_is sits tight = record {
   keeps = keeps-noting board old new (word_of end state) found noting_is sits;
   told = λ p k at. tight-trans end _ _ _ (told-noting board old new (word_of end state) found noting_is sits end p k (ap (word_of end) at)) tight;
+  work = adds-none (λ (work : Work). work ≡ record { word = word_of end state; base = old.view.base }) old.view.work new.view.work (ap (λ (s : GameSeat). s.view.work) noting_is);
 }
 
--- a value was noted after other notes
-pub brings-noting : (board : GameTable) (old middle new : GameSeat) (end : End) (state : ℕ) (value : ℤ) → KeepsNotes old middle → new ≡ noting middle (word_of end state) value → SitsAt board old → Brings end board.game state value old new
-brings-noting board old middle new end state value kept noting_is sits =
+-- a value was brought after a word was read
+pub brings-after : (board : GameTable) (old middle new : GameSeat) (end : End) (state : ℕ) (found value : ℤ) → middle ≡ noting old (word_of end state) found → new ≡ bringing middle (word_of end state) value → SitsAt board old → Brings end board.game state value old new
+brings-after board old middle new end state found value noting_is bringing_is sits =
+    let kept = keeps-noting board old middle (word_of end state) found noting_is sits in
     let first = sits-kept board old middle kept sits in
     record {
-      keeps = keeps-trans old middle new kept (keeps-noting board middle new (word_of end state) value noting_is first);
-      told = λ p k at. told-noting board middle new (word_of end state) value noting_is first end p k (ap (word_of end) at);
+      keeps = keeps-trans old middle new kept (keeps-bringing board middle new (word_of end state) value bringing_is first);
+      told = λ p k at. told-bringing board middle new (word_of end state) value bringing_is first end p k (ap (word_of end) at);
+      work = record {
+        added = record { word = word_of end state; base = old.view.base } ∷ [];
+        front = ap (λ (s : GameSeat). s.view.work) bringing_is ∙ (λ i. record { word = word_of end state; base = (noting_is i).view.base } ∷ (noting_is i).view.work);
+        each = All-cons (λ (work : Work). work ≡ record { word = word_of end state; base = old.view.base }) (record { word = word_of end state; base = old.view.base }) [] refl (All-nil (λ (work : Work). work ≡ record { word = word_of end state; base = old.view.base }));
+      };
     }

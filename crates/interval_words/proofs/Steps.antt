@@ -14,7 +14,7 @@ use Rattle.turn_rule.specs.declared.game.Game.{Game}
 use Rattle.interval_words.specs.declared.view.Note.{Note}
 use Rattle.interval_words.specs.declared.view.View.{View}
 use Rattle.interval_words.specs.Numbers.{state_of, word_of, words_of, value_of, tightest, tightest_word}
-use Rattle.interval_words.specs.Core.{Core, IsKept, IsTrueOf, AreInBound, AreReached, words_in_core, noted, known, with_note, settled, joined}
+use Rattle.interval_words.specs.Core.{Core, IsKept, IsTrueOf, AreInBound, AreReached, words_in_core, noted, known, with_note, brought, without_work, settled, joined}
 use Rattle.interval_words.specs.Events.{IsLoose, IsRoundDone}
 use Rattle.interval_words.proofs.Ends.{tight-refl, tight-trans, tight-tightest, tightest-left, tightest-right, within-tightest, value_of-tightest}
 use Rattle.interval_words.proofs.TurnLaws.{tight-words-trans, turns-tighten, rounds-more, rounds-turn, rounds-none}
@@ -42,6 +42,13 @@ module _ (game : Game) where
       notes = noted-each game value view.notes end p k state (λ d q l z. IsNoLooser d (u d q l) z) (λ h. tight-tightest end value (noted game view.notes end p k) (u end p k) tight h) is.notes;
       base = is.base;
     }
+
+    -- a view that brought a word a value tells what one that noted it tells
+    pub true-brought : (view : View) (word : ℕ) (value : ℤ) → IsTrueOf game u (with_note view word value) → IsTrueOf game u (brought view word value)
+    true-brought view word value is = record { names = is.names; notes = is.notes; base = is.base }
+
+    pub true-without_work : (view : View) → IsTrueOf game u view → IsTrueOf game u (without_work view)
+    true-without_work view is = record { names = is.names; notes = is.notes; base = is.base }
 
     pub true-settled : (view : View) → IsTrueOf game u view → IsRoundDone game view → IsTrueOf game u (settled view)
     true-settled view is done = record {
@@ -141,7 +148,7 @@ module _ (core : Core) (kept : IsKept core) (view : View) (true_of : IsTrueOf co
   reads-back =
       subst (λ (z : ℤ). IsNoLooser end z (value_of word)) (sym (written core.game.checkers (kinds_of core.game) core.words kept.long end p k loose.state (tightest_word end (get_or core.words place 0) word) ∙ value_of-tightest end (get_or core.words place 0) word)) (tightest-right end (was end p k) (value_of word))
 
-  pub kept-tightens : (id : ℕ) → IsKept (record core { words = now; views = set core.views id (with_note view place (value_of word)) })
+  pub kept-tightens : (id : ℕ) → IsKept (record core { words = now; views = set core.views id (brought view place (value_of word)) })
   kept-tightens id = record {
     game = kept.game;
     long = length-set core.words place (tightest_word end (get_or core.words place 0) word) ∙ kept.long;
@@ -149,7 +156,7 @@ module _ (core : Core) (kept : IsKept core) (view : View) (true_of : IsTrueOf co
     within = within;
     consistent = consistent;
     views =
-        All-set (IsTrueOf core.game is) core.views id (with_note view place (value_of word))
-        (true-note core.game is view end p k (value_of word) (true-tighter core.game was is tighter view true_of) loose.state reads-back)
+        All-set (IsTrueOf core.game is) core.views id (brought view place (value_of word))
+        (true-brought core.game is view place (value_of word) (true-note core.game is view end p k (value_of word) (true-tighter core.game was is tighter view true_of) loose.state reads-back))
         (All-weaker (IsTrueOf core.game was) (IsTrueOf core.game is) (true-tighter core.game was is tighter) core.views kept.views);
   }

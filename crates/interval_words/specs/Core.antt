@@ -73,24 +73,36 @@ pub record IsFirstCore (core : Core) : Type 0 where
 
 -- a first view of a game, which tells nothing
 abbrev pub first_view : Game → View
-first_view game = record { game = Some game; base = 0; notes = [] }
+first_view game = record { game = Some game; base = 0; notes = []; work = [] }
 
 -- a view with one note more
 abbrev pub with_note : View → ℕ → ℤ → View
 with_note view word value =
     record view { notes = record { word = word; value = value } ∷ view.notes }
 
+-- a view that brought a word a value, which is noted
+abbrev pub brought : View → ℕ → ℤ → View
+brought view word value = record view {
+  notes = record { word = word; value = value } ∷ view.notes;
+  work = record { word = word; base = view.base } ∷ view.work;
+}
+
+-- a view that knows the same, and has done no work
+abbrev pub without_work : View → View
+without_work view = record view { work = [] }
+
 -- a view after one round more, whose notes are dropped
 abbrev pub settled : View → View
 settled view = record view { base = view.base + 1; notes = [] }
 
--- the notes of two views, and the larger base
+-- the notes and the work of two views, and the larger base
 abbrev pub joined : View → View → View
 joined view other = record view {
   base = max view.base other.base;
   notes = view.notes ++ other.notes;
+  work = view.work ++ other.work;
 }
 
 -- what is left of a view that another took in
 abbrev pub spent : View
-spent = record { game = None; base = 0; notes = [] }
+spent = record { game = None; base = 0; notes = []; work = [] }

@@ -10,7 +10,7 @@ use Rattle.turn_rule.specs.States.{IsState, AreNoLooser}
 use Rattle.turn_rule.specs.declared.game.Game.{Game}
 use Rattle.interval_words.specs.declared.view.View.{View}
 use Rattle.interval_words.specs.Numbers.{state_of, word_of, value_of, tightest_word}
-use Rattle.interval_words.specs.Core.{Core, words_in_core, noted, known, first_view, with_note, settled, joined, spent}
+use Rattle.interval_words.specs.Core.{Core, words_in_core, noted, known, first_view, with_note, brought, without_work, settled, joined, spent}
 
 -- An event of a view, which is told by its number among the views, and of a word, which is told by its state and its end.
 -- A raise and a lowering bring the word of a value.
@@ -59,13 +59,13 @@ with_view core id view = record core { views = slice_set core.views id view }
 abbrev pub with_new_view : Core → View → Core
 with_new_view core view = record core { views = core.views ++ view ∷ [] }
 
--- a word becomes the tighter of itself and another, which is noted
+-- a word becomes the tighter of itself and another, which is noted, and so is the work
 abbrev pub tightened : Core → ℕ → End → Placement → ℕ → ℕ → Core
 tightened core id end p k word =
     let number = word_of end (state_of (kinds_of core.game) p k) in
     record core {
       words = slice_set core.words number (tightest_word end (slice_index core.words number) word);
-      views = slice_set core.views id (with_note (view_at core id) number (value_of word));
+      views = slice_set core.views id (brought (view_at core id) number (value_of word));
     }
 
 -- what an event changes
@@ -78,7 +78,7 @@ after core (reads id end p k) =
 after core (raises id p k word) = tightened core id Lower p k word
 after core (lowers id p k word) = tightened core id Upper p k word
 after core (settles id) = with_view core id (settled (view_at core id))
-after core (splits id) = with_new_view core (view_at core id)
+after core (splits id) = with_new_view core (without_work (view_at core id))
 after core (joins id other) =
     with_view (with_view core id (joined (view_at core id) (view_at core other))) other spent
 

@@ -4,7 +4,7 @@ use Rattle.atomic_table.specs.Table.{State, Me, Step}
 use Rattle.turn_rule.specs.declared.game.Game.{Game}
 use Rattle.interval_words.specs.declared.view.View.{View}
 use Rattle.interval_words.specs.Numbers.{value_of}
-use Rattle.interval_words.specs.Core.{Core, IsKept, with_note, settled}
+use Rattle.interval_words.specs.Core.{Core, IsKept, with_note, brought, settled}
 use Rattle.interval_words.specs.Seats.{Knows, WasHeld}
 
 -- a table's words and views are a core
@@ -21,10 +21,10 @@ Reads step old found new =
     × Knows new.0
     × ((game : Game) → old.0.game ≡ Some game → WasHeld game old.0 step.word (value_of found))
 
--- the value brought is noted
+-- the value brought is noted, and so is the work
 abbrev pub Tightens : Step (Unit {0}) → Me (Unit {0}) View → ℕ → Me (Unit {0}) View → Type 0
 Tightens step old found new =
-    (new ≡ (with_note old.0 step.word (value_of step.first), old.1)) × Knows new.0
+    (new ≡ (brought old.0 step.word (value_of step.first), old.1)) × Knows new.0
 
 -- a round more is known
 abbrev pub Settles : Step (Unit {0}) → Me (Unit {0}) View → ℕ → Me (Unit {0}) View → Type 0

@@ -1,5 +1,5 @@
 -- A board, and seats at it.
-use Rattle.std.specs.Prelude.{◌≡◌, ◌<◌, ◌^◌, ℕ, ℤ, List, Some, slice_index}
+use Rattle.std.specs.Prelude.{◌≡◌, ◌<◌, ◌^◌, ℕ, ℤ, List, ◌++◌, All, Some, slice_index}
 use Rattle.std.specs.List.{Contains}
 use Rattle.position_rank.specs.Placement.{Placement}
 use Rattle.atomic_table.specs.Seated.{TableId}
@@ -10,8 +10,9 @@ use Rattle.turn_rule.specs.States.{IsState, AreWithin, AreNoLooser}
 use Rattle.turn_rule.specs.declared.game.Game.{Game}
 use Rattle.interval_words.specs.declared.view.Note.{Note}
 use Rattle.interval_words.specs.declared.view.View.{View}
-use Rattle.interval_words.specs.Numbers.{state_of, value_of}
-use Rattle.interval_words.specs.Core.{IsKept, AreReached, words_in, noted, first_view, with_note, settled, joined}
+use Rattle.interval_words.specs.declared.view.Work.{Work}
+use Rattle.interval_words.specs.Numbers.{state_of, word_of, value_of}
+use Rattle.interval_words.specs.Core.{IsKept, AreReached, words_in, noted, first_view, with_note, brought, without_work, settled, joined}
 use Rattle.interval_words.specs.Events.{IsLoose}
 
 -- a board: which table it is, and its game
@@ -37,6 +38,14 @@ first_seat board = record { table = board.table; view = first_view board.game }
 abbrev pub noting : GameSeat → ℕ → ℤ → GameSeat
 noting seat word value = record seat { view = with_note seat.view word value }
 
+-- the seat after it brought a word a value
+abbrev pub bringing : GameSeat → ℕ → ℤ → GameSeat
+bringing seat word value = record seat { view = brought seat.view word value }
+
+-- a seat that knows the same, and has done no work
+abbrev pub knowing : GameSeat → GameSeat
+knowing seat = record seat { view = without_work seat.view }
+
 -- the seat after one round more
 abbrev pub settling : GameSeat → GameSeat
 settling seat = record seat { view = settled seat.view }
@@ -54,13 +63,22 @@ pub record KeepsNotes (old new : GameSeat) : Type 0 where
       (game : Game) → old.view.game ≡ Some game
       → AreNoLooser game (noted game new.view.notes) (noted game old.view.notes)
 
--- a value was brought to a word of a state: the seat keeps its notes, and knows the word to be at least as tight as the value
+-- work was added in front, all of which is such
+pub record AddsWork (Such : Work → Type 0) (old new : List Work) : Type 0 where
+  pub added : List Work
+  pub front : new ≡ added ++ old
+  pub each : All Such added
+
+-- A value was brought to a word of a state: the seat keeps its notes, and knows the word to be at least as tight as the value. All work that is
+-- new is on this word, after the rounds of the seat's base.
 pub record Brings (end : End) (game : Game) (state : ℕ) (value : ℤ)
     (old new : GameSeat) : Type 0 where
   pub keeps : KeepsNotes old new
   pub told :
       (p : Placement) (k : ℕ) → state ≡ state_of (kinds_of game) p k
       → IsNoLooser end (noted game new.view.notes end p k) value
+  pub work : AddsWork (λ work. work ≡ record { word = word_of end state; base = old.view.base })
+      old.view.work new.view.work
 
 -- this is the number of a state of the game
 pub record IsNumber (game : Game) (state : ℕ) : Type 0 where

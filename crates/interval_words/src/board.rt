@@ -11,7 +11,7 @@ ghost use Rattle.interval_words.specs.Core.{known};
 ghost use Rattle.interval_words.specs.Events.{IsRoundDone};
 ghost use Rattle.interval_words.specs.WordLists.{AreClosed};
 ghost use Rattle.std.specs.Slots.{slots_items, slots_len, IsFull};
-ghost use Rattle.interval_words.specs.Seats.{GameSeat, SitsAt, IsNumber, MayTighten, Knows, WasHeld, Brings, first_seat, noting, settling, joining};
+ghost use Rattle.interval_words.specs.Seats.{GameSeat, SitsAt, IsNumber, MayTighten, Knows, WasHeld, Brings, first_seat, noting, bringing, settling, joining, knowing};
 
 use crate::live_index::LiveIndex;
 use crate::number::{state_count, state_number, state_number_at};
@@ -52,7 +52,7 @@ impl Model for Board {
 
 /// A place at a board. It has no bytes; contracts see what its owner knows of the words: the notes
 /// of what was read or written with it since the last round that was settled, and the number of
-/// rounds settled.
+/// rounds settled; and which words were brought a value with it, each after how many rounds.
 #[derive(Drop)]
 pub struct BoardSeat {
     seat: Seat<(), View>,
@@ -285,11 +285,11 @@ impl Board {
         }
     }
 
-    /// Makes a lower word at least this value, which is noted.
+    /// Makes a lower word at least this value, which is noted, and so is the work.
     fn raise_word(&self, seat: &mut BoardSeat, state: u64, value: Fixed)
         requires seat { SitsAt self.now seat.old }
         requires value { MayTighten Lower self.now.game seat.old.view state value }
-        ensures seat { seat.new ≡ noting seat.old (word_of Lower state) value }
+        ensures seat { seat.new ≡ bringing seat.old (word_of Lower state) value }
         ensures knows { Knows seat.new.view }
     {
         let shared = &self.table.shared;
@@ -298,11 +298,11 @@ impl Board {
         shared.fetch_max::<Tightening>(&mut seat.seat, place, word);
     }
 
-    /// Makes an upper word at most this value, which is noted.
+    /// Makes an upper word at most this value, which is noted, and so is the work.
     fn lower_word(&self, seat: &mut BoardSeat, state: u64, value: Fixed)
         requires seat { SitsAt self.now seat.old }
         requires value { MayTighten Upper self.now.game seat.old.view state value }
-        ensures seat { seat.new ≡ noting seat.old (word_of Upper state) value }
+        ensures seat { seat.new ≡ bringing seat.old (word_of Upper state) value }
         ensures knows { Knows seat.new.view }
     {
         let shared = &self.table.shared;
@@ -321,18 +321,18 @@ impl Board {
         self.table.shared.load::<Settling>(&mut seat.seat, 0);
     }
 
-    /// A second seat that knows the same.
+    /// A second seat that knows the same, and has done no work.
     pub fn split(&self, seat: &mut BoardSeat) -> BoardSeat
         requires { SitsAt self.now seat.old }
         ensures seat { seat.new ≡ seat.old }
-        ensures copy { result ≡ seat.old }
+        ensures copy { result ≡ knowing seat.old }
     {
         BoardSeat {
             seat: self.table.shared.split_seat::<Copying>(&mut seat.seat),
         }
     }
 
-    /// Gives the seat the notes of another too, and the larger number of rounds settled.
+    /// Gives the seat the notes and the work of another too, and the larger number of rounds settled.
     pub fn join(&self, seat: &mut BoardSeat, other: BoardSeat)
         requires seat { SitsAt self.now seat.old }
         requires other { SitsAt self.now other }

@@ -42,13 +42,15 @@ impl Play<(), View> for Settling {
     ghost then = { Settles };
 }
 
-/// A second view like the first.
+/// A second view that knows what the first knows, and has done no work.
 pub(crate) struct Copying;
 
 impl Split<View> for Copying {
+    ghost use Rattle.interval_words.specs.Core.{without_work};
+
     ghost left = { λ view. view };
 
-    ghost right = { λ view. view };
+    ghost right = { without_work };
 }
 
 /// A view takes in another.

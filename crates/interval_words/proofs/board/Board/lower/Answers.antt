@@ -1,7 +1,7 @@
 use Rattle.std.proofs.Common.{arith}
 use Rattle.std.proofs.lemmas.Int.{ints}
 use Rattle.directed_fixed.specs.declared.bounds.End.TheVariants.{Upper}
-use Rattle.interval_words.proofs.SeatNotes.{keeps-noting, may-tighten, brings-read, brings-noting}
+use Rattle.interval_words.proofs.SeatNotes.{keeps-noting, may-tighten, brings-read, brings-after}
 use Rattle.interval_words.proofs.board.Board.lower.Goals as goal
 
 pub lower_word-requires-clause-value : goal.lower_word-requires-clause-value
@@ -12,8 +12,7 @@ lower_word-requires-clause-value c =
 
 pub returns-then-units-clause-brings : goal.returns-then-units-clause-brings
 returns-then-units-clause-brings c =
-    let kept = keeps-noting c.args.self.now c.args.seat.now c.read_upper.new.seat _ _ c.read_upper.ensures.seat c.requires.seat in
-    brings-noting c.args.self.now c.args.seat.now c.read_upper.new.seat c.lower_word.new.seat Upper c.args.state c.args.value kept c.lower_word.ensures.seat c.requires.seat
+    brings-after c.args.self.now c.args.seat.now c.read_upper.new.seat c.lower_word.new.seat Upper c.args.state c.read_upper.result c.args.value c.read_upper.ensures.seat c.lower_word.ensures.seat c.requires.seat
 
 pub returns-else-units-clause-brings : goal.returns-else-units-clause-brings
 returns-else-units-clause-brings c =

@@ -1,6 +1,6 @@
 use Rattle.std.proofs.Common.{ap, arith, sym, ◌∙◌}
 use Rattle.directed_fixed.specs.declared.bounds.End.TheVariants.{Upper}
-use Rattle.interval_words.proofs.Calls.{tightens-at, noting-at, value_of-word}
+use Rattle.interval_words.proofs.Calls.{tightens-at, bringing-at, value_of-word}
 use Rattle.interval_words.proofs.board.Board.lower_word.Goals as goal
 
 pub fetch_min-requires : goal.fetch_min-requires
@@ -11,4 +11,4 @@ fetch_min-requires c = (
 )
 
 pub returns-clause-seat : goal.returns-clause-seat
-returns-clause-seat c = noting-at _ _ _ _ _ _ _ _ _ c.seat.view_is c.fetch_min.ensures.0 c.fetch_min.ensures.2.0 c.place-place.ensures.place (value_of-word _ _ c.to_word-word.ensures)
+returns-clause-seat c = bringing-at _ _ _ _ _ _ _ _ _ c.seat.view_is c.fetch_min.ensures.0 c.fetch_min.ensures.2.0 c.place-place.ensures.place (value_of-word _ _ c.to_word-word.ensures)

@@ -1,6 +1,6 @@
 use Rattle.std.proofs.Common.{ap, arith, sym, ◌∙◌}
 use Rattle.directed_fixed.specs.declared.bounds.End.TheVariants.{Lower}
-use Rattle.interval_words.proofs.Calls.{tightens-at, noting-at, value_of-word}
+use Rattle.interval_words.proofs.Calls.{tightens-at, bringing-at, value_of-word}
 use Rattle.interval_words.proofs.board.Board.raise_word.Goals as goal
 
 pub fetch_max-requires : goal.fetch_max-requires
@@ -11,4 +11,4 @@ fetch_max-requires c = (
 )
 
 pub returns-clause-seat : goal.returns-clause-seat
-returns-clause-seat c = noting-at _ _ _ _ _ _ _ _ _ c.seat.view_is c.fetch_max.ensures.0 c.fetch_max.ensures.2.0 c.place-place.ensures.place (value_of-word _ _ c.to_word-word.ensures)
+returns-clause-seat c = bringing-at _ _ _ _ _ _ _ _ _ c.seat.view_is c.fetch_max.ensures.0 c.fetch_max.ensures.2.0 c.place-place.ensures.place (value_of-word _ _ c.to_word-word.ensures)
