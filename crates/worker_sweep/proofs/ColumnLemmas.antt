@@ -99,6 +99,10 @@ noted-kind board old new p kind pair states sits kept before sweeps brought end 
       (subst (λ (n : ℕ). IsNoLooser end (noted board.game new.view.notes end p kind) (rounds board.game.stakes (n + 1) end p kind)) (sym kept.base) (tight-trans end _ _ _ (brought end) (sweeps.tight end))))
 ]
 
+-- the other side's layout of a column has the block's rank
+pub column-rank : (game : Game) (column : ColumnPairs) (block : ℕ) → AreLayouts game.checkers column.layouts → block < length column.layouts → column.other ≡ layout_at column.layouts block → rank_of column.other ≡ block
+column-rank game column block are inside other_is = ap (λ (o : List ℕ). rank_of o) other_is ∙ (are.each block _ inside).ranked
+
 -- where all of a column's positions are noted, its block is swept
 pub column-swept : (game : Game) (view : View) (column : ColumnPairs) (block : ℕ) → AreLayouts game.checkers column.layouts → block < length column.layouts → column.other ≡ layout_at column.layouts block → AreLiveMovers column.layouts column.other column.movers
     → ((i : ℕ) → i < length column.movers → AreNotedTo game view (position_in column i) (kinds_of game)) → IsSwept game view block

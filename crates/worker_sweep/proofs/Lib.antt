@@ -3,5 +3,7 @@ pub mod BlockLemmas
 pub mod StateLemmas
 pub mod TakeIn
 pub mod RoundLemmas
+pub mod ShareLemmas
+pub mod RestLemmas
 pub mod Going
 pub mod ColumnLemmas

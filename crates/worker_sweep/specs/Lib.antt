@@ -1,4 +1,5 @@
 pub mod Blocks
 pub mod Sources
 pub mod Workers
+pub mod Shares
 pub mod Columns

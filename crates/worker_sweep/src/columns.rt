@@ -1,9 +1,10 @@
 ghost use Rattle.std.specs.Prelude.{◌≡◌, ◌<◌, ℕ, length};
+ghost use Rattle.position_rank.specs.Ranks.{rank_of};
 ghost use Rattle.cube_actions.specs.Stakes.{IsValid};
 ghost use Rattle.turn_rule.specs.Games.{kinds_of};
 ghost use Rattle.turn_rule.specs.States.{IsState};
 ghost use Rattle.interval_words.specs.Seats.{SitsAt, KeepsNotes};
-ghost use Rattle.worker_sweep.specs.Blocks.{blocks, IsSwept};
+ghost use Rattle.worker_sweep.specs.Blocks.{blocks, IsSwept, WorksIn};
 ghost use Rattle.worker_sweep.specs.Columns.{IsRoomOf, MayBringColumn, AreNotedTo, position_in};
 
 use crate::seat_pairs::SeatPairs;
@@ -21,6 +22,8 @@ fn tighten_position(pairs: &mut SeatPairs, turns: &ColumnTurns, i: usize, kinds:
     ensures kept { KeepsNotes pairs.old.seat pairs.new.seat }
     ensures noted { AreNotedTo pairs.old.board.now.game pairs.new.seat.view
         (position_in turns.now i) (kinds_of pairs.old.board.now.game) }
+    ensures works { WorksIn pairs.old.board.now.game (rank_of turns.now.other)
+        pairs.old.seat pairs.new.seat }
 {
     let position = turns.position(i);
     let square = position.square_rank();
@@ -36,14 +39,15 @@ fn fetch_words(pairs: &mut SeatPairs, turns: &ColumnTurns)
         → IsState pairs.old.board.now.game (position_in turns.now i) 0 }
     ensures board { pairs.new.board.now ≡ pairs.old.board.now }
     ensures kept { KeepsNotes pairs.old.seat pairs.new.seat }
+    ensures work { pairs.new.seat.view.work ≡ pairs.old.seat.view.work }
 {
     for i in 0..turns.len() {
         pairs.fetch(&turns.position(i));
     }
 }
 
-/// Works out a column whole, with the words as they stand meanwhile, and then tightens its words to its pairs. Gives the
-/// seat back.
+/// Works out a column whole, with the words as they stand meanwhile, and then tightens its words to its pairs, and no
+/// others. Gives the seat back.
 pub(crate) fn sweep_column(
     board: &Board,
     seat: BoardSeat,
@@ -55,6 +59,7 @@ pub(crate) fn sweep_column(
     requires block { block < blocks board.now.game.checkers }
     ensures kept { KeepsNotes seat result }
     ensures swept { IsSwept board.now.game result.view block }
+    ensures works { WorksIn board.now.game block seat result }
     ensures room { IsRoomOf board.now.game turns.new }
 {
     let stakes = board.stakes();

@@ -3,7 +3,9 @@ ghost use Rattle.turn_rule.specs.Games.{game_of};
 ghost use Rattle.interval_words.specs.Seats.{SitsAt};
 ghost use Rattle.interval_words.specs.WordLists.{AreClosed};
 ghost use Rattle.worker_sweep.specs.Blocks.{blocks as blocks_in};
-ghost use Rattle.worker_sweep.specs.Workers.{IsAtWork, IsReady, HaveGoneThrough};
+ghost use Rattle.block_claims.specs.Views.{fresh};
+ghost use Rattle.worker_sweep.specs.Workers.{IsAtWork, IsReady, HaveGoneThrough, HasMarksOf};
+ghost use Rattle.worker_sweep.specs.Shares.{HasDone, IsOnLeft, IsDivided, shares_of, works_of, all_claims};
 
 use crate::blocks::block_count;
 use crate::worker::Worker;
@@ -12,55 +14,67 @@ use cube_actions::Stakes;
 use hyper_outside::{Gate, NoMemory};
 use interval_words::{Board, BoardSeat, Closed};
 use std::alloc::Global;
-use std::thread;
 use std::thread::Threads;
+use worker_team::Team;
+
+/// A game that was solved: its closed words, and who has claimed and tightened what. The seats take no bytes; contracts
+/// see in them all claims of the workers, and the work of each worker and of their owner.
+#[derive(Drop)]
+pub struct Solved {
+    pub closed: Closed,
+    pub claims: ClaimSeat,
+    pub crew: Vec<Worker>,
+    pub owner: BoardSeat,
+}
 
 /// The workers claim and sweep blocks, each in a thread of its own where one can be started, else in turn.
 fn sweep_together<R: Threads + Sync, G: Gate + Sync>(
-    rt: &R,
+    team: &Team<R>,
     board: &Board,
     claims: &Claims,
     gate: &G,
     crew: &mut [Worker],
-    workers: u32,
     base: u32,
 )
-    requires workers { 0 < workers }
     requires many { claims.now.blocks ≡ blocks_in board.now.game.checkers }
     requires crew { All (IsReady board.now claims.now base) crew.old }
     ensures len { length crew.new ≡ length crew.old }
     ensures crew { All (IsAtWork board.now claims.now base) crew.new }
-    ensures through { HaveGoneThrough (base + 1) claims.now.blocks crew.old crew.new }
+    ensures through { HaveGoneThrough board.now.game (base + 1) claims.now.blocks
+        crew.old crew.new }
 {
     let round = u64::from(base) + 1;
-    thread::for_each_mut(
-        rt,
+    team.for_each_mut(
         crew,
-        workers as usize,
         &|_, worker| { worker.sweep_claimed(board, claims, gate, round) },
     );
 }
 
-/// The owner takes in what each worker has noted and swept.
+/// The owner takes in what each worker has noted and swept. It does no work itself.
 fn take_all_in(board: &Board, claims: &Claims, owner: &mut Worker, crew: &mut [Worker], base: u32)
     requires owner { IsAtWork board.now claims.now base owner.old }
     requires crew { All (IsAtWork board.now claims.now base) crew.old }
     ensures owner { IsAtWork board.now claims.now base owner.new }
+    ensures work { owner.new.seat.view.work ≡ owner.old.seat.view.work }
+    ensures claims { owner.new.claims ≡ owner.old.claims }
+    ensures marks { HasMarksOf crew.old owner.new }
     ensures len { length crew.new ≡ length crew.old }
     ensures crew { All (IsReady board.now claims.now base) crew.new }
+    ensures shares { shares_of crew.new ≡ shares_of crew.old }
 {
     for worker in crew.iter_mut() {
         owner.take_in(board, worker);
     }
 }
 
-/// Each worker knows what the owner knows.
+/// Each worker knows what the owner knows. Its claims and its work stay.
 fn follow_all(board: &Board, claims: &Claims, owner: &mut Worker, crew: &mut [Worker], base: u32)
     requires owner { IsAtWork board.now claims.now (base + 1) owner.old }
     requires crew { All (IsReady board.now claims.now base) crew.old }
     ensures owner { owner.new ≡ owner.old }
     ensures len { length crew.new ≡ length crew.old }
     ensures crew { All (IsReady board.now claims.now (base + 1)) crew.new }
+    ensures shares { shares_of crew.new ≡ shares_of crew.old }
 {
     for worker in crew.iter_mut() {
         worker.follow(board, owner);
@@ -70,24 +84,29 @@ fn follow_all(board: &Board, claims: &Claims, owner: &mut Worker, crew: &mut [Wo
 /// One round. The workers sweep together; then the owner takes in what they know, sweeps each block that none of them has
 /// marked, and ends the round; and they go on from what it then knows.
 fn run_round<R: Threads + Sync, G: Gate + Sync>(
-    rt: &R,
+    team: &Team<R>,
     board: &Board,
     claims: &Claims,
     gate: &G,
     owner: &mut Worker,
     crew: &mut [Worker],
-    workers: u32,
     base: u32,
 )
-    requires workers { 0 < workers }
     requires many { claims.now.blocks ≡ blocks_in board.now.game.checkers }
     requires owner { IsReady board.now claims.now base owner.old }
     requires crew { All (IsReady board.now claims.now base) crew.old }
+    requires done { All (HasDone board.now.game base) (shares_of crew.old) }
+    requires rest { All (IsOnLeft board.now.game base (shares_of crew.old))
+        owner.old.seat.view.work }
     ensures owner { IsReady board.now claims.now (base + 1) owner.new }
+    ensures claims { owner.new.claims ≡ owner.old.claims }
     ensures len { length crew.new ≡ length crew.old }
     ensures crew { All (IsReady board.now claims.now (base + 1)) crew.new }
+    ensures done { All (HasDone board.now.game (base + 1)) (shares_of crew.new) }
+    ensures rest { All (IsOnLeft board.now.game (base + 1) (shares_of crew.new))
+        owner.new.seat.view.work }
 {
-    sweep_together(rt, board, claims, gate, crew, workers, base);
+    sweep_together(team, board, claims, gate, crew, base);
     take_all_in(board, claims, owner, crew, base);
     owner.sweep_rest(board);
     owner.settle(board);
@@ -96,28 +115,46 @@ fn run_round<R: Threads + Sync, G: Gate + Sync>(
 
 /// So many rounds.
 fn run_each<R: Threads + Sync, G: Gate + Sync>(
-    rt: &R,
+    team: &Team<R>,
     board: &Board,
     claims: &Claims,
     gate: &G,
     owner: &mut Worker,
     crew: &mut [Worker],
-    workers: u32,
     rounds: u32,
 )
-    requires workers { 0 < workers }
     requires many { claims.now.blocks ≡ blocks_in board.now.game.checkers }
     requires owner { IsReady board.now claims.now 0 owner.old }
     requires crew { All (IsReady board.now claims.now 0) crew.old }
+    requires done { All (HasDone board.now.game 0) (shares_of crew.old) }
+    requires rest { All (IsOnLeft board.now.game 0 (shares_of crew.old)) owner.old.seat.view.work }
     ensures owner { IsReady board.now claims.now rounds owner.new }
+    ensures claims { owner.new.claims ≡ owner.old.claims }
+    ensures len { length crew.new ≡ length crew.old }
     ensures crew { All (IsReady board.now claims.now rounds) crew.new }
+    ensures done { All (HasDone board.now.game rounds) (shares_of crew.new) }
+    ensures rest { All (IsOnLeft board.now.game rounds (shares_of crew.new))
+        owner.new.seat.view.work }
 {
     for base in 0..rounds {
-        run_round(rt, board, claims, gate, owner, crew, workers, base);
+        run_round(team, board, claims, gate, owner, crew, base);
     }
 }
 
-/// So many workers, who know what the two seats know.
+/// The seat takes over the claims of all workers, one after the other.
+fn hand_all(claims: &Claims, seat: &mut ClaimSeat, crew: &mut [Worker])
+    requires seat { seat.old ≡ record { table = claims.now.table; view = fresh } }
+    requires crew { All (λ worker. worker.claims.table ≡ claims.now.table) crew.old }
+    ensures seat { seat.new.view ≡ all_claims (shares_of crew.old) }
+    ensures len { length crew.new ≡ length crew.old }
+    ensures works { works_of crew.new ≡ works_of crew.old }
+{
+    for worker in crew.iter_mut() {
+        worker.hand_claims(claims, seat);
+    }
+}
+
+/// So many workers, who know what the two seats know, and have done nothing.
 fn make_crew(
     alloc: Global,
     board: &Board,
@@ -133,6 +170,7 @@ fn make_crew(
     ensures many { IfOk result (λ crew. length crew.items ≡ workers) }
     ensures crew { IfOk result
         (λ crew. All (IsReady board.now claims.now seat.old.view.base) crew.items) }
+    ensures done { IfOk result (λ crew. All (HasDone board.now.game 0) (shares_of crew.items)) }
 {
     let mut crew = Vec::new(alloc);
     for number in 0..workers {
@@ -143,7 +181,7 @@ fn make_crew(
     Ok(crew)
 }
 
-/// Solves a game of one to three checkers a side by 1 to 4,096 rounds of 1 to 64 workers, each in a thread of its own
+/// Solves a game of one to three checkers a side by 1 to 4,096 rounds of a team's workers, each in a thread of its own
 /// where one can be started, else in turn.
 ///
 /// In a round each worker goes once through all blocks, from the first on, claims each, and sweeps those that it gets,
@@ -151,29 +189,48 @@ fn make_crew(
 /// marked are swept. The words are sound, consistent and at least as tight as those after so many rounds of a plain
 /// table. All memory but that of the closed words is asked for before the first round. It may answer `NoMemory`, and no
 /// other error.
+///
+/// Each worker came to each block once in each round, and tightened only words in blocks that it got for that round;
+/// no block was got twice for a round; and what was tightened after the workers was in blocks that none of them had got.
 pub fn run_rounds<R: Threads + Sync, G: Gate + Sync>(
-    rt: &R,
+    team: &Team<R>,
     alloc: Global,
     checkers: u8,
     stakes: &Stakes,
     rounds: u32,
-    workers: u32,
     gate: &G,
-) -> Result<Closed, NoMemory>
+) -> Result<Solved, NoMemory>
     requires low { 1 ≤ checkers }
     requires high { checkers ≤ 3 }
     requires rounds { (1 ≤ rounds) × (rounds ≤ 4096) }
-    requires workers { (1 ≤ workers) × (workers ≤ 64) }
-    ensures game { IfOk result (λ closed. closed.game ≡ game_of checkers stakes.now) }
-    ensures rounds { IfOk result (λ closed. closed.rounds ≡ rounds) }
-    ensures closed { IfOk result AreClosed }
+    ensures game { IfOk result (λ solved. solved.closed.game ≡ game_of checkers stakes.now) }
+    ensures rounds { IfOk result (λ solved. solved.closed.rounds ≡ rounds) }
+    ensures closed { IfOk result (λ solved. AreClosed solved.closed) }
+    ensures divided { IfOk result (λ solved. IsDivided solved.closed.game rounds team.now
+        solved.claims solved.crew.items solved.owner) }
 {
     let (board, mut seat) = Board::new(alloc, checkers, stakes)?;
     let (claims, mut claim_seat) = Claims::new(alloc, block_count(&board))?;
-    let mut crew = make_crew(alloc, &board, &claims, &mut seat, &mut claim_seat, workers)?;
+    let mut crew = make_crew(
+        alloc,
+        &board,
+        &claims,
+        &mut seat,
+        &mut claim_seat,
+        team.workers(),
+    )?;
     let mut owner = Worker::new(alloc, &board, seat, claim_seat, 0)?;
-    run_each(
-        rt, &board, &claims, gate, &mut owner, &mut crew, workers, rounds,
-    );
-    board.close(alloc, owner.into_seat(), rounds)
+    run_each(team, &board, &claims, gate, &mut owner, &mut crew, rounds);
+    let (mut owner, mut all) = owner.into_seats();
+    hand_all(&claims, &mut all, &mut crew);
+    // The prover is told that none of all claims comes twice.
+    all.has_each_once();
+    let known = board.split(&mut owner);
+    let closed = board.close(alloc, known, rounds)?;
+    Ok(Solved {
+        closed,
+        claims: all,
+        crew,
+        owner,
+    })
 }

@@ -1,5 +1,5 @@
 ghost use Rattle.std.specs.Prelude.{◌≡◌, ℕ};
-ghost use Rattle.position_rank.specs.Ranks.{square_rank_of};
+ghost use Rattle.position_rank.specs.Ranks.{square_rank_of, rank_of};
 ghost use Rattle.directed_fixed.specs.Bounds.{IsNoLooser, at};
 ghost use Rattle.directed_fixed.specs.declared.bounds.End.{End};
 ghost use Rattle.directed_fixed.specs.declared.bounds.End.TheVariants.{Lower, Upper};
@@ -8,7 +8,7 @@ ghost use Rattle.turn_rule.specs.Turn.{rounds};
 ghost use Rattle.turn_rule.specs.States.{IsState, AreWithin};
 ghost use Rattle.interval_words.specs.Core.{noted};
 ghost use Rattle.interval_words.specs.Seats.{SitsAt, KeepsNotes, GameTable};
-ghost use Rattle.worker_sweep.specs.Blocks.{MaySweep};
+ghost use Rattle.worker_sweep.specs.Blocks.{MaySweep, WorksIn};
 
 use directed_fixed::{Fixed, Pair};
 use hyper_outside::LookStop;
@@ -27,14 +27,15 @@ pub(crate) struct SeatPairs<'a> {
 }
 
 impl<'a> Pairs for SeatPairs<'a> {
-    ghost use Rattle.std.specs.Prelude.{ℕ};
+    ghost use Rattle.std.specs.Prelude.{ℕ, List};
     ghost use Rattle.turn_rule.specs.Looks.{all_told};
     ghost use Rattle.interval_words.specs.Core.{noted};
+    ghost use Rattle.interval_words.specs.declared.view.Work.{Work};
     ghost use Rattle.worker_sweep.specs.Sources.{source_of};
 
-    ghost Stays = { GameTable × ℕ };
+    ghost Stays = { GameTable × ℕ × List Work };
 
-    ghost stays = { λ s. (s.board.now, s.seat.view.base) };
+    ghost stays = { λ s. (s.board.now, s.seat.view.base, s.seat.view.work) };
 
     ghost seen = { λ s. record {
       source = source_of s.board.now.game s.seat.view.base;
@@ -97,6 +98,7 @@ impl<'a> SeatPairs<'a> {
         requires state { IsState self.old.board.now.game position.now 0 }
         ensures board { self.new.board.now ≡ self.old.board.now }
         ensures kept { KeepsNotes self.old.seat self.new.seat }
+        ensures work { self.new.seat.view.work ≡ self.old.seat.view.work }
     {
         let state = self.board.number_at(position, position.square_rank(), 0);
         // What the word is doesn't matter yet; it has to be on its way.
@@ -114,6 +116,8 @@ impl<'a> SeatPairs<'a> {
         ensures noted { (end : End) → IsNoLooser end
             (noted self.old.board.now.game self.new.seat.view.notes end position.now kind)
             (at end pair) }
+        ensures works { WorksIn self.old.board.now.game (rank_of position.now.other)
+            self.old.seat self.new.seat }
     {
         let state = self.board.number_at(position, square, kind);
         self.board.raise(&mut self.seat, state, pair.lower());

@@ -1,8 +1,9 @@
 ghost use Rattle.std.specs.Prelude.{◌≡◌, ℕ, ◌+◌, ◌<◌, ◌≤◌, ◌||◌, true, IfOk, length, replicate, slice_set};
 ghost use Rattle.interval_words.specs.Core.{settled};
-ghost use Rattle.interval_words.specs.Seats.{SitsAt, KeepsNotes};
-ghost use Rattle.worker_sweep.specs.Blocks.{blocks, IsSwept};
-ghost use Rattle.worker_sweep.specs.Workers.{SeatsAndMarks, WorksAt, IsHonest, WentThrough, is_marked, unmarked, unmarked_worker};
+ghost use Rattle.interval_words.specs.Seats.{SitsAt, KeepsNotes, AddsWork, joining, knowing};
+ghost use Rattle.block_claims.specs.Claiming.{with_taken};
+ghost use Rattle.worker_sweep.specs.Blocks.{blocks, IsSwept, WorksIn};
+ghost use Rattle.worker_sweep.specs.Workers.{SeatsAndMarks, WorksAt, IsHonest, IsOnUnmarked, WentThrough, is_marked, unmarked, unmarked_worker};
 
 use crate::blocks::block_count;
 use crate::columns::sweep_column;
@@ -87,12 +88,13 @@ impl Worker {
         let _number = self.number;
     }
 
-    /// Tightens the words of each state of a block by its turn over them, and marks it.
+    /// Tightens the words of each state of a block by its turn over them, and no others, and marks it.
     pub(crate) fn sweep(&mut self, board: &Board, block: u64)
         requires works { WorksAt board.now self.old }
         requires block { block < blocks board.now.game.checkers }
         ensures seat { KeepsNotes self.old.seat self.new.seat }
         ensures swept { IsSwept board.now.game self.new.seat.view block }
+        ensures works { WorksIn board.now.game block self.old.seat self.new.seat }
         ensures marks { self.new.marks ≡ slice_set self.old.marks block true }
         ensures claims { self.new.claims ≡ self.old.claims }
         ensures number { self.new.number ≡ self.old.number }
@@ -116,13 +118,14 @@ impl Worker {
         requires claims { self.old.claims.table ≡ claims.now.table }
         requires many { claims.now.blocks ≡ blocks board.now.game.checkers }
         requires block { block < claims.now.blocks }
-        requires round { 1 ≤ round }
+        requires round { round ≡ self.old.seat.view.base + 1 }
         ensures seat { KeepsNotes self.old.seat self.new.seat }
         ensures many { length self.new.marks ≡ length self.old.marks }
         ensures claims { self.new.claims.table ≡ self.old.claims.table }
         ensures number { self.new.number ≡ self.old.number }
-        ensures through { (first : SeatsAndMarks) → WentThrough round block first self.old
-            → WentThrough round (block + 1) first self.new }
+        ensures through { (first : SeatsAndMarks)
+            → WentThrough board.now.game round block first self.old
+            → WentThrough board.now.game round (block + 1) first self.new }
     {
         if !claims.claim(&mut self.claims, block, round) {
             return;
@@ -142,24 +145,25 @@ impl Worker {
         requires works { WorksAt board.now self.old }
         requires claims { self.old.claims.table ≡ claims.now.table }
         requires many { claims.now.blocks ≡ blocks board.now.game.checkers }
-        requires round { 1 ≤ round }
+        requires round { round ≡ self.old.seat.view.base + 1 }
         ensures seat { KeepsNotes self.old.seat self.new.seat }
         ensures many { length self.new.marks ≡ length self.old.marks }
         ensures claims { self.new.claims.table ≡ self.old.claims.table }
         ensures number { self.new.number ≡ self.old.number }
-        ensures through { WentThrough round claims.now.blocks self.old self.new }
+        ensures through { WentThrough board.now.game round claims.now.blocks self.old self.new }
     {
         for block in 0..block_count(board) {
             self.sweep_if_claimed(board, claims, gate, block, round);
         }
     }
 
-    /// Takes in what another worker has noted and which blocks it has swept. The other then knows what this worker knew.
+    /// Takes in what another worker has noted and which blocks it has swept. The other keeps its seats.
     pub(crate) fn take_in(&mut self, board: &Board, other: &mut Worker)
         requires works { WorksAt board.now self.old }
         requires other { WorksAt board.now other.old }
         requires base { other.old.seat.view.base ≡ self.old.seat.view.base }
         ensures seat { KeepsNotes self.old.seat self.new.seat }
+        ensures work { self.new.seat.view.work ≡ self.old.seat.view.work }
         ensures marks { (block : ℕ)
             → is_marked self.new.marks block
             ≡ (is_marked self.old.marks block || is_marked other.old.marks block) }
@@ -167,21 +171,22 @@ impl Worker {
         ensures claims { self.new.claims ≡ self.old.claims }
         ensures number { self.new.number ≡ self.old.number }
         ensures other { other.new
-            ≡ record other.old { seat = self.old.seat; marks = unmarked (length other.old.marks) } }
+            ≡ record other.old { marks = unmarked (length other.old.marks) } }
     {
-        let copy = board.split(&mut self.seat);
-        let seat = mem::replace(&mut other.seat, copy);
-        board.join(&mut self.seat, seat);
+        let noted = board.split(&mut other.seat);
+        board.join(&mut self.seat, noted);
         move_marks(&mut other.swept, &mut self.swept);
     }
 
-    /// Sweeps each block that isn't marked.
+    /// Sweeps each block that isn't marked, and no other.
     pub(crate) fn sweep_rest(&mut self, board: &Board)
         requires works { WorksAt board.now self.old }
         ensures seat { KeepsNotes self.old.seat self.new.seat }
         ensures many { length self.new.marks ≡ length self.old.marks }
         ensures marks { (block : ℕ) → block < blocks board.now.game.checkers
             → is_marked self.new.marks block ≡ true }
+        ensures work { AddsWork (IsOnUnmarked board.now.game self.old)
+            self.old.seat.view.work self.new.seat.view.work }
         ensures claims { self.new.claims ≡ self.old.claims }
         ensures number { self.new.number ≡ self.old.number }
     {
@@ -208,22 +213,40 @@ impl Worker {
         self.swept.fill(false);
     }
 
-    /// Knows what another worker knows from now on.
+    /// Knows from now on what another worker knows too.
     pub(crate) fn follow(&mut self, board: &Board, other: &mut Worker)
         requires own { SitsAt board.now self.old.seat }
         requires works { WorksAt board.now other.old }
         requires marks { self.old.marks ≡ unmarked (length self.old.marks) }
         ensures other { other.new ≡ other.old }
-        ensures seat { self.new ≡ record self.old { seat = other.old.seat } }
+        ensures seat { self.new
+            ≡ record self.old { seat = joining self.old.seat (knowing other.old.seat) } }
     {
-        self.seat = board.split(&mut other.seat);
+        let known = board.split(&mut other.seat);
+        board.join(&mut self.seat, known);
     }
 
-    /// The worker's seat at the board.
-    pub(crate) fn into_seat(self) -> BoardSeat
-        ensures { result ≡ self.seat }
+    /// Hands what the worker has claimed to another seat at the claims.
+    pub(crate) fn hand_claims(&mut self, claims: &Claims, seat: &mut ClaimSeat)
+        requires own { self.old.claims.table ≡ claims.now.table }
+        requires seat { seat.old.table ≡ claims.now.table }
+        ensures own { self.new.seat ≡ self.old.seat }
+        ensures seat { seat.new ≡ record {
+          table = seat.old.table;
+          view = with_taken seat.old.view self.old.claims.view;
+        } }
     {
-        self.seat
+        let none = claims.split(&mut self.claims);
+        let own = mem::replace(&mut self.claims, none);
+        claims.join(seat, own);
+    }
+
+    /// The worker's seats at the board and at the claims.
+    pub(crate) fn into_seats(self) -> (BoardSeat, ClaimSeat)
+        ensures board { result.0 ≡ self.seat }
+        ensures claims { result.1 ≡ self.claims }
+    {
+        (self.seat, self.claims)
     }
 }
 

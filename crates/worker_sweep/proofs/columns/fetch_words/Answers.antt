@@ -6,7 +6,7 @@ use Rattle.interval_words.proofs.SeatNotes.{keeps-trans, keeps-refl}
 use Rattle.worker_sweep.proofs.columns.fetch_words.Goals as goal
 
 pub loop-i-init : goal.loop-i-init
-loop-i-init c = record { board = refl; kept = keeps-refl _ }
+loop-i-init c = record { board = refl; kept = keeps-refl _; work = refl }
 
 pub fetch-requires : goal.fetch-requires
 fetch-requires c =
@@ -18,4 +18,5 @@ pub loop-i-preserved : goal.loop-i-preserved
 loop-i-preserved c = record {
   board = c.fetch.ensures.board ∙ c.loop-i.invariant.board;
   kept = keeps-trans _ _ _ c.loop-i.invariant.kept c.fetch.ensures.kept;
+  work = c.fetch.ensures.work ∙ c.loop-i.invariant.work;
 }

@@ -6,4 +6,5 @@ abbrev pub invariant-loop-i : goal.invariant-loop-i
 invariant-loop-i l = record {
   board : l.pairs.board.now ≡ l.initial.pairs.board.now;
   kept : KeepsNotes l.initial.pairs.seat l.pairs.seat;
+  work : l.pairs.seat.view.work ≡ l.initial.pairs.seat.view.work;
 }

@@ -1,5 +1,6 @@
 use Rattle.std.proofs.Common.{List, ◌≡◌, ◌<◌, inl, inr, ℕ, length, refl, arith, ap, sym, subst, ◌∙◌}
 use Rattle.std.proofs.lemmas.Bool.{cases_lt}
+use Rattle.position_rank.specs.Ranks.{rank_of}
 use Rattle.cube_actions.specs.Stakes.{Terms, IsValid}
 use Rattle.turn_rule.specs.Games.{kinds_of}
 use Rattle.turn_rule.specs.Looks.{all_told}
@@ -8,12 +9,14 @@ use Rattle.turn_rule.specs.States.{IsState}
 use Rattle.column_sums.specs.Leaps.{layout_at}
 use Rattle.interval_words.specs.Core.{noted}
 use Rattle.interval_words.specs.Seats.{GameTable, GameSeat, SitsAt, KeepsNotes}
-use Rattle.interval_words.proofs.SeatNotes.{keeps-trans, sits-kept}
+use Rattle.interval_words.proofs.SeatNotes.{keeps-trans, sits-kept, adds-none}
 use Rattle.column_turns.specs.Turns.{AreTurnsOf, mover_at}
+use Rattle.worker_sweep.specs.Blocks.{IsWorkIn, WorksIn}
 use Rattle.worker_sweep.specs.Columns.{AreNotedTo, position_in}
 use Rattle.worker_sweep.specs.Sources.{source_of}
-use Rattle.worker_sweep.proofs.ColumnLemmas.{column-later, column-states, column-filled, noted-later, column-swept}
+use Rattle.worker_sweep.proofs.ColumnLemmas.{column-later, column-states, column-filled, noted-later, column-swept, column-rank}
 use Rattle.worker_sweep.proofs.StateLemmas.{keeps-looked}
+use Rattle.worker_sweep.proofs.SeatLemmas.{works-trans}
 use Rattle.worker_sweep.proofs.columns.sweep_column.Goals as goal
 
 pub fetch_words-requires : goal.fetch_words-requires
@@ -55,6 +58,9 @@ loop-i-init c =
       kept = keeps-trans _ _ _ after c.fetch_words.ensures.kept;
       column = column-later board new.seat c.fetch_words.new.pairs.seat column valid sits c.fetch_words.ensures.kept filled;
       noted = λ i below. absurd (omega (arith, below));
+      works =
+          adds-none (IsWorkIn game (rank_of column.other) c.args.seat.view.base) c.args.seat.view.work c.fetch_words.new.pairs.seat.view.work
+          (c.fetch_words.ensures.work ∙ (ap (λ s. s.2) c.fill.ensures.stays ∙ ap (λ (s : GameSeat). s.view.work) c.new-pairs.ensures.seat));
     }
 
 pub tighten_position-requires-clause-valid : goal.tighten_position-requires-clause-valid
@@ -82,7 +88,19 @@ loop-i-preserved c =
             let same : c.loop-i.i ≡ i = omega (arith, below, from) in
             subst (λ (n : ℕ). AreNotedTo board.game new.view (position_in c.fill.new.self n) (kinds_of board.game)) same now)
       ];
+      works =
+          works-trans board.game (rank_of c.fill.new.self.other) c.args.seat old new before.kept before.works
+          (subst (λ (b : GameTable). WorksIn b.game (rank_of c.fill.new.self.other) old new) before.board c.tighten_position.ensures.works);
     }
+
+pub returns-clause-works : goal.returns-clause-works
+returns-clause-works c =
+    let column = c.fill.new.self in
+    let game = c.args.board.now.game in
+    let layouts = subst (AreLayouts game.checkers) (sym c.fill.ensures.layouts) c.requires.room.layouts in
+    let inside : c.args.block < length column.layouts = omega (arith, c.requires.block, layouts.many) in
+    let ranked = column-rank game column c.args.block layouts inside (c.fill.ensures.other ∙ ap (λ (l : List (List ℕ)). layout_at l c.args.block) (sym c.fill.ensures.layouts)) in
+    subst (λ (n : ℕ). WorksIn game n c.args.seat c.loop-i.pairs.seat) ranked c.loop-i.invariant.works
 
 pub returns-clause-swept : goal.returns-clause-swept
 returns-clause-swept c =

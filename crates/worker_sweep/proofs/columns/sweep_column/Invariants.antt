@@ -1,6 +1,8 @@
 use Rattle.std.proofs.Common.{◌≡◌, ℕ, ◌<◌}
+use Rattle.position_rank.specs.Ranks.{rank_of}
 use Rattle.turn_rule.specs.Games.{kinds_of}
 use Rattle.interval_words.specs.Seats.{KeepsNotes}
+use Rattle.worker_sweep.specs.Blocks.{WorksIn}
 use Rattle.worker_sweep.specs.Columns.{MayBringColumn, AreNotedTo, position_in}
 use Rattle.worker_sweep.proofs.columns.sweep_column.Given as goal
 
@@ -10,4 +12,5 @@ invariant-loop-i l = record {
   kept : KeepsNotes l.fn.seat l.pairs.seat;
   column : MayBringColumn l.fn.board.game l.pairs.seat.view l.turns;
   noted : (i : ℕ) → i < l.i → AreNotedTo l.fn.board.game l.pairs.seat.view (position_in l.turns i) (kinds_of l.fn.board.game);
+  works : WorksIn l.fn.board.game (rank_of l.turns.other) l.fn.seat l.pairs.seat;
 }

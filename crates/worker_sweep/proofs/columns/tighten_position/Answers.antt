@@ -1,13 +1,26 @@
-use Rattle.std.proofs.Common.{◌<◌, arith, sym, subst, ◌∙◌}
+use Rattle.std.proofs.Common.{◌<◌, arith, refl, sym, subst, ◌∙◌}
+use Rattle.position_rank.specs.Ranks.{rank_of}
 use Rattle.position_rank.specs.Placement.{Placement}
 use Rattle.turn_rule.specs.Games.{kinds_of}
 use Rattle.turn_rule.specs.States.{IsState}
 use Rattle.interval_words.specs.Seats.{GameTable}
-use Rattle.interval_words.proofs.SeatNotes.{keeps-trans, sits-kept}
-use Rattle.worker_sweep.specs.Blocks.{MaySweep}
+use Rattle.interval_words.proofs.SeatNotes.{keeps-refl, keeps-trans, sits-kept, adds-none}
+use Rattle.worker_sweep.specs.Blocks.{MaySweep, IsWorkIn}
 use Rattle.worker_sweep.specs.Columns.{position_in}
+use Rattle.worker_sweep.proofs.SeatLemmas.{works-trans}
 use Rattle.worker_sweep.proofs.ColumnLemmas.{may-still, noted-kind}
 use Rattle.worker_sweep.proofs.columns.tighten_position.Goals as goal
+
+pub loop-kind-init : goal.loop-kind-init
+loop-kind-init c =
+    let game = c.args.pairs.now.board.now.game in
+    let seat = c.args.pairs.now.seat in
+    record {
+      board = refl;
+      kept = keeps-refl _;
+      noted = λ end k below. absurd (omega (arith, below));
+      works = adds-none (IsWorkIn game (rank_of c.args.turns.now.other) seat.view.base) seat.view.work seat.view.work refl;
+    }
 
 pub tighten-requires-clause-state : goal.tighten-requires-clause-state
 tighten-requires-clause-state c =
@@ -40,4 +53,5 @@ loop-kind-preserved c =
       noted = noted-kind board c.loop-kind.pairs.seat c.tighten.new.self.seat p k c.pair.result
           (λ j less. let kind : j < kinds_of board.game = omega (arith, less, below) in c.requires.column.states c.args.i j c.requires.position kind)
           sits c.tighten.ensures.kept before.noted may (rw (before.board, c.position-position.ensures.position) at c.tighten.ensures.noted);
+      works = works-trans board.game (rank_of c.args.turns.now.other) c.args.pairs.now.seat c.loop-kind.pairs.seat c.tighten.new.self.seat before.kept before.works (rw (before.board, c.position-position.ensures.position) at c.tighten.ensures.works);
     }

@@ -1,5 +1,6 @@
 use Rattle.std.proofs.Common.{◌≡◌, All, length}
 use Rattle.worker_sweep.specs.Workers.{IsReady}
+use Rattle.worker_sweep.specs.Shares.{HasDone, shares_of}
 use Rattle.worker_sweep.proofs.rounds.make_crew.Given as goal
 
 abbrev pub invariant-loop-number : goal.invariant-loop-number
@@ -8,4 +9,5 @@ invariant-loop-number l = record {
   claim_seat : l.claim_seat ≡ l.initial.claim_seat;
   many : length l.crew.items ≡ l.number;
   ready : All (IsReady l.board l.claims l.initial.seat.view.base) l.crew.items;
+  done : All (HasDone l.board.game 0) (shares_of l.crew.items);
 }

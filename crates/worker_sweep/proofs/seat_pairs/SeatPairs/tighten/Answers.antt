@@ -1,7 +1,7 @@
 use Rattle.std.proofs.Common.{ℤ, sym, subst}
 use Rattle.directed_fixed.specs.declared.bounds.End.TheVariants.{Lower, Upper}
 use Rattle.interval_words.specs.Seats.{MayTighten, Brings}
-use Rattle.worker_sweep.proofs.SeatLemmas.{knows-within, told-both}
+use Rattle.worker_sweep.proofs.SeatLemmas.{knows-within, told-both, works-both}
 use Rattle.interval_words.proofs.SeatNotes.{keeps-refl, keeps-trans, floor-kept, may-tighten}
 use Rattle.worker_sweep.proofs.seat_pairs.SeatPairs.tighten.Goals as goal
 
@@ -33,3 +33,6 @@ returns-clause-noted c =
     (subst (λ (z : ℤ). Brings Lower c.args.self.now.board.now.game c.number_at-state.result z c.args.self.now.seat c.raise.new.seat) c.lower.ensures.lower c.raise.ensures.brings)
     (subst (λ (z : ℤ). Brings Upper c.args.self.now.board.now.game c.number_at-state.result z c.raise.new.seat c.lower-2.new.seat) c.upper.ensures.upper c.lower-2.ensures.brings)
     c.args.self.now.sits c.number_at-state.ensures.number c.requires.state
+
+pub returns-clause-works : goal.returns-clause-works
+returns-clause-works c = works-both c.args.self.now.board.now c.args.self.now.seat _ _ c.number_at-state.result _ _ c.args.position.now c.args.kind c.raise.ensures.brings c.lower-2.ensures.brings c.number_at-state.ensures.number c.requires.state

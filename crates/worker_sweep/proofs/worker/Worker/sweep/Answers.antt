@@ -1,6 +1,7 @@
 use Rattle.std.proofs.Common.{◌<◌, length, arith, ap, sym, subst, ◌∙◌}
 use Rattle.interval_words.specs.Seats.{SitsAt, KeepsNotes}
 use Rattle.interval_words.proofs.SeatNotes.{sits-kept}
+use Rattle.worker_sweep.specs.Blocks.{WorksIn}
 use Rattle.worker_sweep.proofs.TakeIn.{honest-swept, room-of, has-room}
 use Rattle.worker_sweep.proofs.worker.Worker.sweep.Goals as goal
 
@@ -21,3 +22,6 @@ invariant_of-self c =
       record { marks = honest-swept board old c.sweep_column.result c.self.inside.swept.items c.args.block at kept inside c.self.invariant.0.marks c.sweep_column.ensures.swept },
       has-room board c.sweep_column.result c.sweep_column.new.turns (sits-kept board old c.sweep_column.result kept at) c.sweep_column.ensures.room,
     )
+
+pub returns-clause-works : goal.returns-clause-works
+returns-clause-works c = subst (λ s. WorksIn c.args.board.now.game c.args.block s c.sweep_column.result) (c.replace-seat.ensures.value ∙ (c.split-copy.ensures.seat ∙ ap (λ w. w.seat) c.self.view_is)) c.sweep_column.ensures.works
