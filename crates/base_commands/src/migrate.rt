@@ -20,6 +20,7 @@ use run_endings::{RunStop, begin, game_told, settle};
 use std::alloc::Global;
 use std::thread::Threads;
 use word_pages::Version;
+use worker_team::Team;
 
 /// Puts the report on a file with this head.
 fn report<O: Sink>(task: &Migrate, head: &Head, out: &mut O) -> Result<(), Failed>
@@ -58,19 +59,20 @@ fn complete<F: Files, O: Sink>(
     }
 }
 
-/// Begins the new file, loads a file of any version, checks its words by some workers, writes it anew in the latest version and puts the report.
+/// Begins the new file, loads a file of any version, checks its words by the task's workers, writes it anew in the latest version and puts the report.
 /// It is refused by `Other` where a file of another kind stands under the new name, by `Missing` or `File` where the old one isn't there or isn't
 /// right, by `Inconsistent` where its words aren't, by `Read` where reading failed, and by `Memory`. `NotWritten` comes where writing the file or
 /// putting failed. The new file takes its name's place only where all was done.
 pub fn run_migrate<R: Threads + Sync, F: Files, O: Sink, G: Gate + Sync>(
-    rt: &R,
+    team: &Team<R>,
     alloc: Global,
     task: &Migrate,
     files: &mut F,
     out: &mut O,
     gate: &G,
 ) -> Result<(), RunStop>
-    requires { IsRightMigrate task.now }
+    requires right { IsRightMigrate task.now }
+    requires team { team.now ≡ task.now.workers }
     ensures ends { EndsBy IsOfMigrating result }
     ensures migrates { Migrates task.now (is_faithful (F.log files.new))
         (standing (F.log files.old))
@@ -85,7 +87,7 @@ pub fn run_migrate<R: Threads + Sync, F: Files, O: Sink, G: Gate + Sync>(
     let new = task.new.as_str();
     begin(files, new, &BASE_START)?;
     let old = task.old.as_str();
-    let base = match load_verified(rt, alloc, old, Version::One, task.workers, files, gate) {
+    let base = match load_verified(team, alloc, old, Version::One, files, gate) {
         Ok(base) => base,
         Err(refusal) => {
             files.give_up(new);

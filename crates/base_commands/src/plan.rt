@@ -23,6 +23,7 @@ use run_endings::{RunStop, game_told, load_file, score_file};
 use std::alloc::Global;
 use std::thread::Threads;
 use word_pages::Version;
+use worker_team::Team;
 
 /// The score at which a match begins, where both sides need all its points.
 fn first_score(match_length: u8) -> Score
@@ -54,7 +55,7 @@ fn is_of_first_game(head: &Head, match_length: u8) -> bool
 
 /// What the file of a match's first game holds, or what refuses it.
 fn load_first<R: Threads + Sync, F: Files>(
-    rt: &R,
+    team: &Team<R>,
     alloc: Global,
     task: &Plan,
     files: &mut F,
@@ -69,7 +70,7 @@ fn load_first<R: Threads + Sync, F: Files>(
 {
     let score = first_score(task.match_length);
     let name = score_file(task.prefix.as_str(), score);
-    let base = load_file(rt, alloc, name.as_str(), files, Version::Three, 1)?;
+    let base = load_file(team, alloc, name.as_str(), files, Version::Three)?;
     if is_of_first_game(base.head(), task.match_length) {
         Ok(base)
     } else {
@@ -99,13 +100,14 @@ fn planned_starts(base: &Base, match_length: u8) -> Starts
 /// Loads the file of a match's first game and puts the plan of the match. It is refused by `Missing` or `File` where the file isn't there or isn't
 /// right, by `Base` where it is of another game, by `Read` where reading failed, and by `Memory`. `NotWritten` comes where putting failed.
 pub fn run_plan<R: Threads + Sync, F: Files, O: Sink>(
-    rt: &R,
+    team: &Team<R>,
     alloc: Global,
     task: &Plan,
     files: &mut F,
     out: &mut O,
 ) -> Result<(), RunStop>
-    requires { IsRightPlan task.now }
+    requires right { IsRightPlan task.now }
+    requires team { team.now ≡ 1 }
     ensures ends { EndsBy IsOfShowing result }
     ensures tells { TellsPlan task.now (is_faithful (F.log files.new))
         (standing (F.log files.old) (first_file task.now))
@@ -116,7 +118,7 @@ pub fn run_plan<R: Threads + Sync, F: Files, O: Sink>(
 {
     plans_hold_inside_their_pairs();
     plans_of_solved_matches_hold_in_the_end();
-    let base = load_first(rt, alloc, task, files)?;
+    let base = load_first(team, alloc, task, files)?;
     let starts = planned_starts(&base, task.match_length);
     match write_plan(out, &starts) {
         Ok(()) => Ok(()),

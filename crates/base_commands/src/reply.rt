@@ -26,6 +26,7 @@ use run_endings::{RunStop, load_file};
 use std::alloc::Global;
 use std::thread::Threads;
 use word_pages::Version;
+use worker_team::Team;
 
 /// A file that was loaded for a state of its game.
 #[derive(Drop)]
@@ -47,7 +48,7 @@ pub struct FoundReply {
 
 /// Loads the file of a task, and finds the kind of state that is asked for; or what refuses it.
 fn load_asked<R: Threads + Sync, F: Files>(
-    rt: &R,
+    team: &Team<R>,
     alloc: Global,
     task: &Reply,
     files: &mut F,
@@ -64,7 +65,7 @@ fn load_asked<R: Threads + Sync, F: Files>(
     ensures kinds { IfErr result IsOfShowing }
 {
     let name = task.file.as_str();
-    let base = load_file(rt, alloc, name, files, Version::Three, 1)?;
+    let base = load_file(team, alloc, name, files, Version::Three)?;
     let kind = asked_kind(base.head(), &task.position, task.kind)?;
     Ok(LoadedFile { base, kind })
 }
@@ -95,13 +96,14 @@ fn replies_after(
 /// there or isn't right, by `Base` where it is of another number of checkers or has no such kind, by `Read` where reading failed, and by `Memory`.
 /// `NotWritten` comes where putting failed.
 pub fn run_reply<R: Threads + Sync, F: Files, O: Sink>(
-    rt: &R,
+    team: &Team<R>,
     alloc: Global,
     task: &Reply,
     files: &mut F,
     out: &mut O,
 ) -> Result<(), RunStop>
-    requires { IsRightReply task.now }
+    requires right { IsRightReply task.now }
+    requires team { team.now ≡ 1 }
     ensures ends { EndsBy IsOfShowing result }
     ensures tells { TellsReply task.now (is_faithful (F.log files.new))
         (standing (F.log files.old) task.now.file)
@@ -111,7 +113,7 @@ pub fn run_reply<R: Threads + Sync, F: Files, O: Sink>(
     ensures reads { ReadsOn (F.log files.old) (F.log files.new) }
 {
     replies_hold_for_any_words();
-    let LoadedFile { base, kind } = load_asked(rt, alloc, task, files)?;
+    let LoadedFile { base, kind } = load_asked(team, alloc, task, files)?;
     let position = &task.position;
     let found = replies_after(alloc, base.words(), task.rounds, position, kind.number)?;
     match write_reply(

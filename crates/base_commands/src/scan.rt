@@ -18,18 +18,20 @@ use run_endings::{RunStop, load_file};
 use std::alloc::Global;
 use std::thread::Threads;
 use word_pages::Version;
+use worker_team::Team;
 
-/// Reads the condition, loads the file, searches its states by some workers and puts the report. It is refused by `Condition` where the text is
+/// Reads the condition, loads the file, searches its states by the task's workers and puts the report. It is refused by `Condition` where the text is
 /// that of none, for which the files are not asked, by `Missing` or `File` where the file isn't there or isn't right, by `Read` where reading
 /// failed, and by `Memory`. `NotWritten` comes where putting failed.
 pub fn run_scan<R: Threads + Sync, F: Files, O: Sink>(
-    rt: &R,
+    team: &Team<R>,
     alloc: Global,
     task: &Scan,
     files: &mut F,
     out: &mut O,
 ) -> Result<(), RunStop>
-    requires { IsRightScan task.now }
+    requires right { IsRightScan task.now }
+    requires team { team.now ≡ task.now.workers }
     ensures ends { EndsBy IsOfScanning result }
     ensures tells { TellsScan task.now (is_faithful (F.log files.new))
         (standing (F.log files.old) task.now.file)
@@ -45,8 +47,8 @@ pub fn run_scan<R: Threads + Sync, F: Files, O: Sink>(
         Err(bad) => return Err(RunStop::Refused(Refusal::Condition { word: bad.word })),
     };
     let name = task.file.as_str();
-    let base = load_file(rt, alloc, name, files, Version::Three, task.workers)?;
-    let Ok(found) = scan(rt, alloc, base.words(), &condition, task.workers) else {
+    let base = load_file(team, alloc, name, files, Version::Three)?;
+    let Ok(found) = scan(team, alloc, base.words(), &condition) else {
         return Err(RunStop::Refused(Refusal::Memory));
     };
     match write_scan(out, base.words(), &found) {

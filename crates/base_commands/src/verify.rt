@@ -24,6 +24,7 @@ use run_endings::{RunStop, game_told, load_file};
 use std::alloc::Global;
 use std::thread::Threads;
 use word_pages::Version;
+use worker_team::Team;
 
 /// What is told of a finding in a loaded file.
 fn unheld_of(base: &Base, finding: &Finding) -> Unheld
@@ -43,13 +44,11 @@ fn unheld_of(base: &Base, finding: &Finding) -> Unheld
 /// Nothing, where the words of a loaded file are consistent, else the refusal that tells the first one that doesn't hold. It asks for
 /// memory, and may answer that refusal.
 fn check<R: Threads + Sync, G: Gate + Sync>(
-    rt: &R,
+    team: &Team<R>,
     alloc: Global,
     base: &Base,
-    workers: u32,
     gate: &G,
 ) -> Result<(), Refusal>
-    requires workers { (1 ≤ workers) × (workers ≤ 64) }
     ensures told { AnswersCheck base.now result }
     ensures kinds { IfErr result IsOfVerifying }
     ensures unread { result ≢ Err Read }
@@ -58,7 +57,7 @@ fn check<R: Threads + Sync, G: Gate + Sync>(
     gate.expect(1, layout_count(base.head().checkers()));
     findings_tell_inconsistency();
     losses_enclose_regrets();
-    match verify(rt, alloc, base, workers, gate) {
+    match verify(team, alloc, base, gate) {
         Ok(()) => Ok(()),
         Err(VerifyStop::Inconsistent(finding)) => {
             Err(Refusal::Inconsistent(unheld_of(base, &finding)))
@@ -70,16 +69,14 @@ fn check<R: Threads + Sync, G: Gate + Sync>(
 /// What a file of the version `oldest` or a later one holds whose words are consistent, or what refuses it: it can't be
 /// loaded, or they aren't.
 pub(crate) fn load_verified<R: Threads + Sync, F: Files, G: Gate + Sync>(
-    rt: &R,
+    team: &Team<R>,
     alloc: Global,
     name: &str,
     oldest: Version,
-    workers: u32,
     files: &mut F,
     gate: &G,
 ) -> Result<Base, Refusal>
-    requires name { length name.now ≤ 272 }
-    requires workers { (1 ≤ workers) × (workers ≤ 64) }
+    requires { length name.now ≤ 272 }
     ensures told { AnswersVerify oldest name.now (is_faithful (F.log files.new))
         (standing (F.log files.old) name.now) result }
     ensures reads { ReadsOn (F.log files.old) (F.log files.new) }
@@ -87,8 +84,8 @@ pub(crate) fn load_verified<R: Threads + Sync, F: Files, G: Gate + Sync>(
         → Rose (read_faults (F.log files.old)) (read_faults (F.log files.new)) }
     ensures kinds { IfErr result IsOfVerifying }
 {
-    let base = load_file(rt, alloc, name, files, oldest, workers)?;
-    match check(rt, alloc, &base, workers, gate) {
+    let base = load_file(team, alloc, name, files, oldest)?;
+    match check(team, alloc, &base, gate) {
         Ok(()) => Ok(base),
         Err(refusal) => Err(refusal),
     }
@@ -102,18 +99,19 @@ fn report<O: Sink>(head: &Head, out: &mut O) -> Result<(), Failed>
     write_verified(out, game_told(head), head.rounds(), positions)
 }
 
-/// Loads a file, checks its words by some workers and puts the report. It is refused by `Missing` or `File` where the file isn't there or isn't
+/// Loads a file, checks its words by the task's workers and puts the report. It is refused by `Missing` or `File` where the file isn't there or isn't
 /// right, by `Inconsistent` where its words aren't, which tells the first that doesn't hold, by `Read` where reading failed, and by `Memory`.
 /// `NotWritten` comes where putting failed.
 pub fn run_verify<R: Threads + Sync, F: Files, O: Sink, G: Gate + Sync>(
-    rt: &R,
+    team: &Team<R>,
     alloc: Global,
     task: &Verify,
     files: &mut F,
     out: &mut O,
     gate: &G,
 ) -> Result<(), RunStop>
-    requires { IsRightVerify task.now }
+    requires right { IsRightVerify task.now }
+    requires team { team.now ≡ task.now.workers }
     ensures ends { EndsBy IsOfVerifying result }
     ensures tells { TellsVerified task.now (is_faithful (F.log files.new))
         (standing (F.log files.old) task.now.file)
@@ -123,7 +121,7 @@ pub fn run_verify<R: Threads + Sync, F: Files, O: Sink, G: Gate + Sync>(
     ensures reads { ReadsOn (F.log files.old) (F.log files.new) }
 {
     let name = task.file.as_str();
-    let base = load_verified(rt, alloc, name, Version::Three, task.workers, files, gate)?;
+    let base = load_verified(team, alloc, name, Version::Three, files, gate)?;
     match report(base.head(), out) {
         Ok(()) => Ok(()),
         Err(Failed) => Err(RunStop::NotWritten),

@@ -15,8 +15,8 @@ use hyper_outside::NoMemory;
 use interval_words::{Words, states_are_numbered};
 use position_rank::{MoverPoints, Position, layout_count};
 use std::alloc::{AllocError, Global};
-use std::thread;
 use std::thread::Threads;
+use worker_team::Team;
 
 /// The rank of the mover's layout where a part of the squares begins, where so many parts share
 /// them.
@@ -162,24 +162,20 @@ fn scan_part(
     Ok(found)
 }
 
-/// The states of each part, each part scanned in a thread of its own where one can be started, else
-/// in turn.
+/// The states of each part, a part for each worker.
 fn scan_parts<R: Threads + Sync>(
-    rt: &R,
+    team: &Team<R>,
     alloc: Global,
     words: &Words,
     condition: &Condition,
     all: &[Listed],
-    parts: usize,
 ) -> Result<Vec<Result<Vec<State>, NoMemory>>, AllocError>
-    requires all { AreListed words.now.game.checkers all.now }
-    requires few { parts ≤ 64 }
-    ensures { IfOk result (λ told. AreScanned words.now condition.now parts told.items) }
+    requires { AreListed words.now.game.checkers all.now }
+    ensures { IfOk result (λ told. AreScanned words.now condition.now team.now told.items) }
 {
-    thread::map_indices(
-        rt,
+    let parts = team.workers() as usize;
+    team.map(
         alloc,
-        parts,
         &|number| scan_part(alloc, words, condition, all, parts, number),
     )
 }
@@ -201,28 +197,20 @@ fn joined(alloc: Global, parts: &[Result<Vec<State>, NoMemory>]) -> Result<Vec<S
 }
 
 /// The states of a game whose words meet a condition, by rising live rank and then by kind. It is
-/// the same list for every number of workers, of which there are 1 to 64, each in a thread of its
-/// own where one can be started, else in turn. It asks for memory for a list of all layouts and for
+/// the same list for every number of workers. It asks for memory for a list of all layouts and for
 /// the states found, and may answer `NoMemory`.
 pub fn scan<R: Threads + Sync>(
-    rt: &R,
+    team: &Team<R>,
     alloc: Global,
     words: &Words,
     condition: &Condition,
-    workers: u32,
 ) -> Result<Found, NoMemory>
-    requires workers { (1 ≤ workers) × (workers ≤ 64) }
     ensures found { IfOk result (λ found. found ≡ meeting words.now condition.now) }
     ensures right { IfOk result (All (IsStateIn words.now.game)) }
 {
     let all = all_listed(alloc, words.checkers())?;
-    let parts = scan_parts(
-        rt,
-        alloc,
-        words,
-        condition,
-        all.as_slice(),
-        workers as usize,
-    )?;
+    // What `workers` ensures says that there is one.
+    let _some = team.workers();
+    let parts = scan_parts(team, alloc, words, condition, all.as_slice())?;
     Ok(Found::new(joined(alloc, &parts)?))
 }

@@ -14,8 +14,8 @@ use interval_words::{Words, consistent_lists_enclose};
 use position_rank::layout_count;
 use std::alloc::{AllocError, Global};
 use std::sync::atomic::AtomicU64;
-use std::thread;
 use std::thread::Threads;
+use worker_team::Team;
 
 /// Where a part begins, where so many parts share a count.
 fn part_start(count: u64, parts: usize, number: usize) -> u64
@@ -29,63 +29,53 @@ fn part_start(count: u64, parts: usize, number: usize) -> u64
     count * number as u64 / parts as u64
 }
 
-/// What each of so many workers tells of the columns that it took, each worker in a thread of its own
-/// where one can be started, else in turn. The turns of a column are worked out together, which is
-/// much faster than to look at each position alone.
+/// What each worker tells of the columns that it took. The turns of a column are worked out together,
+/// which is much faster than to look at each position alone.
 fn check_by_workers<R: Threads + Sync, G: Gate + Sync>(
-    rt: &R,
+    team: &Team<R>,
     alloc: Global,
     words: &Words,
-    workers: usize,
     gate: &G,
 ) -> Result<Vec<Result<Vec<bool>, NoMemory>>, AllocError>
-    requires { workers ≤ 64 }
     ensures { IfOk result (λ told. AreToldHeld words.now told.items) }
 {
+    // What `workers` ensures says that they are few.
+    let _few = team.workers();
     let next = AtomicU64::new(0);
-    thread::map_indices(
-        rt,
+    team.map(
         alloc,
-        workers,
         &|worker| take_columns(alloc, words, gate, &next, worker as u32),
     )
 }
 
-/// Whether all words hold, by so many workers. Each column that is come to passes the gate.
+/// Whether all words hold. Each column that is come to passes the gate.
 fn words_hold<R: Threads + Sync, G: Gate + Sync>(
-    rt: &R,
+    team: &Team<R>,
     alloc: Global,
     words: &Words,
-    workers: usize,
     gate: &G,
 ) -> Result<bool, NoMemory>
-    requires { workers ≤ 64 }
     ensures { IfOk result (λ held. IsTrue held
         → ColumnsHold words.now 0 (layouts words.now.game.checkers)) }
 {
-    let told = check_by_workers(rt, alloc, words, workers, gate)?;
+    let told = check_by_workers(team, alloc, words, gate)?;
     let count = layout_count(words.checkers()) as usize;
     let marks = all_marks(alloc, count, &told)?;
     rest_holds(alloc, words, &marks)
 }
 
-/// The first finding of each of so many parts, looked for in a thread of its own where one can be
-/// started, else in turn.
+/// The first finding of each part, a part for each worker.
 fn find_in_parts<R: Threads + Sync>(
-    rt: &R,
+    team: &Team<R>,
     alloc: Global,
     words: &Words,
-    parts: usize,
 ) -> Result<Vec<Option<Finding>>, AllocError>
-    requires some { 0 < parts }
-    requires few { parts ≤ 64 }
-    ensures { IfOk result (λ told. AreParts words.now parts told.items) }
+    ensures { IfOk result (λ told. AreParts words.now team.now told.items) }
 {
     let count = words.index().count();
-    thread::map_indices(
-        rt,
+    let parts = team.workers() as usize;
+    team.map(
         alloc,
-        parts,
         &|number| {
             let from = part_start(count, parts, number);
             let to = part_start(count, parts, number + 1);
@@ -109,48 +99,44 @@ fn first_of(told: &[Option<Finding>]) -> Option<Finding>
 
 /// Whether the words of a list are consistent, as `verify` tells it of a file.
 fn verify_words<R: Threads + Sync, G: Gate + Sync>(
-    rt: &R,
+    team: &Team<R>,
     alloc: Global,
     words: &Words,
-    workers: u32,
     gate: &G,
 ) -> Result<(), VerifyStop>
-    requires workers { (1 ≤ workers) × (workers ≤ 64) }
     ensures { TellsConsistency words.now result }
 {
-    let parts = workers as usize;
-    if words_hold(rt, alloc, words, parts, gate)? {
+    if words_hold(team, alloc, words, gate)? {
         return Ok(());
     }
-    let told = find_in_parts(rt, alloc, words, parts)?;
+    // What `workers` ensures says that there is one.
+    let _some = team.workers();
+    let told = find_in_parts(team, alloc, words)?;
     match first_of(&told) {
         Some(finding) => Err(VerifyStop::Inconsistent(finding)),
         None => Ok(()),
     }
 }
 
-/// Whether the words of a loaded file are consistent, by 1 to 64 workers, each in a thread of its
-/// own where one can be started, else in turn. `Inconsistent` comes exactly where a word is tighter
-/// than the turn over the file's words, and tells the first such word by rising live rank of its
-/// position, then by kind, the lower word before the upper one, with both values; so it is the same
-/// for each number of workers. Consistent words enclose every state. It asks for memory for the
+/// Whether the words of a loaded file are consistent. `Inconsistent` comes exactly where a word is
+/// tighter than the turn over the file's words, and tells the first such word by rising live rank of
+/// its position, then by kind, the lower word before the upper one, with both values; so it is the
+/// same for each number of workers. Consistent words enclose every state. It asks for memory for the
 /// workers' columns alone, and may answer `NoMemory`.
 ///
 /// The words are checked column by column, a column for each layout of the other side, and a worker
 /// passes the gate before each column that it comes to. A yes comes after each column has passed
 /// once. A no takes longer: the first word is looked for after that, which passes no gate.
 pub fn verify<R: Threads + Sync, G: Gate + Sync>(
-    rt: &R,
+    team: &Team<R>,
     alloc: Global,
     base: &Base,
-    workers: u32,
     gate: &G,
 ) -> Result<(), VerifyStop>
-    requires workers { (1 ≤ workers) × (workers ≤ 64) }
     ensures told { TellsConsistency base.now.words result }
     ensures enclosing { OnOk result (AlwaysEnclose base.now.words) }
 {
     base.words().right();
     consistent_lists_enclose();
-    verify_words(rt, alloc, base.words(), workers, gate)
+    verify_words(team, alloc, base.words(), gate)
 }

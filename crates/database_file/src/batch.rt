@@ -12,9 +12,10 @@ ghost use Rattle.database_file.specs.Batches.{AddsBatch, AnswersEach, AnswersOn,
 use crate::pages::{Pages, PagesStop};
 use outside_log::{Files, fill};
 use std::alloc::Global;
+use std::mem;
 use std::thread::Threads;
-use std::{mem, thread};
 use word_pages::read_page;
+use worker_team::Team;
 
 /// Some pages that follow one another, from the one with the number `first` to before `past`.
 #[derive(Clone, Copy)]
@@ -99,29 +100,24 @@ pub(crate) fn make_room(
 
 /// Reads the words of each page of a batch whose bytes are in memory, in place of what was read of
 /// the batch before, whose room they take: memory that workers ask for and give back again and again
-/// holds them up. The pages are shared among so many workers, each in a thread of its own where one
-/// can be started, else in turn.
+/// holds them up. The pages are shared among the workers.
 fn read_each<R: Threads + Sync>(
-    rt: &R,
+    team: &Team<R>,
     alloc: Global,
     pages: &Pages,
     batch: Batch,
     bytes: &[u8],
-    workers: usize,
     read: &mut [Result<Vec<u64>, PagesStop>],
 )
     requires pages { ArePages pages.now }
     requires some { batch.first < batch.past }
     requires there { batch.past ≤ page_count pages.now }
     requires few { length bytes.now ≤ batch_size pages.now batch }
-    requires workers { 0 < workers }
     requires room { length read.old ≡ batch.past - batch.first }
     ensures { AnswersEach pages.now batch bytes.now read.new }
 {
-    thread::for_each_mut(
-        rt,
+    team.for_each_mut(
         read,
-        workers,
         &|number, page| {
             let before = mem::replace(page, Err(PagesStop::NoMemory));
             let room = before.unwrap_or(Vec::new(alloc));
@@ -147,16 +143,15 @@ fn add_words(read: &[Result<Vec<u64>, PagesStop>], words: &mut Vec<u64>) -> Resu
     Ok(())
 }
 
-/// Reads a batch of pages through a buffer, over as many reads as it takes, has them looked at by so
-/// many workers, who leave their words in `read`, and adds these in order.
+/// Reads a batch of pages through a buffer, over as many reads as it takes, has them looked at by the
+/// workers, who leave their words in `read`, and adds these in order.
 pub(crate) fn add_batch<R: Threads + Sync, F: Files>(
-    rt: &R,
+    team: &Team<R>,
     alloc: Global,
     files: &mut F,
     name: &str,
     pages: &Pages,
     batch: Batch,
-    workers: usize,
     buf: &mut [u8],
     read: &mut [Result<Vec<u64>, PagesStop>],
     words: &mut Vec<u64>,
@@ -164,7 +159,6 @@ pub(crate) fn add_batch<R: Threads + Sync, F: Files>(
     requires pages { ArePages pages.now }
     requires some { batch.first < batch.past }
     requires there { batch.past ≤ page_count pages.now }
-    requires workers { 0 < workers }
     requires bytes { (batch.past - batch.first) * whole_page pages.now ≤ length buf.old }
     requires room { batch.past - batch.first ≤ length read.old }
     ensures part { (part : List ℕ) × (length part ≤ batch_size pages.now batch)
@@ -183,6 +177,6 @@ pub(crate) fn add_batch<R: Threads + Sync, F: Files>(
     let size = batch_size(pages, batch);
     let count = fill(files, name, pages.place_of(batch.first), &mut buf[..size])?;
     let read = &mut read[..batch.past - batch.first];
-    read_each(rt, alloc, pages, batch, &buf[..count], workers, read);
+    read_each(team, alloc, pages, batch, &buf[..count], read);
     add_words(read, words)
 }

@@ -25,6 +25,7 @@ use std::alloc::Global;
 use std::marker::Model;
 use std::thread::Threads;
 use word_pages::Version;
+use worker_team::Team;
 
 /// What a file of bounds holds: its head, and the words of the head's game after its rounds.
 #[derive(Drop)]
@@ -100,20 +101,17 @@ fn base_of(alloc: Global, head: Head, list: Vec<u64>) -> Result<Base, NoMemory>
 }
 
 /// Loads a file of bounds of the version `oldest` or a later one: it asks for the size, and then reads header,
-/// starts and pages in order, some pages together, which are checked by 1 to 64 workers, each in a thread of
-/// its own where one can be started. What it answers is the same for each number of workers. `Missing` comes
-/// exactly where there is no file of this name, and `BadFile` exactly where the bytes that were read aren't a
-/// file of bounds of such a version: it tells the first fault in the order of the format, and its place.
-/// `ReadFault` comes only where a call that reads failed. No file changes.
+/// starts and pages in order, some pages together, which the workers check. What it answers is the same for
+/// each number of workers. `Missing` comes exactly where there is no file of this name, and `BadFile` exactly
+/// where the bytes that were read aren't a file of bounds of such a version: it tells the first fault in the
+/// order of the format, and its place. `ReadFault` comes only where a call that reads failed. No file changes.
 pub fn load_base<R: Threads + Sync, F: Files>(
-    rt: &R,
+    team: &Team<R>,
     alloc: Global,
     files: &mut F,
     name: &str,
     oldest: Version,
-    workers: u32,
 ) -> Result<Base, LoadStop>
-    requires workers { (1 ≤ workers) × (workers ≤ 64) }
     ensures read { (file : Option Read) × AnswersFrom oldest file result }
     ensures told { IsTrue (is_faithful (F.log files.new))
         → AnswersFrom oldest (option_map whole (standing (F.log files.old) name.now)) result }
@@ -128,7 +126,7 @@ pub fn load_base<R: Threads + Sync, F: Files>(
         digest,
     } = read_front(files, name, oldest)?;
     let pages = pages_behind(&header, digest);
-    let list = read_pages(rt, alloc, files, name, &pages, workers as usize)?;
+    let list = read_pages(team, alloc, files, name, &pages)?;
     let base = base_of(alloc, head, list)?;
     Ok(base)
 }

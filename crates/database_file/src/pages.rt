@@ -14,6 +14,7 @@ use outside_log::Files;
 use std::alloc::{AllocError, AllocFailed, Global};
 use std::thread::Threads;
 use word_pages::{Binding, Flaw, PageStop, Version, binding_of, load_page};
+use worker_team::Team;
 
 /// How many pages are read together: so many that the workers seldom wait for the slowest of them, which they do once for each batch.
 const BATCH_PAGES: usize = 256;
@@ -168,19 +169,17 @@ pub(crate) fn add_page<F: Files>(
     Ok(())
 }
 
-/// Reads all pages in order, some of them together, which so many workers check, 1 to 64, and whose
-/// words they read, and answers the words of all. `BadPage` tells the first flaw of the pages, and is the same for each number of workers.
+/// Reads all pages in order, some of them together, which the workers check, and whose words they
+/// read, and answers the words of all. `BadPage` tells the first flaw of the pages, and is the same for each number of workers.
 /// `ReadFault` comes only where a call that reads failed.
 pub fn read_pages<R: Threads + Sync, F: Files>(
-    rt: &R,
+    team: &Team<R>,
     alloc: Global,
     files: &mut F,
     name: &str,
     pages: &Pages,
-    workers: usize,
 ) -> Result<Vec<u64>, PagesStop>
     requires pages { ArePages pages.now }
-    requires workers { (1 ≤ workers) × (workers ≤ 64) }
     ensures read { (bytes : List ℕ) × AnswersPages pages.now bytes result }
     ensures told { IsTrue (is_faithful (F.log files.new))
         → AnswersPages pages.now
@@ -200,7 +199,7 @@ pub fn read_pages<R: Threads + Sync, F: Files>(
         let past = (first + most).min(count);
         let batch = Batch { first, past };
         add_batch(
-            rt, alloc, files, name, pages, batch, workers, &mut buf, &mut read, &mut words,
+            team, alloc, files, name, pages, batch, &mut buf, &mut read, &mut words,
         )?;
         first = past;
     }

@@ -26,6 +26,7 @@ use std::thread::Threads;
 use system_files::RealFiles;
 use turn_rule::RollEnds;
 use word_pages::Version;
+use worker_team::Team;
 
 /// How many of so many live positions stand in the first of some equal parts.
 fn share(live: u64, number: u32, of: u32) -> u64
@@ -174,7 +175,8 @@ pub(crate) fn count_calls<R: Threads + Sync + Print + Files>(
     ensures { IfErr result (λ stop. stop ≢ BadWords) }
 {
     let mut files = RealFiles::new(rt, alloc);
-    let base = load_base(rt, alloc, &mut files, task.file, Version::Three, 1)?;
+    let team = Team::new(rt, 1);
+    let base = load_base(&team, alloc, &mut files, task.file, Version::Three)?;
     let words = base.words();
     PartCensus::of(words, &task.part).print(rt, words.stakes())
 }

@@ -14,6 +14,7 @@ use move_rules::opening_plays_go_on;
 use std::alloc::Global;
 use std::thread::Threads;
 use worker_sweep::run_rounds;
+use worker_team::Team;
 
 /// Why a ladder wasn't solved to its end. The scores that were handed over are its first ones.
 #[derive(Clone, Copy, Debug, PartialEq, Eq)]
@@ -26,25 +27,23 @@ pub enum LadderStop {
 
 /// The words of the game at a score, for the start pairs of the scores before it.
 fn solve_score<R: Threads + Sync, G: Gate + Sync>(
-    rt: &R,
+    team: &Team<R>,
     alloc: Global,
     checkers: u8,
     score: Score,
     starts: &Starts,
     rounds: u32,
-    workers: u32,
     gate: &G,
 ) -> Result<Closed, NoMemory>
     requires low { 1 ≤ checkers }
     requires high { checkers ≤ 3 }
     requires rounds { (1 ≤ rounds) × (rounds ≤ 4096) }
-    requires workers { (1 ≤ workers) × (workers ≤ 64) }
     requires covered { Covers starts.now score }
     ensures words { IfOk result (AreWordsOf checkers rounds score starts.now) }
     ensures name { IfOk result (λ closed. closed.game.stakes.name ≡ Match score) }
 {
     let stakes = Stakes::of_score(score, starts);
-    let closed = run_rounds(rt, alloc, checkers, &stakes, rounds, workers, gate)?;
+    let closed = run_rounds(team, alloc, checkers, &stakes, rounds, gate)?.closed;
     // Words are of a game of one to three checkers and valid stakes.
     closed.words().right();
     Ok(closed)
@@ -52,20 +51,18 @@ fn solve_score<R: Threads + Sync, G: Gate + Sync>(
 
 /// Solves the next score of the ladder, hands it to the keeper, and adds its start pair.
 fn take_score<R: Threads + Sync, G: Gate + Sync, K: Keep>(
-    rt: &R,
+    team: &Team<R>,
     alloc: Global,
     checkers: u8,
     score: Score,
     starts: &mut Starts,
     rounds: u32,
-    workers: u32,
     gate: &G,
     keep: &mut K,
 ) -> Result<(), LadderStop>
     requires low { 1 ≤ checkers }
     requires high { checkers ≤ 3 }
     requires rounds { (1 ≤ rounds) × (rounds ≤ 4096) }
-    requires workers { (1 ≤ workers) × (workers ≤ 64) }
     requires so_far { IsSolvedSoFar checkers starts.old.match_length rounds starts.old }
     requires keeper { IsKeeperFor checkers starts.old.match_length rounds (K.keeper keep.old) }
     requires kept { HasKept starts.old (K.keeper keep.old) }
@@ -85,7 +82,7 @@ fn take_score<R: Threads + Sync, G: Gate + Sync, K: Keep>(
     ladders_are_exact();
     // What `match_length` ensures says that the start pairs so far are those of a match.
     let _length = starts.match_length();
-    let closed = match solve_score(rt, alloc, checkers, score, starts, rounds, workers, gate) {
+    let closed = match solve_score(team, alloc, checkers, score, starts, rounds, gate) {
         Ok(closed) => closed,
         Err(NoMemory) => return Err(LadderStop::NoMemory),
     };
@@ -97,19 +94,18 @@ fn take_score<R: Threads + Sync, G: Gate + Sync, K: Keep>(
 }
 
 /// Solves a match of 1 to 5 points between sides of one to three checkers, score by score in the order of its ladder: each
-/// by 1 to 4,096 rounds of 1 to 64 workers, with the stakes that the start pairs of the scores before it give. Hands each
-/// score to the keeper before the next one is begun, and answers the start pairs of all scores. No more than one board and
-/// one list of closed words is held at a time.
+/// by 1 to 4,096 rounds of the team, with the stakes that the start pairs of the scores before it give. Hands each score to
+/// the keeper before the next one is begun, and answers the start pairs of all scores. No more than one board and one list
+/// of closed words is held at a time.
 ///
 /// `Keep` comes only where the keeper has failed, `NoMemory` where there was no memory. After either the scores that were
 /// handed over are the first ones of the ladder.
 pub fn solve_ladder<R: Threads + Sync, G: Gate + Sync, K: Keep>(
-    rt: &R,
+    team: &Team<R>,
     alloc: Global,
     checkers: u8,
     match_length: u8,
     rounds: u32,
-    workers: u32,
     gate: &G,
     keep: &mut K,
 ) -> Result<Starts, LadderStop>
@@ -117,7 +113,6 @@ pub fn solve_ladder<R: Threads + Sync, G: Gate + Sync, K: Keep>(
     requires high { checkers ≤ 3 }
     requires points { (1 ≤ match_length) × (match_length ≤ 5) }
     requires rounds { (1 ≤ rounds) × (rounds ≤ 4096) }
-    requires workers { (1 ≤ workers) × (workers ≤ 64) }
     requires keeper { IsKeeperFor checkers match_length rounds (K.keeper keep.old) }
     requires fresh { HasKept (no_pairs match_length) (K.keeper keep.old) }
     ensures whole { IfOk result (IsWholeLadder checkers match_length rounds) }
@@ -133,13 +128,12 @@ pub fn solve_ladder<R: Threads + Sync, G: Gate + Sync, K: Keep>(
     let mut starts = Starts::new(match_length);
     for score in ladder(match_length).as_slice() {
         if let Err(stop) = take_score(
-            rt,
+            team,
             alloc,
             checkers,
             *score,
             &mut starts,
             rounds,
-            workers,
             gate,
             keep,
         ) {

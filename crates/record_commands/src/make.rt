@@ -22,6 +22,7 @@ use record_study::study;
 use run_endings::{RunStop, begin, settle};
 use std::alloc::Global;
 use std::thread::Threads;
+use worker_team::Team;
 
 /// By how many rounds the decisions of a made record are studied.
 const ROUNDS: u32 = 8;
@@ -33,9 +34,9 @@ pub struct MadeRecord {
     pub analysis: Analysis,
 }
 
-/// Makes the record of a task, and studies its decisions by one worker.
+/// Makes the record of a task, and studies its decisions.
 fn make_and_study<R: Threads + Sync, G: Gate + Sync>(
-    rt: &R,
+    team: &Team<R>,
     alloc: Global,
     task: &Make,
     gate: &G,
@@ -50,7 +51,7 @@ fn make_and_study<R: Threads + Sync, G: Gate + Sync>(
     let Ok(decisions) = replay(alloc, &rec) else {
         return Err(NoMemory);
     };
-    let analysis = study(rt, alloc, &rec, decisions, ROUNDS, 1, gate)?;
+    let analysis = study(team, alloc, &rec, decisions, ROUNDS, gate)?;
     Ok(MadeRecord { text, analysis })
 }
 
@@ -96,17 +97,18 @@ fn complete<F: Files, O: Sink>(
     settle(files, name, put)
 }
 
-/// Begins the file, makes a record, studies its decisions, writes the file and puts the report. It is refused where a file of another kind
+/// Begins the file, makes a record, studies its decisions by one worker, writes the file and puts the report. It is refused where a file of another kind
 /// stands under the name, the name can't be looked at, or there is no memory. The file takes its name's place only where all is done.
 pub fn run_make<R: Threads + Sync, F: Files, O: Sink, G: Gate + Sync>(
-    rt: &R,
+    team: &Team<R>,
     alloc: Global,
     task: &Make,
     files: &mut F,
     out: &mut O,
     gate: &G,
 ) -> Result<(), RunStop>
-    requires { IsRightMake task.now }
+    requires right { IsRightMake task.now }
+    requires team { team.now ≡ 1 }
     ensures ends { EndsBy IsOfWriting result }
     ensures makes { Makes task.now (is_faithful (F.log files.new))
         (standing (F.log files.old) task.now.file) (F.log files.old) (F.log files.new)
@@ -123,7 +125,7 @@ pub fn run_make<R: Threads + Sync, F: Files, O: Sink, G: Gate + Sync>(
         Ok(()) => {}
         Err(stop) => return Err(stop),
     }
-    let Ok(made) = make_and_study(rt, alloc, task, gate) else {
+    let Ok(made) = make_and_study(team, alloc, task, gate) else {
         files.give_up(name);
         return Err(RunStop::Refused(Refusal::Memory));
     };

@@ -21,10 +21,11 @@ use record_study::{study, study_match};
 use run_endings::{RunStop, ladder_rounds};
 use std::alloc::Global;
 use std::thread::Threads;
+use worker_team::Team;
 
 /// What the decisions of a recorded game lose by what is solved for it, in a match by all its scores.
 fn study_replayed<R: Threads + Sync, G: Gate + Sync>(
-    rt: &R,
+    team: &Team<R>,
     alloc: Global,
     task: &Study,
     replayed: Replayed,
@@ -35,33 +36,30 @@ fn study_replayed<R: Threads + Sync, G: Gate + Sync>(
     ensures { IfOk result (IsStudiedBy replayed task.now.rounds) }
 {
     let Replayed { rec, decisions } = replayed;
-    let Study {
-        rounds,
-        workers,
-        ..
-    } = task;
+    let rounds = task.rounds;
     let columns = layout_count(rec.checkers);
     if is_match(rec.stakes) {
         let points = match_length(rec.stakes);
-        gate.expect(ladder_rounds(points, *rounds), columns);
-        study_match(rt, alloc, &rec, points, decisions, *rounds, *workers, gate)
+        gate.expect(ladder_rounds(points, rounds), columns);
+        study_match(team, alloc, &rec, points, decisions, rounds, gate)
     } else {
-        gate.expect(*rounds, columns);
-        study(rt, alloc, &rec, decisions, *rounds, *workers, gate)
+        gate.expect(rounds, columns);
+        study(team, alloc, &rec, decisions, rounds, gate)
     }
 }
 
 /// Solves what a recorded game is played for, and puts what each of its decisions loses by that and each player's total. It is refused where
 /// the record's file isn't there or can't be read, a line of it is wrong, or there is no memory.
 pub fn run_study<R: Threads + Sync, F: Files, O: Sink, G: Gate + Sync>(
-    rt: &R,
+    team: &Team<R>,
     alloc: Global,
     task: &Study,
     files: &mut F,
     out: &mut O,
     gate: &G,
 ) -> Result<(), RunStop>
-    requires { IsRightStudy task.now }
+    requires right { IsRightStudy task.now }
+    requires team { team.now ≡ task.now.workers }
     ensures ends { EndsBy IsOfReplaying result }
     ensures tells { TellsStudy task.now (is_faithful (F.log files.new))
         (standing (F.log files.old) task.now.rec)
@@ -74,7 +72,7 @@ pub fn run_study<R: Threads + Sync, F: Files, O: Sink, G: Gate + Sync>(
         Ok(replayed) => replayed,
         Err(refusal) => return Err(RunStop::Refused(refusal)),
     };
-    let Ok(analysis) = study_replayed(rt, alloc, task, replayed, gate) else {
+    let Ok(analysis) = study_replayed(team, alloc, task, replayed, gate) else {
         return Err(RunStop::Refused(Refusal::Memory));
     };
     match write_analysis(out, &analysis) {

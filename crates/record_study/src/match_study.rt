@@ -14,20 +14,20 @@ use match_scores::{
 use record_analysis::{Analysis, right_decisions_can_be_judged};
 use std::alloc::Global;
 use std::thread::Threads;
+use worker_team::Team;
 
-/// Solves the scores of a recorded match down its ladder by some rounds and workers, and judges each game's decisions by its
+/// Solves the scores of a recorded match down its ladder by some rounds, and judges each game's decisions by its
 /// score. Every record of a match needs the whole ladder, since its first game is at the ladder's last score. From some number of
 /// turns on, one for the whole match, each pair encloses what its decision loses exactly with the payoffs of the match, for every
 /// number of workers and every gate; and each is at least as tight as over so many rounds for the stakes of the plain starts. It asks
 /// for memory, and may answer `NoMemory`.
 pub fn study_match<R: Threads + Sync, G: Gate + Sync>(
-    rt: &R,
+    team: &Team<R>,
     alloc: Global,
     rec: &Record,
     match_length: u8,
     decisions: Decisions,
     rounds: u32,
-    workers: u32,
     gate: &G,
 ) -> Result<Analysis, NoMemory>
     requires valid { IsRecord rec.now }
@@ -35,7 +35,6 @@ pub fn study_match<R: Threads + Sync, G: Gate + Sync>(
     requires right { All (IsRightDecision rec.now) decisions }
     requires few { length decisions ≤ 131072 }
     requires rounds { (1 ≤ rounds) × (rounds ≤ 4096) }
-    requires workers { (1 ≤ workers) × (workers ≤ 64) }
     ensures { IfOk result (AreStudiedInMatch rec.now.checkers match_length rounds decisions) }
 {
     right_decisions_can_be_judged();
@@ -45,12 +44,11 @@ pub fn study_match<R: Threads + Sync, G: Gate + Sync>(
     let analysis = Analysis::new(alloc, decisions)?;
     let mut keep = RecordKeep::new(analysis, rec.checkers, match_length, rounds);
     match solve_ladder(
-        rt,
+        team,
         alloc,
         rec.checkers,
         match_length,
         rounds,
-        workers,
         gate,
         &mut keep,
     ) {

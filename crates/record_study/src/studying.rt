@@ -18,6 +18,7 @@ use record_analysis::{
 use std::alloc::Global;
 use std::thread::Threads;
 use worker_sweep::run_rounds;
+use worker_team::Team;
 
 /// What a record is played for. A match has no stakes of its own, and gets those of a game without a cube.
 pub fn stakes_of(stakes: RecordStakes) -> Stakes
@@ -49,17 +50,16 @@ fn analysis_by(alloc: Global, words: &Words, decisions: Decisions) -> Result<Ana
     Ok(analysis)
 }
 
-/// Solves the game of a record outside a match by some rounds and workers, and judges its decisions by that. From some number of turns
+/// Solves the game of a record outside a match by some rounds, and judges its decisions by that. From some number of turns
 /// on, one for all decisions, each pair encloses what its decision loses exactly, for every number of workers and every gate; and each
 /// is at least as tight as over so many rounds in which all states are worked out from the round before. It asks for memory, and may
 /// answer `NoMemory`.
 pub fn study<R: Threads + Sync, G: Gate + Sync>(
-    rt: &R,
+    team: &Team<R>,
     alloc: Global,
     rec: &Record,
     decisions: Decisions,
     rounds: u32,
-    workers: u32,
     gate: &G,
 ) -> Result<Analysis, NoMemory>
     requires valid { IsRecord rec.now }
@@ -67,14 +67,13 @@ pub fn study<R: Threads + Sync, G: Gate + Sync>(
     requires right { All (IsRightDecision rec.now) decisions }
     requires few { length decisions ≤ 131072 }
     requires rounds { (1 ≤ rounds) × (rounds ≤ 4096) }
-    requires workers { (1 ≤ workers) × (workers ≤ 64) }
     ensures { IfOk result (AreStudied (game_of_record rec.now) rounds decisions) }
 {
     right_decisions_can_be_judged();
     analyses_enclose_what_is_lost();
     tighter_words_give_tighter_analyses();
     let stakes = stakes_of(rec.stakes);
-    let closed = run_rounds(rt, alloc, rec.checkers, &stakes, rounds, workers, gate)?;
+    let closed = run_rounds(team, alloc, rec.checkers, &stakes, rounds, gate)?.closed;
     let words = closed.words();
     words.right();
     analysis_by(alloc, words, decisions)

@@ -16,6 +16,7 @@ use outside_log::Files;
 use std::alloc::Global;
 use std::thread::Threads;
 use word_pages::{Flaw, Version};
+use worker_team::Team;
 
 /// How many pages of a file are kept at most.
 const PAGES_KEPT: usize = 64;
@@ -53,17 +54,15 @@ pub fn open_file<F: Files>(alloc: Global, name: &str, files: &mut F) -> Result<P
     }
 }
 
-/// Loads a file of bounds of the versions from `oldest` on, which so many workers check, or says what refuses it.
+/// Loads a file of bounds of the versions from `oldest` on, which the workers check, or says what refuses it.
 pub fn load_file<R: Threads + Sync, F: Files>(
-    rt: &R,
+    team: &Team<R>,
     alloc: Global,
     name: &str,
     files: &mut F,
     oldest: Version,
-    workers: u32,
 ) -> Result<Base, Refusal>
-    requires name { length name.now ≤ 272 }
-    requires workers { (1 ≤ workers) × (workers ≤ 64) }
+    requires { length name.now ≤ 272 }
     ensures told { OfFile (is_faithful (F.log files.new)) (standing (F.log files.old) name.now)
         (AnswersLoading oldest name.now result) }
     ensures kinds { IfErr result IsOfLoading }
@@ -72,7 +71,7 @@ pub fn load_file<R: Threads + Sync, F: Files>(
         → Rose (read_faults (F.log files.old)) (read_faults (F.log files.new)) }
     ensures reads { ReadsOn (F.log files.old) (F.log files.new) }
 {
-    match load_base(rt, alloc, files, name, oldest, workers) {
+    match load_base(team, alloc, files, name, oldest) {
         Ok(base) => Ok(base),
         Err(stop) => Err(stop_refusal(stop, name)),
     }

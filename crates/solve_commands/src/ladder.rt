@@ -23,6 +23,7 @@ use run_endings::{RunStop, begin, ladder_rounds, score_file};
 use solve_reports::write_ladder_end;
 use std::alloc::Global;
 use std::thread::Threads;
+use worker_team::Team;
 
 /// Begins the file of each score of a ladder, and gives it up again, so that one that can't be written, or would take the place of a file of
 /// another kind, is told before any work.
@@ -51,7 +52,7 @@ fn try_scores<F: Files>(task: &Ladder, files: &mut F) -> Result<(), RunStop>
 
 /// Solves the scores of a ladder in order. The file of each is written, and then its line is put, before the next one is begun.
 fn solve_scores<R: Threads + Sync, F: Files, O: Sink, G: Gate + Sync>(
-    rt: &R,
+    team: &Team<R>,
     alloc: Global,
     task: &Ladder,
     files: &mut F,
@@ -75,12 +76,11 @@ fn solve_scores<R: Threads + Sync, F: Files, O: Sink, G: Gate + Sync>(
     );
     let mut keep = LadderKeep::new(task, files, out);
     solve_ladder(
-        rt,
+        team,
         alloc,
         task.checkers,
         task.match_length,
         task.rounds,
-        task.workers,
         gate,
         &mut keep,
     )
@@ -102,14 +102,15 @@ fn tell_end<O: Sink>(task: &Ladder, out: &mut O) -> Result<(), Failed>
 /// Solves the scores of a ladder, with a file and a line for each, and puts the last line. It is refused before any work where a file can't
 /// be begun for what stands there, and later for want of memory; the files and the lines of the scores that are solved by then stay.
 pub fn run_ladder<R: Threads + Sync, F: Files, O: Sink, G: Gate + Sync>(
-    rt: &R,
+    team: &Team<R>,
     alloc: Global,
     task: &Ladder,
     files: &mut F,
     out: &mut O,
     gate: &G,
 ) -> Result<(), RunStop>
-    requires { IsRightLadder task.now }
+    requires right { IsRightLadder task.now }
+    requires team { team.now ≡ task.now.workers }
     ensures ends { EndsBy IsOfWriting result }
     ensures solves { SolvesLadder task.now (F.log files.old) (F.log files.new)
         (O.output out.old) (O.output out.new) result }
@@ -120,7 +121,7 @@ pub fn run_ladder<R: Threads + Sync, F: Files, O: Sink, G: Gate + Sync>(
         → Rose (read_faults (F.log files.old)) (read_faults (F.log files.new)) }
 {
     try_scores(task, files)?;
-    match solve_scores(rt, alloc, task, files, out, gate) {
+    match solve_scores(team, alloc, task, files, out, gate) {
         Ok(_) => Ok(tell_end(task, out)?),
         Err(LadderStop::Keep) => Err(RunStop::NotWritten),
         Err(LadderStop::NoMemory) => Err(RunStop::Refused(Refusal::Memory)),

@@ -25,10 +25,11 @@ use std::alloc::Global;
 use std::thread::Threads;
 use word_pages::Version;
 use worker_sweep::run_rounds;
+use worker_team::Team;
 
 /// The words after the rounds of the workers, which the gate is told of.
 fn solved_words<R: Threads + Sync, G: Gate + Sync>(
-    rt: &R,
+    team: &Team<R>,
     alloc: Global,
     task: &Solve,
     gate: &G,
@@ -38,15 +39,7 @@ fn solved_words<R: Threads + Sync, G: Gate + Sync>(
 {
     let stakes = head_of(task).stakes();
     gate.expect(task.rounds, layout_count(task.checkers));
-    run_rounds(
-        rt,
-        alloc,
-        task.checkers,
-        &stakes,
-        task.rounds,
-        task.workers,
-        gate,
-    )
+    Ok(run_rounds(team, alloc, task.checkers, &stakes, task.rounds, gate)?.closed)
 }
 
 fn head_of(task: &Solve) -> Head
@@ -101,14 +94,15 @@ fn complete<F: Files, O: Sink>(
 /// Begins the file, solves the game, writes the file and puts the report, before the file takes its name's place. After an error no file has
 /// changed: where writing failed, or what stands there is of another kind or couldn't be looked at, or there was no memory.
 pub fn run_solve<R: Threads + Sync, F: Files, O: Sink, G: Gate + Sync>(
-    rt: &R,
+    team: &Team<R>,
     alloc: Global,
     task: &Solve,
     files: &mut F,
     out: &mut O,
     gate: &G,
 ) -> Result<(), RunStop>
-    requires { IsRightSolve task.now }
+    requires right { IsRightSolve task.now }
+    requires team { team.now ≡ task.now.workers }
     ensures ends { EndsBy IsOfWriting result }
     ensures solves { Solves task.now (is_faithful (F.log files.new))
         (standing (F.log files.old) task.now.file) (F.log files.old) (F.log files.new)
@@ -122,7 +116,7 @@ pub fn run_solve<R: Threads + Sync, F: Files, O: Sink, G: Gate + Sync>(
 {
     let name = task.file.as_str();
     begin(files, name, &BASE_START)?;
-    let Ok(closed) = solved_words(rt, alloc, task, gate) else {
+    let Ok(closed) = solved_words(team, alloc, task, gate) else {
         files.give_up(name);
         return Err(RunStop::Refused(Refusal::Memory));
     };

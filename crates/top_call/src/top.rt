@@ -18,6 +18,7 @@ use run_endings::{RunStop, end};
 use solve_commands::{run_bound, run_ladder, run_race, run_solve};
 use std::alloc::Global;
 use std::thread::Threads;
+use worker_team::Team;
 
 /// The refusal of words that weren't read.
 fn words_refusal(stop: WordsStop) -> Refusal
@@ -55,18 +56,36 @@ fn perform<R: Threads + Sync, F: Files, O: Sink, G: Gate + Sync>(
     match command {
         Command::Bound(task) => run_bound(alloc, &task, out),
         Command::Race(task) => run_race(alloc, &task, out),
-        Command::Solve(task) => run_solve(rt, alloc, &task, files, out, gate),
+        Command::Solve(task) => {
+            let team = Team::new(rt, task.workers);
+            run_solve(&team, alloc, &task, files, out, gate)
+        }
         Command::Show(task) => run_show(alloc, &task, files, out),
-        Command::Migrate(task) => run_migrate(rt, alloc, &task, files, out, gate),
+        Command::Migrate(task) => {
+            let team = Team::new(rt, task.workers);
+            run_migrate(&team, alloc, &task, files, out, gate)
+        }
         Command::Advise(task) => run_advise(alloc, &task, files, out),
-        Command::Verify(task) => run_verify(rt, alloc, &task, files, out, gate),
-        Command::Ladder(task) => run_ladder(rt, alloc, &task, files, out, gate),
-        Command::Study(task) => run_study(rt, alloc, &task, files, out, gate),
-        Command::Make(task) => run_make(rt, alloc, &task, files, out, gate),
+        Command::Verify(task) => {
+            let team = Team::new(rt, task.workers);
+            run_verify(&team, alloc, &task, files, out, gate)
+        }
+        Command::Ladder(task) => {
+            let team = Team::new(rt, task.workers);
+            run_ladder(&team, alloc, &task, files, out, gate)
+        }
+        Command::Study(task) => {
+            let team = Team::new(rt, task.workers);
+            run_study(&team, alloc, &task, files, out, gate)
+        }
+        Command::Make(task) => run_make(&Team::new(rt, 1), alloc, &task, files, out, gate),
         Command::Analyse(task) => run_analyse(alloc, &task, files, out),
-        Command::Plan(task) => run_plan(rt, alloc, &task, files, out),
-        Command::Scan(task) => run_scan(rt, alloc, &task, files, out),
-        Command::Reply(task) => run_reply(rt, alloc, &task, files, out),
+        Command::Plan(task) => run_plan(&Team::new(rt, 1), alloc, &task, files, out),
+        Command::Scan(task) => {
+            let team = Team::new(rt, task.workers);
+            run_scan(&team, alloc, &task, files, out)
+        }
+        Command::Reply(task) => run_reply(&Team::new(rt, 1), alloc, &task, files, out),
     }
 }
 

@@ -17,6 +17,7 @@ use std::process::Abort;
 use std::test::Fail;
 use std::thread::Threads;
 use word_pages::Version;
+use worker_team::Team;
 
 /// One checker a side without a cube: of each position the word of a point lost and that of a point won.
 fn text() -> ArrayVec<u8, SIZE> {
@@ -26,12 +27,11 @@ fn text() -> ArrayVec<u8, SIZE> {
 /// What is told of a file with these bytes.
 fn stop_of<R: Abort + Threads + Sync>(rt: &R, alloc: Global, bytes: &[u8]) -> Option<LoadStop> {
     load_base(
-        rt,
+        &Team::new(rt, 3),
         alloc,
         &mut with_base(rt, alloc, bytes),
         "base",
         Version::Three,
-        3,
     )
     .err()
 }
@@ -43,7 +43,8 @@ fn bad(fault: FileFault, at: u64) -> Option<LoadStop> {
 #[test]
 fn loads_a_file(rt: HostRuntime) {
     let mut files = with_base(&rt, rt.alloc(), text().as_slice());
-    let Ok(base) = load_base(&rt, rt.alloc(), &mut files, "base", Version::Three, 1) else {
+    let team = Team::new(&rt, 1);
+    let Ok(base) = load_base(&team, rt.alloc(), &mut files, "base", Version::Three) else {
         panic!(rt; "it was not loaded");
     };
     let counts = (base.head().checkers(), base.head().rounds());
@@ -62,7 +63,8 @@ fn loads_a_file(rt: HostRuntime) {
 #[test]
 fn tells_a_missing_file(rt: HostRuntime) {
     let mut files = with_base(&rt, rt.alloc(), b"");
-    let stop = load_base(&rt, rt.alloc(), &mut files, "other", Version::Three, 1).err();
+    let team = Team::new(&rt, 1);
+    let stop = load_base(&team, rt.alloc(), &mut files, "other", Version::Three).err();
     same(&rt, &stop, &Some(LoadStop::Missing), &"another file");
 }
 
@@ -186,7 +188,8 @@ impl Files for Cut {
 #[test]
 fn tells_where_reads_end(rt: HostRuntime) {
     let mut files = Cut::new(rt.alloc());
-    let stop = load_base(&rt, rt.alloc(), &mut files, "base", Version::Three, 1).err();
+    let team = Team::new(&rt, 1);
+    let stop = load_base(&team, rt.alloc(), &mut files, "base", Version::Three).err();
     same(&rt, &stop, &bad(FileFault::Short, 5000), &"a cut file");
 }
 

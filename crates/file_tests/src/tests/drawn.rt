@@ -20,6 +20,7 @@ use std::alloc::{AllocGlobal, Global};
 use std::process::Abort;
 use std::thread::Threads;
 use word_pages::Version;
+use worker_team::Team;
 
 /// How many states a test draws.
 const DRAWS: u32 = 25;
@@ -143,7 +144,13 @@ fn base_with<R: Abort + Threads + Sync + AllocGlobal>(
     files.start("base").expect(rt, "it was not begun");
     append_base(&mut files, "base", &head, &words, Version::Three).expect(rt, "it was not written");
     files.finish("base").expect(rt, "it was not put in place");
-    let Ok(base) = load_base(rt, rt.alloc(), &mut files, "base", Version::Three, 4) else {
+    let Ok(base) = load_base(
+        &Team::new(rt, 4),
+        rt.alloc(),
+        &mut files,
+        "base",
+        Version::Three,
+    ) else {
         panic!(rt; "it was not loaded");
     };
     base
@@ -184,7 +191,7 @@ fn found_by<R: Abort + Threads + Sync + AllocGlobal>(
 ) -> Option<Finding>
     requires { (1 ≤ workers) × (workers ≤ 64) }
 {
-    match verify(rt, rt.alloc(), base, workers, &OpenGate) {
+    match verify(&Team::new(rt, workers), rt.alloc(), base, &OpenGate) {
         Ok(()) => None,
         Err(VerifyStop::Inconsistent(finding)) => Some(finding),
         Err(VerifyStop::NoMemory) => panic!(rt; "no memory"),

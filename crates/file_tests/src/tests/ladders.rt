@@ -14,6 +14,7 @@ use std::alloc::AllocGlobal;
 use std::process::Abort;
 use std::thread::Threads;
 use worker_sweep::run_rounds;
+use worker_team::Team;
 
 /// Notes the scores of a ladder of one checker a side, each with the number of start pairs before it, until it has so
 /// many that it takes no more.
@@ -94,12 +95,11 @@ fn starts_of<R: Threads + Sync + Abort + AllocGlobal>(
 {
     let mut noting = Noting::new(match_length, rounds, 18);
     let starts = solve_ladder(
-        rt,
+        &Team::new(rt, 1),
         rt.alloc(),
         1,
         match_length,
         rounds,
-        1,
         &OpenGate,
         &mut noting,
     )
@@ -129,7 +129,8 @@ fn a_match_of_three_points(rt: HostRuntime) {
 #[test]
 fn stops_where_its_keeper_fails(rt: HostRuntime) {
     let mut noting = Noting::new(2, 1, 1);
-    let stop = solve_ladder(&rt, rt.alloc(), 1, 2, 1, 1, &OpenGate, &mut noting).err();
+    let team = Team::new(&rt, 1);
+    let stop = solve_ladder(&team, rt.alloc(), 1, 2, 1, &OpenGate, &mut noting).err();
     same(&rt, &stop, &Some(LadderStop::Keep), &"a stop");
     were_noted(&rt, &noting, "1.1.p");
 }
@@ -152,8 +153,9 @@ fn a_win_is_worth_the_match(rt: HostRuntime) {
     let starts = Starts::new(1);
     assert!(rt; starts.covers(score));
     let stakes = Stakes::of_score(score, &starts);
-    let closed = run_rounds(&rt, rt.alloc(), 1, &stakes, 4, 1, &OpenGate).expect(&rt, "no memory");
-    let words = closed.words();
+    let team = Team::new(&rt, 1);
+    let solved = run_rounds(&team, rt.alloc(), 1, &stakes, 4, &OpenGate).expect(&rt, "no memory");
+    let words = solved.closed.words();
     same(&rt, &words.stakes().kinds(), &2, &"kinds");
     for kind in 0..2 {
         same(

@@ -10,6 +10,7 @@ use std::alloc::AllocGlobal;
 use std::process::Abort;
 use std::test::Fail;
 use std::thread::Threads;
+use worker_team::Team;
 
 /// The number of the first word with which none of a condition can go on, or that there is none, and the text.
 const TEXTS: &str = "\
@@ -101,7 +102,8 @@ fn count<R: Threads + Sync + Abort + AllocGlobal>(
     let Ok(condition) = read_condition(text) else {
         panic!(rt; "no condition");
     };
-    let found = scan(rt, rt.alloc(), words, &condition, workers).expect(rt, "no memory");
+    let team = Team::new(rt, workers);
+    let found = scan(&team, rt.alloc(), words, &condition).expect(rt, "no memory");
     found.as_slice().len()
 }
 

@@ -12,6 +12,7 @@ use std::alloc::AllocGlobal;
 use std::process::Abort;
 use std::thread::Threads;
 use worker_sweep::{blocks_of, run_rounds};
+use worker_team::Team;
 
 /// What so many workers find by some rounds.
 fn closed<R: Threads + Sync + Abort + AllocGlobal>(
@@ -25,13 +26,16 @@ fn closed<R: Threads + Sync + Abort + AllocGlobal>(
     requires rounds { (1 ≤ rounds) × (rounds ≤ 4096) }
     requires workers { (1 ≤ workers) × (workers ≤ 64) }
 {
-    run_rounds(rt, rt.alloc(), checkers, stakes, rounds, workers, &OpenGate).expect(rt, "no memory")
+    let team = Team::new(rt, workers);
+    let solved = run_rounds(&team, rt.alloc(), checkers, stakes, rounds, &OpenGate);
+    solved.expect(rt, "no memory").closed
 }
 
 #[test]
 fn each_block_passes_once_a_round(rt: HostRuntime) {
     let gate = Counting::new(&rt, rt.alloc(), 4);
-    run_rounds(&rt, rt.alloc(), 1, &Stakes::money(), 3, 4, &gate).expect(&rt, "no memory");
+    let team = Team::new(&rt, 4);
+    run_rounds(&team, rt.alloc(), 1, &Stakes::money(), 3, &gate).expect(&rt, "no memory");
     gate.check(&rt, 3);
 }
 

@@ -12,12 +12,19 @@ use std::alloc::AllocGlobal;
 use std::process::Abort;
 use std::thread::Threads;
 use word_pages::Version;
+use worker_team::Team;
 
 /// The base of a file of one checker a side without a cube, in which each pair is the widest one but where it is changed.
 fn base<R: Abort + Threads + Sync + AllocGlobal>(rt: &R, changes: &[Change]) -> Base {
     let text = cubeless_text((NOTHING - 3 * POINT, NOTHING + 3 * POINT), changes);
     let mut files = with_base(rt, rt.alloc(), text.as_slice());
-    let Ok(base) = load_base(rt, rt.alloc(), &mut files, "base", Version::Three, 1) else {
+    let Ok(base) = load_base(
+        &Team::new(rt, 1),
+        rt.alloc(),
+        &mut files,
+        "base",
+        Version::Three,
+    ) else {
         panic!(rt; "it was not loaded");
     };
     base
@@ -34,7 +41,7 @@ fn is_found<R: Abort + Threads + Sync + AllocGlobal>(
     due: Option<Found>,
 ) {
     assert!(rt; workers >= 1 && workers <= 64);
-    match verify(rt, rt.alloc(), base, workers, &OpenGate) {
+    match verify(&Team::new(rt, workers), rt.alloc(), base, &OpenGate) {
         Ok(()) => holds(rt, due.is_none(), &workers),
         Err(VerifyStop::NoMemory) => panic!(rt; "no memory"),
         Err(VerifyStop::Inconsistent(finding)) => {
@@ -107,7 +114,7 @@ fn each_column_passes_once(rt: HostRuntime) {
     let base = base(&rt, &[]);
     for workers in [1, 3, 64] {
         let gate = Counting::new(&rt, rt.alloc(), workers);
-        let answer = verify(&rt, rt.alloc(), &base, workers, &gate);
+        let answer = verify(&Team::new(&rt, workers), rt.alloc(), &base, &gate);
         holds(&rt, answer.is_ok(), &workers);
         gate.check(&rt, 1);
     }

@@ -10,6 +10,7 @@ use hyper_outside::OpenGate;
 use record_analysis::Judged;
 use record_study::study;
 use std::process::Abort;
+use worker_team::Team;
 
 /// Each play is the only one or loses nothing against any other, doubling at 6 against 2 is right, and who is sure to lose two points
 /// after a take gives one away by it.
@@ -31,10 +32,8 @@ fn a_take_that_is_sure_to_lose_costs_a_point(rt: HostRuntime) {
         panic!(&rt; "it is played for something else");
     };
     let decisions = replay(rt.alloc(), &rec).expect(&rt, "it breaks a rule");
-    let analysis = study(&rt, rt.alloc(), &rec, decisions, 8, 4, &OpenGate).expect(
-        &rt,
-        "no memory",
-    );
+    let team = Team::new(&rt, 4);
+    let analysis = study(&team, rt.alloc(), &rec, decisions, 8, &OpenGate).expect(&rt, "no memory");
     same(&rt, &analysis.len(), &16, &"decisions");
     for judged in analysis.as_slice() {
         is_right(&rt, judged);

@@ -8,6 +8,7 @@ use interval_words::{LiveIndex, Words};
 use std::alloc::Global;
 use std::test::Fail;
 use std::thread::Threads;
+use worker_team::Team;
 
 /// Of 351 layouts a side, 106,552 positions are live; with the cube each has three kinds.
 const STATES: usize = 319_656;
@@ -37,7 +38,7 @@ fn finds_all<R: Threads + Sync>(
 ) -> Result<bool, NoMemory>
     requires { (1 ≤ workers) × (workers ≤ 64) }
 {
-    let found = scan(rt, alloc, words, condition, workers)?;
+    let found = scan(&Team::new(rt, workers), alloc, words, condition)?;
     let states = found.as_slice();
     for (number, state) in states.iter().enumerate() {
         if state.kind as usize != number % 3 {

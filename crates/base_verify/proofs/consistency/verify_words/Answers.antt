@@ -14,16 +14,16 @@ returns-in_err-told g c =
 pub returns-in-Some : goal.returns-in-Some
 returns-in-Some g c =
     let words = c.args.words.now in
-    let some : 0 < c.args.workers = omega (arith, c.requires.workers.0) in
-    let are = subst (AreParts words c.args.workers) (sym c.deref.ensures.value) c.in_ok-told.ensures in
-    first-of-all words (place_at words (live_positions words.game.checkers)) c.in-Some.finding (c.in-Some.ensures words c.args.workers some are)
+    let some : 0 < c.args.team.now = omega arith in
+    let are = subst (AreParts words c.args.team.now) (sym c.deref.ensures.value) c.in_ok-told.ensures in
+    first-of-all words (place_at words (live_positions words.game.checkers)) c.in-Some.finding (c.in-Some.ensures words c.args.team.now some are)
 
 pub returns : goal.returns
 returns g c =
     let words = c.args.words.now in
-    let some : 0 < c.args.workers = omega (arith, c.requires.workers.0) in
-    let are = subst (AreParts words c.args.workers) (sym c.deref.ensures.value) c.in_ok-told.ensures in
-    all-hold words (c.in-None.ensures words c.args.workers some are)
+    let some : 0 < c.args.team.now = omega arith in
+    let are = subst (AreParts words c.args.team.now) (sym c.deref.ensures.value) c.in_ok-told.ensures in
+    all-hold words (c.in-None.ensures words c.args.team.now some are)
 
 pub returns-then-branch : goal.returns-then-branch
 returns-then-branch g c = all-columns c.args.words.now (c.in_ok-words_hold.ensures c.if-branch.true)

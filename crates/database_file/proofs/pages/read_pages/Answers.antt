@@ -46,7 +46,7 @@ batches-preserved g c =
     let (had, long, read) = c.batches.invariant.read in
     let (part, few, told) = c.in_ok-add_batch.ensures.part in
     let there : c.batches.first < page_count pages = omega (arith, c.batches-test.true, c.page_count-count.ensures) in
-    let rises : batch.first < batch.past = omega (arith, c.batches-test.true, c.min-past.ensures, c.requires.workers) in
+    let rises : batch.first < batch.past = omega (arith, c.batches-test.true, c.min-past.ensures) in
     let next : AreRead pages (had ++ part) batch.past new = told had (long there) (read-front pages batch.first had part words (long there) read) in
     record {
       inside = omega (arith, c.min-past.ensures, c.page_count-count.ensures);
