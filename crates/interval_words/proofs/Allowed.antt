@@ -15,14 +15,14 @@ use Rattle.turn_rule.specs.declared.game.Game.{Game}
 use Rattle.interval_words.specs.declared.view.Note.{Note}
 use Rattle.interval_words.specs.declared.view.View.{View}
 use Rattle.interval_words.specs.Numbers.{state_of, word_of, value_of, tightest_word}
-use Rattle.interval_words.specs.Core.{Core, IsKept, IsTrueOf, AreReached, words_in_core, noted, with_note, brought, without_work, settled, joined, spent}
+use Rattle.interval_words.specs.Core.{Core, IsKept, IsTrueOf, AreReached, words_in_core, noted, with_note, brought, without_work, without_hand, hired, settled, joined, spent}
 use Rattle.interval_words.specs.Events.{IsLoose, IsRoundDone}
 use Rattle.interval_words.specs.Seats.{AreKnown, Knows, WasHeld}
 use Rattle.interval_words.specs.Rule.{core_of, Holds, Reads, Tightens, Settles}
 use Rattle.interval_words.proofs.Ends.{tight-refl, tight-trans}
 use Rattle.interval_words.proofs.TurnLaws.{all-rounds-within}
 use Rattle.interval_words.proofs.Views.{All-at, contains-at, set-at, noted-opening}
-use Rattle.interval_words.proofs.Steps.{tighter-trans, true-note, true-without_work, true-settled, true-joined, true-blank, kept-view, kept-new, kept-tightens}
+use Rattle.interval_words.proofs.Steps.{tighter-trans, true-note, true-without_work, true-without_hand, true-hired, true-settled, true-joined, true-blank, kept-view, kept-new, kept-tightens}
 
 abbrev St : Type 0
 St = State (Unit {0}) View
@@ -96,6 +96,12 @@ splits game id view s kept at =
     let core : Core = core_of game s in
     let is : IsTrueOf game (words_in_core core) view = All-at (IsTrueOf game (words_in_core core)) s.views id view kept.views at in
     kept-new (record core { views = set s.views id view }) (without_work view) (kept-view core id view kept is) (true-without_work game (words_in_core core) view is)
+
+pub hires : (game : Game) (id : ℕ) (view : View) → Splits (Holds game) id view (without_hand view) (hired view)
+hires game id view s kept at =
+    let core : Core = core_of game s in
+    let is : IsTrueOf game (words_in_core core) view = All-at (IsTrueOf game (words_in_core core)) s.views id view kept.views at in
+    kept-new (record core { views = set s.views id (without_hand view) }) (hired view) (kept-view core id (without_hand view) kept (true-without_hand game (words_in_core core) view is)) (true-hired game (words_in_core core) view is)
 
 pub joins : (game : Game) (id : ℕ) (view : View) (other : ℕ) (those : View) → Joins (Holds game) id view other those (joined view those) spent
 joins game id view other those s kept at differs there =

@@ -11,11 +11,11 @@ use Rattle.interval_words.specs.Numbers.{AreBoundWords, state_of, states_in, wor
 use Rattle.interval_words.proofs.Places.{state-in}
 use Rattle.turn_rule.specs.declared.game.Game.{Game}
 use Rattle.interval_words.specs.declared.view.View.{View}
-use Rattle.interval_words.specs.Core.{Core, IsKept, IsFirstCore, IsTrueOf, AreInBound, words_in_core, first_view, without_work, settled, joined, spent}
-use Rattle.interval_words.specs.Events.{Event, opens, reads, raises, lowers, settles, splits, joins, view_at, IsAlive, IsAllowed, AreAllowed, after, after_all, with_view}
+use Rattle.interval_words.specs.Core.{Core, IsKept, IsFirstCore, IsTrueOf, AreInBound, words_in_core, first_view, without_work, without_hand, hired, settled, joined, spent}
+use Rattle.interval_words.specs.Events.{Event, opens, reads, raises, lowers, settles, splits, hires, joins, view_at, IsAlive, IsAllowed, AreAllowed, after, after_all, with_view}
 use Rattle.interval_words.proofs.Ends.{tight-refl}
 use Rattle.interval_words.proofs.TurnLaws.{turns-tighten, rounds-more, rounds-turn, rounds-none}
-use Rattle.interval_words.proofs.Steps.{tighter-trans, true-note, true-without_work, true-settled, true-joined, true-blank, kept-view, kept-new, kept-tightens}
+use Rattle.interval_words.proofs.Steps.{tighter-trans, true-note, true-without_work, true-without_hand, true-hired, true-settled, true-joined, true-blank, kept-view, kept-new, kept-tightens}
 
 some-names : {X : Type 0} (x y : X) → Some x ≡ Some y → x ≡ y
 some-names x y e = cc
@@ -40,6 +40,10 @@ kept-event core (raises id p k word) kept allowed = kept-tightens core kept (vie
 kept-event core (lowers id p k word) kept allowed = kept-tightens core kept (view_at core id) (alive-true core kept id allowed.0) Upper p k word allowed.1 id
 kept-event core (settles id) kept allowed = kept-view core id (settled (view_at core id)) kept (true-settled core.game (words_in_core core) (view_at core id) (alive-true core kept id allowed.0) allowed.1)
 kept-event core (splits id) kept allowed = kept-new core (without_work (view_at core id)) kept (true-without_work core.game (words_in_core core) (view_at core id) (alive-true core kept id allowed))
+kept-event core (hires id) kept allowed =
+    let is = alive-true core kept id allowed.0 in
+    let one = kept-view core id (without_hand (view_at core id)) kept (true-without_hand core.game (words_in_core core) (view_at core id) is) in
+    kept-new (with_view core id (without_hand (view_at core id))) (hired (view_at core id)) one (true-hired core.game (words_in_core core) (view_at core id) is)
 kept-event core (joins id other) kept allowed =
     let both = true-joined core.game (words_in_core core) (view_at core id) (view_at core other) (alive-true core kept id allowed.0) (alive-true core kept other allowed.1) in
     let one = kept-view core id (joined (view_at core id) (view_at core other)) kept both in

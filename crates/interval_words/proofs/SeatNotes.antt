@@ -1,5 +1,5 @@
 -- A seat after one note more, and after a value was brought to a word.
-use Rattle.std.proofs.Common.{◌≡◌, ℕ, ℤ, List, [], ◌∷◌, ◌++◌, append_assoc, ap, refl, sym, subst, ◌∙◌}
+use Rattle.std.proofs.Common.{◌≡◌, ◌<◌, arith, ℕ, ℤ, List, [], ◌∷◌, ◌++◌, append_assoc, ap, refl, sym, subst, ◌∙◌}
 use Rattle.std.proofs.lemmas.List.Elements.{All-nil, All-cons, All-append, All-weaker}
 use Rattle.position_rank.specs.Placement.{Placement}
 use Rattle.directed_fixed.specs.declared.bounds.End.{End}
@@ -17,13 +17,14 @@ use Rattle.interval_words.proofs.Views.{noted-more, noted-own}
 use Rattle.interval_words.proofs.TurnLaws.{turns-tighten}
 
 pub keeps-refl : (seat : GameSeat) → KeepsNotes seat seat
-keeps-refl seat = record { table = refl; game = refl; base = refl; notes = λ game names end p k state. tight-refl end (noted game seat.view.notes end p k) }
+keeps-refl seat = record { table = refl; game = refl; base = refl; hands = refl; notes = λ game names end p k state. tight-refl end (noted game seat.view.notes end p k) }
 
 pub keeps-trans : (a b c : GameSeat) → KeepsNotes a b → KeepsNotes b c → KeepsNotes a c
 keeps-trans a b c one two = record {
   table = two.table ∙ one.table;
   game = two.game ∙ one.game;
   base = two.base ∙ one.base;
+  hands = two.hands ∙ one.hands;
   notes = λ game names end p k state. tight-trans end _ _ _ (two.notes game (one.game ∙ names) end p k state) (one.notes game names end p k state);
 }
 
@@ -54,6 +55,7 @@ module _ (board : GameTable) (old new : GameSeat) (word : ℕ) (value : ℤ) (no
     table = ap (λ s. s.table) noting_is;
     game = ap (λ s. s.view.game) noting_is;
     base = ap (λ s. s.view.base) noting_is;
+    hands = ap (λ s. s.view.hands) noting_is;
     notes = λ game names. subst (λ (s : GameSeat). AreNoLooser game (noted game s.view.notes) (noted game old.view.notes)) (sym noting_is) (noted-more game (record { word = word; value = value }) old.view.notes);
   }
 
@@ -74,7 +76,7 @@ module _ (board : GameTable) (old new : GameSeat) (word : ℕ) (value : ℤ) (br
   pub keeps-bringing : KeepsNotes old new
   keeps-bringing =
       let kept = keeps-noting board old (noting old word value) word value refl sits in
-      subst (λ (s : GameSeat). KeepsNotes old s) (sym brings) (record { table = kept.table; game = kept.game; base = kept.base; notes = kept.notes })
+      subst (λ (s : GameSeat). KeepsNotes old s) (sym brings) (record { table = kept.table; game = kept.game; base = kept.base; hands = kept.hands; notes = kept.notes })
 
   pub told-bringing : (end : End) (p : Placement) (k : ℕ) → word ≡ word_of end (state_of (kinds_of board.game) p k) → IsNoLooser end (noted board.game new.view.notes end p k) value
   told-bringing end p k at =
@@ -83,8 +85,8 @@ module _ (board : GameTable) (old new : GameSeat) (word : ℕ) (value : ℤ) (br
 
 -- a value that is loose enough may be brought, also after other notes
 pub may-tighten : (board : GameTable) (old new : GameSeat) (state : ℕ) (value : ℤ) (end : End) (p : Placement) (k : ℕ) → IsValid board.game.stakes → KeepsNotes old new → SitsAt board old → state ≡ state_of (kinds_of board.game) p k
-    → IsState board.game p k → IsWithinUnits board.game.stakes.bound value → IsNoLooser end (turn board.game.stakes (noted board.game old.view.notes) end p k) value → MayTighten end board.game new.view state value
-may-tighten board old new state value end p k valid kept sits at is within loose = record {
+    → IsState board.game p k → IsWithinUnits board.game.stakes.bound value → IsNoLooser end (turn board.game.stakes (noted board.game old.view.notes) end p k) value → 0 < old.view.hands → MayTighten end board.game new.view state value
+may-tighten board old new state value end p k valid kept sits at is within loose hand = record {
   position = p;
   kind = k;
   number = at;
@@ -92,6 +94,7 @@ may-tighten board old new state value end p k valid kept sits at is within loose
     state = is;
     within = within;
     loose = tight-trans end _ _ _ (turns-tighten board.game valid (noted board.game new.view.notes) (noted board.game old.view.notes) (kept.notes board.game sits.game) end p k is) loose;
+    hand = omega (arith, kept.hands, hand);
   };
 }
 

@@ -14,7 +14,7 @@ use Rattle.turn_rule.specs.declared.game.Game.{Game}
 use Rattle.interval_words.specs.declared.view.Note.{Note}
 use Rattle.interval_words.specs.declared.view.View.{View}
 use Rattle.interval_words.specs.Numbers.{state_of, word_of, words_of, value_of, tightest, tightest_word}
-use Rattle.interval_words.specs.Core.{Core, IsKept, IsTrueOf, AreInBound, AreReached, words_in_core, noted, known, with_note, brought, without_work, settled, joined}
+use Rattle.interval_words.specs.Core.{Core, IsKept, IsTrueOf, AreInBound, AreReached, words_in_core, noted, known, with_note, brought, without_work, without_hand, hired, settled, joined}
 use Rattle.interval_words.specs.Events.{IsLoose, IsRoundDone}
 use Rattle.interval_words.proofs.Ends.{tight-refl, tight-trans, tight-tightest, tightest-left, tightest-right, within-tightest, value_of-tightest}
 use Rattle.interval_words.proofs.TurnLaws.{tight-words-trans, turns-tighten, rounds-more, rounds-turn, rounds-none}
@@ -49,6 +49,12 @@ module _ (game : Game) where
 
     pub true-without_work : (view : View) → IsTrueOf game u view → IsTrueOf game u (without_work view)
     true-without_work view is = record { names = is.names; notes = is.notes; base = is.base }
+
+    pub true-without_hand : (view : View) → IsTrueOf game u view → IsTrueOf game u (without_hand view)
+    true-without_hand view is = record { names = is.names; notes = is.notes; base = is.base }
+
+    pub true-hired : (view : View) → IsTrueOf game u view → IsTrueOf game u (hired view)
+    true-hired view is = record { names = is.names; notes = is.notes; base = is.base }
 
     pub true-settled : (view : View) → IsTrueOf game u view → IsRoundDone game view → IsTrueOf game u (settled view)
     true-settled view is done = record {

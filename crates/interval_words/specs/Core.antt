@@ -1,5 +1,5 @@
 -- The core of a game: its words, and for each seat a view, what the seat knows of the words.
-use Rattle.std.specs.Prelude.{◌≡◌, ◌==◌, ℕ, ◌+◌, ◌*◌, ℤ, List, [], ◌∷◌, ◌++◌, All, Some, None, length, max, if◌then◌else◌}
+use Rattle.std.specs.Prelude.{◌≡◌, ◌==◌, ℕ, ◌+◌, ◌-◌, ◌*◌, ℤ, List, [], ◌∷◌, ◌++◌, All, Some, None, length, max, if◌then◌else◌}
 use Rattle.position_rank.specs.Placement.{Placement}
 use Rattle.directed_fixed.specs.declared.bounds.End.{End}
 use Rattle.directed_fixed.specs.Bounds.{IsWithinUnits}
@@ -71,9 +71,13 @@ pub record IsFirstCore (core : Core) : Type 0 where
   pub words : Agree core.game (words_in_core core) (bound_words core.game.stakes)
   pub views : core.views ≡ []
 
--- a first view of a game, which tells nothing
+-- how many hands there are at a board: those of 64 workers and of their owner
+abbrev pub all_hands : ℕ
+all_hands = 65
+
+-- a first view of a game, which tells nothing and has all hands
 abbrev pub first_view : Game → View
-first_view game = record { game = Some game; base = 0; notes = []; work = [] }
+first_view game = record { game = Some game; base = 0; notes = []; work = []; hands = all_hands }
 
 -- a view with one note more
 abbrev pub with_note : View → ℕ → ℤ → View
@@ -87,22 +91,30 @@ brought view word value = record view {
   work = record { word = word; base = view.base } ∷ view.work;
 }
 
--- a view that knows the same, and has done no work
+-- a view that knows the same, and has no hand and no work
 abbrev pub without_work : View → View
-without_work view = record view { work = [] }
+without_work view = record view { work = []; hands = 0 }
+
+-- a view that handed over a hand, and one that knows the same and got it
+abbrev pub without_hand : View → View
+without_hand view = record view { hands = view.hands - 1 }
+
+abbrev pub hired : View → View
+hired view = record view { work = []; hands = 1 }
 
 -- a view after one round more, whose notes are dropped
 abbrev pub settled : View → View
 settled view = record view { base = view.base + 1; notes = [] }
 
--- the notes and the work of two views, and the larger base
+-- the notes, the work and the hands of two views, and the larger base
 abbrev pub joined : View → View → View
 joined view other = record view {
   base = max view.base other.base;
   notes = view.notes ++ other.notes;
   work = view.work ++ other.work;
+  hands = view.hands + other.hands;
 }
 
 -- what is left of a view that another took in
 abbrev pub spent : View
-spent = record { game = None; base = 0; notes = []; work = [] }
+spent = record { game = None; base = 0; notes = []; work = []; hands = 0 }

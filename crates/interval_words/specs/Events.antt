@@ -1,5 +1,5 @@
 -- What may happen to a core.
-use Rattle.std.specs.Prelude.{◌≡◌, ◌≢◌, ℕ, ◌+◌, ℤ, List, [], ◌∷◌, ◌++◌, Some, slice_index, slice_index_or, slice_set}
+use Rattle.std.specs.Prelude.{◌≡◌, ◌≢◌, ◌<◌, ℕ, ◌+◌, ℤ, List, [], ◌∷◌, ◌++◌, Some, slice_index, slice_index_or, slice_set}
 use Rattle.position_rank.specs.Placement.{Placement}
 use Rattle.directed_fixed.specs.declared.bounds.End.{End}
 use Rattle.directed_fixed.specs.declared.bounds.End.TheVariants.{Lower, Upper}
@@ -10,7 +10,7 @@ use Rattle.turn_rule.specs.States.{IsState, AreNoLooser}
 use Rattle.turn_rule.specs.declared.game.Game.{Game}
 use Rattle.interval_words.specs.declared.view.View.{View}
 use Rattle.interval_words.specs.Numbers.{state_of, word_of, value_of, tightest_word}
-use Rattle.interval_words.specs.Core.{Core, words_in_core, noted, known, first_view, with_note, brought, without_work, settled, joined, spent}
+use Rattle.interval_words.specs.Core.{Core, words_in_core, noted, known, first_view, with_note, brought, without_work, without_hand, hired, settled, joined, spent}
 
 -- An event of a view, which is told by its number among the views, and of a word, which is told by its state and its end.
 -- A raise and a lowering bring the word of a value.
@@ -21,6 +21,7 @@ pub data Event : Type 0 where
   lowers : ℕ → Placement → ℕ → ℕ → Event
   settles : ℕ → Event
   splits : ℕ → Event
+  hires : ℕ → Event
   joins : ℕ → ℕ → Event
 
 abbrev pub view_at : Core → ℕ → View
@@ -30,12 +31,13 @@ view_at core id = slice_index_or core.views id spent
 abbrev pub IsAlive : Core → ℕ → Type 0
 IsAlive core id = (view_at core id).game ≡ Some core.game
 
--- a value for this end of a state is within the bound, and no tighter than the turn over what the notes tell
+-- a view with a hand may bring a value for this end of a state: it is within the bound, and no tighter than the turn over what the notes tell
 pub record IsLoose (game : Game) (view : View) (end : End) (p : Placement) (k : ℕ)
     (value : ℤ) : Type 0 where
   pub state : IsState game p k
   pub within : IsWithinUnits game.stakes.bound value
   pub loose : IsNoLooser end (turn game.stakes (noted game view.notes) end p k) value
+  pub hand : 0 < view.hands
 
 -- what a view tells is at least as tight as the words after one round more than its base
 abbrev pub IsRoundDone : Game → View → Type 0
@@ -51,6 +53,7 @@ IsAllowed core (lowers id p k word) =
     IsAlive core id × IsLoose core.game (view_at core id) Upper p k (value_of word)
 IsAllowed core (settles id) = IsAlive core id × IsRoundDone core.game (view_at core id)
 IsAllowed core (splits id) = IsAlive core id
+IsAllowed core (hires id) = IsAlive core id × (1 < (view_at core id).hands)
 IsAllowed core (joins id other) = IsAlive core id × IsAlive core other × (other ≢ id)
 
 abbrev pub with_view : Core → ℕ → View → Core
@@ -79,6 +82,8 @@ after core (raises id p k word) = tightened core id Lower p k word
 after core (lowers id p k word) = tightened core id Upper p k word
 after core (settles id) = with_view core id (settled (view_at core id))
 after core (splits id) = with_new_view core (without_work (view_at core id))
+after core (hires id) =
+    with_new_view (with_view core id (without_hand (view_at core id))) (hired (view_at core id))
 after core (joins id other) =
     with_view (with_view core id (joined (view_at core id) (view_at core other))) other spent
 

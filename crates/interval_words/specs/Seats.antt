@@ -12,7 +12,7 @@ use Rattle.interval_words.specs.declared.view.Note.{Note}
 use Rattle.interval_words.specs.declared.view.View.{View}
 use Rattle.interval_words.specs.declared.view.Work.{Work}
 use Rattle.interval_words.specs.Numbers.{state_of, word_of, value_of}
-use Rattle.interval_words.specs.Core.{IsKept, AreReached, words_in, noted, first_view, with_note, brought, without_work, settled, joined}
+use Rattle.interval_words.specs.Core.{IsKept, AreReached, words_in, noted, first_view, with_note, brought, without_work, without_hand, hired, settled, joined}
 use Rattle.interval_words.specs.Events.{IsLoose}
 
 -- a board: which table it is, and its game
@@ -42,9 +42,16 @@ noting seat word value = record seat { view = with_note seat.view word value }
 abbrev pub bringing : GameSeat → ℕ → ℤ → GameSeat
 bringing seat word value = record seat { view = brought seat.view word value }
 
--- a seat that knows the same, and has done no work
+-- a seat that knows the same, and has no hand and no work
 abbrev pub knowing : GameSeat → GameSeat
 knowing seat = record seat { view = without_work seat.view }
+
+-- a seat that handed over a hand, and one that knows the same and got it
+abbrev pub giving : GameSeat → GameSeat
+giving seat = record seat { view = without_hand seat.view }
+
+abbrev pub hiring : GameSeat → GameSeat
+hiring seat = record seat { view = hired seat.view }
 
 -- the seat after one round more
 abbrev pub settling : GameSeat → GameSeat
@@ -54,11 +61,12 @@ settling seat = record seat { view = settled seat.view }
 abbrev pub joining : GameSeat → GameSeat → GameSeat
 joining seat other = record seat { view = joined seat.view other.view }
 
--- the seat is at the same table, of the same game and base, and no note is lost
+-- the seat is at the same table, of the same game, base and hands, and no note is lost
 pub record KeepsNotes (old new : GameSeat) : Type 0 where
   pub table : new.table ≡ old.table
   pub game : new.view.game ≡ old.view.game
   pub base : new.view.base ≡ old.view.base
+  pub hands : new.view.hands ≡ old.view.hands
   pub notes :
       (game : Game) → old.view.game ≡ Some game
       → AreNoLooser game (noted game new.view.notes) (noted game old.view.notes)
@@ -87,7 +95,8 @@ pub record IsNumber (game : Game) (state : ℕ) : Type 0 where
   pub is : IsState game position kind
   pub number : state ≡ state_of (kinds_of game) position kind
 
--- this is the number of a state, for which the value is loose enough: within the bound, and no tighter than the turn over what the notes tell
+-- this is the number of a state, for which the view may bring the value: it has a hand, and the value is within the bound, and no tighter than the
+-- turn over what the notes tell
 pub record MayTighten (end : End) (game : Game) (view : View) (state : ℕ) (value : ℤ) : Type 0 where
   pub position : Placement
   pub kind : ℕ

@@ -11,11 +11,11 @@ ghost use Rattle.interval_words.specs.Core.{known};
 ghost use Rattle.interval_words.specs.Events.{IsRoundDone};
 ghost use Rattle.interval_words.specs.WordLists.{AreClosed};
 ghost use Rattle.std.specs.Slots.{slots_items, slots_len, IsFull};
-ghost use Rattle.interval_words.specs.Seats.{GameSeat, SitsAt, IsNumber, MayTighten, Knows, WasHeld, Brings, first_seat, noting, bringing, settling, joining, knowing};
+ghost use Rattle.interval_words.specs.Seats.{GameSeat, SitsAt, IsNumber, MayTighten, Knows, WasHeld, Brings, first_seat, noting, bringing, settling, joining, knowing, giving, hiring};
 
 use crate::live_index::LiveIndex;
 use crate::number::{state_count, state_number, state_number_at};
-use crate::rule::{Copying, CoreRule, Joining, Reading, Settling, Tightening};
+use crate::rule::{Copying, CoreRule, Hiring, Joining, Reading, Settling, Tightening};
 use crate::view::View;
 use crate::words::Closed;
 use atomic_table::{Seat, Table};
@@ -52,7 +52,9 @@ impl Model for Board {
 
 /// A place at a board. It has no bytes; contracts see what its owner knows of the words: the notes
 /// of what was read or written with it since the last round that was settled, and the number of
-/// rounds settled; and which words were brought a value with it, each after how many rounds.
+/// rounds settled; which words were brought a value with it, each after how many rounds; and how many
+/// hands it has. A value is brought only with a seat that has a hand, and no hand is made after the
+/// first seat's, so no work is lost from sight while the seats that have hands are at hand.
 #[derive(Drop)]
 pub struct BoardSeat {
     seat: Seat<(), View>,
@@ -321,7 +323,7 @@ impl Board {
         self.table.shared.load::<Settling>(&mut seat.seat, 0);
     }
 
-    /// A second seat that knows the same, and has done no work.
+    /// A second seat that knows the same. It has no hand, so it only reads.
     pub fn split(&self, seat: &mut BoardSeat) -> BoardSeat
         requires { SitsAt self.now seat.old }
         ensures seat { seat.new ≡ seat.old }
@@ -332,7 +334,20 @@ impl Board {
         }
     }
 
-    /// Gives the seat the notes and the work of another too, and the larger number of rounds settled.
+    /// A second seat that knows the same, with one of this seat's hands.
+    pub fn hire(&self, seat: &mut BoardSeat) -> BoardSeat
+        requires seat { SitsAt self.now seat.old }
+        requires spare { 1 < seat.old.view.hands }
+        ensures seat { seat.new ≡ giving seat.old }
+        ensures hired { result ≡ hiring seat.old }
+    {
+        BoardSeat {
+            seat: self.table.shared.split_seat::<Hiring>(&mut seat.seat),
+        }
+    }
+
+    /// Gives the seat the notes, the work and the hands of another too, and the larger number of
+    /// rounds settled.
     pub fn join(&self, seat: &mut BoardSeat, other: BoardSeat)
         requires seat { SitsAt self.now seat.old }
         requires other { SitsAt self.now other }

@@ -42,7 +42,7 @@ impl Play<(), View> for Settling {
     ghost then = { Settles };
 }
 
-/// A second view that knows what the first knows, and has done no work.
+/// A second view that knows what the first knows, and has no hand.
 pub(crate) struct Copying;
 
 impl Split<View> for Copying {
@@ -51,6 +51,17 @@ impl Split<View> for Copying {
     ghost left = { λ view. view };
 
     ghost right = { without_work };
+}
+
+/// A view hands over a hand to a second view that knows the same.
+pub(crate) struct Hiring;
+
+impl Split<View> for Hiring {
+    ghost use Rattle.interval_words.specs.Core.{without_hand, hired};
+
+    ghost left = { without_hand };
+
+    ghost right = { hired };
 }
 
 /// A view takes in another.

@@ -60,6 +60,7 @@ went-none game round worker = record {
   marked = All-nil (λ (claim : Claim). (claim.round ≡ round) × (is_marked worker.marks claim.block ≡ true));
   newly = λ block was now. absurd (let e : true ≡ false = sym now ∙ was in grind (arith, e));
   work = adds-none (IsOnClaimed game []) worker.seat.view.work worker.seat.view.work refl;
+  hands = refl;
 }
 
 module _ (game : Game) (round block found : ℕ) (first old : SeatsAndMarks) (went : WentThrough game round block first old) where
@@ -86,8 +87,8 @@ module _ (game : Game) (round block found : ℕ) (first old : SeatsAndMarks) (we
       (visits-else old.claims.view b block round found (λ e. absurd (omega (arith, from, e))) ∙ went.later b (omega (arith, from)))
 
   -- the block was claimed before
-  pub went-on : (new : SeatsAndMarks) → round ≤ found → new.claims.view ≡ after_claim block round found old.claims.view → new.marks ≡ old.marks → new.seat.view.work ≡ old.seat.view.work → WentThrough game round (block + 1) first new
-  went-on new missed is marks work = record {
+  pub went-on : (new : SeatsAndMarks) → round ≤ found → new.claims.view ≡ after_claim block round found old.claims.view → new.marks ≡ old.marks → new.seat.view.work ≡ old.seat.view.work → new.seat.view.hands ≡ old.seat.view.hands → WentThrough game round (block + 1) first new
+  went-on new missed is marks work hands = record {
     got = went.got;
     claims = ap (λ (view : ClaimView). view.claims) is ∙ (rw (le-ltb found round missed) went.claims);
     noted = noted-upto new.claims is;
@@ -96,11 +97,12 @@ module _ (game : Game) (round block found : ℕ) (first old : SeatsAndMarks) (we
     marked = rw marks went.marked;
     newly = rw marks went.newly;
     work = subst (AddsWork (IsOnClaimed game went.got) first.seat.view.work) (sym work) went.work;
+    hands = hands ∙ went.hands;
   }
 
   -- the block was got and is marked
-  pub went-sweeping : (new : SeatsAndMarks) → found < round → new.claims.view ≡ after_claim block round found old.claims.view → block < length old.marks → new.marks ≡ set old.marks block true → round ≡ old.seat.view.base + 1 → WorksIn game block old.seat new.seat → WentThrough game round (block + 1) first new
-  went-sweeping new got is inside marks rounds works = record {
+  pub went-sweeping : (new : SeatsAndMarks) → found < round → new.claims.view ≡ after_claim block round found old.claims.view → block < length old.marks → new.marks ≡ set old.marks block true → round ≡ old.seat.view.base + 1 → WorksIn game block old.seat new.seat → new.seat.view.hands ≡ old.seat.view.hands → WentThrough game round (block + 1) first new
+  went-sweeping new got is inside marks rounds works hands = record {
     got = record { block = block; round = round } ∷ went.got;
     claims = ap (λ (view : ClaimView). view.claims) is ∙ (rw (lt-ltb found round got) (ap (λ (cs : List Claim). record { block = block; round = round } ∷ cs) went.claims));
     noted = noted-upto new.claims is;
@@ -109,6 +111,7 @@ module _ (game : Game) (round block found : ℕ) (first old : SeatsAndMarks) (we
     marked = marked;
     newly = newly;
     work = worked;
+    hands = hands ∙ went.hands;
   } where
     here : is_marked new.marks block ≡ true
     here = rw marks (get_or-set_same old.marks block true false inside)

@@ -24,6 +24,7 @@ pub rest-swept : (board : GameTable) (first old new : SeatsAndMarks) (block : �
 rest-swept board first old new block before free inside kept works marked claimed numbered = record {
   works = record {
     seat = sits-kept board old.seat new.seat kept before.works.seat;
+    hand = omega (arith, kept.hands, before.works.hand);
     marks = ap length marked ∙ (length-set old.marks block true ∙ before.works.marks);
   };
   seat = keeps-trans first.seat old.seat new.seat before.seat kept;

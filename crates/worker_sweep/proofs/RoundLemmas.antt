@@ -13,7 +13,7 @@ module _ (board : GameTable) (claims : ClaimTable) (base : ℕ) where
   -- a worker that loses no note goes on
   pub works-on : (old new : SeatsAndMarks) → IsAtWork board claims base old → KeepsNotes old.seat new.seat → length new.marks ≡ length old.marks → new.claims.table ≡ old.claims.table → new.number ≡ old.number → IsAtWork board claims base new
   works-on old new at kept many claimed numbered = record {
-    works = record { seat = sits-kept board old.seat new.seat kept at.works.seat; marks = many ∙ at.works.marks };
+    works = record { seat = sits-kept board old.seat new.seat kept at.works.seat; hand = omega (arith, kept.hands, at.works.hand); marks = many ∙ at.works.marks };
     claimer = claimed ∙ at.claimer;
     after = kept.base ∙ at.after;
   }
@@ -22,7 +22,7 @@ module _ (board : GameTable) (claims : ClaimTable) (base : ℕ) where
   pub unmarks : (old new : SeatsAndMarks) → IsAtWork board claims base old → new ≡ record old { marks = unmarked (length old.marks) } → IsReady board claims base new
   unmarks old new at is = subst (IsReady board claims base) (sym is) (record {
     works = record {
-      works = record { seat = at.works.seat; marks = length-replicate (length old.marks) false ∙ at.works.marks };
+      works = record { seat = at.works.seat; hand = at.works.hand; marks = length-replicate (length old.marks) false ∙ at.works.marks };
       claimer = at.claimer;
       after = at.after;
     };
@@ -33,7 +33,7 @@ module _ (board : GameTable) (claims : ClaimTable) (base : ℕ) where
   pub follows : (owner old new : SeatsAndMarks) → IsAtWork board claims (base + 1) owner → IsReady board claims base old → new ≡ record old { seat = joining old.seat (knowing owner.seat) } → IsReady board claims (base + 1) new
   follows owner old new own at is = subst (IsReady board claims (base + 1)) (sym is) (record {
     works = record {
-      works = record { seat = record { table = at.works.works.seat.table; game = at.works.works.seat.game }; marks = at.works.works.marks };
+      works = record { seat = record { table = at.works.works.seat.table; game = at.works.works.seat.game }; hand = omega (arith, at.works.works.hand); marks = at.works.works.marks };
       claimer = at.works.claimer;
       after = omega (arith, own.after, at.works.after);
     };
@@ -43,6 +43,9 @@ module _ (board : GameTable) (claims : ClaimTable) (base : ℕ) where
 -- a worker that ends a round keeps its work
 pub work-settled : (old new : SeatsAndMarks) → new ≡ record old { seat = record old.seat { view = settled old.seat.view }; marks = unmarked (length old.marks) } → new.seat.view.work ≡ old.seat.view.work
 work-settled old new is = ap (λ w. w.seat.view.work) is
+
+pub hands-settled : (old new : SeatsAndMarks) → new ≡ record old { seat = record old.seat { view = settled old.seat.view }; marks = unmarked (length old.marks) } → new.seat.view.hands ≡ old.seat.view.hands
+hands-settled old new is = ap (λ w. w.seat.view.hands) is
 
 -- one element more has what those before it have
 pub first-more : {X : Type 0} (P : X → Type 0) (xs : List X) (i : ℕ) (x : X) → i < length xs → ((k : ℕ) (d : X) → k < i → P (get_or xs k d)) → P x → (k : ℕ) (d : X) → k < i + 1 → P (get_or (set xs i x) k d)
@@ -84,13 +87,13 @@ marks-more crew i old new other here either before k block none below marked = e
 ]
 
 -- a worker that begins
-pub begins : (board : GameTable) (claims : ClaimTable) (number : ℕ) (seat own : GameSeat) (claimer : Claimer) (new : SeatsAndMarks) → SitsAt board seat → own ≡ knowing seat → claimer.table ≡ claims.table
-    → new ≡ unmarked_worker own claimer number (blocks board.game.checkers) → IsReady board claims seat.view.base new
-begins board claims number seat own claimer new sits same claimed is = subst (IsReady board claims seat.view.base) (sym is) (record {
+pub begins : (board : GameTable) (claims : ClaimTable) (number : ℕ) (own : GameSeat) (claimer : Claimer) (new : SeatsAndMarks) → SitsAt board own → 0 < own.view.hands → claimer.table ≡ claims.table
+    → new ≡ unmarked_worker own claimer number (blocks board.game.checkers) → IsReady board claims own.view.base new
+begins board claims number own claimer new sits hand claimed is = subst (IsReady board claims own.view.base) (sym is) (record {
   works = record {
-    works = record { seat = subst (SitsAt board) (sym same) (record { table = sits.table; game = sits.game }); marks = length-replicate (blocks board.game.checkers) false };
+    works = record { seat = sits; hand = hand; marks = length-replicate (blocks board.game.checkers) false };
     claimer = claimed;
-    after = ap (λ s. s.view.base) same;
+    after = refl;
   };
   unmarked = refl;
 })

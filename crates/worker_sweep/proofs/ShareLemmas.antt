@@ -10,7 +10,7 @@ use Rattle.interval_words.specs.declared.view.Work.{Work}
 use Rattle.interval_words.specs.Seats.{AddsWork}
 use Rattle.worker_sweep.specs.Blocks.{blocks}
 use Rattle.worker_sweep.specs.Workers.{SeatsAndMarks, WentThrough, HaveGoneThrough, HasMarksOf, IsNotedClaimed, IsOnClaimed, IsOnUnmarked, is_marked}
-use Rattle.worker_sweep.specs.Shares.{Share, HasDone, IsOnLeft, share_of, shares_of, works_of, all_claims}
+use Rattle.worker_sweep.specs.Shares.{Share, HasDone, IsOnLeft, share_of, shares_of, works_of, hands_of, all_claims}
 
 -- an element is replaced by one that a function takes to the same
 pub map-set : {X Y : Type 0} (f : X → Y) (xs : List X) (i : ℕ) (x d : X) → i < length xs → f x ≡ f (get_or xs i d) → map f (set xs i x) ≡ map f xs
@@ -36,6 +36,10 @@ pub works-shares : (crew : List SeatsAndMarks) → works_of crew ≡ map (λ (sh
 works-shares [] = refl
 works-shares (worker ∷ crew) = ap (λ works. worker.seat.view.work ∷ works) (works-shares crew)
 
+pub hands-shares : (crew : List SeatsAndMarks) → hands_of crew ≡ map (λ (share : Share). share.hands) (shares_of crew)
+hands-shares [] = refl
+hands-shares (worker ∷ crew) = ap (λ hands. worker.seat.view.hands ∷ hands) (hands-shares crew)
+
 -- there are as many shares as workers
 pub length-shares : (crew : List SeatsAndMarks) → length (shares_of crew) ≡ length crew
 length-shares [] = refl
@@ -50,8 +54,9 @@ claims-push (first ∷ shares) share = ap (with_taken first.claims) (claims-push
 })
 
 -- a worker that has done nothing
-pub done-none : (game : Game) (share : Share) → share ≡ record { claims = fresh; work = [] } → HasDone game 0 share
+pub done-none : (game : Game) (share : Share) → share ≡ record { claims = fresh; work = []; hands = 1 } → HasDone game 0 share
 done-none game share is = subst (HasDone game 0) (sym is) (record {
+  hand = refl;
   came = λ block below. refl;
   noted = λ block round below low high. absurd (omega (arith, low, high));
   claims = All-nil (λ (claim : Claim). (1 ≤ claim.round) × (claim.round ≤ 0));
@@ -79,6 +84,7 @@ module _ (game : Game) (base count : ℕ) (many : count ≡ blocks game.checkers
   -- a worker has done a round more
   done-one : (old new : SeatsAndMarks) → HasDone game base (share_of old) → Went old new → HasDone game (base + 1) (share_of new)
   done-one old new done went = record {
+    hand = went.hands ∙ done.hand;
     came = λ block below. omega (arith, went.came block (omega (arith, many, below)), done.came block below);
     noted = λ block round below low high. noted-earlier new.claims.view block (base + 1) round high (went.noted block (omega (arith, many, below)));
     claims = subst (All InRounds) (sym went.claims) (All-append InRounds went.got old.claims.view.claims now before);

@@ -16,12 +16,13 @@ use Rattle.interval_words.proofs.Allowed.{one-game}
 use Rattle.interval_words.proofs.TurnLaws.{rounds-turn}
 
 -- while words are looked up, the seat keeps its notes
-pub keeps-looked : (board now : GameTable) (old new : GameSeat) → now ≡ board → new.view.base ≡ old.view.base → SitsAt board old → SitsAt now new
+pub keeps-looked : (board now : GameTable) (old new : GameSeat) → now ≡ board → new.view.base ≡ old.view.base → new.view.hands ≡ old.view.hands → SitsAt board old → SitsAt now new
     → AreNoLooser board.game (noted now.game new.view.notes) (noted board.game old.view.notes) → KeepsNotes old new
-keeps-looked board now old new same base before after tighter = record {
+keeps-looked board now old new same base hands before after tighter = record {
   table = after.table ∙ (ap (λ b. b.table) same ∙ sym before.table);
   game = after.game ∙ (ap (λ b. Some b.game) same ∙ sym before.game);
   base = base;
+  hands = hands;
   notes = λ game names.
       let is : board.game ≡ game = one-game old.view board.game game before.game names in
       subst (λ (g : Game). AreNoLooser g (noted g new.view.notes) (noted g old.view.notes)) is (subst (λ (b : GameTable). AreNoLooser board.game (noted b.game new.view.notes) (noted board.game old.view.notes)) same tighter);

@@ -13,7 +13,7 @@ use Rattle.worker_sweep.specs.Columns.{IsRoomOf}
 use Rattle.worker_sweep.specs.Workers.{SeatsAndMarks, HasRoom, IsHonest, is_marked, unmarked}
 use Rattle.worker_sweep.proofs.BlockLemmas.{append-left, append-right, swept-still}
 
-module _ (old other new : GameSeat) (joins : new ≡ joining old other) (same : other.view.base ≡ old.view.base) where
+module _ (old other new : GameSeat) (joins : new ≡ joining old other) (same : other.view.base ≡ old.view.base) (none : other.view.hands ≡ 0) where
   base-new : new.view.base ≡ old.view.base
   base-new = ap (λ s. s.view.base) joins ∙ omega (arith, same)
 
@@ -22,6 +22,7 @@ module _ (old other new : GameSeat) (joins : new ≡ joining old other) (same : 
     table = ap (λ s. s.table) joins;
     game = ap (λ s. s.view.game) joins;
     base = base-new;
+    hands = omega (arith, ap (λ s. s.view.hands) joins, none);
     notes = λ game names. subst (λ (s : GameSeat). AreNoLooser game (noted game s.view.notes) (noted game old.view.notes)) (sym joins) (append-left game old.view.notes other.view.notes);
   }
 

@@ -44,9 +44,10 @@ pub record IsHonest (worker : SeatsAndMarks) : Type 0 where
   pub marks : (game : Game) → worker.seat.view.game ≡ Some game → (block : ℕ)
       → is_marked worker.marks block ≡ true → IsSwept game worker.seat.view block
 
--- a worker of a board, with a mark for each of its blocks
+-- a worker of a board, with a hand and a mark for each of its blocks
 pub record WorksAt (board : GameTable) (worker : SeatsAndMarks) : Type 0 where
   pub seat : SitsAt board worker.seat
+  pub hand : 0 < worker.seat.view.hands
   pub marks : length worker.marks ≡ blocks board.game.checkers
 
 -- a worker of a board and its claims, after so many rounds
@@ -99,6 +100,7 @@ pub record WentThrough (game : Game) (round count : ℕ) (old new : SeatsAndMark
   pub newly : (block : ℕ) → is_marked old.marks block ≡ false → is_marked new.marks block ≡ true
       → Contains got (record { block = block; round = round })
   pub work : AddsWork (IsOnClaimed game got) old.seat.view.work new.seat.view.work
+  pub hands : new.seat.view.hands ≡ old.seat.view.hands
 
 -- each of some workers went through so many blocks
 abbrev pub HaveGoneThrough : Game → ℕ → ℕ → List SeatsAndMarks → List SeatsAndMarks → Type 0

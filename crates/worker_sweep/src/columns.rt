@@ -18,6 +18,7 @@ fn tighten_position(pairs: &mut SeatPairs, turns: &ColumnTurns, i: usize, kinds:
     requires room { IsRoomOf pairs.old.board.now.game turns.now }
     requires column { MayBringColumn pairs.old.board.now.game pairs.old.seat.view turns.now }
     requires position { i < length turns.now.movers }
+    requires hand { 0 < pairs.old.seat.view.hands }
     ensures board { pairs.new.board.now ≡ pairs.old.board.now }
     ensures kept { KeepsNotes pairs.old.seat pairs.new.seat }
     ensures noted { AreNotedTo pairs.old.board.now.game pairs.new.seat.view
@@ -55,6 +56,7 @@ pub(crate) fn sweep_column(
     turns: &mut ColumnTurns,
 ) -> BoardSeat
     requires seat { SitsAt board.now seat }
+    requires hand { 0 < seat.view.hands }
     requires room { IsRoomOf board.now.game turns.old }
     requires block { block < blocks board.now.game.checkers }
     ensures kept { KeepsNotes seat result }

@@ -1,11 +1,12 @@
-ghost use Rattle.std.specs.Prelude.{◌≡◌, ◌+◌, ◌<◌, ◌≤◌, All, IfOk, length};
+ghost use Rattle.std.specs.Prelude.{◌≡◌, ◌+◌, ◌-◌, ◌<◌, ◌≤◌, All, IfOk, length};
 ghost use Rattle.turn_rule.specs.Games.{game_of};
+ghost use Rattle.interval_words.specs.Core.{all_hands};
 ghost use Rattle.interval_words.specs.Seats.{SitsAt};
 ghost use Rattle.interval_words.specs.WordLists.{AreClosed};
 ghost use Rattle.worker_sweep.specs.Blocks.{blocks as blocks_in};
 ghost use Rattle.block_claims.specs.Views.{fresh};
 ghost use Rattle.worker_sweep.specs.Workers.{IsAtWork, IsReady, HaveGoneThrough, HasMarksOf};
-ghost use Rattle.worker_sweep.specs.Shares.{HasDone, IsOnLeft, IsDivided, shares_of, works_of, all_claims};
+ghost use Rattle.worker_sweep.specs.Shares.{HasDone, IsOnLeft, IsDivided, with_hands, shares_of, works_of, hands_of, all_claims};
 
 use crate::blocks::block_count;
 use crate::worker::Worker;
@@ -56,6 +57,7 @@ fn take_all_in(board: &Board, claims: &Claims, owner: &mut Worker, crew: &mut [W
     requires crew { All (IsAtWork board.now claims.now base) crew.old }
     ensures owner { IsAtWork board.now claims.now base owner.new }
     ensures work { owner.new.seat.view.work ≡ owner.old.seat.view.work }
+    ensures hands { owner.new.seat.view.hands ≡ owner.old.seat.view.hands }
     ensures claims { owner.new.claims ≡ owner.old.claims }
     ensures marks { HasMarksOf crew.old owner.new }
     ensures len { length crew.new ≡ length crew.old }
@@ -100,6 +102,7 @@ fn run_round<R: Threads + Sync, G: Gate + Sync>(
         owner.old.seat.view.work }
     ensures owner { IsReady board.now claims.now (base + 1) owner.new }
     ensures claims { owner.new.claims ≡ owner.old.claims }
+    ensures hands { owner.new.seat.view.hands ≡ owner.old.seat.view.hands }
     ensures len { length crew.new ≡ length crew.old }
     ensures crew { All (IsReady board.now claims.now (base + 1)) crew.new }
     ensures done { All (HasDone board.now.game (base + 1)) (shares_of crew.new) }
@@ -130,6 +133,7 @@ fn run_each<R: Threads + Sync, G: Gate + Sync>(
     requires rest { All (IsOnLeft board.now.game 0 (shares_of crew.old)) owner.old.seat.view.work }
     ensures owner { IsReady board.now claims.now rounds owner.new }
     ensures claims { owner.new.claims ≡ owner.old.claims }
+    ensures hands { owner.new.seat.view.hands ≡ owner.old.seat.view.hands }
     ensures len { length crew.new ≡ length crew.old }
     ensures crew { All (IsReady board.now claims.now rounds) crew.new }
     ensures done { All (HasDone board.now.game rounds) (shares_of crew.new) }
@@ -148,13 +152,14 @@ fn hand_all(claims: &Claims, seat: &mut ClaimSeat, crew: &mut [Worker])
     ensures seat { seat.new.view ≡ all_claims (shares_of crew.old) }
     ensures len { length crew.new ≡ length crew.old }
     ensures works { works_of crew.new ≡ works_of crew.old }
+    ensures hands { hands_of crew.new ≡ hands_of crew.old }
 {
     for worker in crew.iter_mut() {
         worker.hand_claims(claims, seat);
     }
 }
 
-/// So many workers, who know what the two seats know, and have done nothing.
+/// So many workers, who know what the two seats know, and have done nothing. Each gets one of the seat's hands.
 fn make_crew(
     alloc: Global,
     board: &Board,
@@ -165,7 +170,9 @@ fn make_crew(
 ) -> Result<Vec<Worker>, NoMemory>
     requires seat { SitsAt board.now seat.old }
     requires claims { claim_seat.old.table ≡ claims.now.table }
-    ensures seat { seat.new ≡ seat.old }
+    requires many { workers ≤ 64 }
+    requires hands { seat.old.view.hands ≡ all_hands }
+    ensures seat { IfOk result (λ crew. seat.new ≡ with_hands seat.old (all_hands - workers)) }
     ensures claim_seat { claim_seat.new ≡ claim_seat.old }
     ensures many { IfOk result (λ crew. length crew.items ≡ workers) }
     ensures crew { IfOk result
@@ -174,7 +181,7 @@ fn make_crew(
 {
     let mut crew = Vec::new(alloc);
     for number in 0..workers {
-        let board_seat = board.split(seat);
+        let board_seat = board.hire(seat);
         let own_claims = claims.split(claim_seat);
         crew.push(Worker::new(alloc, board, board_seat, own_claims, number)?)?;
     }

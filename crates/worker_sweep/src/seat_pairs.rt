@@ -1,4 +1,4 @@
-ghost use Rattle.std.specs.Prelude.{◌≡◌, ℕ};
+ghost use Rattle.std.specs.Prelude.{◌≡◌, ◌<◌, ℕ};
 ghost use Rattle.position_rank.specs.Ranks.{square_rank_of, rank_of};
 ghost use Rattle.directed_fixed.specs.Bounds.{IsNoLooser, at};
 ghost use Rattle.directed_fixed.specs.declared.bounds.End.{End};
@@ -33,9 +33,10 @@ impl<'a> Pairs for SeatPairs<'a> {
     ghost use Rattle.interval_words.specs.declared.view.Work.{Work};
     ghost use Rattle.worker_sweep.specs.Sources.{source_of};
 
-    ghost Stays = { GameTable × ℕ × List Work };
+    ghost Stays = { GameTable × ℕ × List Work × ℕ };
 
-    ghost stays = { λ s. (s.board.now, s.seat.view.base, s.seat.view.work) };
+    ghost stays = { λ s.
+        (s.board.now, s.seat.view.base, s.seat.view.work, s.seat.view.hands) };
 
     ghost seen = { λ s. record {
       source = source_of s.board.now.game s.seat.view.base;
@@ -110,6 +111,7 @@ impl<'a> SeatPairs<'a> {
         requires valid { IsValid self.old.board.now.game.stakes }
         requires state { IsState self.old.board.now.game position.now kind }
         requires square { square ≡ square_rank_of position.now }
+        requires hand { 0 < self.old.seat.view.hands }
         requires pair { MaySweep self.old.board.now.game self.old.seat.view position.now kind pair }
         ensures board { self.new.board.now ≡ self.old.board.now }
         ensures kept { KeepsNotes self.old.seat self.new.seat }

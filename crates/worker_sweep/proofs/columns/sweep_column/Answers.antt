@@ -39,8 +39,9 @@ loop-i-init c =
     let column = c.fill.new.self in
     let same : new.board.now ≡ old.board.now = ap (λ s. s.0) c.fill.ensures.stays in
     let base : new.seat.view.base ≡ old.seat.view.base = ap (λ s. s.1) c.fill.ensures.stays in
+    let hands : new.seat.view.hands ≡ old.seat.view.hands = ap (λ s. s.3) c.fill.ensures.stays in
     let board_is = c.new-pairs.ensures.board in
-    let looked = keeps-looked old.board.now new.board.now old.seat new.seat same base old.sits new.sits (c.fill.ensures.later.notes.words refl) in
+    let looked = keeps-looked old.board.now new.board.now old.seat new.seat same base hands old.sits new.sits (c.fill.ensures.later.notes.words refl) in
     let layouts = subst (AreLayouts game.checkers) (sym c.fill.ensures.layouts) c.requires.room.layouts in
     let inside : c.args.block < length column.layouts = omega (arith, c.requires.block, layouts.many) in
     let many = length column.movers in
@@ -110,3 +111,6 @@ returns-clause-swept c =
     let inside : c.args.block < length column.layouts = omega (arith, c.requires.block, layouts.many) in
     column-swept game c.loop-i.pairs.seat.view column c.args.block layouts inside (c.fill.ensures.other ∙ ap (λ (l : List (List ℕ)). layout_at l c.args.block) (sym c.fill.ensures.layouts)) c.fill.ensures.movers
     (λ i below. let done : i < c.loop-i.i = omega (arith, below, c.loop-i-test.false, c.len-i-end.ensures) in c.loop-i.invariant.noted i done)
+
+pub tighten_position-requires-clause-hand : goal.tighten_position-requires-clause-hand
+tighten_position-requires-clause-hand c = omega (arith, c.requires.hand, c.loop-i.invariant.kept.hands)

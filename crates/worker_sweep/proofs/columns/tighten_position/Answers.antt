@@ -55,3 +55,6 @@ loop-kind-preserved c =
           sits c.tighten.ensures.kept before.noted may (rw (before.board, c.position-position.ensures.position) at c.tighten.ensures.noted);
       works = works-trans board.game (rank_of c.args.turns.now.other) c.args.pairs.now.seat c.loop-kind.pairs.seat c.tighten.new.self.seat before.kept before.works (rw (before.board, c.position-position.ensures.position) at c.tighten.ensures.works);
     }
+
+pub tighten-requires-clause-hand : goal.tighten-requires-clause-hand
+tighten-requires-clause-hand c = omega (arith, c.requires.hand, c.loop-kind.invariant.kept.hands)

@@ -36,6 +36,7 @@ loop-worker-preserved c =
       many = length-set c.loop-worker.crew i new ∙ before.many;
       same = rest-same first c.loop-worker.crew i new before.same;
       works = map-set (λ (w : SeatsAndMarks). w.seat.view.work) c.loop-worker.crew i new none here (ap (λ s. s.view.work) c.hand_claims.ensures.own) ∙ before.works;
+      hands = map-set (λ (w : SeatsAndMarks). w.seat.view.hands) c.loop-worker.crew i new none here (ap (λ s. s.view.hands) c.hand_claims.ensures.own) ∙ before.hands;
     }
 
 pub returns-clause-seat : goal.returns-clause-seat

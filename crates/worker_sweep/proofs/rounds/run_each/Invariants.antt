@@ -8,6 +8,7 @@ invariant-loop-base g l = record {
   owner : IsReady l.board l.claims l.base l.owner;
   workers : All (IsReady l.board l.claims l.base) l.crew;
   claims : l.owner.claims ≡ l.initial.owner.claims;
+  hands : l.owner.seat.view.hands ≡ l.initial.owner.seat.view.hands;
   many : length l.crew ≡ length l.initial.crew;
   done : All (HasDone l.board.game l.base) (shares_of l.crew);
   rest : All (IsOnLeft l.board.game l.base (shares_of l.crew)) l.owner.seat.view.work;

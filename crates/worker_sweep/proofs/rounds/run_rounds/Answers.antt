@@ -1,9 +1,9 @@
-use Rattle.std.proofs.Common.{◌≡◌, All, List, length, subst, ap, sym, ◌∙◌}
+use Rattle.std.proofs.Common.{◌≡◌, All, List, length, arith, subst, ap, sym, ◌∙◌}
 use Rattle.std.proofs.lemmas.List.Elements.{All-weaker}
 use Rattle.turn_rule.specs.declared.game.Game.{Game}
 use Rattle.worker_sweep.specs.Workers.{SeatsAndMarks, IsReady}
-use Rattle.worker_sweep.specs.Shares.{HasDone, IsOnLeft, shares_of, works_of, all_claims}
-use Rattle.worker_sweep.proofs.ShareLemmas.{take-first, works-shares, length-shares}
+use Rattle.worker_sweep.specs.Shares.{HasDone, IsOnLeft, shares_of, works_of, hands_of, all_claims}
+use Rattle.worker_sweep.proofs.ShareLemmas.{take-first, works-shares, hands-shares, length-shares}
 use Rattle.worker_sweep.proofs.rounds.run_rounds.Goals as goal
 
 pub run_each-requires-clause-crew : goal.run_each-requires-clause-crew
@@ -39,6 +39,8 @@ returns-clause-divided g c =
       claimed = c.hand_all.ensures.seat ∙ ap (λ (workers : List SeatsAndMarks). all_claims (shares_of workers)) same;
       once = c.has_each_once.ensures;
       worked = ap works_of (take-first long c.hand_all.new.crew _ handed) ∙ (c.hand_all.ensures.works ∙ (ap works_of same ∙ works-shares crew));
+      handed = ap hands_of (take-first long c.hand_all.new.crew _ handed) ∙ (c.hand_all.ensures.hands ∙ (ap hands_of same ∙ hands-shares crew));
+      hands = omega (arith, ap (λ s. s.view.hands) (c.split-known.ensures.seat ∙ c.into_seats-owner.ensures.board), c.run_each.ensures.hands, ap (λ w. w.seat.view.hands) c.in_ok-owner.ensures, ap (λ s. s.view.hands) c.in_ok-crew.ensures.seat, c.workers.ensures.is, c.workers.ensures.high);
       done = subst (λ (g : Game). All (HasDone g c.args.rounds) (shares_of crew)) game c.run_each.ensures.done;
       rest =
           subst (λ (g : Game). All (IsOnLeft g c.args.rounds (shares_of crew)) c.split-known.new.seat.view.work) game

@@ -19,6 +19,7 @@ loop-worker-preserved c =
     record {
       owner = works-on board claims c.args.base c.loop-worker.owner _ before.owner c.take_in.ensures.seat c.take_in.ensures.many (ap (λ s. s.table) c.take_in.ensures.claims) c.take_in.ensures.number;
       work = c.take_in.ensures.work ∙ before.work;
+      hands = c.take_in.ensures.seat.hands ∙ before.hands;
       claims = c.take_in.ensures.claims ∙ before.claims;
       marks = marks-more c.args.crew.now i c.loop-worker.owner c.take_in.new.self item (λ none. before.same i c.worker-item.result (omega arith) here ∙ get_or-any c.args.crew.now i c.worker-item.result none inside) c.take_in.ensures.marks before.marks;
       many = length-set c.loop-worker.crew i c.take_in.new.other ∙ before.many;

@@ -7,6 +7,7 @@ abbrev pub invariant-loop-worker : goal.invariant-loop-worker
 invariant-loop-worker l = record {
   owner : IsAtWork l.board l.claims l.base l.owner;
   work : l.owner.seat.view.work ≡ l.initial.owner.seat.view.work;
+  hands : l.owner.seat.view.hands ≡ l.initial.owner.seat.view.hands;
   claims : l.owner.claims ≡ l.initial.owner.claims;
   marks : (k block : ℕ) (none : SeatsAndMarks) → k < l.worker-index → is_marked (slice_index_or l.initial.crew k none).marks block ≡ true → is_marked l.owner.marks block ≡ true;
   many : length l.crew ≡ length l.initial.crew;

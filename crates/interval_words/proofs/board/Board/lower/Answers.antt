@@ -8,7 +8,7 @@ pub lower_word-requires-clause-value : goal.lower_word-requires-clause-value
 lower_word-requires-clause-value c =
     let may = c.requires.value in
     let kept = keeps-noting c.args.self.now c.args.seat.now c.read_upper.new.seat _ _ c.read_upper.ensures.seat c.requires.seat in
-    may-tighten c.args.self.now c.args.seat.now c.read_upper.new.seat c.args.state c.args.value Upper may.position may.kind c.read_upper.ensures.held.kept.game.stakes kept c.requires.seat may.number may.loose.state may.loose.within may.loose.loose
+    may-tighten c.args.self.now c.args.seat.now c.read_upper.new.seat c.args.state c.args.value Upper may.position may.kind c.read_upper.ensures.held.kept.game.stakes kept c.requires.seat may.number may.loose.state may.loose.within may.loose.loose may.loose.hand
 
 pub returns-then-units-clause-brings : goal.returns-then-units-clause-brings
 returns-then-units-clause-brings c =

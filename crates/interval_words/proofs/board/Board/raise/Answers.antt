@@ -8,7 +8,7 @@ pub raise_word-requires-clause-value : goal.raise_word-requires-clause-value
 raise_word-requires-clause-value c =
     let may = c.requires.value in
     let kept = keeps-noting c.args.self.now c.args.seat.now c.read_lower.new.seat _ _ c.read_lower.ensures.seat c.requires.seat in
-    may-tighten c.args.self.now c.args.seat.now c.read_lower.new.seat c.args.state c.args.value Lower may.position may.kind c.read_lower.ensures.held.kept.game.stakes kept c.requires.seat may.number may.loose.state may.loose.within may.loose.loose
+    may-tighten c.args.self.now c.args.seat.now c.read_lower.new.seat c.args.state c.args.value Lower may.position may.kind c.read_lower.ensures.held.kept.game.stakes kept c.requires.seat may.number may.loose.state may.loose.within may.loose.loose may.loose.hand
 
 pub returns-then-units-clause-brings : goal.returns-then-units-clause-brings
 returns-then-units-clause-brings c =

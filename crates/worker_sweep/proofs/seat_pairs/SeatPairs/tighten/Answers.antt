@@ -8,12 +8,12 @@ use Rattle.worker_sweep.proofs.seat_pairs.SeatPairs.tighten.Goals as goal
 pub raise-requires-clause-value : goal.raise-requires-clause-value
 raise-requires-clause-value c =
     subst (MayTighten Lower c.args.self.now.board.now.game c.args.self.now.seat.view c.number_at-state.result) (sym c.lower.ensures.lower)
-    (may-tighten c.args.self.now.board.now c.args.self.now.seat c.args.self.now.seat c.number_at-state.result c.args.pair.lower Lower c.args.position.now c.args.kind c.requires.valid (keeps-refl _) c.args.self.now.sits c.number_at-state.ensures.number c.requires.state (c.requires.pair.within Lower) (c.requires.pair.loose Lower))
+    (may-tighten c.args.self.now.board.now c.args.self.now.seat c.args.self.now.seat c.number_at-state.result c.args.pair.lower Lower c.args.position.now c.args.kind c.requires.valid (keeps-refl _) c.args.self.now.sits c.number_at-state.ensures.number c.requires.state (c.requires.pair.within Lower) (c.requires.pair.loose Lower) c.requires.hand)
 
 pub lower-requires-2-clause-value : goal.lower-requires-2-clause-value
 lower-requires-2-clause-value c =
     subst (MayTighten Upper c.args.self.now.board.now.game c.raise.new.seat.view c.number_at-state.result) (sym c.upper.ensures.upper)
-    (may-tighten c.args.self.now.board.now c.args.self.now.seat c.raise.new.seat c.number_at-state.result c.args.pair.upper Upper c.args.position.now c.args.kind c.requires.valid c.raise.ensures.brings.keeps c.args.self.now.sits c.number_at-state.ensures.number c.requires.state (c.requires.pair.within Upper) (c.requires.pair.loose Upper))
+    (may-tighten c.args.self.now.board.now c.args.self.now.seat c.raise.new.seat c.number_at-state.result c.args.pair.upper Upper c.args.position.now c.args.kind c.requires.valid c.raise.ensures.brings.keeps c.args.self.now.sits c.number_at-state.ensures.number c.requires.state (c.requires.pair.within Upper) (c.requires.pair.loose Upper) c.requires.hand)
 
 pub invariant_of-self : goal.invariant_of-self
 invariant_of-self c =

@@ -25,3 +25,6 @@ invariant_of-self c =
 
 pub returns-clause-works : goal.returns-clause-works
 returns-clause-works c = subst (λ s. WorksIn c.args.board.now.game c.args.block s c.sweep_column.result) (c.replace-seat.ensures.value ∙ (c.split-copy.ensures.seat ∙ ap (λ w. w.seat) c.self.view_is)) c.sweep_column.ensures.works
+
+pub sweep_column-requires-clause-hand : goal.sweep_column-requires-clause-hand
+sweep_column-requires-clause-hand c = omega (arith, c.requires.works.hand, ap (λ s. s.view.hands) (c.replace-seat.ensures.value ∙ (c.split-copy.ensures.seat ∙ ap (λ w. w.seat) c.self.view_is)))

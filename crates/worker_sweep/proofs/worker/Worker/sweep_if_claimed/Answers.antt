@@ -13,10 +13,10 @@ returns-then-not-claim-clause-through g c = λ first went.
       | inl below ↦ (let got : IsTrue c.claim.result = c.claim.ensures.answer_is.1 below in absurd (search rules))
       | inr from ↦ from
     ])
-    (ap (λ s. s.view) c.claim.ensures.seat) refl refl
+    (ap (λ s. s.view) c.claim.ensures.seat) refl refl refl
 
 pub returns-clause-through : goal.returns-clause-through
 returns-clause-through g c = λ first went.
     let old = subst (WentThrough c.args.board.now.game c.args.round c.args.block first) (sym c.self.view_is) went in
     went-sweeping c.args.board.now.game c.args.round c.args.block c.claim.ensures.found first _ old c.sweep.new.self (c.claim.ensures.answer_is.0 (search rules)) (ap (λ s. s.view) c.sweep.ensures.claims ∙ ap (λ s. s.view) c.claim.ensures.seat) (omega (arith, c.requires.block, c.requires.many, c.requires.works.marks, ap (λ s. length s.marks) c.self.view_is)) c.sweep.ensures.marks
-    (c.requires.round ∙ ap (λ s. s.seat.view.base + 1) (sym c.self.view_is)) c.sweep.ensures.works
+    (c.requires.round ∙ ap (λ s. s.seat.view.base + 1) (sym c.self.view_is)) c.sweep.ensures.works c.sweep.ensures.seat.hands
