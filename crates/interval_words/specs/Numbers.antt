@@ -1,7 +1,6 @@
 -- How words stand in a list: two for each state, by rising live rank of the position, then kind, the lower word first.
-use Rattle.std.specs.Prelude.{◌≡◌, ◌<◌, ℕ, ◌+◌, ◌*◌, max, min, ℤ, pos, neg_ℤ, ◌-ℤ◌, List, length, slice_index}
+use Rattle.std.specs.Prelude.{◌≡◌, ◌<◌, ℕ, ◌+◌, ◌*◌, ◌^◌, max, min, ℤ, pos, neg_ℤ, ◌-ℤ◌, List, length, slice_index}
 use Rattle.std.specs.Int.{int_max, int_min}
-use Rattle.directed_fixed.specs.declared.word.TheConstants.{WORD_OFFSET}
 use Rattle.position_rank.specs.Placement.{Placement}
 use Rattle.position_rank.specs.LiveRanks.{live_rank_of, live_positions}
 use Rattle.directed_fixed.specs.declared.bounds.End.{End}
@@ -23,7 +22,7 @@ word_of Upper state = 2 * state + 1
 
 -- the value that a word stands for
 unfoldable pub value_of : ℕ → ℤ
-value_of word = pos word -ℤ WORD_OFFSET
+value_of word = pos word -ℤ pos (2 ^ 36)
 
 -- what a word of the state with this number stands for
 abbrev pub value_in : List ℕ → End → ℕ → ℤ
