@@ -1,6 +1,5 @@
 ghost use Rattle.std.specs.Prelude.{◌≡◌, ◌<◌, ◌≤◌, ◌^◌, ◌↔◌, ℕ, ℤ, pos, ◌*ℤ◌, ◌≤ℤ◌, [], length, map, All, Contains};
 ghost use Rattle.position_rank.specs.Placement.{Placement};
-ghost use Rattle.directed_fixed.specs.declared.word.TheConstants.{WORD_OFFSET};
 ghost use Rattle.roll_table.specs.Rolls.{all_rolls};
 ghost use Rattle.move_rules.specs.Sequences.{IsLegalEnd};
 ghost use Rattle.cube_actions.specs.Stakes.{IsValid};
@@ -128,7 +127,7 @@ impl RollEnds {
             (P.seen pairs.old) (P.seen pairs.new) result }
         ensures source { (P.seen pairs.new).source ≡ (P.seen pairs.old).source }
         ensures stays { P.stays pairs.new ≡ P.stays pairs.old }
-        ensures small { (P.seen pairs.old).source.bound ≤ℤ WORD_OFFSET }
+        ensures small { (P.seen pairs.old).source.bound ≤ℤ pos (2 ^ 36) }
         ensures valid { IsValid stakes.now }
     {
         sum_at(

@@ -1,6 +1,5 @@
 ghost use Rattle.std.specs.Prelude.{◌≡◌, ◌<◌, ◌≤◌, ◌^◌, ◌*◌, ℕ, ℤ, pos, ◌+ℤ◌, ◌*ℤ◌, ◌≤ℤ◌, length};
 ghost use Rattle.directed_fixed.specs.Bounds.{IsWithinUnits};
-ghost use Rattle.directed_fixed.specs.declared.word.TheConstants.{WORD_OFFSET};
 ghost use Rattle.roll_table.specs.Rolls.{all_rolls};
 ghost use Rattle.cube_actions.specs.Stakes.{IsValid};
 ghost use Rattle.turn_rule.specs.Looks.{AreStakesOf, IsSourceState};
@@ -20,7 +19,7 @@ use position_rank::Position;
 fn add_times(sum: Fixed, times: u64, value: Fixed) -> Fixed
     requires sum { IsWithinUnits (pos (2 ^ 42)) sum }
     requires times { times ≤ 2 }
-    requires value { IsWithinUnits (WORD_OFFSET) value }
+    requires value { IsWithinUnits (pos (2 ^ 36)) value }
     ensures { result ≡ (sum +ℤ pos times *ℤ value) }
 {
     sum.add(value.times(times as u32))
@@ -42,7 +41,7 @@ pub(crate) fn sum_at<P: Pairs>(
         (P.seen pairs.old) (P.seen pairs.new) result }
     ensures source { (P.seen pairs.new).source ≡ (P.seen pairs.old).source }
     ensures stays { P.stays pairs.new ≡ P.stays pairs.old }
-    ensures small { (P.seen pairs.old).source.bound ≤ℤ WORD_OFFSET }
+    ensures small { (P.seen pairs.old).source.bound ≤ℤ pos (2 ^ 36) }
     ensures valid { IsValid stakes.now }
 {
     // What `bound` ensures says that the stakes are valid.
