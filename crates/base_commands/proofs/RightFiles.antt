@@ -1,5 +1,5 @@
 -- Right files are refused for no fault of theirs.
-use Rattle.std.proofs.Common.{◌≡◌, ◌∙◌, List, ℕ, true, false, Option, Some, None, inl, inr, refl, sym, subst}
+use Rattle.std.proofs.Common.{◌≡◌, ◌∙◌, List, ℕ, true, Option, Some, None, inl, inr, refl, sym, subst}
 use Rattle.std.specs.Prelude.{IsFalse}
 use Rattle.std.proofs.lemmas.Bool.{false≢true}
 use Rattle.position_rank.specs.Text.{words}
