@@ -31,8 +31,8 @@ read (Ok value) next = next value
 read (Err fault) next = Err fault
 
 -- ---- each command: its form, and its values in the order of their numbers; then its position, then
--- its roll. Behind `number_or` stand the limit and the number that is taken where none is given: at most 3
--- checkers, 4,096 rounds, 64 workers and 5 points, and mostly 64 rounds, but 16 of `reply`.
+-- its roll. Behind `number_or` stand the limit and the number that is taken where none is given. There
+-- are at most 3 checkers, 4,096 rounds, 64 workers, 5 points and 1,000 games.
 
 abbrev pub bound_form : Form
 bound_form = record {

@@ -11,8 +11,8 @@ use Rattle.command_line.specs.Commands.{Asked, refused, command_named, command_f
 abbrev pub is_option : Bytes → Bool
 is_option word = starts_with nat_eq word (codes "--")
 
--- a word that can't stand in any command: it is empty or has more than 4,096 bytes, or is no option but begins
--- with a -, or is one with no name or with an empty value
+-- a word that can't stand in any command: it is empty or has more than 4,096 bytes, or is no option but
+-- begins with a -, or is one with no name or with an empty value
 abbrev pub is_faulty : Bytes → Bool
 is_faulty word =
     length word == 0 || nat_lt 4096 (length word) || bytes_eq word (codes "--")

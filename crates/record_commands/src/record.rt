@@ -11,8 +11,8 @@ ghost use Rattle.run_endings.specs.Endings.{IsOfReplaying};
 use cube_actions::{Score, StakesName};
 use equity_report::{FileName, GameName, Refusal};
 use game_record::{
-    BadRecord, Decisions, MOST_RECORD_BYTES, Record, RecordFault, RecordStakes, RecordStop, Standing,
-    read_record, replay,
+    BadRecord, Decisions, MOST_RECORD_BYTES, Record, RecordFault, RecordStakes, RecordStop,
+    Standing, read_record, replay,
 };
 use outside_log::{Files, WholeStop, read_whole};
 use std::alloc::Global;
