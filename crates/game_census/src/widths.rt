@@ -125,7 +125,7 @@ fn solve<R: Print>(rt: &R, alloc: Global, head: &Head) -> Result<(Board, BoardSe
 {
     let (board, mut seat) = Board::new(alloc, head.checkers(), &head.stakes())?;
     let (_, claim_seat) = Claims::new(alloc, 1)?;
-    let own = board.split(&mut seat);
+    let own = board.hire(&mut seat);
     let mut worker = Worker::new(alloc, &board, own, claim_seat, 0)?;
     if !print_rounds(rt, &board, &mut seat, &mut worker, head.rounds()) {
         return Err(Stop::Unprinted);

@@ -1,5 +1,5 @@
 //! Words of all states: boards, seats at them, and words of lists.
-ghost use Rattle.std.specs.Prelude.{◌≡◌, ◌≤ℤ◌, pos, [], ◌∷◌};
+ghost use Rattle.std.specs.Prelude.{◌≡◌, ◌<◌, ◌≤ℤ◌, pos, [], ◌∷◌};
 ghost use Rattle.position_rank.specs.Packed.{counts_of};
 ghost use Rattle.cube_actions.specs.Stakes.{cubeless, point_units};
 ghost use Rattle.turn_rule.specs.Games.{game_of};
@@ -60,12 +60,14 @@ fn raise_near(board: &Board, seat: &mut BoardSeat, near: &Position, value: Fixed
     requires checkers { board.now.game.checkers ≡ 1 }
     requires stakes { board.now.game.stakes ≡ cubeless }
     requires seat { SitsAt board.now seat.old }
+    requires hand { 0 < seat.old.view.hands }
     requires near { near.now ≡ record { mover = counts_of (1 ∷ []); other = counts_of (1 ∷ []) } }
     requires state { IsState (game_of 1 cubeless) near.now 0 }
     requires from { pos 0 ≤ℤ value }
     requires to { value ≤ℤ point_units 2 }
     ensures seat { SitsAt board.now seat.new }
     ensures base { seat.new.view.base ≡ seat.old.view.base }
+    ensures hands { seat.new.view.hands ≡ seat.old.view.hands }
 {
     worked_examples();
     let _valid = board.stakes().bound();
@@ -102,7 +104,7 @@ fn is_sent<T: Send>(_sent: &T) {}
 fn raised_words(rt: &impl Abort, alloc: Global) -> Closed {
     let (board, mut owner) = Board::new(alloc, 1, &Stakes::cubeless()).expect(rt, "no memory");
     is_shared(&board);
-    let mut worker = board.split(&mut owner);
+    let mut worker = board.hire(&mut owner);
     is_sent(&worker);
     raise_near(&board, &mut worker, &nearest(rt), Fixed::whole(2));
     board.join(&mut owner, worker);

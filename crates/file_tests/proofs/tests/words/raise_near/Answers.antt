@@ -23,5 +23,6 @@ raise-requires-clause-value c =
         state = state;
         within = record { from = omega (arith, ints, bound, c.requires.from); to = omega (arith, ints, bound, c.requires.to) };
         loose = near-loose game c.args.seat.now.view.notes c.args.near.now c.args.value c.requires.stakes valid state two c.requires.to;
+        hand = c.requires.hand;
       };
     }
