@@ -4,7 +4,7 @@ ghost use Rattle.directed_fixed.specs.Bounds.{IsWithinUnits};
 ghost use Rattle.cube_actions.specs.Stakes.{bound_of};
 ghost use Rattle.hyper_outside.specs.Causes.{Rose};
 ghost use Rattle.outside_log.specs.Log.{standing};
-ghost use Rattle.outside_log.specs.Readings.{ReadsOn, ReadsOn-prop, is_faithful, read_faults};
+ghost use Rattle.outside_log.specs.Readings.{ReadsOn, ReadsOn-prop as one, is_faithful, read_faults};
 ghost use Rattle.hyper_outside.specs.declared.outside.LookStop.TheVariants.{ReadFault};
 ghost use Rattle.turn_rule.specs.Looks.{AreSourceWords};
 ghost use Rattle.turn_rule.specs.States.{IsStateOf};
@@ -191,7 +191,7 @@ pub struct PagedReader<'a, F: Files> {
     files: &'a mut F,
     /// The log as it was before the first look-up.
     from: Log,
-    ghost reads: { ReadsOn from.events (F.log files.now) } by { ReadsOn-prop from.events (F.log files.now) },
+    ghost reads: { ReadsOn from.events (F.log files.now) } by { one from.events (F.log files.now) },
     ghost of_file: { KeepsPagesOf base.now (F.log files.now) },
     ghost within: { AreSourceWords (source_of base.now (standing from.events))
         (words_of_pages base.now (standing from.events)) },

@@ -24,8 +24,9 @@ pub fn binding_of(version: Version, digest: &[u8; 32], number: usize) -> Binding
     match version {
         Version::One | Version::Two => {}
         Version::Three => {
-            // There is room for both.
+            // There is room for the digest.
             let _digest = binding.try_extend_from_slice(digest);
+            // There is room for the number behind it.
             let _number = binding.try_extend_from_slice(&(number as u64).to_be_bytes());
         }
     }
