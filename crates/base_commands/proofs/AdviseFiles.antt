@@ -1,12 +1,15 @@
 -- What is advised from a file, and what refuses it.
-use Rattle.std.proofs.Common.{◌≡◌, ◌∙◌, ◌<◌, ℕ, List, Option, Some, None, Ok, Err, inl, inr, sym, ap, subst}
+use Rattle.std.proofs.Common.{◌≡◌, ◌∙◌, ◌<◌, ℕ, List, Option, Some, None, Result, Ok, Err, IsTrue, inl, inr, sym, ap, refl, subst}
 use Rattle.std.specs.Option.{option_map}
 use Rattle.std.specs.Prelude.{⊤}
 use Rattle.roll_table.specs.Rolls.{Dice, IsRoll}
 use Rattle.hyper_outside.specs.declared.outside.LookStop.{LookStop}
 use Rattle.hyper_outside.specs.declared.outside.LookStop.TheVariants as looks
 use Rattle.turn_rule.specs.Games.{IsGame, kinds_of}
-use Rattle.turn_rule.specs.Looks.{HasDamage}
+use Rattle.position_rank.specs.Placement.{Placement}
+use Rattle.cube_actions.specs.Stakes.{Terms}
+use Rattle.turn_rule.specs.Looks.{Damage, HasDamage, Looked, Meets, Notes, Source}
+use Rattle.turn_rule.proofs.MetFirst.{met-on_roll, met-on_turn}
 use Rattle.play_analyser.specs.declared.advice.CubeAdvice.{CubeAdvice}
 use Rattle.play_analyser.specs.declared.ranking.Ranking.{Ranking}
 use Rattle.play_analyser.specs.Advice.{IsCubeAdvice}
@@ -23,9 +26,9 @@ use Rattle.base_commands.specs.declared.advise.AskedKind.{AskedKind}
 use Rattle.command_line.specs.declared.command.Advise.{Advise as AdviseTask}
 use Rattle.run_endings.specs.Loads.{look_refusal}
 use Rattle.command_line.specs.Right.{IsRightAdvise}
-use Rattle.base_commands.specs.Advises.{Advises, AnswersAdvice, AnswersRanking, IsStateIn, Ranks, RefusesAdvice, RestsOn}
+use Rattle.base_commands.specs.Advises.{Advises, AnswersAdvice, AnswersRanking, IsStateIn, MeetsAdvising, Ranks, RefusesAdvice, RestsOn}
 use Rattle.base_commands.specs.Games.{AnswersAsked}
-use Rattle.run_endings.specs.Pages.{AnswersSought, IsOnBadPage, OfHeld}
+use Rattle.run_endings.specs.Pages.{AnswersSought, IsOnBadPage, OfHeld, TellsFirst}
 use Rattle.run_endings.proofs.Pages.{bad-page, noted_in, same-kinds, source_in}
 
 pub state-opened : (task : AdviseTask) (held : Option (List ℕ)) (base : PagedFile) (kind : AskedKind) → AnswersPaged (option_map whole held) (Ok base)
@@ -44,6 +47,19 @@ state-opened task (Some bytes) base kind a right valid many name asked game insi
   },
   a.header,
 )
+
+-- what was looked up in a file, where all answers were faithful
+pub sought-told : {A : Type 0} (header : Header) (file : Option (List ℕ)) (meets : Meets) (right : Source → Notes → A → Type 0) (s : Source) (old noted : Notes) (before now : ℕ) (result : Result A LookStop) → s ≡ paged_source header file → noted ≡ told_notes header file
+    → Looked s old noted before now (meets s) (right s noted) result → AnswersSought header file meets (right (paged_source header file) (told_notes header file)) result
+sought-told header file meets right s old noted before now (Ok found) source notes looked = subst (λ (n : Notes). right (paged_source header file) n found) notes (subst (λ (t : Source). right t noted found) source looked.answer)
+sought-told header file meets right s old noted before now (Err looks.ReadFault) source notes looked = tt
+sought-told header file meets right s old noted before now (Err looks.NoMemory) source notes looked = tt
+sought-told header file meets right s old noted before now (Err (looks.BadPage fault at)) source notes looked =
+    subst (λ (t : Source). meets t (record { fault = fault; at = at })) source (looked.stop.1 (subst (λ (n : Notes). IsTrue n.told) (sym notes) refl))
+
+met-advising : (s : Source) (damage : Damage) (roll : Option Dice) (stakes : Terms) (p : Placement) (k : ℕ) → MeetsAdvising roll stakes p k s damage → HasDamage s (RestsOn roll stakes p k) damage
+met-advising s damage (Some roll) stakes p k met = met-on_roll s damage stakes p k roll met
+met-advising s damage None stakes p k met = met-on_turn s damage stakes p k met
 
 module _ (task : AdviseTask) (base : PagedFile) (kind : AskedKind) where
   abbrev Opened : Option (List ℕ) → Type 0
@@ -66,16 +82,17 @@ module _ (task : AdviseTask) (base : PagedFile) (kind : AskedKind) where
       law bytes advice opened.0 (subst (λ (h : Header). IsCubeAdvice (stakes_of base.head) task.position kind.number (paged_source h (Some bytes)) (told_notes h (Some bytes)) advice) opened.1 is)
 
   pub not-looked-up : (roll : Option Dice) → task.roll ≡ roll → (held : Option (List ℕ)) (stop : LookStop) → Opened held
-      → AnswersSought {A = Unit {0}} base.header held (RestsOn roll (stakes_of base.head) task.position kind.number) (λ none. ⊤) (Err stop) → RefusesAdvice task (look_refusal stop) held
+      → AnswersSought {A = Unit {0}} base.header held (MeetsAdvising roll (stakes_of base.head) task.position kind.number) (λ none. ⊤) (Err stop) → RefusesAdvice task (look_refusal stop) held
   not-looked-up roll is held looks.ReadFault opened told = inl (inl tt)
   not-looked-up roll is held looks.NoMemory opened told = inl (inl tt)
   not-looked-up roll is None (looks.BadPage fault at) opened told = absurd opened
   not-looked-up roll is (Some bytes) (looks.BadPage fault at) opened told =
-      let states = RestsOn roll (stakes_of base.head) task.position kind.number in
-      let page = bad-page bytes states (record { fault = fault; at = at }) (subst (λ (h : Header). HasDamage (paged_source h (Some bytes)) states (record { fault = fault; at = at })) opened.1 told) in
-      inr (record {
-        head = base.head;
-        kind = kind;
-        asked = opened.0.asked;
-        page = subst (λ (r : Option Dice). IsOnBadPage bytes (RestsOn r (stakes_of base.head) task.position kind.number) (look_refusal (looks.BadPage fault at))) (sym is) page;
-      })
+      let stakes = stakes_of base.head in
+      let p = task.position in
+      let k = kind.number in
+      let damage : Damage = record { fault = fault; at = at } in
+      let refusal = look_refusal (looks.BadPage fault at) in
+      let met = subst (λ (h : Header). MeetsAdvising roll stakes p k (paged_source h (Some bytes)) damage) opened.1 told in
+      let both = subst (λ (r : Option Dice). IsOnBadPage bytes (RestsOn r stakes p k) refusal × TellsFirst bytes (MeetsAdvising r stakes p k) refusal) (sym is)
+      (bad-page bytes (RestsOn roll stakes p k) damage (met-advising (source_in bytes) damage roll stakes p k met), record { damage = damage; met = met; told = refl }) in
+      inr (record { head = base.head; kind = kind; asked = opened.0.asked; page = both.0; first = both.1 })

@@ -17,7 +17,7 @@ use Rattle.cube_actions.specs.declared.kind.Taken.{Taken}
 use Rattle.cube_actions.specs.Stakes.{kind_at}
 use Rattle.turn_rule.specs.Games.{IsGame, kinds_of}
 use Rattle.turn_rule.specs.Turn.{Words, win, if_won, worth}
-use Rattle.turn_rule.specs.Looks.{all_told, IsLeft, IsPairFor, IsRollPair, MayFollow, MayFollowTurn, Sought, States, of_roll}
+use Rattle.turn_rule.specs.Looks.{all_told, IsLeft, IsPairFor, IsRollPair, MayFollow, MayFollowTurn, Sought, States, of_roll, MayFollowRoll}
 use Rattle.turn_rule.specs.Following.{AgreeOn}
 use Rattle.turn_rule.specs.Found.{of_play}
 use Rattle.turn_rule.specs.States.{IsState}
@@ -28,7 +28,7 @@ use Rattle.play_analyser.specs.declared.advice.CubeAdvice.{CubeAdvice}
 use Rattle.play_analyser.specs.declared.ranking.PlayRow.{PlayRow}
 use Rattle.play_analyser.specs.declared.ranking.Ranking.{Ranking}
 use Rattle.play_analyser.specs.Advice.{IsActionBy, IsAdviceOn, IsCubeAdvice, taken_of}
-use Rattle.play_analyser.specs.Rankings.{IsRanking, MayFollowRoll}
+use Rattle.play_analyser.specs.Rankings.{IsRanking}
 use Rattle.play_analyser.specs.Sought.{ArePairsFor, of_answer}
 use Rattle.base_head.specs.Heads.{FileHead, stakes_of}
 use Rattle.base_head.specs.Headers.{IsHeader}

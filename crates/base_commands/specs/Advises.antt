@@ -6,7 +6,7 @@ use Rattle.outside_log.specs.Sink.{Output}
 use Rattle.hyper_outside.specs.declared.outside.LookStop.{LookStop}
 use Rattle.cube_actions.specs.Stakes.{Terms}
 use Rattle.move_rules.specs.Notation.{CanFollow}
-use Rattle.turn_rule.specs.Looks.{MayFollowTurn, States}
+use Rattle.turn_rule.specs.Looks.{MayFollowTurn, States, MayFollowRoll, Meets, MeetsOnRoll, MeetsOnTurn}
 use Rattle.turn_rule.specs.Games.{IsGame, kinds_of}
 use Rattle.turn_rule.specs.States.{IsState}
 use Rattle.turn_rule.specs.Truth.{AreSound}
@@ -16,7 +16,7 @@ use Rattle.play_analyser.specs.declared.ranking.PlayRow.{PlayRow}
 use Rattle.play_analyser.specs.declared.ranking.Ranking.{Ranking}
 use Rattle.play_analyser.specs.Advice.{IsCubeAdvice, IsCubeAdviceOver}
 use Rattle.play_analyser.specs.Advised.{ActionLosesAtMost, FirstLosesAtMost}
-use Rattle.play_analyser.specs.Rankings.{IsRanking, IsRankingOver, MayFollowRoll}
+use Rattle.play_analyser.specs.Rankings.{IsRanking, IsRankingOver}
 use Rattle.base_head.specs.Fronts.{head_in}
 use Rattle.base_head.specs.Heads.{FileHead, stakes_of}
 use Rattle.base_head.specs.Headers.{IsHeader}
@@ -32,7 +32,7 @@ use Rattle.base_commands.specs.declared.advise.FoundRanking.{FoundRanking}
 use Rattle.base_commands.specs.declared.advise.OpenedFile.{OpenedFile}
 use Rattle.command_line.specs.declared.command.Advise.{Advise as AdviseTask}
 use Rattle.run_endings.specs.Endings.{Ending, Tells}
-use Rattle.run_endings.specs.Pages.{AnswersSought, AreOnRightPages, HavePairsOf, InTheEnd, IsOnBadPage, OfHeld, RefusesOpeningFor}
+use Rattle.run_endings.specs.Pages.{AnswersSought, AreOnRightPages, HavePairsOf, InTheEnd, IsOnBadPage, OfHeld, TellsFirst, RefusesOpeningFor}
 use Rattle.base_commands.specs.Games.{IsKindAsked, WantsOther}
 
 -- ---- the state in which advice is sought
@@ -117,16 +117,23 @@ abbrev pub RestsOn : Option Dice → Terms → Placement → ℕ → States
 RestsOn (Some roll) stakes p k = MayFollowRoll stakes p k roll
 RestsOn None stakes p k = MayFollowTurn stakes p k
 
--- the state is one of the file's game, and this is wrong with the page of a state on which the advice rests
+-- the damage that is met first where it is advised on a roll, or on the cube
+abbrev pub MeetsAdvising : Option Dice → Terms → Placement → ℕ → Meets
+MeetsAdvising (Some roll) stakes p k = MeetsOnRoll stakes p k roll
+MeetsAdvising None stakes p k = MeetsOnTurn stakes p k
+
+-- the state is one of the file's game, and this is wrong with the page that is met first of those on which the advice rests
 pub record IsBadFor (task : AdviseTask) (bytes : List ℕ) (refusal : Refusal) : Type 0 where
   pub head : FileHead
   pub kind : AskedKind
   pub asked : IsAskedOf task bytes head kind
   pub page : IsOnBadPage bytes (RestsOn task.roll (stakes_of head) task.position kind.number)
       refusal
+  pub first : TellsFirst bytes (MeetsAdvising task.roll (stakes_of head) task.position kind.number)
+      refusal
 
 -- Advice from a file of this name is refused: it can't be opened, it is of another game, or something is wrong with a page on which the advice
--- rests.
+-- rests, of which the first that is met is told.
 abbrev pub RefusesAdvice : AdviseTask → Refusal → Option (List ℕ) → Type 0
 RefusesAdvice task refusal held =
     RefusesOpeningFor (WantsOther task.position task.kind) task.file refusal held
@@ -153,14 +160,14 @@ AnswersOpened task told held (Err refusal) = IsTrue told → RefusesAdvice task 
 abbrev pub AnswersRanking : Header → Option (List ℕ) → Terms → Placement → ℕ → Dice
     → Result Ranking LookStop → Type 0
 AnswersRanking header file stakes p k roll =
-    AnswersSought header file (MayFollowRoll stakes p k roll)
+    AnswersSought header file (MeetsOnRoll stakes p k roll)
     (IsRanking stakes p k roll (paged_source header file) (told_notes header file))
 
 -- what to do with the cube, as it is looked up in a file
 abbrev pub AnswersAdvice : Header → Option (List ℕ) → Terms → Placement → ℕ
     → Result CubeAdvice LookStop → Type 0
 AnswersAdvice header file stakes p k =
-    AnswersSought header file (MayFollowTurn stakes p k)
+    AnswersSought header file (MeetsOnTurn stakes p k)
     (IsCubeAdvice stakes p k (paged_source header file) (told_notes header file))
 
 -- each play can be made from the position in turn

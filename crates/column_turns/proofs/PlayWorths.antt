@@ -8,7 +8,7 @@ use Rattle.directed_fixed.specs.Bounds.{IsNoLooser, IsWithin, IsWithinUnits, at,
 use Rattle.hyper_outside.specs.declared.outside.LookStop.{LookStop}
 use Rattle.cube_actions.specs.declared.kind.Kind.{Kind}
 use Rattle.turn_rule.specs.Turn.{Words, win, if_won, worth}
-use Rattle.turn_rule.specs.Looks.{Source, Notes}
+use Rattle.turn_rule.specs.Looks.{Source, Notes, Damage}
 use Rattle.turn_rule.specs.Found.{IsSame, IsFoundOf, of_play}
 use Rattle.turn_rule.proofs.Tight.{tight-refl}
 use Rattle.turn_rule.proofs.Found.{FindsFrom}
@@ -31,7 +31,7 @@ module _ (end : End) (s : Source) (noted : Notes) (q : Placement) (kind : Kind) 
       }
 
   -- it goes on
-  pub word-found : (u : Notes) (a b : ℕ) (result : Result ℤ LookStop) (x y : ℤ) → points q ≡ None → result ≡ Ok x → y ≡ neg_ℤ x
-      → FindsFrom (other end) s u noted a b (IsSame (swap q) kind.next) s.bound (λ w. w (other end) (swap q) kind.next) result → IsFoundOf end (of_play kind q) s noted y
-  word-found u a b result x y none ok is looked =
-      (left-worth end s u noted a b q kind x y none is (subst (FindsFrom (other end) s u noted a b (IsSame (swap q) kind.next) s.bound (λ w. w (other end) (swap q) kind.next)) ok looked)).answer
+  pub word-found : {m : Damage → Type 0} (u : Notes) (a b : ℕ) (result : Result ℤ LookStop) (x y : ℤ) → points q ≡ None → result ≡ Ok x → y ≡ neg_ℤ x
+      → FindsFrom (other end) s u noted a b m (IsSame (swap q) kind.next) s.bound (λ w. w (other end) (swap q) kind.next) result → IsFoundOf end (of_play kind q) s noted y
+  word-found {m = m} u a b result x y none ok is looked =
+      (left-worth m end s u noted a b q kind x y none is (subst (FindsFrom (other end) s u noted a b m (IsSame (swap q) kind.next) s.bound (λ w. w (other end) (swap q) kind.next)) ok looked)).answer

@@ -5,7 +5,7 @@ use Rattle.std.proofs.lemmas.Int.{ints, clamps}
 use Rattle.std.proofs.lemmas.List.{take_more, take_all}
 use Rattle.position_rank.specs.Placement.{Placement}
 use Rattle.move_rules.specs.Listing.{Among}
-use Rattle.move_rules.proofs.Members.{Among-Contains, Contains-Among, map-cases}
+use Rattle.move_rules.proofs.Members.{Contains-Among, map-cases}
 use Rattle.directed_fixed.specs.declared.bounds.End.TheVariants.{Lower, Upper}
 use Rattle.directed_fixed.specs.Bounds.{Bounds, IsWithin, AreNoLooserPairs, other, negated}
 use Rattle.cube_actions.specs.declared.kind.Double.{Double}
@@ -14,10 +14,9 @@ use Rattle.cube_actions.specs.Stakes.{Terms, kind_at, no_kind, IsValid, IsRightD
 use Rattle.turn_rule.specs.Games.{game_of}
 use Rattle.turn_rule.specs.Turn.{Words, least}
 use Rattle.turn_rule.specs.States.{IsStateOf}
-use Rattle.turn_rule.specs.Looks.{Source, Notes, AreStakesOf, IsPairFor, MayFollow, MayFollowTurn, MayFollowDouble, of_roll, roll_pair}
+use Rattle.turn_rule.specs.Looks.{Source, Notes, AreStakesOf, IsPairFor, MayFollowTurn, MayFollowDouble, of_roll, roll_pair}
 use Rattle.turn_rule.proofs.Within.{follow-state, at_member}
 use Rattle.turn_rule.proofs.Integers.{le_refl}
-use Rattle.turn_rule.proofs.Found.{AreAmong}
 use Rattle.turn_rule.proofs.Monotone.{roll-tighter, same-stakes}
 use Rattle.turn_rule.proofs.Tight.{tight-min}
 use Rattle.play_analyser.specs.Losses.{Options, loss, least_pair, lower_ends, upper_ends}
@@ -28,7 +27,7 @@ use Rattle.game_record.specs.declared.decision.Answer.{Answer}
 use Rattle.game_record.specs.declared.decision.Answer.TheVariants.{Take, Pass, Beaver}
 use Rattle.play_analyser.specs.Choices.{HasAnswer, IsAmongAnswers, offer_options, answer_options}
 use Rattle.play_analyser.specs.Regrets.{taken_pair, double_pair, loss_of, cube_loss, offer_pairs, answer_pairs}
-use Rattle.play_analyser.specs.Sought.{ArePairsFor, IsNear, SomeStates, of_answer, of_loss}
+use Rattle.play_analyser.specs.Sought.{ArePairsFor, IsNear, of_answer, of_loss}
 use Rattle.play_analyser.proofs.LossLemmas.{both_ends}
 use Rattle.play_analyser.proofs.LossPairs.{OptionsWithin, loss-pair, pair-floor, pair-notes, pair-within, pairs-floor, pairs-notes, pairs-within, pairs-right, all-negated-tighter, negated-within}
 use Rattle.play_analyser.proofs.PairLists.{Tightens, pairs-length}
@@ -277,15 +276,6 @@ module _ (s : Source) (stakes : Terms) (valid : IsValid stakes) (fits : AreStake
           (λ told. offers-tighter rolling (least_pair double.pass found) _ _ offer (pair-floor s (of_roll stakes p k 1) w rolling roll told) (least-tighter double.pass double.pass found (taken_over stakes p double s.floor) (same-pair double.pass) (floor-taken told)))
           (λ told. offers-tighter _ _ rolling (least_pair double.pass found) offer (pair-notes s (of_roll stakes p k 1) w rolling roll told) (least-tighter double.pass double.pass (taken_over stakes p double w.words) found (same-pair double.pass) (notes-taken told)))
           (λ told q j may. elim may [ inl after ↦ roll.right told q j after | inr after ↦ doubled-right told q j after ])
-
-  pub answers-follow : AreAmong (SomeStates (of_answer stakes p) double.answers.items) (MayFollowDouble stakes p k)
-  answers-follow q j h = record { double = double; right = is; taken = h.0; answer = Among-Contains h.0 _ h.1; after = h.2 }
-
-  pub answers-follow-turn : AreAmong (SomeStates (of_answer stakes p) double.answers.items) (MayFollowTurn stakes p k)
-  answers-follow-turn q j h = inr (answers-follow q j h)
-
-  pub rolls-follow-turn : AreAmong (MayFollow stakes p k) (MayFollowTurn stakes p k)
-  rolls-follow-turn q j h = inl h
 
 -- ---- counts
 

@@ -1,3 +1,4 @@
+pub mod MetFirst
 pub mod Ahead
 pub mod Enclosing
 pub mod Tighter

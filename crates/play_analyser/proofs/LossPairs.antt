@@ -1,5 +1,5 @@
 -- The loss of a choice over looked up pairs.
-use Rattle.std.proofs.Common.{◌≡◌, ℕ, ℤ, pos, neg_ℤ, ◌+ℤ◌, ◌-ℤ◌, ◌*ℤ◌, ◌≤ℤ◌, List, [], ◌∷◌, map, None, IsTrue, inl, inr, refl, subst, sym, arith}
+use Rattle.std.proofs.Common.{◌≡◌, ℕ, ℤ, pos, neg_ℤ, ◌+ℤ◌, ◌-ℤ◌, ◌*ℤ◌, ◌≤ℤ◌, ◌<◌, List, [], ◌∷◌, length, map, take, get_or, None, IsTrue, inl, inr, refl, subst, sym, arith}
 use Rattle.std.specs.Int.{int_max}
 use Rattle.std.proofs.lemmas.Int.{ints, clamps}
 use Rattle.position_rank.specs.Placement.{Placement}
@@ -8,9 +8,10 @@ use Rattle.directed_fixed.specs.declared.bounds.End.{End}
 use Rattle.directed_fixed.specs.declared.bounds.End.TheVariants.{Lower, Upper}
 use Rattle.directed_fixed.specs.Bounds.{Bounds, IsWithin, IsWithinUnits, AreNoLooserPairs, at, negated}
 use Rattle.turn_rule.specs.Turn.{Words}
-use Rattle.turn_rule.specs.Looks.{Source, Notes, Sought, States, IsPairOf, IsPairFor}
+use Rattle.turn_rule.specs.Looks.{Source, Notes, Damage, Sought, States, IsPairOf, IsPairFor}
+use Rattle.turn_rule.proofs.MetFirst.{met-at}
 use Rattle.play_analyser.specs.Losses.{Options, ahead, loss, lower_ends, upper_ends}
-use Rattle.play_analyser.specs.Sought.{ArePairsFor}
+use Rattle.play_analyser.specs.Sought.{ArePairsFor, MeetsSome}
 use Rattle.play_analyser.proofs.Tighter.{AllTighter, OptionsTighter, loss-tighter, negated-tighter}
 
 -- ---- how large a loss is
@@ -126,6 +127,10 @@ module _ {X : Type 0} (s : Source) (sought : X → Sought) (w : Notes) where
   pairs-right told (y ∷ xs) [] are x m p k may = absurd are
   pairs-right told (y ∷ xs) (pair ∷ pairs) are x (inl is) p k may = are.0.right told p k (subst (λ (z : X). (sought z).states p k) is may)
   pairs-right told (y ∷ xs) (pair ∷ pairs) are x (inr m) p k may = pairs-right told xs pairs are.1 x m p k may
+
+  -- where one of them can't be had
+  pub stopped-pair : IsTrue w.told → (xs : List X) (i : ℕ) (x : X) (damage : Damage) (pairs : List Bounds) → i < length xs → x ≡ get_or xs i x → ArePairsFor sought (take i xs) s w pairs → (sought x).meets s damage → MeetsSome sought xs s damage
+  stopped-pair told xs i x damage pairs here at_i are met = met-at s _ _ damage xs i x here at_i (λ y m. pairs-right told (take i xs) pairs are y m) met
 
 -- ---- for the other side
 

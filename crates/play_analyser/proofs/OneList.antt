@@ -17,7 +17,7 @@ use Rattle.cube_actions.specs.declared.kind.Kind.{Kind}
 use Rattle.cube_actions.specs.declared.kind.Taken.{Taken}
 use Rattle.cube_actions.specs.Stakes.{Terms, kind_at}
 use Rattle.turn_rule.specs.Turn.{Words, win, if_won, worth, roll_value, least}
-use Rattle.turn_rule.specs.Looks.{Source, Notes, IsPairFor, of_roll, IsLeft, MayFollowTurn, MayFollow, MayFollowDouble, roll_pair}
+use Rattle.turn_rule.specs.Looks.{Source, Notes, IsPairFor, of_roll, IsLeft, MayFollowTurn, MayFollow, MayFollowDouble, MayFollowRoll, roll_pair}
 use Rattle.turn_rule.specs.Following.{AgreeOn}
 use Rattle.turn_rule.specs.Found.{of_play}
 use Rattle.turn_rule.proofs.Agreement.{roll-agree}
@@ -35,7 +35,6 @@ use Rattle.play_analyser.specs.declared.advice.CubeAction.{CubeAction}
 use Rattle.play_analyser.specs.declared.advice.CubeAdvice.{CubeAdvice}
 use Rattle.play_analyser.specs.declared.ranking.PlayRow.{PlayRow}
 use Rattle.play_analyser.specs.Advice.{IsActionBy, IsAdviceOn, IsCubeAdvice, IsCubeAdviceOver, taken_of}
-use Rattle.play_analyser.specs.Rankings.{MayFollowRoll}
 use Rattle.play_analyser.proofs.PlayLosses.{all-of}
 use Rattle.play_analyser.proofs.RowLemmas.{member}
 use Rattle.play_analyser.proofs.LossLemmas.{both_ends}

@@ -1,5 +1,5 @@
 -- Pairs of plays and of answers that are looked up one after another.
-use Rattle.std.proofs.Common.{◌≡◌, ◌<◌, ◌+◌, ◌++◌, ◌∙◌, ℕ, zero, suc, neg_ℤ, ◌≤ℤ◌, List, [], ◌∷◌, length, take, get_or, inl, inr, Option, Some, None, Ok, ap, sym, subst, refl, arith}
+use Rattle.std.proofs.Common.{◌≡◌, ◌<◌, ◌+◌, ◌++◌, ◌∙◌, ℕ, zero, suc, neg_ℤ, ◌≤ℤ◌, List, [], ◌∷◌, length, take, get_or, inl, inr, Option, Some, None, Ok, ap, sym, subst, refl}
 use Rattle.std.proofs.lemmas.List.{take_more}
 use Rattle.arrayvec.specs.ArrayVec.{ArrayVec}
 use Rattle.position_rank.specs.Placement.{Placement, swap}
@@ -12,13 +12,13 @@ use Rattle.directed_fixed.specs.Bounds.{Bounds, IsNoLooser, IsWithin, other, at}
 use Rattle.cube_actions.specs.declared.kind.Kind.{Kind}
 use Rattle.turn_rule.specs.Turn.{Words, win, if_won, worth}
 use Rattle.turn_rule.specs.States.{AreNoLooserOf}
-use Rattle.turn_rule.specs.Looks.{Source, Notes, Sought, AreLater, Looked, HasDamage, IsPairFor, AreSourceWords}
+use Rattle.turn_rule.specs.Looks.{Source, Notes, Damage, Sought, AreLater, Looked, IsPairFor, AreSourceWords}
 use Rattle.turn_rule.specs.Found.{LeavesState, of_play}
 use Rattle.turn_rule.proofs.Integers.{neg_le}
 use Rattle.turn_rule.proofs.Tight.{tight-refl, tight-trans}
 use Rattle.turn_rule.proofs.Tightness.{tight-neg}
-use Rattle.turn_rule.proofs.Found.{AreAmong, then-ok}
-use Rattle.play_analyser.specs.Sought.{ArePairsFor, SomeStates}
+use Rattle.turn_rule.proofs.Found.{then-ok}
+use Rattle.play_analyser.specs.Sought.{ArePairsFor}
 
 -- over tighter words of a source, what is sought is as tight
 abbrev pub Tightens : Source → Sought → Type 0
@@ -39,11 +39,6 @@ play-tightens s kind q state end u v tight = by_points (points q) refl where
   by_points (Some won) over = tight-refl end _
 
 -- ---- some of them
-
-pub among-at : {X : Type 0} (xs : List X) (i : ℕ) (x : X) → i < length xs → x ≡ get_or xs i x → Among x xs
-among-at [] i x h e = absurd (omega arith)
-among-at (first ∷ rest) zero x h e = inl e
-among-at (first ∷ rest) (suc i) x h e = inr (among-at rest i x (omega arith) e)
 
 pub among-take : {X : Type 0} (xs : List X) (i : ℕ) (x : X) → Among x (take i xs) → Among x xs
 among-take [] zero x m = m
@@ -85,16 +80,13 @@ module _ {X : Type 0} (s : Source) (sought : X → Sought) where
   pairs-length (x ∷ xs) u (pair ∷ pairs) are = ap suc (pairs-length xs u pairs are.1)
 
   -- one more, after those before it
-  pub next-pair : (xs : List X) (u v w : Notes) (a b c i : ℕ) (x : X) (found now : ArrayVec Bounds) (pair : Bounds) → i < length xs → x ≡ get_or xs i x → ((y : X) → Among y xs → Tightens s (sought y)) → now.items ≡ found.items ++ pair ∷ []
-      → Looked s u v a b (HasDamage s (SomeStates sought xs)) (λ (f : ArrayVec Bounds). ArePairsFor sought (take i xs) s v f.items) (Ok found)
-      → Looked s v w b c (HasDamage s (sought x).states) (IsPairFor (sought x) s w) (Ok pair)
-      → Looked s u w a c (HasDamage s (SomeStates sought xs)) (λ (f : ArrayVec Bounds). ArePairsFor sought (take (i + 1) xs) s w f.items) (Ok now)
+  pub next-pair : {m m' m'' : Damage → Type 0} (xs : List X) (u v w : Notes) (a b c i : ℕ) (x : X) (found now : ArrayVec Bounds) (pair : Bounds) → i < length xs → x ≡ get_or xs i x → ((y : X) → Among y xs → Tightens s (sought y)) → now.items ≡ found.items ++ pair ∷ []
+      → Looked s u v a b m (λ (f : ArrayVec Bounds). ArePairsFor sought (take i xs) s v f.items) (Ok found)
+      → Looked s v w b c m' (IsPairFor (sought x) s w) (Ok pair)
+      → Looked s u w a c m'' (λ (f : ArrayVec Bounds). ArePairsFor sought (take (i + 1) xs) s w f.items) (Ok now)
   next-pair xs u v w a b c i x found now pair here at_i tightens is so_far looked =
       then-ok s u v w a b c _ _ _ _ _ _ found pair now so_far looked
       (λ tighter before one.
       subst (λ (ys : List X). ArePairsFor sought ys s w now.items) (sym (take_more xs i x here ∙ ap (λ (y : X). take i xs ++ y ∷ []) (sym at_i)))
       (subst (λ (pairs : List Bounds). ArePairsFor sought (take i xs ++ x ∷ []) s w pairs) (sym is)
       (pairs-append (take i xs) x w found.items pair (pairs-later (take i xs) (λ y m. tightens y (among-take xs i y m)) v w tighter found.items before) one)))
-
-  pub stopped-pair : (xs : List X) (i : ℕ) (x : X) → i < length xs → x ≡ get_or xs i x → AreAmong (sought x).states (SomeStates sought xs)
-  stopped-pair xs i x here at_i p k may = (x, among-at xs i x here at_i, may)

@@ -1,5 +1,5 @@
 -- What a play loses over the pairs of all plays of its roll.
-use Rattle.std.proofs.Common.{◌≡◌, ◌≢◌, ◌↔◌, Contains, All, zero, suc, ◌^◌, Ok, Err, ◌<◌, ℕ, ℤ, pos, ◌*ℤ◌, ◌-ℤ◌, ◌≤ℤ◌, List, [], ◌∷◌, length, map, Bool, true, false, None, IsTrue, inl, inr, refl, subst, sym, arith}
+use Rattle.std.proofs.Common.{◌≡◌, ◌≢◌, All, zero, suc, ◌^◌, Ok, Err, ℕ, ℤ, pos, ◌*ℤ◌, ◌-ℤ◌, ◌≤ℤ◌, List, [], ◌∷◌, length, map, Bool, true, false, None, IsTrue, inl, inr, refl, subst, sym, arith}
 use Rattle.std.specs.Bool.{⊤}
 use Rattle.std.specs.Int.{int_max}
 use Rattle.arrayvec.specs.ArrayVec.{ArrayVec}
@@ -18,17 +18,17 @@ use Rattle.cube_actions.specs.Stakes.{Terms, kind_at, no_kind, IsValid}
 use Rattle.turn_rule.specs.Games.{game_of}
 use Rattle.turn_rule.specs.Turn.{Words, win}
 use Rattle.turn_rule.specs.States.{IsStateOf, IsState}
-use Rattle.turn_rule.specs.Looks.{Source, Notes, Damage, Looked, HasDamage, IsPairFor, AreStakesOf, IsLeft}
+use Rattle.turn_rule.specs.Looks.{Source, Notes, Damage, Looked, IsPairFor, AreStakesOf, IsLeft}
 use Rattle.turn_rule.specs.Found.{LeavesState, of_play}
 use Rattle.turn_rule.proofs.Within.{bound-positive, bound-small, win-within, next_state}
 use Rattle.turn_rule.proofs.Integers.{le_refl}
-use Rattle.turn_rule.proofs.Found.{AreAmong, notes-refl, then-ok, then-err}
+use Rattle.turn_rule.proofs.Found.{notes-refl, then-ok, then-err}
 use Rattle.game_record.specs.declared.decision.Choice.TheVariants.{Played}
 use Rattle.play_analyser.specs.Losses.{Options, ahead, loss}
 use Rattle.play_analyser.specs.Choices.{all_but, same_position}
 use Rattle.play_analyser.specs.Regrets.{play_pair, loss_of}
-use Rattle.play_analyser.specs.Sought.{MayFollowPlay, ArePairsFor, SomeStates, IsNear, of_loss}
-use Rattle.play_analyser.proofs.OtherPlays.{same-is, other-is, left-in, in-left}
+use Rattle.play_analyser.specs.Sought.{MayFollowPlay, AreOthersInOrder, ArePairsFor, IsNear, of_loss}
+use Rattle.play_analyser.proofs.OtherPlays.{others-exactly, same-is, other-is, left-in, in-left}
 use Rattle.play_analyser.proofs.LossLemmas.{both_ends}
 use Rattle.play_analyser.proofs.PairLists.{pair-later, play-tightens}
 use Rattle.play_analyser.proofs.LossPairs.{loss-pair, pair-floor, pair-notes, pair-within, pairs-floor, pairs-notes, pairs-within, pairs-right}
@@ -72,8 +72,8 @@ pub record AreOthers (p : Placement) (roll : Dice) (end : Placement) (others : L
   pub legal : (q : Placement) → Among q others → IsLegalEnd p roll q × (q ≢ end)
   pub all : (q : Placement) → IsLegalEnd p roll q → q ≢ end → Among q others
 
-pub others-are : (p : Placement) (roll : Dice) (end : Placement) (others : List Placement) → ((q : Placement) → Contains others q ↔ (IsLegalEnd p roll q × (q ≢ end))) → AreOthers p roll end others
-others-are p roll end others exactly = record {
+pub others-are : (p : Placement) (roll : Dice) (end : Placement) (others : List Placement) → AreOthersInOrder p roll end others → AreOthers p roll end others
+others-are p roll end others are = let exactly = others-exactly end p roll are.ends others are.in_order.legal are.are in record {
   legal = λ q m. (exactly q).0 (Among-Contains q others m);
   all = λ q legal apart. Contains-Among q others ((exactly q).1 (legal, apart));
 }
@@ -95,15 +95,11 @@ asked-nothing s u a meant right x is = record { later = omega arith; notes = not
 
 -- the first look-up stopped
 pub first-err : {A B : Type 0} (s : Source) (u v : Notes) (a b : ℕ) (meant meant' : Damage → Type 0) (right : A → Type 0) (right' : B → Type 0) (stop : LookStop) → Looked s u v a b meant right (Err stop) → ((damage : Damage) → meant damage → meant' damage) → Looked s u v a b meant' right' (Err stop)
-first-err s u v a b meant meant' right right' stop looked within = then-err s u u v a a b meant' meant meant' (λ (x : Unit {0}). ⊤) right right' tt stop (nothing-looked s u a meant') looked within
+first-err s u v a b meant meant' right right' stop looked within = then-err s u u v a a b meant' meant meant' (λ (x : Unit {0}). ⊤) right right' tt stop (nothing-looked s u a meant') looked (λ damage told. within damage)
 
 pub no-others : (xs : List Placement) → length xs ≡ 0 → xs ≡ []
 no-others [] h = refl
 no-others (x ∷ xs) h = absurd (omega arith)
-
-some-first : (xs : List Placement) → 0 < length xs → (q : Placement) × Among q xs
-some-first [] h = absurd (omega arith)
-some-first (x ∷ xs) h = (x, inl refl)
 
 -- the play and the others over words
 abbrev pub plays_over : Terms → ℕ → Placement → List Placement → Words → Options Bounds
@@ -156,15 +152,6 @@ module _ (s : Source) (stakes : Terms) (valid : IsValid stakes) (fits : AreStake
   near-plays qs w pairs rest = all-of IsNear pairs (λ pair m. source-near pair (pairs-within s (of_play (kind_at stakes k)) w (pos 4 *ℤ s.bound) qs (λ q n. once) pairs rest pair m))
 
   module _ (roll : Dice) (end : Placement) (others : List Placement) (are : AreOthers p roll end others) where
-    -- a state that the chosen play leaves, or another
-    pub chosen-follows : IsLegalEnd p roll end → 0 < length others → AreAmong (IsLeft (kind_at stakes k).next end) (MayFollowPlay stakes p k roll end)
-    chosen-follows legal some q j left =
-        let first = some-first others some in
-        record { other = first.0; allowed = (are.legal first.0 first.1).0; differs = (are.legal first.0 first.1).1; end = end; legal = legal; left = left }
-
-    pub others-follow : AreAmong (SomeStates (of_play (kind_at stakes k)) others) (MayFollowPlay stakes p k roll end)
-    others-follow q j may = record { other = may.0; allowed = (are.legal may.0 may.1).0; differs = (are.legal may.0 may.1).1; end = may.0; legal = (are.legal may.0 may.1).0; left = may.2 }
-
     module _ (w : Notes) (chosen : Bounds) (pairs : List Bounds) (one : IsPairFor (of_play (kind_at stakes k) end) s w chosen) (rest : ArePairsFor (of_play (kind_at stakes k)) others s w pairs) where
       right : IsTrue w.told → (q : Placement) (j : ℕ) → MayFollowPlay stakes p k roll end q j → s.damage q j ≡ None
       right told q j may = by_same (same_position may.end end) refl where
@@ -181,10 +168,10 @@ module _ (s : Source) (stakes : Terms) (valid : IsValid stakes) (fits : AreStake
           (λ told. record { chosen = pair-notes s (of_play kind end) w chosen one told; others = pairs-notes s (of_play kind) w told others pairs rest })
           right
 
-    pub play-losses : IsLegalEnd p roll end → IsRoll roll → (u v w : Notes) (a b c : ℕ) (chosen : Bounds) (found : ArrayVec Bounds) (now : Bounds) → now ≡ loss (record { chosen = chosen; others = found.items })
-        → Looked s u v a b (HasDamage s (IsLeft (kind_at stakes k).next end)) (IsPairFor (of_play (kind_at stakes k) end) s v) (Ok chosen)
-        → Looked s v w b c (HasDamage s (SomeStates (of_play (kind_at stakes k)) others)) (λ (f : ArrayVec Bounds). ArePairsFor (of_play (kind_at stakes k)) others s w f.items) (Ok found)
-        → Looked s u w a c (HasDamage s (MayFollowPlay stakes p k roll end)) (IsPairFor (of_loss stakes p k (Played roll end)) s w) (Ok now)
+    pub play-losses : {m m' m'' : Damage → Type 0} → IsLegalEnd p roll end → IsRoll roll → (u v w : Notes) (a b c : ℕ) (chosen : Bounds) (found : ArrayVec Bounds) (now : Bounds) → now ≡ loss (record { chosen = chosen; others = found.items })
+        → Looked s u v a b m (IsPairFor (of_play (kind_at stakes k) end) s v) (Ok chosen)
+        → Looked s v w b c m' (λ (f : ArrayVec Bounds). ArePairsFor (of_play (kind_at stakes k)) others s w f.items) (Ok found)
+        → Looked s u w a c m'' (IsPairFor (of_loss stakes p k (Played roll end)) s w) (Ok now)
     play-losses legal is_roll u v w a b c chosen found now is first second =
         then-ok s u v w a b c _ _ _ _ _ _ chosen found now first second
         (λ tighter one rest.

@@ -1,6 +1,6 @@
 ghost use Rattle.std.specs.Prelude.{◌≡◌, ◌≤◌, All, drop, length};
 ghost use Rattle.std.specs.Option.{option_to_list};
-ghost use Rattle.turn_rule.specs.Looks.{AreStakesOf, HasDamage, IsSourceState, LooksUp, MayFollowTurn};
+ghost use Rattle.turn_rule.specs.Looks.{AreStakesOf, IsSourceState, LooksUp, MeetsOnTurn};
 ghost use Rattle.play_analyser.specs.Advice.{
   IsAction,
   IsBestAnswer,
@@ -131,7 +131,7 @@ pub fn cube_advice_of<P: Pairs>(
     requires stakes { AreStakesOf (P.seen pairs.old).source stakes.now }
     requires state { IsSourceState (P.seen pairs.old).source ends.now kind }
     ensures looked { LooksUp (P.seen pairs.old) (P.seen pairs.new)
-        (HasDamage (P.seen pairs.old).source (MayFollowTurn stakes.now ends.now kind))
+        (MeetsOnTurn stakes.now ends.now kind (P.seen pairs.old).source)
         (IsCubeAdvice stakes.now ends.now kind
         (P.seen pairs.old).source (P.seen pairs.new).notes) result }
     ensures source { (P.seen pairs.new).source ≡ (P.seen pairs.old).source }
@@ -169,7 +169,7 @@ pub fn cube_advice<P: Pairs>(
     requires stakes { AreStakesOf (P.seen pairs.old).source stakes.now }
     requires state { IsSourceState (P.seen pairs.old).source position.now kind }
     ensures looked { LooksUp (P.seen pairs.old) (P.seen pairs.new)
-        (HasDamage (P.seen pairs.old).source (MayFollowTurn stakes.now position.now kind))
+        (MeetsOnTurn stakes.now position.now kind (P.seen pairs.old).source)
         (IsCubeAdvice stakes.now position.now kind
         (P.seen pairs.old).source (P.seen pairs.new).notes) result }
     ensures source { (P.seen pairs.new).source ≡ (P.seen pairs.old).source }

@@ -2,11 +2,11 @@ ghost use Rattle.std.specs.Prelude.{◌≡◌, ◌<◌, ◌≤◌, ℕ, All, len
 ghost use Rattle.std.specs.Int.{int_min};
 ghost use Rattle.directed_fixed.specs.Bounds.{negated};
 ghost use Rattle.cube_actions.specs.Stakes.{IsRightDouble, IsValid};
-ghost use Rattle.turn_rule.specs.Looks.{AreStakesOf, IsSourceState, LooksUp, HasDamage};
+ghost use Rattle.turn_rule.specs.Looks.{AreStakesOf, IsSourceState, LooksUp, MeetsOnAnswers};
 ghost use Rattle.game_record.specs.declared.decision.Answer.TheVariants.{Take};
 ghost use Rattle.play_analyser.specs.Losses.{loss, least_pair};
 ghost use Rattle.play_analyser.specs.Choices.{IsAmongAnswers, answer_options, offer_options};
-ghost use Rattle.play_analyser.specs.Sought.{ArePairsFor, IsNear, SomeStates, of_answer};
+ghost use Rattle.play_analyser.specs.Sought.{ArePairsFor, IsNear, of_answer};
 
 use crate::among::loss_among;
 use arrayvec::ArrayVec;
@@ -29,8 +29,7 @@ pub(crate) fn answer_pairs<P: Pairs>(
         → IsSourceState (P.seen pairs.old).source ends.now k }
     requires right { IsRightDouble stakes.now double.now }
     ensures looked { LooksUp (P.seen pairs.old) (P.seen pairs.new)
-        (HasDamage (P.seen pairs.old).source
-        (SomeStates (of_answer stakes.now ends.now) double.now.answers.items))
+        (MeetsOnAnswers stakes.now ends.now double.now.answers.items (P.seen pairs.old).source)
         (λ found. ArePairsFor (of_answer stakes.now ends.now) double.now.answers.items
         (P.seen pairs.old).source (P.seen pairs.new).notes found.items) result }
     ensures source { (P.seen pairs.new).source ≡ (P.seen pairs.old).source }

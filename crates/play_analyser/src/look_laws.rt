@@ -15,11 +15,13 @@ ghost use Rattle.turn_rule.specs.Following.{AgreeOn};
 ghost use Rattle.turn_rule.specs.Found.{of_play};
 ghost use Rattle.turn_rule.specs.Looks.{
   FindsPair,
-  HasDamage,
   IsLeft,
   IsPairFor,
   LooksUp,
+  MayFollowRoll,
   MayFollowTurn,
+  MeetsOnRoll,
+  MeetsOnTurn,
   Notes,
   Seen,
   Source,
@@ -30,7 +32,7 @@ ghost use Rattle.play_analyser.specs.declared.ranking.Ranking.{Ranking};
 ghost use Rattle.play_analyser.specs.Advice.{IsCubeAdvice, IsCubeAdviceOver};
 ghost use Rattle.play_analyser.specs.Advised.{ActionLosesAtMost, AreTrueWords, FirstLosesAtMost};
 ghost use Rattle.play_analyser.specs.Choices.{IsChoice};
-ghost use Rattle.play_analyser.specs.Rankings.{IsRanking, IsRankingOver, MayFollowRoll};
+ghost use Rattle.play_analyser.specs.Rankings.{IsRanking, IsRankingOver};
 ghost use Rattle.play_analyser.specs.Regrets.{counted_over, loss_of, play_pair, regret_of};
 ghost use Rattle.play_analyser.specs.Sought.{MayFollowChoice, of_loss};
 
@@ -85,12 +87,12 @@ pub fn sure_sources_advise()
     ensures ranking { (old new : Seen) (stakes : Terms) (p : Placement) (k : ℕ) (roll : Dice)
         (result : Result Ranking LookStop)
         → IsTrue old.source.sure → LooksUp old new
-        (HasDamage old.source (MayFollowRoll stakes p k roll))
+        (MeetsOnRoll stakes p k roll old.source)
         (IsRanking stakes p k roll old.source new.notes) result → IsOk result }
     ensures advice { (old new : Seen) (stakes : Terms) (p : Placement) (k : ℕ)
         (result : Result CubeAdvice LookStop)
         → IsTrue old.source.sure → LooksUp old new
-        (HasDamage old.source (MayFollowTurn stakes p k))
+        (MeetsOnTurn stakes p k old.source)
         (IsCubeAdvice stakes p k old.source new.notes) result → IsOk result }
 {}
 

@@ -1,4 +1,4 @@
-ghost use Rattle.std.specs.Prelude.{◌≡◌, ◌≢◌, ◌<◌, ◌↔◌, ℕ, pos, ◌≤ℤ◌, Contains, IfOk, Some};
+ghost use Rattle.std.specs.Prelude.{◌≡◌, ◌<◌, pos, ◌≤ℤ◌, IfOk, Some};
 ghost use Rattle.position_rank.specs.Placement.{Placement};
 ghost use Rattle.roll_table.specs.Rolls.{IsRoll};
 ghost use Rattle.move_rules.specs.Sequences.{IsLegalEnd};
@@ -6,7 +6,7 @@ ghost use Rattle.cube_actions.specs.Stakes.{kind_at, IsValid};
 ghost use Rattle.turn_rule.specs.Looks.{AreStakesOf, IsSourceState, FindsPair};
 ghost use Rattle.game_record.specs.declared.decision.Choice.TheVariants.{Played, Offered, Answered};
 ghost use Rattle.play_analyser.specs.Choices.{IsChoice, HasAnswer};
-ghost use Rattle.play_analyser.specs.Sought.{of_loss};
+ghost use Rattle.play_analyser.specs.Sought.{AreOthersInOrder, of_loss};
 
 use crate::among::loss_among;
 use crate::answers::{answer_loss, answer_pairs, doubled_pair, offer_loss};
@@ -23,8 +23,7 @@ use turn_rule::{Pairs, RollEnds};
 
 /// What else a roll allows than a play that leaves this.
 fn other_ends(position: &Position, roll: Roll, end: &Position) -> ArrayVec<Position, MOST_PLAYS>
-    ensures { (q : Placement) → Contains result.items q
-        ↔ (IsLegalEnd position.now roll q × (q ≢ end.now)) }
+    ensures { AreOthersInOrder position.now roll end.now result.items }
 {
     let mut list = PlayList::new();
     plays(position, roll, &mut list);

@@ -6,10 +6,10 @@ ghost use Rattle.move_rules.specs.declared.play.TheConstants.{MOST_PLAYS};
 ghost use Rattle.game_payoff.specs.declared.payoff.Won.{Won};
 ghost use Rattle.directed_fixed.specs.Bounds.{IsWithin};
 ghost use Rattle.turn_rule.specs.Turn.{win};
-ghost use Rattle.turn_rule.specs.Looks.{FindsPair, LooksUp, HasDamage};
+ghost use Rattle.turn_rule.specs.Looks.{FindsPair, LooksUp};
 ghost use Rattle.turn_rule.specs.Found.{Finds, LeavesState, of_play};
 ghost use Rattle.play_analyser.specs.Choices.{all_but, same_position};
-ghost use Rattle.play_analyser.specs.Sought.{ArePairsFor, SomeStates};
+ghost use Rattle.play_analyser.specs.Sought.{ArePairsFor, MeetsSome};
 
 use arrayvec::ArrayVec;
 use cube_actions::Kind;
@@ -84,7 +84,7 @@ pub(crate) fn play_pairs<P: Pairs>(
     requires states { All (LeavesState (P.seen pairs.old).source kind.now.next) ends.now }
     requires wins { (won : Won) → IsWithin (P.seen pairs.old).source.bound (win kind.now won) }
     ensures looked { LooksUp (P.seen pairs.old) (P.seen pairs.new)
-        (HasDamage (P.seen pairs.old).source (SomeStates (of_play kind.now) ends.now))
+        (MeetsSome (of_play kind.now) ends.now (P.seen pairs.old).source)
         (λ found. ArePairsFor (of_play kind.now) ends.now
         (P.seen pairs.old).source (P.seen pairs.new).notes found.items) result }
     ensures source { (P.seen pairs.new).source ≡ (P.seen pairs.old).source }

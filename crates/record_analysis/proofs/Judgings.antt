@@ -1,5 +1,5 @@
 -- Decisions that are judged one after another.
-use Rattle.std.proofs.Common.{◌≡◌, ◌<◌, ◌+◌, ◌++◌, ◌∙◌, ℕ, zero, suc, List, [], ◌∷◌, length, take, drop, set, get_or, All, Option, None, Some, IsSomeAnd, ap, sym, subst, refl, arith}
+use Rattle.std.proofs.Common.{◌≡◌, ◌<◌, ◌+◌, ◌++◌, ◌∙◌, ℕ, zero, suc, List, [], ◌∷◌, length, take, drop, set, get_or, All, Option, None, Some, IsSomeAnd, IsTrue, inl, inr, ap, sym, subst, refl, arith}
 use Rattle.std.proofs.lemmas.List.{take_more, take_more_set}
 use Rattle.std.proofs.lemmas.List.Elements.{AllZip-push, All-head, All-tail, All-take}
 use Rattle.position_rank.specs.Placement.{Placement}
@@ -12,15 +12,16 @@ use Rattle.game_record.specs.declared.decision.Choice.{Choice}
 use Rattle.turn_rule.specs.Games.{IsGame, game_of}
 use Rattle.turn_rule.specs.Turn.{Words}
 use Rattle.turn_rule.specs.States.{IsStateOf, IsState, AreNoLooserOf, AreNoLooser}
-use Rattle.turn_rule.specs.Looks.{Source, Notes, Sought, AreLater, AreStakesOf, IsPairFor}
+use Rattle.turn_rule.specs.Looks.{Source, Notes, Sought, AreLater, AreUndamaged, AreStakesOf, IsPairFor}
 use Rattle.turn_rule.proofs.Monotone.{same-stakes}
 use Rattle.play_analyser.specs.Choices.{IsChoice}
 use Rattle.play_analyser.specs.Regrets.{loss_of}
-use Rattle.play_analyser.specs.Sought.{of_loss}
+use Rattle.move_rules.specs.Listing.{Among}
+use Rattle.play_analyser.specs.Sought.{MayFollowChoice, of_loss}
 use Rattle.turn_rule.proofs.Tight.{tight-trans}
 use Rattle.play_analyser.proofs.Tighter.{loss-of-tighter}
 use Rattle.record_analysis.specs.declared.analysis.Judged.{Judged}
-use Rattle.record_analysis.specs.Judging.{CanBeJudged, IsAt, Judges, JudgesAll, JudgesSome, of_decision}
+use Rattle.record_analysis.specs.Judging.{CanBeJudged, IsAt, Judges, JudgesAll, JudgesSome, MayFollowOne, of_decision}
 
 -- the item at the front of what is left is the one at its place
 pub rest-at : (olds news : List Judged) (i : ℕ) (d : Judged) → i < length olds → i < length news → drop i news ≡ drop i olds → get_or olds i d ≡ get_or news i d
@@ -111,3 +112,15 @@ module _ (s : Source) (stakes : Terms) (valid : IsValid stakes) (fits : AreStake
         → JudgesAll score stakes s u (take i olds) (take i news) → JudgesSome score stakes s v olds news
     judges-some u v tighter olds news i can rest before =
         (i, record { judged = all-later u v tighter (take i olds) (take i news) (All-take (λ (judged : Judged). IsAt score judged → CanBeJudged s stakes judged.decision) i olds can) before; rest = rest })
+
+    -- no state is damaged on which a decision rests that was judged
+    pub judged-undamaged : (u : Notes) → IsTrue u.told → (olds news : List Judged) → JudgesAll score stakes s u olds news → (old : Judged) → Among old olds → AreUndamaged s (MayFollowOne score stakes old)
+    judged-undamaged u told [] news are old m q j may = absurd m
+    judged-undamaged u told (first ∷ olds) [] are old m q j may = absurd are
+    judged-undamaged u told (first ∷ olds) (new ∷ news) are old (inl is) q j may =
+        let same = subst (λ (x : Judged). MayFollowOne score stakes x q j) is may in
+        right new.loss (are.0.judged same.at) same.follows where
+          right : (loss : Option Bounds) → IsSomeAnd loss (IsPairFor (of_decision stakes first.decision) s u) → MayFollowChoice stakes first.decision.position first.decision.kind first.decision.choice q j → s.damage q j ≡ None
+          right None some follows = absurd some
+          right (Some pair) some follows = some.right told q j follows
+    judged-undamaged u told (first ∷ olds) (new ∷ news) are old (inr m) q j may = judged-undamaged u told olds news are.1 old m q j may

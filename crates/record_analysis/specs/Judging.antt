@@ -5,9 +5,9 @@ use Rattle.position_rank.specs.Placement.{Placement}
 use Rattle.cube_actions.specs.Scores.{MatchScore}
 use Rattle.cube_actions.specs.Stakes.{Terms}
 use Rattle.game_record.specs.declared.decision.Decision.{Decision}
-use Rattle.turn_rule.specs.Looks.{Source, Notes, Sought, IsSourceState, IsPairFor}
+use Rattle.turn_rule.specs.Looks.{Source, Damage, Notes, Sought, Meets, MeetsFirst, IsSourceState, IsPairFor}
 use Rattle.play_analyser.specs.Choices.{IsChoice}
-use Rattle.play_analyser.specs.Sought.{MayFollowChoice, of_loss}
+use Rattle.play_analyser.specs.Sought.{MayFollowChoice, MeetsOnChoice, of_loss}
 use Rattle.record_analysis.specs.declared.analysis.Judged.{Judged}
 
 -- what a decision loses, as it is sought from words
@@ -54,6 +54,18 @@ pub record MayFollowOne (score : Option MatchScore) (stakes : Terms) (judged : J
   pub at : IsAt score judged
   pub follows : MayFollowChoice stakes judged.decision.position judged.decision.kind
       judged.decision.choice q j
+
+-- the damage that is met first where it is sought what a decision at the score loses
+pub record MeetsOnDecision (score : Option MatchScore) (stakes : Terms) (judged : Judged)
+    (source : Source) (damage : Damage) : Type 0 where
+  pub at : IsAt score judged
+  pub meets : MeetsOnChoice stakes judged.decision.position judged.decision.kind
+      judged.decision.choice source damage
+
+-- the damage that is met first at the decisions at the score, as they were recorded
+abbrev pub MeetsOnDecisions : Option MatchScore → Terms → List Judged → Meets
+MeetsOnDecisions score stakes =
+    MeetsFirst (MayFollowOne score stakes) (MeetsOnDecision score stakes)
 
 -- a state on which it rests what one of the decisions at the score loses
 pub record MayFollowSome (score : Option MatchScore) (stakes : Terms) (list : List Judged)

@@ -1,6 +1,6 @@
 ghost use Rattle.std.specs.Prelude.{◌≡◌, ◌↔◌, All, IfOk, IsTrue, OnErr};
 ghost use Rattle.cube_actions.specs.Stakes.{IsValid};
-ghost use Rattle.turn_rule.specs.Looks.{AreStakesOf, HasDamage, LooksUp};
+ghost use Rattle.turn_rule.specs.Looks.{AreStakesOf, LooksUp};
 ghost use Rattle.record_analysis.specs.Analyses.{IsSmall};
 ghost use Rattle.record_analysis.specs.Judging.{
   CanBeJudged,
@@ -8,8 +8,8 @@ ghost use Rattle.record_analysis.specs.Judging.{
   Judges,
   JudgesAll,
   JudgesSome,
-  MayFollowOne,
-  MayFollowSome,
+  MeetsOnDecision,
+  MeetsOnDecisions,
 };
 
 use crate::analysis::{Analysis, Judged};
@@ -39,7 +39,7 @@ fn judged_by<P: Pairs>(
         → CanBeJudged (P.seen pairs.old).source stakes.now judged.now.decision }
     requires small { IsSmall judged.now }
     ensures looked { LooksUp (P.seen pairs.old) (P.seen pairs.new)
-        (HasDamage (P.seen pairs.old).source (MayFollowOne score stakes.now judged.now))
+        (MeetsOnDecision score stakes.now judged.now (P.seen pairs.old).source)
         (Judges score stakes.now (P.seen pairs.old).source (P.seen pairs.new).notes judged.now)
         result }
     ensures small { IfOk result IsSmall }
@@ -71,7 +71,7 @@ fn judge_list<P: Pairs>(
         → CanBeJudged (P.seen pairs.old).source stakes.now judged.decision) list.old }
     requires small { All IsSmall list.old }
     ensures looked { LooksUp (P.seen pairs.old) (P.seen pairs.new)
-        (HasDamage (P.seen pairs.old).source (MayFollowSome score stakes.now list.old))
+        (MeetsOnDecisions score stakes.now list.old (P.seen pairs.old).source)
         (λ _. JudgesAll score stakes.now (P.seen pairs.old).source (P.seen pairs.new).notes
         list.old list.new) result }
     ensures stopped { OnErr result (JudgesSome score stakes.now
@@ -105,7 +105,7 @@ impl Analysis {
         requires can { All (λ judged. IsAt score judged
             → CanBeJudged (P.seen pairs.old).source stakes.now judged.decision) self.old }
         ensures looked { LooksUp (P.seen pairs.old) (P.seen pairs.new)
-            (HasDamage (P.seen pairs.old).source (MayFollowSome score stakes.now self.old))
+            (MeetsOnDecisions score stakes.now self.old (P.seen pairs.old).source)
             (λ _. JudgesAll score stakes.now (P.seen pairs.old).source (P.seen pairs.new).notes
             self.old self.new) result }
         ensures stopped { OnErr result (JudgesSome score stakes.now

@@ -12,12 +12,12 @@ ghost use Rattle.hyper_outside.specs.declared.outside.LookStop.{LookStop};
 ghost use Rattle.turn_rule.specs.declared.game.Game.{Game};
 ghost use Rattle.turn_rule.specs.Following.{AgreeOn};
 ghost use Rattle.turn_rule.specs.Games.{IsGame};
-ghost use Rattle.turn_rule.specs.Looks.{AreStakesOf, HasDamage, LooksUp, Notes, Seen, Source};
+ghost use Rattle.turn_rule.specs.Looks.{AreStakesOf, LooksUp, Notes, Seen, Source};
 ghost use Rattle.turn_rule.specs.States.{AreNoLooser};
 ghost use Rattle.turn_rule.specs.Truth.{AreNoLooserStakes, AreSound, AreSoundFrom};
 ghost use Rattle.turn_rule.specs.Turn.{Words};
 ghost use Rattle.record_analysis.specs.Analyses.{analysis_of, unjudged};
-ghost use Rattle.record_analysis.specs.Judging.{CanBeJudged, JudgesAll, MayFollowSome};
+ghost use Rattle.record_analysis.specs.Judging.{CanBeJudged, JudgesAll, MayFollowSome, MeetsOnDecisions};
 ghost use Rattle.record_analysis.specs.Totals.{IsNoLooserTotal, losses_by, total_of};
 ghost use Rattle.record_analysis.specs.Truth.{
   EncloseLosses,
@@ -58,7 +58,7 @@ pub fn sure_sources_judge()
     ensures { (old new : Seen) (score : Option MatchScore) (stakes : Terms)
         (before after : List Judged) (result : Result (Unit {0}) LookStop)
         → IsTrue old.source.sure
-        → LooksUp old new (HasDamage old.source (MayFollowSome score stakes before))
+        → LooksUp old new (MeetsOnDecisions score stakes before old.source)
         (λ _. JudgesAll score stakes old.source new.notes before after) result → IsOk result }
 {}
 

@@ -1,10 +1,11 @@
 -- What a file of bounds that is to be of a game answers.
-use Rattle.std.proofs.Common.{◌≡◌, ◌∙◌, ◌≤ℤ◌, ℕ, zero, suc, List, [], ◌∷◌, take, drop, All, Contains, IfOk, OnErr, IsSomeAnd, Option, Some, None, Result, Ok, Err, inl, inr, refl, sym, ap, subst, arith}
+use Rattle.std.proofs.Common.{◌≡◌, ◌∙◌, ◌≤ℤ◌, ℕ, zero, suc, List, [], ◌∷◌, take, drop, map, All, Contains, IfOk, OnErr, IsSomeAnd, Option, Some, None, Result, Ok, Err, inl, inr, refl, sym, ap, subst, arith}
 use Rattle.std.specs.List.{AllZip}
 use Rattle.std.specs.Option.{option_map}
 use Rattle.std.proofs.lemmas.List.{get_or-map, length-map}
 use Rattle.std.proofs.lemmas.List.Elements.{All-head, All-tail}
 use Rattle.position_rank.specs.Placement.{Placement}
+use Rattle.move_rules.proofs.Members.{Among-Contains, Contains-Among}
 use Rattle.directed_fixed.specs.declared.bounds.End.{End}
 use Rattle.directed_fixed.specs.Bounds.{Bounds}
 use Rattle.hyper_outside.specs.declared.outside.LookStop.{LookStop}
@@ -14,12 +15,13 @@ use Rattle.cube_actions.specs.Stakes.{Terms, bound_of}
 use Rattle.cube_actions.specs.declared.name.StakesName.{StakesName}
 use Rattle.game_record.specs.declared.decision.Decision.{Decision}
 use Rattle.turn_rule.specs.Games.{IsGame}
-use Rattle.turn_rule.specs.Looks.{AreStakesOf, HasDamage, IsPairFor, Notes, Source}
+use Rattle.turn_rule.specs.Looks.{AreStakesOf, Damage, IsPairFor, Notes, Source}
 use Rattle.turn_rule.specs.Turn.{Words}
 use Rattle.play_analyser.specs.Regrets.{loss_of}
 use Rattle.play_analyser.specs.Sought.{MayFollowChoice}
-use Rattle.record_analysis.specs.Analyses.{lost}
-use Rattle.record_analysis.specs.Judging.{IsAt, Judges, JudgesAll, JudgesSome, MayFollowSome, of_decision}
+use Rattle.play_analyser.proofs.MetFirst.{met-on_choice}
+use Rattle.record_analysis.specs.Analyses.{lost, unjudged}
+use Rattle.record_analysis.specs.Judging.{IsAt, Judges, JudgesAll, JudgesSome, MeetsOnDecision, MeetsOnDecisions, of_decision}
 use Rattle.record_analysis.specs.Truth.{IsDecisionOf}
 use Rattle.record_analysis.specs.declared.analysis.Judged.{Judged}
 use Rattle.record_study.specs.Keeping.{decisions_in}
@@ -136,6 +138,19 @@ module _ (law : LossLaw) (wanted : GameName) (bytes : List ℕ) (opened : IsOpen
         other = λ apart. (let loss = is.other apart in λ i. record { decision = is.decision i; loss = loss i });
       }
 
+module _ (s : Source) (damage : Damage) (score : Option MatchScore) (stakes : Terms) where
+  -- the decision at which it is met
+  met-one : (list : List Judged) → MeetsOnDecisions score stakes list s damage → (judged : Judged) × Contains list judged × MeetsOnDecision score stakes judged s damage
+  met-one [] met = absurd met
+  met-one (one ∷ list) (inl met) = (one, Among-Contains one (one ∷ list) (inl refl), met)
+  met-one (one ∷ list) (inr (clear, met)) = let (judged, among, at) = met-one list met in (judged, Among-Contains judged (one ∷ list) (inr (Contains-Among judged list among)), at)
+
+  -- it is met at a decision whatever was judged of it
+  met-unjudged : (list : List Judged) → MeetsOnDecisions score stakes list s damage → MeetsOnDecisions score stakes (map unjudged (decisions_in list)) s damage
+  met-unjudged [] met = absurd met
+  met-unjudged (one ∷ list) (inl met) = inl (record { at = met.at; meets = met.meets })
+  met-unjudged (one ∷ list) (inr (clear, met)) = inr (λ q j may. clear q j (record { at = may.at; follows = may.follows }), met-unjudged list met)
+
 module _ (law : LossLaw) (wanted : GameName) (name : List ℕ) (base : PagedFile) (score : Option MatchScore) (olds news : List Judged) where
   pub file-judged : (held : Option (List ℕ)) → Opened wanted base held → All (λ (one : Judged). IsAt score one → IsDecisionOf (game_in base.head) one.decision) olds
       → AnswersLooking base held score olds news (Ok tt) → OfHeld held (JudgesList wanted score olds news)
@@ -155,13 +170,15 @@ module _ (law : LossLaw) (wanted : GameName) (name : List ℕ) (base : PagedFile
   file-not-judged looks.NoMemory held opened told = inl (inl tt)
   file-not-judged (looks.BadPage fault at) None opened told = absurd opened
   file-not-judged (looks.BadPage fault at) (Some bytes) (opened, is) told =
-      let one = subst (λ (h : Header). HasDamage (paged_source h (Some bytes)) (MayFollowSome score (stakes_of base.head) olds) (record { fault = fault; at = at })) is.header told in
-      let damage = subst (λ (h : FileHead). HasDamage (source_in bytes) (MayFollowSome score (stakes_of h) olds) (record { fault = fault; at = at })) is.head one in
-      let may = damage.among in
-      let own : HasDamage (source_in bytes) (MayFollowIn bytes may.judged.decision) (record { fault = fault; at = at }) = record { position = damage.position; kind = damage.kind; among = may.one.follows; damaged = damage.damaged } in
+      let damage : Damage = record { fault = fault; at = at } in
+      let one = subst (λ (h : Header). MeetsOnDecisions score (stakes_of base.head) olds (paged_source h (Some bytes)) damage) is.header told in
+      let met = subst (λ (h : FileHead). MeetsOnDecisions score (stakes_of h) olds (source_in bytes) damage) is.head one in
+      let (judged, among, at_one) = met-one (source_in bytes) damage score (stakes_of (head_of bytes)) olds met in
+      let own = met-on_choice (source_in bytes) damage (stakes_of (head_of bytes)) judged.decision.position judged.decision.kind judged.decision.choice at_one.meets in
       inr (record {
-        decision = may.judged.decision;
-        among = among-decisions olds may.judged may.among;
-        at = may.one.at;
-        cause = record { file = opened.file; page = bad-page bytes (MayFollowIn bytes may.judged.decision) (record { fault = fault; at = at }) own };
+        decision = judged.decision;
+        among = among-decisions olds judged among;
+        at = at_one.at;
+        cause = record { file = opened.file; page = bad-page bytes (MayFollowIn bytes judged.decision) damage own };
+        first = record { damage = damage; met = met-unjudged (source_in bytes) damage score (stakes_of (head_of bytes)) olds met; told = refl };
       })

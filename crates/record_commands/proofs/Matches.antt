@@ -4,7 +4,7 @@ use Rattle.std.specs.List.{AllZip}
 use Rattle.std.proofs.lemmas.Bool.{cases_lt}
 use Rattle.std.proofs.lemmas.Bool.Decides.{nat_tests}
 use Rattle.std.proofs.lemmas.List.{get_or-map}
-use Rattle.std.proofs.lemmas.List.Elements.{All-head, All-tail}
+use Rattle.std.proofs.lemmas.List.Elements.{All-head, All-map, All-tail}
 use Rattle.outside_log.specs.Files.{Contents}
 use Rattle.cube_actions.specs.Scores.{MatchScore, same_phase, same_score}
 use Rattle.cube_actions.specs.declared.phase.Phase.{Phase}
@@ -18,10 +18,10 @@ use Rattle.record_study.proofs.AtScore.{zipped-all}
 use Rattle.record_study.proofs.Matches.{if-given, some-given}
 use Rattle.database_file.specs.PagedFiles.{PagedFile}
 use Rattle.equity_report.specs.declared.refusal.Refusal.{Refusal}
-use Rattle.run_endings.specs.Pages.{OfHeld}
+use Rattle.run_endings.specs.Pages.{AreOnRightPages, OfHeld}
 use Rattle.run_endings.specs.Scores.{score_file}
-use Rattle.record_commands.specs.ByFile.{IsBadFor, IsFileOf, JudgesAt, JudgesList, JudgesOne, RefusesFile, RefusesFront}
-use Rattle.record_commands.specs.MatchAnalyses.{HasFile, HasNoNewScore, IsJudgedByFile, RefusesMatch, game_at, score_there}
+use Rattle.record_commands.specs.ByFile.{IsBadFor, IsFileOf, JudgesAt, JudgesList, JudgesOne, MayFollowIn, RefusesFile, RefusesFront, TellsFirstJudging}
+use Rattle.record_commands.specs.MatchAnalyses.{HasFile, HasNoNewScore, RestsOnRightPages, IsJudgedByFile, RefusesMatch, game_at, score_there}
 use Rattle.record_commands.proofs.ByFile.{Opened}
 use Rattle.record_commands.proofs.Recorded.{each-decision}
 
@@ -147,10 +147,23 @@ module _ (prefix : List ℕ) (rec : RecordRead) (held : Contents) where
   pub all-judged : (list : List Judged) → All (λ (decision : Decision). AreJudged list decision.score) (decisions_in list) → All (IsJudgedByFile prefix rec held) list
   all-judged list all i d below = each-decision (λ (decision : Decision). AreJudged list decision.score) list all i d below i d below refl
 
+  -- the pages are right on which the decisions rest that were judged at a score
+  pub judged-pages : (list : List Judged) (score : Option MatchScore) → AreJudged list score → RestsOnRightPages prefix held (decisions_in list) score
+  judged-pages list None judged = tt
+  judged-pages list (Some score) judged = by_held (held (score_file prefix score)) refl where
+    by_held : (file : Option (List ℕ)) → held (score_file prefix score) ≡ file → IfSome file (λ bytes. All (λ (decision : Decision). decision.score ≡ Some score → AreOnRightPages bytes (MayFollowIn bytes decision)) (decisions_in list))
+    by_held None is = tt
+    by_held (Some bytes) is =
+        All-map (λ (decision : Decision). decision.score ≡ Some score → AreOnRightPages bytes (MayFollowIn bytes decision)) (λ (one : Judged). one.decision) list (λ i d below at.
+        let one = get_or list i d in
+        let there = subst (λ (o : Option MatchScore). IfSome o (λ s. OfHeld (held (score_file prefix s)) (λ b. JudgesOne (game_at rec s) b one))) at (judged i d below at) in
+        (subst (λ (f : Option (List ℕ)). OfHeld f (λ b. JudgesOne (game_at rec score) b one)) is there).pages)
+
   -- what refuses the file of a decision's score refuses the match
   pub refused-at : (decisions : List Decision) (refusal : Refusal) → All (λ (decision : Decision). HasFile prefix rec held decision.score) decisions → (place : ℕ)
+      → ((earlier : ℕ) → earlier < place → RestsOnRightPages prefix held decisions (score_there decisions earlier))
       → IsSomeAnd (score_there decisions place) (λ score. RefusesFile (game_at rec score) (score_file prefix score) (Some score) decisions refusal (held (score_file prefix score))) → RefusesMatch prefix rec decisions refusal held
-  refused-at decisions refusal fronts place cause = by_score (score_there decisions place) refl cause where
+  refused-at decisions refusal fronts place before cause = by_score (score_there decisions place) refl cause where
     by_score : (o : Option MatchScore) → score_there decisions place ≡ o → IsSomeAnd o (λ score. RefusesFile (game_at rec score) (score_file prefix score) (Some score) decisions refusal (held (score_file prefix score))) → RefusesMatch prefix rec decisions refusal held
     by_score None is cause = absurd cause
     by_score (Some score) is (inl front) = inl (record {
@@ -163,4 +176,7 @@ module _ (prefix : List ℕ) (rec : RecordRead) (held : Contents) where
       decision = one.decision;
       among = one.among;
       cause = some-given (λ (s : MatchScore). OfHeld (held (score_file prefix s)) (IsBadFor (game_at rec s) one.decision refusal)) one.decision.score score one.at one.cause;
+      place = place;
+      before = before;
+      first = some-given (λ (s : MatchScore). OfHeld (held (score_file prefix s)) (TellsFirstJudging (Some s) decisions refusal)) (score_there decisions place) score is one.first;
     })

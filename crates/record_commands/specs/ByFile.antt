@@ -1,5 +1,5 @@
 -- What decisions of one game lose, by a file of bounds.
-use Rattle.std.specs.Prelude.{◌≡◌, ◌≢◌, ◌⊎◌, ℕ, List, Contains, Option, Some, None, Result, Ok, Err}
+use Rattle.std.specs.Prelude.{◌≡◌, ◌≢◌, ◌⊎◌, ℕ, List, map, Contains, Option, Some, None, Result, Ok, Err}
 use Rattle.std.specs.List.{AllZip}
 use Rattle.hyper_outside.specs.declared.outside.LookStop.{LookStop}
 use Rattle.cube_actions.specs.Scores.{MatchScore}
@@ -8,8 +8,8 @@ use Rattle.turn_rule.specs.Games.{IsGame}
 use Rattle.turn_rule.specs.Looks.{States}
 use Rattle.turn_rule.specs.Turn.{Words}
 use Rattle.play_analyser.specs.Sought.{MayFollowChoice}
-use Rattle.record_analysis.specs.Analyses.{lost}
-use Rattle.record_analysis.specs.Judging.{IsAt, JudgesAll, MayFollowSome}
+use Rattle.record_analysis.specs.Analyses.{lost, unjudged}
+use Rattle.record_analysis.specs.Judging.{IsAt, JudgesAll, MeetsOnDecisions}
 use Rattle.record_analysis.specs.Truth.{IsDecisionOf}
 use Rattle.record_analysis.specs.declared.analysis.Judged.{Judged}
 use Rattle.record_study.specs.Keeping.{decisions_in}
@@ -25,7 +25,7 @@ use Rattle.equity_report.specs.declared.refusal.Refusal.{Refusal}
 use Rattle.equity_report.specs.declared.refusal.Refusal.TheVariants.{Base}
 use Rattle.equity_report.specs.declared.refusal.Wanted.TheVariants.{Fits}
 use Rattle.run_endings.specs.Loads.{game_told}
-use Rattle.run_endings.specs.Pages.{AnswersSought, AreOnRightPages, HavePairsOf, IsOnBadPage, OfHeld, RefusesOpeningFor}
+use Rattle.run_endings.specs.Pages.{AnswersSought, AreOnRightPages, HavePairsOf, IsOnBadPage, OfHeld, RefusesOpeningFor, TellsFirst}
 
 -- ---- a file of a game
 
@@ -78,13 +78,19 @@ pub record IsBadFor (wanted : GameName) (decision : Decision) (refusal : Refusal
   pub file : IsFileOf wanted bytes
   pub page : IsOnBadPage bytes (MayFollowIn bytes decision) refusal
 
--- the file of this name can't judge one of these decisions, which was made at the score
+-- this tells the damage that is met first where a file judges the decisions that were made at a score
+abbrev pub TellsFirstJudging : Option MatchScore → List Decision → Refusal → List ℕ → Type 0
+TellsFirstJudging score decisions refusal bytes = TellsFirst bytes
+    (MeetsOnDecisions score (stakes_of (head_of bytes)) (map unjudged decisions)) refusal
+
+-- the file of this name can't judge one of these decisions, which was made at the score, and the damage that is met first is told
 pub record RefusesOne (wanted : GameName) (score : Option MatchScore) (decisions : List Decision)
     (refusal : Refusal) (held : Option (List ℕ)) : Type 0 where
   pub decision : Decision
   pub among : Contains decisions decision
   pub at : decision.score ≡ score
   pub cause : OfHeld held (IsBadFor wanted decision refusal)
+  pub first : OfHeld held (TellsFirstJudging score decisions refusal)
 
 -- the file of this name is refused before its pages are looked at, or can't judge one of the decisions that were made at the score
 abbrev pub RefusesFile : GameName → List ℕ → Option MatchScore → List Decision → Refusal
@@ -115,7 +121,7 @@ AnswersFront wanted name held (Err refusal) = RefusesFront wanted name refusal h
 abbrev pub AnswersLooking : PagedFile → Option (List ℕ) → Option MatchScore → List Judged
     → List Judged → Result (Unit {0}) LookStop → Type 0
 AnswersLooking base held score old new =
-    AnswersSought base.header held (MayFollowSome score (stakes_of base.head) old)
+    AnswersSought base.header held (MeetsOnDecisions score (stakes_of base.head) old)
     (λ (done : Unit {0}). JudgesAll score (stakes_of base.head) (paged_source base.header held)
     (told_notes base.header held) old new)
 

@@ -13,9 +13,9 @@ use Rattle.record_study.specs.Matches.{AreTrueStarts, IsTrueMatch}
 use Rattle.database_file.specs.Texts.{game_in}
 use Rattle.equity_report.specs.declared.text.GameName.{GameName}
 use Rattle.equity_report.specs.declared.refusal.Refusal.{Refusal}
-use Rattle.run_endings.specs.Pages.{HavePairsOf, OfHeld}
+use Rattle.run_endings.specs.Pages.{AreOnRightPages, HavePairsOf, OfHeld}
 use Rattle.run_endings.specs.Scores.{score_file}
-use Rattle.record_commands.specs.ByFile.{IsBadFor, IsFileOf, JudgesOne, RefusesFile, RefusesFront, head_of}
+use Rattle.record_commands.specs.ByFile.{IsBadFor, IsFileOf, JudgesOne, MayFollowIn, RefusesFile, RefusesFront, TellsFirstJudging, head_of}
 use Rattle.record_commands.specs.Records.{match_length}
 
 -- ---- the files of scores
@@ -79,7 +79,15 @@ pub record RefusesFirst (prefix : List ℕ) (rec : RecordRead) (decisions : List
       RefusesFront (game_at rec score) (score_file prefix score) refusal
       (held (score_file prefix score)))
 
--- the files of all scores are right as far as their pages, and something is wrong with a page on which some decision's loss rests
+-- the pages are right, in the file of a score, on which the losses of the decisions rest that were made at it
+abbrev pub RestsOnRightPages : List ℕ → Contents → List Decision → Option MatchScore → Type 0
+RestsOnRightPages prefix held decisions score =
+    IfSome score (λ score. IfSome (held (score_file prefix score)) (λ bytes.
+    All (λ decision. decision.score ≡ Some score
+    → AreOnRightPages bytes (MayFollowIn bytes decision)) decisions))
+
+-- The files of all scores are right as far as their pages, and something is wrong with a page on which some decision's loss rests. That is told
+-- which is met first at the decisions as they were recorded.
 pub record RefusesPage (prefix : List ℕ) (rec : RecordRead) (decisions : List Decision)
     (refusal : Refusal) (held : Contents) : Type 0 where
   pub fronts : All (λ decision. HasFile prefix rec held decision.score) decisions
@@ -87,6 +95,11 @@ pub record RefusesPage (prefix : List ℕ) (rec : RecordRead) (decisions : List 
   pub among : Contains decisions decision
   pub cause : IsSomeAnd decision.score (λ score.
       OfHeld (held (score_file prefix score)) (IsBadFor (game_at rec score) decision refusal))
+  pub place : ℕ
+  pub before : (earlier : ℕ) → earlier < place
+      → RestsOnRightPages prefix held decisions (score_there decisions earlier)
+  pub first : IsSomeAnd (score_there decisions place) (λ score.
+      OfHeld (held (score_file prefix score)) (TellsFirstJudging (Some score) decisions refusal))
 
 -- A match can't be judged by the files of its scores: one is refused before its pages are looked at, or else one of a page. Those of the first games
 -- come first, and pages after what stands before them in all files.
@@ -116,7 +129,10 @@ abbrev pub AnswersScores : List ℕ → RecordRead → List Decision → Content
     → Result (Unit {0}) Refusal → Type 0
 AnswersScores prefix rec decisions held new (Ok done) = All (IsJudgedByFile prefix rec held) new
 AnswersScores prefix rec decisions held new (Err refusal) =
-    (place : ℕ) × IsSomeAnd (score_there decisions place) (λ score.
+    (place : ℕ)
+    × ((earlier : ℕ) → earlier < place
+    → RestsOnRightPages prefix held decisions (score_there decisions earlier))
+    × IsSomeAnd (score_there decisions place) (λ score.
     RefusesFile (game_at rec score) (score_file prefix score) (Some score) decisions refusal
     (held (score_file prefix score)))
 

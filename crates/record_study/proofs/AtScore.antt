@@ -8,12 +8,12 @@ use Rattle.cube_actions.specs.Scores.{MatchScore}
 use Rattle.cube_actions.specs.Stakes.{Terms}
 use Rattle.game_record.specs.declared.decision.Decision.{Decision}
 use Rattle.turn_rule.specs.Following.{AgreeOn}
-use Rattle.turn_rule.specs.Looks.{HasDamage, IsPairFor, LooksUp, Notes, Seen, Source, all_told}
+use Rattle.turn_rule.specs.Looks.{IsPairFor, LooksUp, Notes, Seen, Source, all_told}
 use Rattle.turn_rule.specs.Turn.{Words}
 use Rattle.hyper_outside.specs.declared.outside.LookStop.{LookStop}
 use Rattle.interval_words.specs.WordLists.{WordList, source_of, words_in_list}
 use Rattle.record_analysis.specs.Analyses.{lost}
-use Rattle.record_analysis.specs.Judging.{CanBeJudged, IsAt, Judges, JudgesAll, MayFollowOne, MayFollowSome, of_decision}
+use Rattle.record_analysis.specs.Judging.{CanBeJudged, IsAt, Judges, JudgesAll, MayFollowOne, MayFollowSome, MeetsOnDecisions, of_decision}
 use Rattle.record_analysis.specs.declared.analysis.Judged.{Judged}
 use Rattle.record_analysis.proofs.Analysed.{OneListGives}
 use Rattle.record_study.proofs.Records.{answered}
@@ -32,7 +32,7 @@ judged-at one_list source u stakes told score old new here can same is = by_loss
 abbrev pub SureLaw : Type 0
 SureLaw =
     (old new : Seen) (score : Option MatchScore) (stakes : Terms) (before after : List Judged) (result : Result (Unit {0}) LookStop) → IsTrue old.source.sure
-    → LooksUp old new (HasDamage old.source (MayFollowSome score stakes before)) (λ _. JudgesAll score stakes old.source new.notes before after) result → IsOk result
+    → LooksUp old new (MeetsOnDecisions score stakes before old.source) (λ _. JudgesAll score stakes old.source new.notes before after) result → IsOk result
 
 -- what a reader of words sees
 abbrev pub seen_in : WordList → Seen
@@ -40,7 +40,7 @@ seen_in words = record { source = source_of words; notes = all_told (words_in_li
 
 -- decisions that were judged by a reader of words were judged by the words
 pub judged-by-words : SureLaw → (words old new : WordList) → source_of old ≡ source_of words → source_of new ≡ source_of old → (score : Option MatchScore) (stakes : Terms) → stakes ≡ words.game.stakes → (before after : List Judged) (result : Result (Unit {0}) LookStop)
-    → LooksUp (seen_in old) (seen_in new) (HasDamage (source_of old) (MayFollowSome score stakes before)) (λ _. JudgesAll score stakes (source_of old) (all_told (words_in_list new)) before after) result
+    → LooksUp (seen_in old) (seen_in new) (MeetsOnDecisions score stakes before (source_of old)) (λ _. JudgesAll score stakes (source_of old) (all_told (words_in_list new)) before after) result
     → JudgesAll score words.game.stakes (source_of words) (all_told (words_in_list words)) before after
 judged-by-words law words old new same later score stakes of before after result looked =
     let ok = law (seen_in old) (seen_in new) score stakes before after result refl looked in

@@ -10,7 +10,7 @@ use Rattle.directed_fixed.specs.declared.bounds.End.TheVariants.{Lower, Upper}
 use Rattle.directed_fixed.specs.Bounds.{Bounds, IsNoLooser, other}
 use Rattle.turn_rule.specs.Games.{kinds_of}
 use Rattle.turn_rule.specs.Turn.{Words}
-use Rattle.turn_rule.specs.Looks.{all_told, Damage, HasDamage, IsPairFor, Notes, Source, Sought, States}
+use Rattle.turn_rule.specs.Looks.{all_told, Damage, HasDamage, IsPairFor, Meets, Notes, Source, Sought, States}
 use Rattle.turn_rule.specs.States.{IsState, IsStateOf}
 use Rattle.word_pages.specs.declared.flaws.Flaw.{Flaw}
 use Rattle.base_head.specs.Fronts.{bad_of}
@@ -91,10 +91,3 @@ module _ (bytes : List ℕ) (head : FileHead) (valid : IsHeader (header_of_file 
 -- the kinds of a header are those of the head's game
 pub same-kinds : (header : Header) (head : FileHead) → IsHeader header → head.name ≡ header.name → header.kinds ≡ kinds_of (game_in head)
 same-kinds header head valid name = valid.kinds ∙ ap (λ (n : StakesName). length (names_of n)) (sym name) ∙ kinds-named head.name head.starts
-
--- the file of this name, as it was before
-pub same-sought : {A : Type 0} (right : Header → Option (List ℕ) → A → Type 0) (header : Header) (states : States) (held after : Contents) (name other : List ℕ) (result : Result A LookStop) → other ≡ name → after name ≡ held name
-    → AnswersSought header (after other) states (right header (after other)) result → AnswersSought header (held name) states (right header (held name)) result
-same-sought right header states held after name other result is same told =
-    subst (λ (file : Option (List ℕ)). AnswersSought header file states (right header file) result) same
-    (subst (λ (n : List ℕ). AnswersSought header (after n) states (right header (after n)) result) is told)

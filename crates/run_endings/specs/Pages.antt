@@ -7,7 +7,7 @@ use Rattle.hyper_outside.specs.declared.outside.LookStop.TheVariants as looks
 use Rattle.directed_fixed.specs.declared.bounds.End.{End}
 use Rattle.turn_rule.specs.declared.game.Game.{Game}
 use Rattle.turn_rule.specs.Exact.{Scoring}
-use Rattle.turn_rule.specs.Looks.{HasDamage, States}
+use Rattle.turn_rule.specs.Looks.{Damage, Meets, States}
 use Rattle.turn_rule.specs.States.{IsStateOf}
 use Rattle.turn_rule.specs.Truth.{IsScoring}
 use Rattle.turn_rule.specs.Turn.{Words}
@@ -48,6 +48,12 @@ pub record IsOnBadPage (bytes : List ℕ) (states : States) (refusal : Refusal) 
   pub among : states position kind
   pub page : option_map (λ flaw. File (bad_of flaw))
       (flaw_at (header_of_file bytes) (Some bytes) position) ≡ Some refusal
+
+-- this tells the damage of a file's pages that is met first
+pub record TellsFirst (bytes : List ℕ) (meets : Meets) (refusal : Refusal) : Type 0 where
+  pub damage : Damage
+  pub met : meets (paged_source (header_of_file bytes) (Some bytes)) damage
+  pub told : refusal ≡ File (bad_of (record { fault = damage.fault; at = damage.at }))
 
 -- something is so of the file that is held
 abbrev pub OfHeld : Option (List ℕ) → (List ℕ → Type 0) → Type 0
@@ -90,10 +96,10 @@ abbrev pub AnswersOpening : List ℕ → Option (List ℕ) → Result PagedFile 
 AnswersOpening name held (Ok base) = AnswersPaged (option_map whole held) (Ok base)
 AnswersOpening name held (Err refusal) = RefusesOpening name refusal held
 
--- This is what is sought from the file's words, or one of these states has this damage; a fault of the files or of memory says nothing.
-abbrev pub AnswersSought : {A : Type 0} → Header → Option (List ℕ) → States → (A → Type 0)
+-- This is what is sought from the file's words, or this damage is met first; a fault of the files or of memory says nothing.
+abbrev pub AnswersSought : {A : Type 0} → Header → Option (List ℕ) → Meets → (A → Type 0)
     → Result A LookStop → Type 0
-AnswersSought header file states right (Ok found) = right found
-AnswersSought header file states right (Err (looks.BadPage fault at)) =
-    HasDamage (paged_source header file) states (record { fault = fault; at = at })
-AnswersSought header file states right (Err _) = ⊤
+AnswersSought header file meets right (Ok found) = right found
+AnswersSought header file meets right (Err (looks.BadPage fault at)) =
+    meets (paged_source header file) (record { fault = fault; at = at })
+AnswersSought header file meets right (Err _) = ⊤

@@ -34,7 +34,7 @@ use Rattle.turn_rule.specs.Truth.{AreConsistent}
 use Rattle.turn_rule.proofs.Within.{follow-turn-state, next_state}
 use Rattle.interval_words.specs.WordLists.{WordList, words_in_list}
 use Rattle.word_pages.specs.declared.version.Version.TheVariants.{One, Three}
-use Rattle.play_analyser.specs.Rankings.{MayFollowRoll}
+use Rattle.turn_rule.specs.Looks.{MayFollowRoll}
 use Rattle.base_head.specs.Fronts.{head_in}
 use Rattle.base_head.specs.Heads.{FileHead, no_starts, stakes_named}
 use Rattle.database_file.specs.Faults.{header_of_file}

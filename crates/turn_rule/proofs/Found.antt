@@ -1,5 +1,5 @@
 -- Look-ups one after another, and what is worked out from them.
-use Rattle.std.proofs.Common.{◌≡◌, ℕ, ◌≤◌, ℤ, neg_ℤ, ◌⊎◌, inl, inr, Result, Ok, Err, arith, subst}
+use Rattle.std.proofs.Common.{◌≡◌, ℕ, ◌≤◌, ℤ, neg_ℤ, ◌⊎◌, inl, inr, Result, Ok, Err, IsTrue, arith, subst}
 use Rattle.std.specs.Int.{int_max, int_min}
 use Rattle.std.proofs.lemmas.Int.{ints, clamps}
 use Rattle.position_rank.specs.Placement.{Placement}
@@ -9,7 +9,7 @@ use Rattle.hyper_outside.specs.Causes.{Rose}
 use Rattle.hyper_outside.specs.declared.outside.LookStop.{LookStop}
 use Rattle.hyper_outside.specs.declared.outside.LookStop.TheVariants.{ReadFault, BadPage, NoMemory}
 use Rattle.turn_rule.specs.Turn.{Words}
-use Rattle.turn_rule.specs.Looks.{Source, Notes, Damage, States, HasDamage, MayStop, AreLater, Looked}
+use Rattle.turn_rule.specs.Looks.{Source, Notes, Damage, States, AreUndamaged, MayStop, AreLater, Looked}
 use Rattle.turn_rule.specs.Found.{IsFound}
 use Rattle.turn_rule.proofs.Tightness.{tight-neg}
 use Rattle.turn_rule.proofs.Tight.{words-refl, words-trans}
@@ -17,9 +17,9 @@ use Rattle.turn_rule.proofs.Tight.{words-refl, words-trans}
 rose-earlier : (a b c : ℕ) → a ≤ b → Rose b c → Rose a c
 rose-earlier a b c h k = omega arith
 
-may_stop-earlier : (s : Source) (w : Notes) (a b c : ℕ) (meant meant' : Damage → Type 0) (stop : LookStop) → a ≤ b → ((damage : Damage) → meant damage → meant' damage) → MayStop s w b c meant stop → MayStop s w a c meant' stop
+may_stop-earlier : (s : Source) (w : Notes) (a b c : ℕ) (meant meant' : Damage → Type 0) (stop : LookStop) → a ≤ b → ((damage : Damage) → IsTrue w.told → meant damage → meant' damage) → MayStop s w b c meant stop → MayStop s w a c meant' stop
 may_stop-earlier s w a b c meant meant' ReadFault h k stopped = (stopped.0, rose-earlier a b c h stopped.1)
-may_stop-earlier s w a b c meant meant' (BadPage fault at) h k stopped = (stopped.0, λ told. k _ (stopped.1 told))
+may_stop-earlier s w a b c meant meant' (BadPage fault at) h k stopped = (stopped.0, λ told. k _ told (stopped.1 told))
 may_stop-earlier s w a b c meant meant' NoMemory h k stopped = stopped
 
 pub notes-refl : (s : Source) (u : Notes) → AreLater s u u
@@ -32,8 +32,8 @@ notes-trans s u v w first second = record {
 }
 
 -- a look-up of one end, with its parts apart
-abbrev pub FindsFrom : End → Source → Notes → Notes → ℕ → ℕ → States → ℤ → (Words → ℤ) → Result ℤ LookStop → Type 0
-FindsFrom end source old new before now states bound value = Looked source old new before now (HasDamage source states) (IsFound end source new states bound value)
+abbrev pub FindsFrom : End → Source → Notes → Notes → ℕ → ℕ → (Damage → Type 0) → States → ℤ → (Words → ℤ) → Result ℤ LookStop → Type 0
+FindsFrom end source old new before now meant states bound value = Looked source old new before now meant (IsFound end source new states bound value)
 
 -- a look-up, and then another
 pub then-ok : {A B C : Type 0} (s : Source) (u v w : Notes) (a b c : ℕ) (meant meant' meant'' : Damage → Type 0) (right : A → Type 0) (right' : B → Type 0) (right'' : C → Type 0) (x : A) (y : B) (z : C)
@@ -46,12 +46,12 @@ then-ok s u v w a b c meant meant' meant'' right right' right'' x y z first seco
 }
 
 pub then-err : {A B C : Type 0} (s : Source) (u v w : Notes) (a b c : ℕ) (meant meant' meant'' : Damage → Type 0) (right : A → Type 0) (right' : B → Type 0) (right'' : C → Type 0) (x : A) (stop : LookStop)
-    → Looked s u v a b meant right (Ok x) → Looked s v w b c meant' right' (Err stop) → ((damage : Damage) → meant' damage → meant'' damage) → Looked s u w a c meant'' right'' (Err stop)
+    → Looked s u v a b meant right (Ok x) → Looked s v w b c meant' right' (Err stop) → ((damage : Damage) → IsTrue v.told → meant' damage → meant'' damage) → Looked s u w a c meant'' right'' (Err stop)
 then-err s u v w a b c meant meant' meant'' right right' right'' x stop first second within = record {
   later = omega (arith, first.later, second.later);
   notes = notes-trans s u v w first.notes second.notes;
   answer = tt;
-  stop = may_stop-earlier s w a b c meant' meant'' stop first.later within second.stop;
+  stop = may_stop-earlier s w a b c meant' meant'' stop first.later (λ damage told. within damage (second.notes.told told)) second.stop;
 }
 
 -- the answer, mover_view otherwise
@@ -62,9 +62,6 @@ mapped-ok s u v a b meant meant' right right' x y looked turned = record { later
 -- some states are among others
 abbrev pub AreAmong : States → States → Type 0
 AreAmong some others = (p : Placement) (k : ℕ) → some p k → others p k
-
-pub damage-among : (s : Source) (some others : States) → AreAmong some others → (damage : Damage) → HasDamage s some damage → HasDamage s others damage
-damage-among s some others among damage h = record { position = h.position; kind = h.kind; among = among h.position h.kind h.among; damaged = h.damaged }
 
 module _ (end : End) (s : Source) where
   pub found-later : (u v : Notes) (states : States) (bound : ℤ) (value : Words → ℤ) (x : ℤ) → AreLater s u v → IsFound end s u states bound value x → IsFound end s v states bound value x

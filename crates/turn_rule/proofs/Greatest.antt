@@ -41,16 +41,17 @@ all_right : (rolls : List (Dice × ℕ)) → ((roll : Dice × ℕ) → Among rol
 all_right [] h = tt
 all_right (roll ∷ rolls) h = (h roll (inl refl), all_right rolls (λ r m. h r (inr m)))
 
-pub all_rolls-right : AreRolls all_rolls
+pub roll-right : (roll : Dice × ℕ) → Among roll all_rolls → IsRoll roll.0
 unfolding all_rolls
-all_rolls-right = all_right all_rolls right where
-  right : (roll : Dice × ℕ) → Among roll all_rolls → IsRoll roll.0
-  right roll m =
-      let a = flat_map-cases (λ high. map (weighted_roll high) (range_with_len 1 high)) roll (range_with_len 1 6) m in
-      let b = map-cases (weighted_roll a.0) roll (range_with_len 1 a.0) a.2 in
-      let high = range-cases 1 6 a.0 a.1 in
-      let low = range-cases 1 a.0 b.0 b.1 in
-      subst (λ (r : Dice × ℕ). IsRoll r.0) (sym b.2) (record { from = low.0; in_order = omega (arith, low.1); to = omega (arith, high.1) })
+roll-right roll m =
+    let a = flat_map-cases (λ high. map (weighted_roll high) (range_with_len 1 high)) roll (range_with_len 1 6) m in
+    let b = map-cases (weighted_roll a.0) roll (range_with_len 1 a.0) a.2 in
+    let high = range-cases 1 6 a.0 a.1 in
+    let low = range-cases 1 a.0 b.0 b.1 in
+    subst (λ (r : Dice × ℕ). IsRoll r.0) (sym b.2) (record { from = low.0; in_order = omega (arith, low.1); to = omega (arith, high.1) })
+
+pub all_rolls-right : AreRolls all_rolls
+all_rolls-right = all_right all_rolls roll-right
 
 pub sum-mono : (f g : Placement → ℤ) (p : Placement) → ((roll : Dice) (q : Placement) → IsRoll roll → Among q (legal_ends p roll) → f q ≤ℤ g q) → (rolls : List (Dice × ℕ)) → AreRolls rolls → sum_over rolls f p ≤ℤ sum_over rolls g p
 sum-mono f g p h [] a = le_refl (pos 0)

@@ -8,6 +8,7 @@ pub mod Monotone
 pub mod Squares
 pub mod Tight
 pub mod Found
+pub mod MetFirst
 pub mod Plays
 pub mod RollSums
 pub mod Values

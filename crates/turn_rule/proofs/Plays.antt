@@ -10,16 +10,17 @@ use Rattle.directed_fixed.specs.declared.bounds.End.{End}
 use Rattle.directed_fixed.specs.Bounds.{at, other, IsWithinUnits}
 use Rattle.cube_actions.specs.declared.kind.Kind.{Kind}
 use Rattle.turn_rule.specs.Turn.{win, if_won, worth, greatest}
-use Rattle.turn_rule.specs.Looks.{Source, Notes, IsLeft}
+use Rattle.turn_rule.specs.Looks.{Source, Notes, Damage, AreUndamaged, HasDamage, IsLeft, MeetsOnEnds}
 use Rattle.turn_rule.specs.Found.{IsSame, MayFollowEnds}
 use Rattle.turn_rule.proofs.Tightness.{tight-max}
 use Rattle.turn_rule.proofs.Greatest.{greatest-append}
-use Rattle.turn_rule.proofs.Found.{FindsFrom, AreAmong, mapped-ok, then-ok, found-as, found-neg, found-later, found-step, max-within}
+use Rattle.turn_rule.proofs.MetFirst.{met-at}
+use Rattle.turn_rule.proofs.Found.{FindsFrom, mapped-ok, then-ok, found-as, found-neg, found-later, found-step, max-within}
 
 -- the play goes on, and the other side's word at the other end is looked up
-pub left-worth : (end : End) (s : Source) (u v : Notes) (a b : ℕ) (q : Placement) (kind : Kind) (x y : ℤ) → points q ≡ None → y ≡ neg_ℤ x
-    → FindsFrom (other end) s u v a b (IsSame (swap q) kind.next) s.bound (λ w. w (other end) (swap q) kind.next) (Ok x) → FindsFrom end s u v a b (IsLeft kind.next q) s.bound (λ w. worth end kind w q) (Ok y)
-left-worth end s u v a b q kind x y on is looked =
+pub left-worth : {m : Damage → Type 0} (m' : Damage → Type 0) (end : End) (s : Source) (u v : Notes) (a b : ℕ) (q : Placement) (kind : Kind) (x y : ℤ) → points q ≡ None → y ≡ neg_ℤ x
+    → FindsFrom (other end) s u v a b m (IsSame (swap q) kind.next) s.bound (λ w. w (other end) (swap q) kind.next) (Ok x) → FindsFrom end s u v a b m' (IsLeft kind.next q) s.bound (λ w. worth end kind w q) (Ok y)
+left-worth m' end s u v a b q kind x y on is looked =
     mapped-ok s u v a b _ _ _ _ x y looked
     (λ found.
     let theirs = found-neg end s v (IsSame (swap q) kind.next) s.bound (λ w. w (other end) (swap q) kind.next) x found in
@@ -35,11 +36,6 @@ among-more q (first ∷ rest) zero r h e (inr m) = absurd m
 among-more q (first ∷ rest) (suc i) r h e (inl is) = inl (inl is)
 among-more q (first ∷ rest) (suc i) r h e (inr m) = elim (among-more q rest i r (omega arith) e m) [ inl before ↦ inl (inr before) | inr is ↦ inr is ]
 
-among-at : (qs : List Placement) (i : ℕ) (r : Placement) → i < length qs → r ≡ get_or qs i r → Among r qs
-among-at [] i r h e = absurd (omega arith)
-among-at (first ∷ rest) zero r h e = inl e
-among-at (first ∷ rest) (suc i) r h e = inr (among-at rest i r (omega arith) e)
-
 -- one play more
 greatest-next : (f : Placement → ℤ) (qs : List Placement) (i : ℕ) (r : Placement) → 0 < i → i < length qs → r ≡ get_or qs i r → greatest f (take (i + 1) qs) ≡ int_max (greatest f (take i qs)) (f r)
 greatest-next f qs zero r low high e = absurd (omega arith)
@@ -49,10 +45,10 @@ greatest-next f (first ∷ rest) (suc i) r low high e =
 
 module _ (end : End) (s : Source) (kind : Kind) (ends : List Placement) where
   -- a play after others
-  pub next-play : (u v w : Notes) (a b c : ℕ) (i : ℕ) (q : Placement) (x y z : ℤ) → 0 < i → i < length ends → q ≡ get_or ends i q → z ≡ int_max x y
-      → FindsFrom end s u v a b (MayFollowEnds kind.next (take i ends)) s.bound (λ n. greatest (worth end kind n) (take i ends)) (Ok x) → FindsFrom end s v w b c (IsLeft kind.next q) s.bound (λ n. worth end kind n q) (Ok y)
-      → FindsFrom end s u w a c (MayFollowEnds kind.next (take (i + 1) ends)) s.bound (λ n. greatest (worth end kind n) (take (i + 1) ends)) (Ok z)
-  next-play u v w a b c i q x y z low high e is so_far looked =
+  pub next-play : {m m' : Damage → Type 0} (m'' : Damage → Type 0) (u v w : Notes) (a b c : ℕ) (i : ℕ) (q : Placement) (x y z : ℤ) → 0 < i → i < length ends → q ≡ get_or ends i q → z ≡ int_max x y
+      → FindsFrom end s u v a b m (MayFollowEnds kind.next (take i ends)) s.bound (λ n. greatest (worth end kind n) (take i ends)) (Ok x) → FindsFrom end s v w b c m' (IsLeft kind.next q) s.bound (λ n. worth end kind n q) (Ok y)
+      → FindsFrom end s u w a c m'' (MayFollowEnds kind.next (take (i + 1) ends)) s.bound (λ n. greatest (worth end kind n) (take (i + 1) ends)) (Ok z)
+  next-play m'' u v w a b c i q x y z low high e is so_far looked =
       then-ok s u v w a b c _ _ _ _ _ _ x y z so_far looked
       (λ tighter one other.
       let before = found-later end s v w (MayFollowEnds kind.next (take i ends)) s.bound (λ n. greatest (worth end kind n) (take i ends)) x tighter one in
@@ -64,5 +60,5 @@ module _ (end : End) (s : Source) (kind : Kind) (ends : List Placement) where
       (subst (IsWithinUnits s.bound) (sym is) both.within) (λ p k h. h) (λ n. sym (greatest-next (worth end kind n) ends i q low high e)) (sym is) both)
 
   -- a play after others, whose word can't be had
-  pub stopped-play : (q : Placement) (i : ℕ) → i < length ends → q ≡ get_or ends i q → AreAmong (IsLeft kind.next q) (MayFollowEnds kind.next ends)
-  stopped-play q i high e p k left = (q, among-at ends i q high e, left)
+  pub stopped-play : (i : ℕ) (q : Placement) (damage : Damage) → i < length ends → q ≡ get_or ends i q → AreUndamaged s (MayFollowEnds kind.next (take i ends)) → HasDamage s (IsLeft kind.next q) damage → MeetsOnEnds kind.next ends s damage
+  stopped-play i q damage high e before met = met-at s _ _ damage ends i q high e (λ r m p k left. before p k (r, m, left)) met

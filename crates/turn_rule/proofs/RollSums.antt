@@ -17,16 +17,17 @@ use Rattle.cube_actions.specs.Stakes.{Terms, kind_at, no_kind, IsValid}
 use Rattle.turn_rule.specs.Games.{game_of}
 use Rattle.turn_rule.specs.Turn.{win, worth, greatest, sum_over}
 use Rattle.turn_rule.specs.States.{IsStateOf, IsState}
-use Rattle.turn_rule.specs.Looks.{Source, Notes, AreStakesOf, MayFollow}
+use Rattle.turn_rule.specs.Looks.{Source, Notes, Damage, AreStakesOf, AreUndamaged, MayFollow, MeetsOnEnds, MeetsRolling}
 use Rattle.turn_rule.specs.Found.{LeavesState, MayFollowEnds, MayFollowAmong}
 use Rattle.turn_rule.specs.declared.ends.OneRoll.{OneRoll}
 use Rattle.turn_rule.specs.Rolled.{weighted, HasEnds, AreRolled}
 use Rattle.turn_rule.proofs.Integers.{mul_mono, times-neg}
 use Rattle.turn_rule.proofs.Tightness.{tight-times}
 use Rattle.turn_rule.proofs.Tight.{tight-add}
-use Rattle.turn_rule.proofs.Greatest.{greatest-same, total, total-all_rolls, length-all_rolls, roll_at, at_roll, all_rolls-right, AreRolls}
+use Rattle.turn_rule.proofs.Greatest.{greatest-same, total, total-all_rolls, length-all_rolls, roll_at, at_roll, roll-right}
 use Rattle.turn_rule.proofs.Within.{next_state, win-within, bound-positive}
-use Rattle.turn_rule.proofs.Found.{FindsFrom, AreAmong, mapped-ok, then-ok, found-as, found-later, found-step}
+use Rattle.turn_rule.proofs.MetFirst.{met-at}
+use Rattle.turn_rule.proofs.Found.{FindsFrom, mapped-ok, then-ok, found-as, found-later, found-step}
 
 -- ---- the rolls
 
@@ -39,11 +40,6 @@ all_rolls-complete roll right = (
       (Among-range 1 6 roll.high (omega (arith, right.from, right.in_order)) (omega (arith, right.to)))
       (Among-map (weighted_roll roll.high) roll.low (range_with_len 1 roll.high) (Among-range 1 roll.high roll.low right.from (omega (arith, right.in_order)))),
 )
-
-right_among : (rolls : List (Dice × ℕ)) → AreRolls rolls → (roll : Dice × ℕ) → Among roll rolls → IsRoll roll.0
-right_among [] right roll m = absurd m
-right_among (r ∷ rolls) right roll (inl e) = subst (λ (x : Dice × ℕ). IsRoll x.0) (sym e) right.0
-right_among (r ∷ rolls) right roll (inr m) = right_among rolls right.1 roll m
 
 among-more : (x : Dice × ℕ) (rolls : List (Dice × ℕ)) (i : ℕ) (roll : Dice × ℕ) → i < length rolls → roll ≡ get_or rolls i roll → Among x (take (suc i) rolls) → Among x (take i rolls) ⊎ (x ≡ roll)
 among-more x [] i roll h e m = absurd (omega arith)
@@ -129,16 +125,16 @@ kept-at p kept i one rolled h e =
     record {
       here = here;
       weight = weight;
-      right = right_among all_rolls all_rolls-right (weighted one) (at_roll all_rolls i (weighted one) here weight);
+      right = roll-right (weighted one) (at_roll all_rolls i (weighted one) here weight);
       times = roll.2;
       ends = subst (HasEnds p) (sym e) (rolled.ends i one h);
     }
 
 to_legal : (p : Placement) (one : OneRoll) → HasEnds p one → (q : Placement) → Among q one.ends.items → Among q (legal_ends p one.roll)
-to_legal p one has q m = Contains-Among q _ (legal_ends-complete p one.roll q ((has.ends q).0 (Among-Contains q _ m)))
+to_legal p one has q m = Contains-Among q _ (legal_ends-complete p one.roll q ((has.ends.legal q).0 (Among-Contains q _ m)))
 
 of_legal : (p : Placement) (one : OneRoll) → HasEnds p one → (q : Placement) → Among q (legal_ends p one.roll) → Among q one.ends.items
-of_legal p one has q m = Contains-Among q _ ((has.ends q).1 (legal_ends-sound p one.roll q (Among-Contains q _ m)))
+of_legal p one has q m = Contains-Among q _ ((has.ends.legal q).1 (legal_ends-sound p one.roll q (Among-Contains q _ m)))
 
 all_members : {X : Type 0} (P : X → Type 0) (xs : List X) → ((x : X) → Among x xs → P x) → All P xs
 all_members P [] h i d below = absurd (omega arith)
@@ -160,11 +156,11 @@ wins-within s stakes valid fits k here won =
 
 module _ (end : End) (s : Source) (kind : Kind) (p : Placement) where
   -- a roll after others
-  pub next-roll : (u v w : Notes) (a b c : ℕ) (i : ℕ) (one : OneRoll) (x y z : ℤ) → IsKept p i one → z ≡ x +ℤ pos one.times *ℤ y
-      → FindsFrom end s u v a b (MayFollowAmong kind.next p (take i all_rolls)) (pos (total (take i all_rolls)) *ℤ s.bound) (λ n. sum_over (take i all_rolls) (worth end kind n) p) (Ok x)
-      → FindsFrom end s v w b c (MayFollowEnds kind.next one.ends.items) s.bound (λ n. greatest (worth end kind n) one.ends.items) (Ok y)
-      → FindsFrom end s u w a c (MayFollowAmong kind.next p (take (i + 1) all_rolls)) (pos (total (take (i + 1) all_rolls)) *ℤ s.bound) (λ n. sum_over (take (i + 1) all_rolls) (worth end kind n) p) (Ok z)
-  next-roll u v w a b c i one x y z kept is so_far looked =
+  pub next-roll : {m m' : Damage → Type 0} (m'' : Damage → Type 0) (u v w : Notes) (a b c : ℕ) (i : ℕ) (one : OneRoll) (x y z : ℤ) → IsKept p i one → z ≡ x +ℤ pos one.times *ℤ y
+      → FindsFrom end s u v a b m (MayFollowAmong kind.next p (take i all_rolls)) (pos (total (take i all_rolls)) *ℤ s.bound) (λ n. sum_over (take i all_rolls) (worth end kind n) p) (Ok x)
+      → FindsFrom end s v w b c m' (MayFollowEnds kind.next one.ends.items) s.bound (λ n. greatest (worth end kind n) one.ends.items) (Ok y)
+      → FindsFrom end s u w a c m'' (MayFollowAmong kind.next p (take (i + 1) all_rolls)) (pos (total (take (i + 1) all_rolls)) *ℤ s.bound) (λ n. sum_over (take (i + 1) all_rolls) (worth end kind n) p) (Ok z)
+  next-roll m'' u v w a b c i one x y z kept is so_far looked =
       then-ok s u v w a b c _ _ _ _ _ _ x y z so_far looked
       (λ tighter before best.
       let bound = pos (total (take i all_rolls)) *ℤ s.bound in
@@ -188,10 +184,10 @@ module _ (end : End) (s : Source) (kind : Kind) (p : Placement) where
 
 module _ (end : End) (s : Source) (stakes : Terms) (p : Placement) (k : ℕ) where
   -- after the last roll
-  pub all-rolls : (u v : Notes) (a b i : ℕ) (x : ℤ) → 21 ≤ i
-      → FindsFrom end s u v a b (MayFollowAmong (kind_at stakes k).next p (take i all_rolls)) (pos (total (take i all_rolls)) *ℤ s.bound) (λ n. sum_over (take i all_rolls) (worth end (kind_at stakes k) n) p) (Ok x)
-      → FindsFrom end s u v a b (MayFollow stakes p k) (pos 36 *ℤ s.bound) (λ n. sum_over all_rolls (worth end (kind_at stakes k) n) p) (Ok x)
-  all-rolls u v a b i x past so_far =
+  pub all-rolls : {m : Damage → Type 0} (m' : Damage → Type 0) (u v : Notes) (a b i : ℕ) (x : ℤ) → 21 ≤ i
+      → FindsFrom end s u v a b m (MayFollowAmong (kind_at stakes k).next p (take i all_rolls)) (pos (total (take i all_rolls)) *ℤ s.bound) (λ n. sum_over (take i all_rolls) (worth end (kind_at stakes k) n) p) (Ok x)
+      → FindsFrom end s u v a b m' (MayFollow stakes p k) (pos 36 *ℤ s.bound) (λ n. sum_over all_rolls (worth end (kind_at stakes k) n) p) (Ok x)
+  all-rolls m' u v a b i x past so_far =
       let all : take i all_rolls ≡ all_rolls = take_all i all_rolls (omega (arith, past, length-all_rolls)) in
       mapped-ok s u v a b _ _ _ _ x x (rw (all, total-all_rolls) at so_far)
       (λ found. found-as end s v (MayFollowAmong (kind_at stakes k).next p all_rolls) (MayFollow stakes p k) (pos 36 *ℤ s.bound) (pos 36 *ℤ s.bound) (λ n. sum_over all_rolls (worth end (kind_at stakes k) n) p) (λ n. sum_over all_rolls (worth end (kind_at stakes k) n) p) x x
@@ -200,5 +196,7 @@ module _ (end : End) (s : Source) (stakes : Terms) (p : Placement) (k : ℕ) whe
       (λ n. refl) refl found)
 
   -- a play of a roll, whose words can't be had
-  pub stopped-roll : (i : ℕ) (one : OneRoll) → IsKept p i one → AreAmong (MayFollowEnds (kind_at stakes k).next one.ends.items) (MayFollow stakes p k)
-  stopped-roll i one kept q j h = record { roll = one.roll; right = kept.right; end = h.0; legal = (kept.ends.ends h.0).0 (Among-Contains h.0 _ h.1); left = h.2 }
+  pub stopped-roll : (i : ℕ) (one : OneRoll) (damage : Damage) → IsKept p i one → AreUndamaged s (MayFollowAmong (kind_at stakes k).next p (take i all_rolls)) → MeetsOnEnds (kind_at stakes k).next one.ends.items s damage → MeetsRolling stakes p k s damage
+  stopped-roll i one damage kept before met = met-at s _ _ damage all_rolls i (weighted one) kept.here kept.weight
+      (λ roll m q j h. before q j (roll, m, h.end, Contains-Among h.end _ (legal_ends-complete p roll.0 h.end h.legal), h.left))
+      (record { ends = one.ends.items; in_order = kept.ends.ends; meets = met })

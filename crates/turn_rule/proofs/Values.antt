@@ -18,13 +18,14 @@ use Rattle.cube_actions.specs.Stakes.{Terms, kind_at, IsValid, IsRightDouble}
 use Rattle.turn_rule.specs.Games.{game_of}
 use Rattle.turn_rule.specs.Turn.{Words, worth, sum_over, roll_value, least, doubled, or_double, turn}
 use Rattle.turn_rule.specs.States.{IsStateOf, IsState, AreWithinOf, AreWithin}
-use Rattle.turn_rule.specs.Looks.{Source, Notes, States, AreStakesOf, MayFollow, MayFollowTurn, IsPairOf, Looked, HasDamage}
+use Rattle.turn_rule.specs.Looks.{Source, Notes, Damage, States, AreStakesOf, AreUndamaged, MeetsRolling, MeetsOnAnswers, MayFollow, MayFollowTurn, IsPairOf, Looked}
 use Rattle.turn_rule.specs.Found.{IsFound, MayFollowAnswer, AreFoundSums}
 use Rattle.turn_rule.proofs.Integers.{mul_mono, regroup, floor_36_below, floor_36_above, times-neg}
 use Rattle.turn_rule.proofs.Tightness.{tight-max, tight-times, tight-outwards}
 use Rattle.turn_rule.proofs.Tight.{tight-min, words-refl}
 use Rattle.turn_rule.proofs.Within.{turn-within, roll-in_order}
-use Rattle.turn_rule.proofs.Found.{FindsFrom, AreAmong, notes-refl, mapped-ok, then-ok, found-as, found-later, found-step, found-through, max-within, min-within}
+use Rattle.turn_rule.proofs.MetFirst.{met-at}
+use Rattle.turn_rule.proofs.Found.{FindsFrom, notes-refl, mapped-ok, then-ok, found-as, found-later, found-step, found-through, max-within, min-within}
 
 -- ---- a 36th
 
@@ -42,10 +43,10 @@ factored-within : (end : End) (factor : ℕ) (bound x : ℤ) → IsWithinUnits (
 factored-within end factor bound x h = mean-within end (pos factor *ℤ bound) (pos factor *ℤ x) (subst (λ (b : ℤ). IsWithinUnits b (pos factor *ℤ x)) (exchanged factor 36 bound) (times-within factor (pos 36 *ℤ bound) x h))
 
 -- what rolling is worth, from the sum
-pub rolled : (end : End) (s : Source) (stakes : Terms) (p : Placement) (k factor : ℕ) (u v : Notes) (a b : ℕ) (x y : ℤ) → y ≡ outwards end (pos factor *ℤ x)
-    → FindsFrom end s u v a b (MayFollow stakes p k) (pos 36 *ℤ s.bound) (λ n. sum_over all_rolls (worth end (kind_at stakes k) n) p) (Ok x)
-    → FindsFrom end s u v a b (MayFollow stakes p k) (pos factor *ℤ s.bound) (λ n. roll_value end stakes n p k factor) (Ok y)
-rolled end s stakes p k factor u v a b x y is looked =
+pub rolled : {m : Damage → Type 0} (m' : Damage → Type 0) (end : End) (s : Source) (stakes : Terms) (p : Placement) (k factor : ℕ) (u v : Notes) (a b : ℕ) (x y : ℤ) → y ≡ outwards end (pos factor *ℤ x)
+    → FindsFrom end s u v a b m (MayFollow stakes p k) (pos 36 *ℤ s.bound) (λ n. sum_over all_rolls (worth end (kind_at stakes k) n) p) (Ok x)
+    → FindsFrom end s u v a b m' (MayFollow stakes p k) (pos factor *ℤ s.bound) (λ n. roll_value end stakes n p k factor) (Ok y)
+rolled m' end s stakes p k factor u v a b x y is looked =
     mapped-ok s u v a b _ _ _ _ x y looked
     (λ found.
     let within = factored-within end factor s.bound x found.within in
@@ -81,11 +82,6 @@ among-more y (first ∷ rest) zero x h e (inr m) = absurd m
 among-more y (first ∷ rest) (suc i) x h e (inl is) = inl (inl is)
 among-more y (first ∷ rest) (suc i) x h e (inr m) = elim (among-more y rest i x (omega arith) e m) [ inl before ↦ inl (inr before) | inr is ↦ inr is ]
 
-among-at : (xs : List Taken) (i : ℕ) (x : Taken) → i < length xs → x ≡ get_or xs i x → Among x xs
-among-at [] i x h e = absurd (omega arith)
-among-at (first ∷ rest) zero x h e = inl e
-among-at (first ∷ rest) (suc i) x h e = inr (among-at rest i x (omega arith) e)
-
 pub min-most : (bound x y : ℤ) → x ≤ℤ bound → int_min x y ≤ℤ bound
 min-most bound x y h = omega (arith, ints, clamps)
 
@@ -95,11 +91,11 @@ least_of end stakes p double answers n = least (at end double.pass) (map (λ (ta
 
 module _ (end : End) (s : Source) (stakes : Terms) (p : Placement) (double : Double) where
   -- an answer after others
-  pub next-answer : (u v w : Notes) (a b c : ℕ) (i : ℕ) (taken : Taken) (x y z : ℤ) → i < length double.answers.items → taken ≡ get_or double.answers.items i taken → taken.factor ≤ 4 → pos 0 ≤ℤ s.bound → z ≡ int_min x y
-      → FindsFrom end s u v a b (MayFollowAnswer stakes p (take i double.answers.items)) (pos 4 *ℤ s.bound) (least_of end stakes p double (take i double.answers.items)) (Ok x)
-      → FindsFrom end s v w b c (MayFollow stakes p taken.kind) (pos taken.factor *ℤ s.bound) (λ n. roll_value end stakes n p taken.kind taken.factor) (Ok y)
-      → FindsFrom end s u w a c (MayFollowAnswer stakes p (take (i + 1) double.answers.items)) (pos 4 *ℤ s.bound) (least_of end stakes p double (take (i + 1) double.answers.items)) (Ok z)
-  next-answer u v w a b c i taken x y z high e factor positive is so_far looked =
+  pub next-answer : {m m' : Damage → Type 0} (m'' : Damage → Type 0) (u v w : Notes) (a b c : ℕ) (i : ℕ) (taken : Taken) (x y z : ℤ) → i < length double.answers.items → taken ≡ get_or double.answers.items i taken → taken.factor ≤ 4 → pos 0 ≤ℤ s.bound → z ≡ int_min x y
+      → FindsFrom end s u v a b m (MayFollowAnswer stakes p (take i double.answers.items)) (pos 4 *ℤ s.bound) (least_of end stakes p double (take i double.answers.items)) (Ok x)
+      → FindsFrom end s v w b c m' (MayFollow stakes p taken.kind) (pos taken.factor *ℤ s.bound) (λ n. roll_value end stakes n p taken.kind taken.factor) (Ok y)
+      → FindsFrom end s u w a c m'' (MayFollowAnswer stakes p (take (i + 1) double.answers.items)) (pos 4 *ℤ s.bound) (least_of end stakes p double (take (i + 1) double.answers.items)) (Ok z)
+  next-answer m'' u v w a b c i taken x y z high e factor positive is so_far looked =
       then-ok s u v w a b c _ _ _ _ _ _ x y z so_far looked
       (λ tighter before one.
       let answers = double.answers.items in
@@ -119,14 +115,14 @@ module _ (end : End) (s : Source) (stakes : Terms) (p : Placement) (double : Dou
       (sym is) both)
 
   -- after the last answer
-  pub all-answers : (u v : Notes) (a b i : ℕ) (x : ℤ) → length double.answers.items ≤ i
-      → FindsFrom end s u v a b (MayFollowAnswer stakes p (take i double.answers.items)) (pos 4 *ℤ s.bound) (least_of end stakes p double (take i double.answers.items)) (Ok x)
-      → FindsFrom end s u v a b (MayFollowAnswer stakes p double.answers.items) (pos 4 *ℤ s.bound) (λ n. doubled end stakes n p double) (Ok x)
-  all-answers u v a b i x past so_far = rw (take_all i double.answers.items past) at so_far
+  pub all-answers : (m : Damage → Type 0) (u v : Notes) (a b i : ℕ) (x : ℤ) → length double.answers.items ≤ i
+      → FindsFrom end s u v a b m (MayFollowAnswer stakes p (take i double.answers.items)) (pos 4 *ℤ s.bound) (least_of end stakes p double (take i double.answers.items)) (Ok x)
+      → FindsFrom end s u v a b m (MayFollowAnswer stakes p double.answers.items) (pos 4 *ℤ s.bound) (λ n. doubled end stakes n p double) (Ok x)
+  all-answers m u v a b i x past so_far = rw (take_all i double.answers.items past) at so_far
 
   -- an answer whose words can't be had
-  pub stopped-answer : (i : ℕ) (taken : Taken) → i < length double.answers.items → taken ≡ get_or double.answers.items i taken → AreAmong (MayFollow stakes p taken.kind) (MayFollowAnswer stakes p double.answers.items)
-  stopped-answer i taken high e q j h = (taken, among-at double.answers.items i taken high e, h)
+  pub stopped-answer : (i : ℕ) (taken : Taken) (damage : Damage) → i < length double.answers.items → taken ≡ get_or double.answers.items i taken → AreUndamaged s (MayFollowAnswer stakes p (take i double.answers.items)) → MeetsRolling stakes p taken.kind s damage → MeetsOnAnswers stakes p double.answers.items s damage
+  stopped-answer i taken damage high e before met = met-at s _ _ damage double.answers.items i taken high e (λ other m q j h. before q j (other, m, h)) met
 
 abbrev pub no_answer : Taken
 no_answer = record { kind = 0; factor = 0 }
@@ -146,8 +142,8 @@ answer-at stakes double i right high =
 -- ---- from sums that were found
 
 -- one end that was found, as a look-up that changes nothing
-pub found-looked : (end : End) (s : Source) (u : Notes) (states : States) (bound : ℤ) (value : Words → ℤ) (x : ℤ) → IsFound end s u states bound value x → FindsFrom end s u u 0 0 states bound value (Ok x)
-found-looked end s u states bound value x found = record { later = omega arith; notes = notes-refl s u; answer = found; stop = tt }
+pub found-looked : (m : Damage → Type 0) (end : End) (s : Source) (u : Notes) (states : States) (bound : ℤ) (value : Words → ℤ) (x : ℤ) → IsFound end s u states bound value x → FindsFrom end s u u 0 0 m states bound value (Ok x)
+found-looked m end s u states bound value x found = record { later = omega arith; notes = notes-refl s u; answer = found; stop = tt }
 
 item-at : (xs : List ℤ) (i : ℕ) (x d : ℤ) → i < length xs → x ≡ get_or xs i x → x ≡ get_or xs i d
 item-at [] i x d h e = absurd (omega arith)
@@ -155,12 +151,12 @@ item-at (y ∷ xs) zero x d h e = e
 item-at (y ∷ xs) (suc i) x d h e = item-at xs i x d (omega arith) e
 
 -- what rolling is worth, from the sum of its kind
-pub rolled-sum : (end : End) (s : Source) (u : Notes) (stakes : Terms) (p : Placement) (sums : List ℤ) (k factor : ℕ) (x y : ℤ) → AreFoundSums end s u stakes p sums → length sums ≡ length stakes.kinds → k < length stakes.kinds
+pub rolled-sum : (m : Damage → Type 0) (end : End) (s : Source) (u : Notes) (stakes : Terms) (p : Placement) (sums : List ℤ) (k factor : ℕ) (x y : ℤ) → AreFoundSums end s u stakes p sums → length sums ≡ length stakes.kinds → k < length stakes.kinds
     → x ≡ get_or sums k x → y ≡ outwards end (pos factor *ℤ x)
-    → FindsFrom end s u u 0 0 (MayFollow stakes p k) (pos factor *ℤ s.bound) (λ n. roll_value end stakes n p k factor) (Ok y)
-rolled-sum end s u stakes p sums k factor x y found many here at is =
-    rolled end s stakes p k factor u u 0 0 x y is
-    (found-looked end s u (MayFollow stakes p k) (pos 36 *ℤ s.bound) (λ n. sum_over all_rolls (worth end (kind_at stakes k) n) p) x
+    → FindsFrom end s u u 0 0 m (MayFollow stakes p k) (pos factor *ℤ s.bound) (λ n. roll_value end stakes n p k factor) (Ok y)
+rolled-sum m end s u stakes p sums k factor x y found many here at is =
+    rolled m end s stakes p k factor u u 0 0 x y is
+    (found-looked m end s u (MayFollow stakes p k) (pos 36 *ℤ s.bound) (λ n. sum_over all_rolls (worth end (kind_at stakes k) n) p) x
     (subst (IsFound end s u (MayFollow stakes p k) (pos 36 *ℤ s.bound) (λ n. sum_over all_rolls (worth end (kind_at stakes k) n) p)) (sym (item-at sums k x (pos 0) (rw many here) at)) (found k here)))
 
 -- ---- turns
@@ -186,19 +182,19 @@ same_some : {X : Type 0} (o : Option X) (x y : X) → o ≡ Some x → o ≡ Som
 same_some o x y h k = cc
 
 module _ (end : End) (s : Source) (stakes : Terms) (p : Placement) (k : ℕ) where
-  pub turn-plain : (u v : Notes) (a b : ℕ) (x : ℤ) → (kind_at stakes k).double ≡ None
-      → FindsFrom end s u v a b (MayFollow stakes p k) (pos 1 *ℤ s.bound) (λ n. roll_value end stakes n p k 1) (Ok x) → FindsFrom end s u v a b (MayFollowTurn stakes p k) s.bound (λ n. turn stakes n end p k) (Ok x)
-  turn-plain u v a b x none looked =
+  pub turn-plain : {m : Damage → Type 0} (m' : Damage → Type 0) (u v : Notes) (a b : ℕ) (x : ℤ) → (kind_at stakes k).double ≡ None
+      → FindsFrom end s u v a b m (MayFollow stakes p k) (pos 1 *ℤ s.bound) (λ n. roll_value end stakes n p k 1) (Ok x) → FindsFrom end s u v a b m' (MayFollowTurn stakes p k) s.bound (λ n. turn stakes n end p k) (Ok x)
+  turn-plain m' u v a b x none looked =
       mapped-ok s u v a b _ _ _ _ x x looked
       (λ found. found-as end s v (MayFollow stakes p k) (MayFollowTurn stakes p k) (pos 1 *ℤ s.bound) s.bound (λ n. roll_value end stakes n p k 1) (λ n. turn stakes n end p k) x x
       (once s.bound x found.within) (λ q j h. elim h [ inl after ↦ after | inr double ↦ absurd (none_some _ _ none double.right) ])
       (λ n. or_none end stakes n p k none) refl found)
 
-  pub turn-doubled : (u v w : Notes) (a b c : ℕ) (double : Double) (x y z : ℤ) → (kind_at stakes k).double ≡ Some double → z ≡ int_max x y → y ≤ℤ s.bound
-      → FindsFrom end s u v a b (MayFollow stakes p k) (pos 1 *ℤ s.bound) (λ n. roll_value end stakes n p k 1) (Ok x)
-      → FindsFrom end s v w b c (MayFollowAnswer stakes p double.answers.items) (pos 4 *ℤ s.bound) (λ n. doubled end stakes n p double) (Ok y)
-      → FindsFrom end s u w a c (MayFollowTurn stakes p k) s.bound (λ n. turn stakes n end p k) (Ok z)
-  turn-doubled u v w a b c double x y z some is most plain looked =
+  pub turn-doubled : {m m' : Damage → Type 0} (m'' : Damage → Type 0) (u v w : Notes) (a b c : ℕ) (double : Double) (x y z : ℤ) → (kind_at stakes k).double ≡ Some double → z ≡ int_max x y → y ≤ℤ s.bound
+      → FindsFrom end s u v a b m (MayFollow stakes p k) (pos 1 *ℤ s.bound) (λ n. roll_value end stakes n p k 1) (Ok x)
+      → FindsFrom end s v w b c m' (MayFollowAnswer stakes p double.answers.items) (pos 4 *ℤ s.bound) (λ n. doubled end stakes n p double) (Ok y)
+      → FindsFrom end s u w a c m'' (MayFollowTurn stakes p k) s.bound (λ n. turn stakes n end p k) (Ok z)
+  turn-doubled m'' u v w a b c double x y z some is most plain looked =
       then-ok s u v w a b c _ _ _ _ _ _ x y z plain looked
       (λ tighter one other.
       let states = MayFollow stakes p k in
@@ -212,9 +208,6 @@ module _ (end : End) (s : Source) (stakes : Terms) (p : Placement) (k : ℕ) whe
       (found-later end s v w states (pos 1 *ℤ s.bound) (λ n. roll_value end stakes n p k 1) x tighter one) other in
       found-as end s w states' states' s.bound s.bound (λ n. int_max (roll_value end stakes n p k 1) (doubled end stakes n p double)) (λ n. turn stakes n end p k) (int_max x y) z
       (subst (IsWithinUnits s.bound) (sym is) within) (λ q j h. h) (λ n. or_some end stakes n p k double some) (sym is) both)
-
-  pub stopped-double : (double : Double) → (kind_at stakes k).double ≡ Some double → AreAmong (MayFollowAnswer stakes p double.answers.items) (MayFollowTurn stakes p k)
-  stopped-double double some q j h = inr (record { double = double; right = some; taken = h.0; answer = Among-Contains h.0 _ h.1; after = h.2 })
 
 -- ---- both ends
 
@@ -231,9 +224,9 @@ between : (x a b y : ℤ) → x ≤ℤ a → a ≤ℤ b → b ≤ℤ y → x ≤
 between x a b y h k l = omega (arith, ints)
 
 -- the lower end and then the upper end
-pub paired : (s : Source) (states : States) (bound : ℤ) (value : End → Words → ℤ) (u v w : Notes) (a b c : ℕ) (x y : ℤ) (pair : Bounds) → pair.lower ≡ int_min x y → pair.upper ≡ int_max x y → (IsTrue w.told → value Lower w.words ≤ℤ value Upper w.words)
-    → FindsFrom Lower s u v a b states bound (value Lower) (Ok x) → FindsFrom Upper s v w b c states bound (value Upper) (Ok y) → Looked s u w a c (HasDamage s states) (IsPairOf s w states bound value) (Ok pair)
-paired s states bound value u v w a b c x y pair low high order lower upper =
+pub paired : {m m' : Damage → Type 0} (m'' : Damage → Type 0) (s : Source) (states : States) (bound : ℤ) (value : End → Words → ℤ) (u v w : Notes) (a b c : ℕ) (x y : ℤ) (pair : Bounds) → pair.lower ≡ int_min x y → pair.upper ≡ int_max x y → (IsTrue w.told → value Lower w.words ≤ℤ value Upper w.words)
+    → FindsFrom Lower s u v a b m states bound (value Lower) (Ok x) → FindsFrom Upper s v w b c m' states bound (value Upper) (Ok y) → Looked s u w a c m'' (IsPairOf s w states bound value) (Ok pair)
+paired m'' s states bound value u v w a b c x y pair low high order lower upper =
     then-ok s u v w a b c _ _ _ _ _ _ x y pair lower upper
     (λ tighter one other.
     let before = found-later Lower s v w states bound (value Lower) x tighter one in

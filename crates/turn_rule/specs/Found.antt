@@ -1,5 +1,5 @@
 -- One end of a value that is worked out from looked up words.
-use Rattle.std.specs.Prelude.{◌≡◌, ◌<◌, ℕ, ℤ, pos, ◌*ℤ◌, IsTrue, None, Result, List, length, slice_index_or}
+use Rattle.std.specs.Prelude.{◌≡◌, ◌<◌, ℕ, ℤ, pos, ◌*ℤ◌, IsTrue, Some, None, Result, List, length, slice_index_or}
 use Rattle.position_rank.specs.Placement.{Placement, swap}
 use Rattle.roll_table.specs.Rolls.{Dice, all_rolls}
 use Rattle.move_rules.specs.Listing.{Among}
@@ -14,7 +14,7 @@ use Rattle.cube_actions.specs.declared.kind.Taken.{Taken}
 use Rattle.cube_actions.specs.Stakes.{Terms, kind_at}
 use Rattle.turn_rule.specs.Turn.{Words, worth, greatest, sum_over, doubled}
 use Rattle.turn_rule.specs.States.{IsStateOf, AreNoLooserOf}
-use Rattle.turn_rule.specs.Looks.{Source, Notes, Seen, States, Sought, LooksUp, HasDamage, IsLeft, MayFollow}
+use Rattle.turn_rule.specs.Looks.{Source, Notes, Seen, States, Sought, LooksUp, HasDamage, AreUndamaged, MeetsOnEnds, MeetsRolling, MeetsOnAnswers, IsLeft, MayFollow}
 
 -- One end of a value within a bound. Where the answers are told, it is at least as tight as the value over the source's floor, and no tighter
 -- than the value over any words that are at least as tight as the notes. None of the states is damaged.
@@ -25,7 +25,7 @@ pub record IsFound (end : End) (source : Source) (noted : Notes) (states : State
   pub notes : IsTrue noted.told → (later : Words)
       → AreNoLooserOf source.checkers source.kinds later noted.words
       → IsNoLooser end (value later) found
-  pub right : IsTrue noted.told → (p : Placement) (k : ℕ) → states p k → source.damage p k ≡ None
+  pub right : IsTrue noted.told → AreUndamaged source states
 
 -- one end of what is sought
 abbrev pub IsFoundOf : End → Sought → Source → Notes → ℤ → Type 0
@@ -35,8 +35,7 @@ IsFoundOf end sought source noted =
 -- a look-up of one end of what is sought
 abbrev pub Finds : End → Sought → Seen → Seen → Result ℤ LookStop → Type 0
 Finds end sought old new result =
-    LooksUp old new (HasDamage old.source sought.states) (IsFoundOf end sought old.source new.notes)
-    result
+    LooksUp old new (sought.meets old.source) (IsFoundOf end sought old.source new.notes) result
 
 -- the other side's state after a play that doesn't end the game is one of the source
 abbrev pub LeavesState : Source → ℕ → Placement → Type 0
@@ -63,12 +62,18 @@ MayFollowAnswer stakes p answers q j =
 
 -- the word of a state
 abbrev pub of_word : Placement → ℕ → Sought
-of_word p k = record { states = IsSame p k; limit = λ bound. bound; value = λ end u. u end p k }
+of_word p k = record {
+  states = IsSame p k;
+  meets = λ source damage. source.damage p k ≡ Some damage;
+  limit = λ bound. bound;
+  value = λ end u. u end p k;
+}
 
 -- what the mover has after a play that ends so
 abbrev pub of_play : Kind → Placement → Sought
 of_play kind q = record {
   states = IsLeft kind.next q;
+  meets = λ source damage. HasDamage source (IsLeft kind.next q) damage;
   limit = λ bound. bound;
   value = λ end u. worth end kind u q;
 }
@@ -77,6 +82,7 @@ of_play kind q = record {
 abbrev pub of_plays : Kind → List Placement → Sought
 of_plays kind ends = record {
   states = MayFollowEnds kind.next ends;
+  meets = MeetsOnEnds kind.next ends;
   limit = λ bound. bound;
   value = λ end u. greatest (worth end kind u) ends;
 }
@@ -85,6 +91,7 @@ of_plays kind ends = record {
 abbrev pub of_sum : Terms → Placement → ℕ → Sought
 of_sum stakes p k = record {
   states = MayFollow stakes p k;
+  meets = MeetsRolling stakes p k;
   limit = λ bound. pos 36 *ℤ bound;
   value = λ end u. sum_over all_rolls (worth end (kind_at stakes k) u) p;
 }
@@ -93,6 +100,7 @@ of_sum stakes p k = record {
 abbrev pub of_double : Terms → Placement → Double → Sought
 of_double stakes p double = record {
   states = MayFollowAnswer stakes p double.answers.items;
+  meets = MeetsOnAnswers stakes p double.answers.items;
   limit = λ bound. pos 4 *ℤ bound;
   value = λ end u. doubled end stakes u p double;
 }

@@ -1,8 +1,10 @@
 -- Where words are looked up, and what a look-up may answer.
-use Rattle.std.specs.Prelude.{◌≡◌, ℕ, ◌≤◌, ℤ, pos, ◌*ℤ◌, ◌≤ℤ◌, Bool, true, IsTrue, IsFalse, ◌⊎◌, length, Option, Some, None, Result, IfOk, IfErr}
+use Rattle.std.specs.Prelude.{◌≡◌, ℕ, ◌≤◌, ℤ, pos, ◌*ℤ◌, ◌≤ℤ◌, ◌↔◌, Bool, true, IsTrue, IsFalse, ◌⊎◌, List, [], ◌∷◌, length, All, AllPairs, Option, Some, None, Result, IfOk, IfErr}
 use Rattle.std.specs.List.{Contains}
 use Rattle.position_rank.specs.Placement.{Placement, swap}
-use Rattle.roll_table.specs.Rolls.{Dice, IsRoll}
+use Rattle.roll_table.specs.Rolls.{Dice, IsRoll, all_rolls}
+use Rattle.move_rules.specs.declared.play.Entry.{Entry}
+use Rattle.move_rules.specs.Order.{PlayComesBefore, IsFirst, ends_of, plays_of}
 use Rattle.move_rules.specs.Sequences.{IsLegalEnd}
 use Rattle.game_payoff.specs.Points.{points}
 use Rattle.directed_fixed.specs.declared.bounds.End.{End}
@@ -114,6 +116,13 @@ pub record IsLeft (next : ℕ) (end : Placement) (p : Placement) (k : ℕ) : Typ
   pub sides : p ≡ swap end
   pub kind : k ≡ next
 
+-- a state that some play of the roll leaves
+pub record MayFollowRoll (stakes : Terms) (p : Placement) (k : ℕ) (roll : Dice) (q : Placement)
+    (j : ℕ) : Type 0 where
+  pub end : Placement
+  pub legal : IsLegalEnd p roll end
+  pub left : IsLeft (kind_at stakes k).next end q j
+
 -- a state that some roll's play may leave
 pub record MayFollow (stakes : Terms) (p : Placement) (k : ℕ) (q : Placement) (j : ℕ) : Type 0 where
   pub roll : Dice
@@ -142,6 +151,66 @@ pub record HasDamage (source : Source) (states : States) (damage : Damage) : Typ
   pub among : states position kind
   pub damaged : source.damage position kind ≡ Some damage
 
+-- none of some states is damaged
+abbrev pub AreUndamaged : Source → States → Type 0
+AreUndamaged source states = (p : Placement) (k : ℕ) → states p k → source.damage p k ≡ None
+
+-- which damage of a source is met first
+abbrev pub Meets : Type 1
+Meets = Source → Damage → Type 0
+
+-- The damage that is met first where these are gone through in their order, each with its states: it is met at the first, or none of the
+-- first's states is damaged and it is met first at those that come after.
+abbrev pub MeetsFirst : {X : Type 0} → (X → States) → (X → Meets) → List X → Meets
+MeetsFirst states meets [] source damage = ⊥
+MeetsFirst states meets (x ∷ xs) source damage =
+    meets x source damage
+    ⊎ (AreUndamaged source (states x) × MeetsFirst states meets xs source damage)
+
+-- the damage that is met first at what some plays leave
+abbrev pub MeetsOnEnds : ℕ → List Placement → Meets
+MeetsOnEnds next =
+    MeetsFirst (IsLeft next) (λ end source damage. HasDamage source (IsLeft next end) damage)
+
+-- the ends of a roll's legal plays, each once, in the order of the first plays that leave them
+pub record AreEndsInOrder (p : Placement) (roll : Dice) (ends : List Placement) : Type 0 where
+  pub entries : List Entry
+  pub are : ends ≡ ends_of entries
+  pub legal : (q : Placement) → Contains ends q ↔ IsLegalEnd p roll q
+  pub first : All (λ entry. IsFirst p roll entry.play.items entry.end) entries
+  pub in_order : AllPairs PlayComesBefore (plays_of entries)
+
+-- the damage that is met first at what the plays of this roll leave
+pub record MeetsOnRoll (stakes : Terms) (p : Placement) (k : ℕ) (roll : Dice) (source : Source)
+    (damage : Damage) : Type 0 where
+  pub ends : List Placement
+  pub in_order : AreEndsInOrder p roll ends
+  pub meets : MeetsOnEnds (kind_at stakes k).next ends source damage
+
+-- the damage that is met first when rolling in a kind, the rolls from 11 to 66
+abbrev pub MeetsRolling : Terms → Placement → ℕ → Meets
+MeetsRolling stakes p k = MeetsFirst (λ roll. MayFollowRoll stakes p k roll.0)
+    (λ roll. MeetsOnRoll stakes p k roll.0) all_rolls
+
+-- the damage that is met first after a double with these answers that play on
+abbrev pub MeetsOnAnswers : Terms → Placement → List Taken → Meets
+MeetsOnAnswers stakes p = MeetsFirst
+    (λ taken. MayFollow stakes p taken.kind)
+    (λ taken. MeetsRolling stakes p taken.kind)
+
+-- the damage that is met first after a double, in the order of the answers
+pub record MeetsDoubled (stakes : Terms) (p : Placement) (k : ℕ) (source : Source)
+    (damage : Damage) : Type 0 where
+  pub double : Double
+  pub right : (kind_at stakes k).double ≡ Some double
+  pub meets : MeetsOnAnswers stakes p double.answers.items source damage
+
+-- the damage that is met first at a turn: without a double, and then after one
+pub record MeetsOnTurn (stakes : Terms) (p : Placement) (k : ℕ) (source : Source)
+    (damage : Damage) : Type 0 where
+  pub first : MeetsRolling stakes p k source damage
+      ⊎ (AreUndamaged source (MayFollow stakes p k) × MeetsDoubled stakes p k source damage)
+
 -- A pair within a bound, its lower end at most its upper. Where the answers are told, each end is at least as tight as the value over the
 -- source's floor and no tighter than the value over the notes, and none of the states is damaged.
 pub record IsPairOf (source : Source) (noted : Notes) (states : States) (bound : ℤ)
@@ -153,11 +222,13 @@ pub record IsPairOf (source : Source) (noted : Notes) (states : States) (bound :
   pub upper_floor : IsTrue noted.told → IsNoLooser Upper pair.upper (value Upper source.floor)
   pub lower_notes : IsTrue noted.told → IsNoLooser Lower (value Lower noted.words) pair.lower
   pub upper_notes : IsTrue noted.told → IsNoLooser Upper (value Upper noted.words) pair.upper
-  pub right : IsTrue noted.told → (p : Placement) (k : ℕ) → states p k → source.damage p k ≡ None
+  pub right : IsTrue noted.told → AreUndamaged source states
 
--- What is sought from words: over which states, how far from 0 it may lie where no word lies farther than a bound, and its value at an end.
+-- What is sought from words: over which states, which damage of theirs is met first, how far from 0 it may lie where no word lies farther
+-- than a bound, and its value at an end.
 pub record Sought : Type 1 where
   pub states : States
+  pub meets : Meets
   pub limit : ℤ → ℤ
   pub value : End → Words → ℤ
 
@@ -169,13 +240,13 @@ IsPairFor sought source noted =
 -- a look-up of such a pair
 abbrev pub FindsPair : Sought → Seen → Seen → Result Bounds LookStop → Type 0
 FindsPair sought old new result =
-    LooksUp old new (HasDamage old.source sought.states) (IsPairFor sought old.source new.notes)
-    result
+    LooksUp old new (sought.meets old.source) (IsPairFor sought old.source new.notes) result
 
 -- what rolling in a kind is worth that counts so many times
 abbrev pub of_roll : Terms → Placement → ℕ → ℕ → Sought
 of_roll stakes p k factor = record {
   states = MayFollow stakes p k;
+  meets = MeetsRolling stakes p k;
   limit = λ bound. pos factor *ℤ bound;
   value = λ end u. roll_value end stakes u p k factor;
 }
@@ -184,6 +255,7 @@ of_roll stakes p k factor = record {
 abbrev pub of_turn : Terms → Placement → ℕ → Sought
 of_turn stakes p k = record {
   states = MayFollowTurn stakes p k;
+  meets = MeetsOnTurn stakes p k;
   limit = λ bound. bound;
   value = λ end u. turn stakes u end p k;
 }

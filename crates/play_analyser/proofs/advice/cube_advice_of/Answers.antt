@@ -1,14 +1,14 @@
-use Rattle.std.proofs.Common.{◌≡◌, ◌≤◌, List, Option, Some, length, subst, sym, arith}
+use Rattle.std.proofs.Common.{◌≡◌, ◌≤◌, List, Option, Some, inr, length, subst, sym, arith}
 use Rattle.std.proofs.lemmas.Result.{err_from_is_err_and}
 use Rattle.directed_fixed.specs.Bounds.{Bounds}
 use Rattle.cube_actions.specs.declared.kind.Double.{Double}
 use Rattle.cube_actions.specs.Stakes.{kind_at}
 use Rattle.turn_rule.specs.Looks.{of_roll}
-use Rattle.turn_rule.proofs.Found.{damage-among, then-err, then-ok}
+use Rattle.turn_rule.proofs.Found.{then-err, then-ok}
 use Rattle.play_analyser.specs.Advice.{IsActionBy, IsAdviceOn, taken_of}
 use Rattle.play_analyser.specs.Sought.{ArePairsFor, of_answer}
 use Rattle.play_analyser.proofs.PairLists.{pair-later, pairs-length}
-use Rattle.play_analyser.proofs.CubeLosses.{answers-follow-turn, each-state, right-double, roll-tightens, taken-near}
+use Rattle.play_analyser.proofs.CubeLosses.{each-state, right-double, roll-tightens, taken-near}
 use Rattle.play_analyser.proofs.advice.cube_advice_of.Goals as goal
 
 pub returns-in_err-taken-in-Some-clause-looked : goal.returns-in_err-taken-in-Some-clause-looked
@@ -17,7 +17,7 @@ returns-in_err-taken-in-Some-clause-looked g c =
     let some : (kind_at c.args.stakes.now c.args.kind).double ≡ Some c.in-Some.double = rw (← c.kind.ensures.kind) c.in-Some.is in
     let p = err_from_is_err_and c.from_residual-in_err-taken-in-Some.result c.from_residual-in_err-taken-in-Some.ensures.1 in
     rw (p.1, p.2) (then-err s _ _ _ _ _ _ _ _ _ _ _ _ c.in_ok-no_double.no_double _ c.in_ok-no_double.ensures.looked (rw c.in_ok-no_double.ensures.source at c.in_err-taken-in-Some.ensures.looked)
-    (damage-among s _ _ (answers-follow-turn s c.args.stakes.now c.kind.ensures.valid c.requires.stakes c.args.ends.now c.args.kind c.requires.state c.in-Some.double some)))
+    (λ damage told met. record { first = inr (c.in_ok-no_double.ensures.looked.answer.right told, record { double = c.in-Some.double; right = some; meets = met }) }))
 
 pub action_of-action-requires-clause-taken : goal.action_of-action-requires-clause-taken
 action_of-action-requires-clause-taken g c =

@@ -1,9 +1,10 @@
 use Rattle.std.proofs.Common.{◌<◌, ◌∙◌, length, get_or, arith}
 use Rattle.std.proofs.lemmas.Result.{err_from_is_err_and}
-use Rattle.turn_rule.proofs.Found.{then-err, damage-among}
+use Rattle.turn_rule.proofs.Found.{then-err}
 use Rattle.turn_rule.proofs.Values.{no_answer, an_answer}
 use Rattle.play_analyser.specs.Sought.{of_answer}
-use Rattle.play_analyser.proofs.PairLists.{next-pair, stopped-pair}
+use Rattle.play_analyser.proofs.PairLists.{next-pair}
+use Rattle.play_analyser.proofs.LossPairs.{stopped-pair}
 use Rattle.play_analyser.proofs.CubeLosses.{answer-tightens}
 use Rattle.play_analyser.proofs.answers.answer_pairs.Goals as goal
 
@@ -14,7 +15,7 @@ returns-in_err-pair-clause-looked g c =
     let here : c.loop-taken.taken-index < length answers = rw (← c.loop-taken.invariant.answers) c.loop-taken-test.true in
     let p = err_from_is_err_and c.from_residual.result c.from_residual.ensures.1 in
     rw (p.1, p.2) (then-err s _ _ _ _ _ _ _ _ _ _ _ _ c.loop-taken.found _ c.loop-taken.invariant.found (rw (c.loop-taken.invariant.source, c.loop-taken.invariant.answers) at c.in_err-pair.ensures.looked)
-    (damage-among s _ _ (stopped-pair s (of_answer c.args.stakes.now c.args.ends.now) answers c.loop-taken.taken-index (get_or answers c.loop-taken.taken-index no_answer) here (an_answer answers c.loop-taken.taken-index here))))
+    (λ damage told met. stopped-pair s (of_answer c.args.stakes.now c.args.ends.now) _ told answers c.loop-taken.taken-index (get_or answers c.loop-taken.taken-index no_answer) damage c.loop-taken.found.items here (an_answer answers c.loop-taken.taken-index here) c.loop-taken.invariant.found.answer met))
 
 pub loop-taken-preserved : goal.loop-taken-preserved
 loop-taken-preserved g c =

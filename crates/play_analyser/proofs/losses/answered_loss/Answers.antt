@@ -2,13 +2,13 @@ use Rattle.std.proofs.Common.{map, subst, sym}
 use Rattle.std.proofs.lemmas.Result.{err_from_is_err_and}
 use Rattle.directed_fixed.specs.Bounds.{negated}
 use Rattle.turn_rule.specs.Looks.{IsPairFor}
-use Rattle.turn_rule.proofs.Found.{damage-among, mapped-ok}
+use Rattle.turn_rule.proofs.Found.{mapped-ok}
 use Rattle.game_record.specs.declared.decision.Choice.TheVariants.{Answered}
 use Rattle.play_analyser.specs.Choices.{answer_options}
 use Rattle.play_analyser.specs.Sought.{of_loss}
 use Rattle.play_analyser.proofs.LossPairs.{loss-positive}
 use Rattle.play_analyser.proofs.PlayLosses.{first-err}
-use Rattle.play_analyser.proofs.CubeLosses.{answer-count, answer-loss, answers-follow, taken-near}
+use Rattle.play_analyser.proofs.CubeLosses.{answer-count, answer-loss, taken-near}
 use Rattle.play_analyser.proofs.losses.answered_loss.Goals as goal
 
 pub returns-in_err-taken-clause-looked : goal.returns-in_err-taken-clause-looked
@@ -16,7 +16,7 @@ returns-in_err-taken-clause-looked g c =
     let s = (g.P.Pairs.seen c.args.pairs.now).source in
     let p = err_from_is_err_and c.from_residual.result c.from_residual.ensures.1 in
     rw (p.1, p.2) (first-err s _ _ _ _ _ _ _ _ _ (rw c.of-ends.ensures at c.in_err-taken.ensures.looked)
-    (damage-among s _ _ (answers-follow s c.args.stakes.now c.requires.valid c.requires.stakes c.args.position.now c.args.number c.requires.state c.args.double.now c.requires.double)))
+    (λ damage met. record { double = c.args.double.now; right = c.requires.double; meets = met }))
 
 pub answer_loss-requires-clause-taken : goal.answer_loss-requires-clause-taken
 answer_loss-requires-clause-taken g c =

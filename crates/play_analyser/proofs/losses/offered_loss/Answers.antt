@@ -1,12 +1,12 @@
-use Rattle.std.proofs.Common.{subst, sym}
+use Rattle.std.proofs.Common.{inr, subst, sym}
 use Rattle.std.proofs.lemmas.Result.{err_from_is_err_and}
 use Rattle.turn_rule.specs.Looks.{IsPairFor, of_roll}
-use Rattle.turn_rule.proofs.Found.{damage-among, then-err, then-ok}
+use Rattle.turn_rule.proofs.Found.{then-err, then-ok}
 use Rattle.game_record.specs.declared.decision.Choice.TheVariants.{Offered}
 use Rattle.play_analyser.specs.Sought.{of_loss}
 use Rattle.play_analyser.proofs.PairLists.{pair-later}
 use Rattle.play_analyser.proofs.PlayLosses.{source-near}
-use Rattle.play_analyser.proofs.CubeLosses.{answers-follow-turn, doubled-within, each-state, offer-loss, roll-tightens}
+use Rattle.play_analyser.proofs.CubeLosses.{doubled-within, each-state, offer-loss, roll-tightens}
 use Rattle.play_analyser.proofs.losses.offered_loss.Goals as goal
 
 pub returns-in_err-taken-clause-looked : goal.returns-in_err-taken-clause-looked
@@ -14,7 +14,7 @@ returns-in_err-taken-clause-looked g c =
     let s = (g.P.Pairs.seen c.args.pairs.now).source in
     let p = err_from_is_err_and c.from_residual-in_err-taken.result c.from_residual-in_err-taken.ensures.1 in
     rw (p.1, p.2) (then-err s _ _ _ _ _ _ _ _ _ _ _ _ c.in_ok-rolling.rolling _ c.in_ok-rolling.ensures.looked (rw (c.in_ok-rolling.ensures.source, c.of-ends.ensures) at c.in_err-taken.ensures.looked)
-    (damage-among s _ _ (answers-follow-turn s c.args.stakes.now c.requires.valid c.requires.stakes c.args.position.now c.args.number c.requires.state c.args.double.now c.requires.double)))
+    (λ damage told met. record { first = inr ((rw c.of-ends.ensures at c.in_ok-rolling.ensures.looked).answer.right told, record { double = c.args.double.now; right = c.requires.double; meets = met }) }))
 
 pub offer_loss-requires-clause-doubling : goal.offer_loss-requires-clause-doubling
 offer_loss-requires-clause-doubling g c =

@@ -1,11 +1,11 @@
-use Rattle.std.proofs.Common.{◌≡◌, ◌<◌, length, subst, arith}
+use Rattle.std.proofs.Common.{◌≡◌, ◌<◌, length, inl, inr, subst, arith}
 use Rattle.std.proofs.lemmas.Result.{err_from_is_err_and}
 use Rattle.std.proofs.lemmas.Bool.Decides.{nat_tests}
 use Rattle.cube_actions.specs.Stakes.{kind_at}
 use Rattle.turn_rule.specs.Found.{LeavesState}
-use Rattle.turn_rule.proofs.Found.{then-err, damage-among}
+use Rattle.turn_rule.proofs.Found.{then-err}
 use Rattle.play_analyser.proofs.LossPairs.{loss-positive}
-use Rattle.play_analyser.proofs.PlayLosses.{AreOthers, others-are, no-others, all-of, asked-nothing, first-err, lone-play, source-leaves, source-wins, near-play, near-plays, chosen-follows, others-follow, play-losses}
+use Rattle.play_analyser.proofs.PlayLosses.{AreOthers, others-are, no-others, all-of, asked-nothing, first-err, lone-play, source-leaves, source-wins, near-play, near-plays, play-losses}
 use Rattle.play_analyser.proofs.losses.play_loss.Goals as goal
 
 pub returns-then-is_empty-clause-looked : goal.returns-then-is_empty-clause-looked
@@ -28,10 +28,9 @@ pub returns-in_err-chosen-clause-looked : goal.returns-in_err-chosen-clause-look
 returns-in_err-chosen-clause-looked g c =
     let s = (g.P.Pairs.seen c.args.pairs.now).source in
     let some : 0 < length c.other_ends-others.result.items = grind (arith, nat_tests) in
-    let are = others-are c.args.position.now c.args.roll c.args.end.now c.other_ends-others.result.items c.other_ends-others.ensures in
     let p = err_from_is_err_and c.from_residual.result c.from_residual.ensures.1 in
     rw (p.1, p.2) (first-err s _ _ _ _ _ _ _ _ _ (rw c.kind-kind.ensures.kind at c.in_err-chosen.ensures.looked)
-    (damage-among s _ _ (chosen-follows s c.args.stakes.now c.kind-kind.ensures.valid c.requires.stakes c.args.position.now c.args.number c.requires.state c.args.roll c.args.end.now c.other_ends-others.result.items are c.requires.legal some)))
+    (λ damage met. record { legal = c.requires.legal; others = c.other_ends-others.result.items; in_order = c.other_ends-others.ensures; some = some; meets = inl met }))
 
 pub play_pairs-requires-clause-states : goal.play_pairs-requires-clause-states
 play_pairs-requires-clause-states g c =
@@ -49,10 +48,10 @@ play_pairs-requires-clause-wins g c =
 pub returns-in_err-found-clause-looked : goal.returns-in_err-found-clause-looked
 returns-in_err-found-clause-looked g c =
     let s = (g.P.Pairs.seen c.args.pairs.now).source in
-    let are = others-are c.args.position.now c.args.roll c.args.end.now c.other_ends-others.result.items c.other_ends-others.ensures in
+    let some : 0 < length c.other_ends-others.result.items = grind (arith, nat_tests) in
     let p = err_from_is_err_and c.from_residual-in_err-found.result c.from_residual-in_err-found.ensures.1 in
     rw (p.1, p.2) (then-err s _ _ _ _ _ _ _ _ _ _ _ _ c.in_ok-chosen.chosen _ c.in_ok-chosen.ensures.looked (rw (c.in_ok-chosen.ensures.source, c.kind-kind.ensures.kind, c.as_slice.ensures.value) at c.in_err-found.ensures.looked)
-    (damage-among s _ _ (others-follow s c.args.stakes.now c.kind-kind.ensures.valid c.requires.stakes c.args.position.now c.args.number c.requires.state c.args.roll c.args.end.now c.other_ends-others.result.items are)))
+    (λ damage told met. record { legal = c.requires.legal; others = c.other_ends-others.result.items; in_order = c.other_ends-others.ensures; some = some; meets = inr ((rw c.kind-kind.ensures.kind at c.in_ok-chosen.ensures.looked).answer.right told, met) }))
 
 pub loss_among-requires-clause-chosen : goal.loss_among-requires-clause-chosen
 loss_among-requires-clause-chosen g c =

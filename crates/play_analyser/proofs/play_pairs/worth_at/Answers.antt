@@ -4,5 +4,5 @@ use Rattle.play_analyser.proofs.play_pairs.worth_at.Goals as goal
 
 pub returns-in_ok-word-in-None-clause-found : goal.returns-in_ok-word-in-None-clause-found
 returns-in_ok-word-in-None-clause-found g c =
-    left-worth c.args.end _ _ _ _ _ c.args.left.now c.args.kind.now c.in_ok-word-in-None.word _ (sym c.in-None.ensures) c.neg.ensures
+    left-worth _ c.args.end _ _ _ _ _ c.args.left.now c.args.kind.now c.in_ok-word-in-None.word _ (sym c.in-None.ensures) c.neg.ensures
     (rw (c.other_end.ensures, c.swap-theirs.ensures.swap) at c.in_ok-word-in-None.ensures.found)

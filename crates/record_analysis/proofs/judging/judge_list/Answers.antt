@@ -1,12 +1,13 @@
-use Rattle.std.proofs.Common.{◌∙◌, ◌+◌, ◌<◌, length, subst, arith}
+use Rattle.std.proofs.Common.{◌∙◌, ◌+◌, ◌<◌, length, take, sym, subst, arith}
 use Rattle.std.proofs.lemmas.List.{drop-set-lt}
 use Rattle.std.proofs.lemmas.List.Elements.{All-set}
 use Rattle.std.proofs.lemmas.Result.{err_from_is_err_and}
-use Rattle.turn_rule.proofs.Found.{then-ok}
+use Rattle.turn_rule.proofs.Found.{then-ok, then-err}
+use Rattle.turn_rule.proofs.MetFirst.{met-at}
 use Rattle.record_analysis.specs.declared.analysis.Judged.{Judged}
 use Rattle.record_analysis.specs.Analyses.{IsSmall}
-use Rattle.record_analysis.specs.Judging.{CanBeJudged, IsAt}
-use Rattle.record_analysis.proofs.Judgings.{drop-next, judges-more, judges-some, rest-at}
+use Rattle.record_analysis.specs.Judging.{CanBeJudged, IsAt, MeetsOnDecision}
+use Rattle.record_analysis.proofs.Judgings.{drop-next, judged-undamaged, judges-more, judges-some, rest-at}
 use Rattle.record_analysis.proofs.judging.judge_list.Goals as goal
 
 pub judged_by-requires-clause-can : goal.judged_by-requires-clause-can
@@ -20,6 +21,21 @@ judged_by-requires-clause-can g c =
     let here : i < length olds = omega (arith, c.loop-i.auto.list, c.loop-i-test.true) in
     rw c.loop-i.invariant.source
     (subst (λ (x : Judged). IsAt c.args.score x → CanBeJudged s c.args.stakes.now x.decision) (rest-at olds news i d here there c.loop-i.invariant.rest) (c.requires.can i d here))
+
+pub returns-in_err-list-clause-looked : goal.returns-in_err-list-clause-looked
+returns-in_err-list-clause-looked g c =
+    let s = (g.P.Pairs.seen c.args.pairs.now).source in
+    let olds = c.args.list.now in
+    let news = c.loop-i.list in
+    let i = c.loop-i.i in
+    let d = c.index-list-i.result in
+    let there : i < length news = omega (arith, c.loop-i.auto.list, c.loop-i-test.true) in
+    let here : i < length olds = omega (arith, c.loop-i.auto.list, c.loop-i-test.true) in
+    let p = err_from_is_err_and c.from_residual.result c.from_residual.ensures.1 in
+    rw (p.1, p.2) (then-err s _ _ _ _ _ _ _ _ _ _ _ _ tt _ c.loop-i.invariant.found (rw c.loop-i.invariant.source at c.in_err-list.ensures.looked)
+    (λ damage told met. met-at s _ _ damage olds i d here (c.index-list-i.is ∙ sym (rest-at olds news i d here there c.loop-i.invariant.rest))
+    (judged-undamaged s c.args.stakes.now c.requires.valid c.requires.stakes c.args.score _ told (take i olds) (take i news) c.loop-i.invariant.found.answer)
+    (subst (λ (x : Judged). MeetsOnDecision c.args.score c.args.stakes.now x s damage) (sym c.index-list-i.is) met)))
 
 pub returns-in_err-list-clause-stopped : goal.returns-in_err-list-clause-stopped
 returns-in_err-list-clause-stopped g c =

@@ -6,7 +6,7 @@ use Rattle.outside_log.proofs.Readings.{reads-before, reads-both, reads-same}
 use Rattle.record_study.specs.Keeping.{decisions_in}
 use Rattle.run_endings.specs.Scores.{score_file}
 use Rattle.record_commands.specs.ByFile.{RefusesFile}
-use Rattle.record_commands.specs.MatchAnalyses.{IsJudgedByFile, game_at, score_there}
+use Rattle.record_commands.specs.MatchAnalyses.{RestsOnRightPages, IsJudgedByFile, game_at, score_there}
 use Rattle.record_commands.specs.Records.{match_length}
 use Rattle.record_commands.proofs.Matches.{refused-at}
 use Rattle.record_commands.proofs.MatchTruth.{all-in-match, match-true}
@@ -37,8 +37,9 @@ returns-in-Err-judge_scores-clause-told g c tells =
     let held = standing (g.F.Files.log c.args.files.now) in
     let decisions = decisions_in c.args.analysis in
     let refusal = c.in-Err-judge_scores.refusal in
-    let (place, one) = c.in-Err-judge_scores.ensures.told tells in
+    let (place, before, one) = c.in-Err-judge_scores.ensures.told tells in
     refused-at prefix rec held decisions refusal (c.in-Ok.ensures.told (reads-before c.judge_scores.ensures.reads tells)) place
+    (λ earlier less. subst (λ (h : Contents). RestsOnRightPages prefix h decisions (score_there decisions earlier)) (reads-same c.check_files.ensures.reads) (before earlier less))
     (subst (λ (h : Contents). IsSomeAnd (score_there decisions place) (λ score. RefusesFile (game_at rec score) (score_file prefix score) (Some score) decisions refusal (h (score_file prefix score)))) (reads-same c.check_files.ensures.reads) one)
 
 pub returns-in-Ok-judge_scores-clause-reads : goal.returns-in-Ok-judge_scores-clause-reads

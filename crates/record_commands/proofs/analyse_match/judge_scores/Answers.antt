@@ -11,9 +11,9 @@ use Rattle.record_study.proofs.Matches.{some-given}
 use Rattle.run_endings.specs.Pages.{OfHeld}
 use Rattle.run_endings.specs.Scores.{score_file}
 use Rattle.record_commands.specs.ByFile.{JudgesList, RefusesFile}
-use Rattle.record_commands.specs.MatchAnalyses.{HasNoNewScore, game_at, score_there}
+use Rattle.record_commands.specs.MatchAnalyses.{HasNoNewScore, RestsOnRightPages, game_at, score_there}
 use Rattle.record_commands.specs.Records.{match_length}
-use Rattle.record_commands.proofs.Matches.{AreJudged, all-judged, judged-next, more, no-new, none-judged, whole}
+use Rattle.record_commands.proofs.Matches.{AreJudged, all-judged, judged-next, judged-pages, more, no-new, none-judged, whole}
 use Rattle.record_commands.proofs.Recorded.{decisions-long, each-decision}
 use Rattle.record_commands.proofs.analyse_match.judge_scores.Goals as goal
 
@@ -76,6 +76,7 @@ returns-in-Err-clause-told g c tells =
     let one = subst (λ (h : Contents). RefusesFile (game_at rec score) (score_file prefix score) (Some score) (decisions_in c.loop-place.analysis) refusal (h (score_file prefix score))) (reads-same inv.reads) (c.in-Err.ensures.told tells) in
     let two = subst (λ (ds : List Decision). RefusesFile (game_at rec score) (score_file prefix score) (Some score) ds refusal (held (score_file prefix score))) inv.decisions one in (
       place,
+      λ earlier less. subst (λ (ds : List Decision). RestsOnRightPages prefix held ds (score_there decisions earlier)) inv.decisions (judged-pages prefix rec held c.loop-place.analysis (score_there decisions earlier) (inv.judged (reads-before c.judge_at.ensures.reads tells) earlier less)),
       some-given (λ (s : MatchScore). RefusesFile (game_at rec s) (score_file prefix s) (Some s) decisions refusal (held (score_file prefix s))) (score_there decisions place) score
           (ap (λ (ds : List Decision). score_there ds place) (sym inv.decisions) ∙ c.in-Some.ensures.own) two,
     )

@@ -18,8 +18,8 @@ loop-taken-preserved c =
           let positive : pos 0 ≤ℤ s.bound = rw fits.bound (within-positive stakes.bound double.pass c.requires.right.pass) in
           let sum = rw before.answers at c.index-sums-taken.is in
           let mean = rw before.answers at c.mean_of.ensures in
-          let value = rolled-sum c.args.end s noted stakes p c.args.sums.now taken.kind taken.factor c.index-sums-taken.result c.mean_of.result found c.requires.many answer.0 sum mean in
-          next-answer c.args.end s stakes p double noted noted noted 0 0 0 i taken c.loop-taken.least c.mean_of.result _ here (an_answer answers i here) answer.1 positive c.min-least.ensures (before.found s noted p fits found) value;
+          let value = rolled-sum (λ damage. ⊥) c.args.end s noted stakes p c.args.sums.now taken.kind taken.factor c.index-sums-taken.result c.mean_of.result found c.requires.many answer.0 sum mean in
+          next-answer c.args.end s stakes p double _ noted noted noted 0 0 0 i taken c.loop-taken.least c.mean_of.result _ here (an_answer answers i here) answer.1 positive c.min-least.ensures (before.found s noted p fits found) value;
       most = rw c.min-least.ensures (min-most stakes.bound c.loop-taken.least c.mean_of.result before.most);
     }
 
@@ -27,4 +27,4 @@ pub returns-clause-found : goal.returns-clause-found
 returns-clause-found c = λ s noted p fits found.
     let answers = c.args.double.now.answers.items in
     let past : length answers ≤ c.loop-taken.taken-index = rw (← c.loop-taken.invariant.answers) c.loop-taken-test.false in
-    (all-answers c.args.end s c.args.stakes.now p c.args.double.now noted noted 0 0 c.loop-taken.taken-index c.loop-taken.least past (c.loop-taken.invariant.found s noted p fits found)).answer
+    (all-answers c.args.end s c.args.stakes.now p c.args.double.now (λ damage. ⊥) noted noted 0 0 c.loop-taken.taken-index c.loop-taken.least past (c.loop-taken.invariant.found s noted p fits found)).answer

@@ -12,6 +12,6 @@ invariant-loop-taken l =
     record {
       answers : l.taken-items ≡ l.double.answers.items;
       found : (s : Source) (noted : Notes) (p : Placement) → AreStakesOf s l.stakes → AreFoundSums l.end s noted l.stakes p l.sums
-          → FindsFrom l.end s noted noted 0 0 (MayFollowAnswer l.stakes p (take l.taken-index l.double.answers.items)) (pos 4 *ℤ s.bound) (least_of l.end l.stakes p l.double (take l.taken-index l.double.answers.items)) (Ok l.least);
+          → FindsFrom l.end s noted noted 0 0 (λ damage. ⊥) (MayFollowAnswer l.stakes p (take l.taken-index l.double.answers.items)) (pos 4 *ℤ s.bound) (least_of l.end l.stakes p l.double (take l.taken-index l.double.answers.items)) (Ok l.least);
       most : l.least ≤ℤ l.stakes.bound;
     }

@@ -4,7 +4,7 @@ use Rattle.roll_table.specs.Rolls.{all_rolls}
 use Rattle.cube_actions.specs.Stakes.{kind_at}
 use Rattle.turn_rule.proofs.Greatest.{total}
 use Rattle.turn_rule.proofs.Within.{bound-positive, bound-small}
-use Rattle.turn_rule.proofs.Found.{then-err, damage-among}
+use Rattle.turn_rule.proofs.Found.{then-err}
 use Rattle.turn_rule.proofs.RollSums.{kept-at, leave-states, wins-within, next-roll, all-rolls, stopped-roll, sum-small, few-rolls, rolled-end}
 use Rattle.turn_rule.proofs.sum.sum_at.Goals as goal
 
@@ -26,7 +26,7 @@ returns-in_err-best-clause-found g c =
     let stopped = rw (c.loop-one.invariant.source, c.kind-kind.ensures.kind, c.as_slice.ensures.value) at c.in_err-best.ensures.found in
     let p = err_from_is_err_and c.from_residual.result c.from_residual.ensures.1 in
     rw (p.1, p.2) (then-err s _ _ _ _ _ _ _ _ _ _ _ _ c.loop-one.sum _ c.loop-one.invariant.found stopped
-    (damage-among s _ _ (stopped-roll c.args.end s c.args.stakes.now c.args.position.now c.args.number c.loop-one.one-index c.one-item.result kept)))
+    (λ damage told met. stopped-roll c.args.end s c.args.stakes.now c.args.position.now c.args.number c.loop-one.one-index c.one-item.result damage kept (c.loop-one.invariant.found.answer.right told) met))
 
 pub add_times-sum-requires-clause-sum : goal.add_times-sum-requires-clause-sum
 add_times-sum-requires-clause-sum g c =
@@ -47,10 +47,10 @@ loop-one-preserved g c =
     record {
       source = c.best_at.ensures.source ∙ c.loop-one.invariant.source;
       stays = c.best_at.ensures.stays ∙ c.loop-one.invariant.stays;
-      found = next-roll c.args.end s (kind_at c.args.stakes.now c.args.number) c.args.position.now _ _ _ _ _ _ c.loop-one.one-index c.one-item.result c.loop-one.sum c.in_ok-best.best _ kept c.add_times-sum.ensures c.loop-one.invariant.found best;
+      found = next-roll c.args.end s (kind_at c.args.stakes.now c.args.number) c.args.position.now _ _ _ _ _ _ _ c.loop-one.one-index c.one-item.result c.loop-one.sum c.in_ok-best.best _ kept c.add_times-sum.ensures c.loop-one.invariant.found best;
     }
 
 pub returns-clause-found : goal.returns-clause-found
 returns-clause-found g c =
     let past : 21 ≤ c.loop-one.one-index = rolled-end c.args.position.now c.args.kept.now c.loop-one.one-index c.requires.kept c.loop-one-test.false in
-    all-rolls c.args.end (g.P.Pairs.seen c.args.pairs.now).source c.args.stakes.now c.args.position.now c.args.number _ _ _ _ c.loop-one.one-index c.loop-one.sum past c.loop-one.invariant.found
+    all-rolls c.args.end (g.P.Pairs.seen c.args.pairs.now).source c.args.stakes.now c.args.position.now c.args.number _ _ _ _ _ c.loop-one.one-index c.loop-one.sum past c.loop-one.invariant.found

@@ -5,6 +5,7 @@ use Rattle.position_rank.specs.Placement.{Placement}
 use Rattle.roll_table.specs.Rolls.{Dice}
 use Rattle.move_rules.specs.Order.{ends_of}
 use Rattle.move_rules.specs.Sequences.{IsLegalEnd}
+use Rattle.turn_rule.specs.Looks.{AreEndsInOrder}
 use Rattle.turn_rule.proofs.ends.OneRoll.fill.Goals as goal
 
 pub returns-clause-ends : goal.returns-clause-ends
@@ -15,7 +16,11 @@ returns-clause-ends c =
     let roll : c.loop-entry.self.roll ≡ c.args.self.now.roll = ap (λ (w : Dice × ℕ). w.0) c.loop-entry.invariant.weighted in
     record {
       some = rw (is, length-map) c.plays.ensures.some;
-      ends = λ q.
-          subst (λ (xs : List Placement). Contains xs q ↔ IsLegalEnd p c.loop-entry.self.roll q) (sym is)
-          (subst (λ (r : Dice). Contains (ends_of c.plays.new.list.items) q ↔ IsLegalEnd p r q) (sym roll) (c.plays.ensures.ends q));
+      ends = subst (λ (r : Dice). AreEndsInOrder p r c.loop-entry.self.ends.items) (sym roll) (record {
+        entries = c.plays.new.list.items;
+        are = is;
+        legal = λ q. subst (λ (xs : List Placement). Contains xs q ↔ IsLegalEnd p c.args.self.now.roll q) (sym is) (c.plays.ensures.ends q);
+        first = c.plays.ensures.first;
+        in_order = c.plays.ensures.in_order;
+      });
     }

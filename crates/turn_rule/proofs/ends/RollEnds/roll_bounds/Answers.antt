@@ -14,6 +14,6 @@ returns-clause-looked g c =
     let last = (g.P.Pairs.seen c.roll_at-2.new.pairs).notes in
     let same : (g.P.Pairs.seen c.roll_at-2.new.pairs).source ≡ s = c.in_ok-upper.ensures.source ∙ c.in_ok-lower.ensures.source in
     let within = rw same at (g.met.P.Pairs.notes_within c.roll_at-2.new.pairs) in
-    paired s (MayFollow stakes p k) (pos c.args.factor *ℤ s.bound) (λ (end : End) (u : Words). roll_value end stakes u p k c.args.factor) _ _ last _ _ _ c.in_ok-lower.lower c.in_ok-upper.upper _ c.pair_of.ensures.lower c.pair_of.ensures.upper
+    paired _ s (MayFollow stakes p k) (pos c.args.factor *ℤ s.bound) (λ (end : End) (u : Words). roll_value end stakes u p k c.args.factor) _ _ last _ _ _ c.in_ok-lower.lower c.in_ok-upper.upper _ c.pair_of.ensures.lower c.pair_of.ensures.upper
     (λ told. roll-order s stakes c.in_ok-lower.ensures.valid c.requires.stakes last.words (within told) p k c.requires.state c.args.factor)
     c.in_ok-lower.ensures.found (rw c.in_ok-lower.ensures.source at c.in_ok-upper.ensures.found)

@@ -14,6 +14,6 @@ returns-clause-looked g c =
     let last = (g.P.Pairs.seen c.turn_at-2.new.pairs).notes in
     let same : (g.P.Pairs.seen c.turn_at-2.new.pairs).source ≡ s = c.in_ok-upper.ensures.source ∙ c.in_ok-lower.ensures.source in
     let within = rw same at (g.met.P.Pairs.notes_within c.turn_at-2.new.pairs) in
-    paired s (MayFollowTurn stakes p k) s.bound (λ (end : End) (u : Words). turn stakes u end p k) _ _ last _ _ _ c.in_ok-lower.lower c.in_ok-upper.upper _ c.pair_of.ensures.lower c.pair_of.ensures.upper
+    paired _ s (MayFollowTurn stakes p k) s.bound (λ (end : End) (u : Words). turn stakes u end p k) _ _ last _ _ _ c.in_ok-lower.lower c.in_ok-upper.upper _ c.pair_of.ensures.lower c.pair_of.ensures.upper
     (λ told. turn-order s stakes c.in_ok-lower.ensures.valid c.requires.stakes last.words (within told) p k c.requires.state)
     c.in_ok-lower.ensures.found (rw c.in_ok-lower.ensures.source at c.in_ok-upper.ensures.found)
