@@ -2,9 +2,10 @@
 # completions/make writes it.
 
 _hypergammon() {
-    local commands='bound race solve show advise migrate verify scan reply ladder plan analyse study make'
-    local subjects='position record match files'
+    local commands='board bound race solve show advise migrate verify scan reply ladder plan analyse study make'
+    local subjects='position record match files status'
     local -A arguments=(
+        [board]='other'
         [bound]='other other other'
         [race]='other other'
         [solve]='file'

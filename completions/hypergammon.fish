@@ -27,6 +27,7 @@ end
 complete -c hypergammon -f
 complete -c hypergammon -n '__hypergammon_asks .1' -l help -d 'the commands'
 complete -c hypergammon -n '__hypergammon_asks .1' -l version -d 'which version this is'
+complete -c hypergammon -n '__hypergammon_asks .1 help.1' -a board -d 'a position as a board, to check how it was typed'
 complete -c hypergammon -n '__hypergammon_asks .1 help.1' -a bound -d 'the bounds of a position, without a cube'
 complete -c hypergammon -n '__hypergammon_asks .1 help.1' -a race -d 'how long a race may last, and its bounds; no cube'
 complete -c hypergammon -n '__hypergammon_asks .1 help.1' -a solve -d 'the bounds of all positions, written to FILE'
@@ -46,6 +47,7 @@ complete -c hypergammon -n '__hypergammon_asks help.1' -a position -d 'how a pos
 complete -c hypergammon -n '__hypergammon_asks help.1' -a record -d 'how games are recorded, with one to copy'
 complete -c hypergammon -n '__hypergammon_asks help.1' -a match -d 'scores, their files, and where the cube is'
 complete -c hypergammon -n '__hypergammon_asks help.1' -a files -d 'files of bounds, their sizes, versions, damage'
+complete -c hypergammon -n '__hypergammon_asks help.1' -a status -d 'why there is no result, by the number told'
 complete -c hypergammon -n '__hypergammon_is solve' -l checkers -x -a '1 2 3'
 complete -c hypergammon -n '__hypergammon_is solve' -l stakes -x -a 'cubeless money jacoby money-beavers jacoby-beavers'
 complete -c hypergammon -n '__hypergammon_is solve' -l rounds -x
@@ -64,5 +66,5 @@ complete -c hypergammon -n '__hypergammon_is ladder' -l workers -x
 complete -c hypergammon -n '__hypergammon_is plan' -l length -x -a '1 2 3 4 5'
 complete -c hypergammon -n '__hypergammon_is study' -l rounds -x
 complete -c hypergammon -n '__hypergammon_is study' -l workers -x
-complete -c hypergammon -n '__hypergammon_asks bound.1 race.1 solve.1 show.1 advise.1 migrate.1 verify.1 scan.1 reply.1 ladder.1 plan.1 analyse.1 study.1 make.1' -l help -d 'the page of the command'
+complete -c hypergammon -n '__hypergammon_asks board.1 bound.1 race.1 solve.1 show.1 advise.1 migrate.1 verify.1 scan.1 reply.1 ladder.1 plan.1 analyse.1 study.1 make.1' -l help -d 'the page of the command'
 complete -c hypergammon -n '__hypergammon_asks solve.1 show.1 advise.1 migrate.1 migrate.2 verify.1 scan.1 reply.1 ladder.1 plan.1 analyse.1 analyse.2 study.1 make.3' -F

@@ -78,6 +78,7 @@ values-right name.Make given = search steps depth 9
 values-right name.Plan given = search steps depth 9
 values-right name.Scan given = search steps depth 9
 values-right name.Reply given = search steps depth 9
+values-right name.Board given = search steps depth 9
 
 right : (words : List Bytes) → Right (reading words)
 right [] = record { is = tt }

@@ -7,7 +7,7 @@ use Rattle.hyper_outside.specs.declared.outside.WordsKind.TheVariants.{Value}
 use Rattle.cube_actions.specs.declared.name.StakesName.TheVariants.{Jacoby}
 use Rattle.word_forms.specs.Form.{Bytes, Form, Values, value_of}
 use Rattle.command_line.specs.declared.command.Command.{Command}
-use Rattle.command_line.specs.declared.command.Command.TheVariants.{Bound, Race, Solve, Show, Migrate, Advise, Verify, Ladder, Analyse, Study, Make, Plan, Scan, Reply}
+use Rattle.command_line.specs.declared.command.Command.TheVariants.{Bound, Race, Solve, Show, Migrate, Advise, Verify, Ladder, Analyse, Study, Make, Plan, Scan, Reply, Board}
 use Rattle.command_line.specs.declared.command.CommandName.{CommandName}
 use Rattle.command_line.specs.declared.command.CommandName.TheVariants as name
 use Rattle.command_line.specs.declared.stop.WordsFault.{WordsFault}
@@ -219,6 +219,14 @@ reply_values given =
     read (position_given text) (λ position.
     Ok (Reply (record { file = file; position = position; kind = kind; rounds = rounds })))))))
 
+abbrev pub board_form : Form
+board_form = record { arguments = codes "POSITION" ∷ []; options = [] }
+
+abbrev pub board_values : Values → Asked
+board_values given =
+    checked 1 (value_of (codes "POSITION") given) (λ text.
+    read (position_given text) (λ position. Ok (Board (record { position = position }))))
+
 -- ---- all of them
 
 abbrev pub command_named : Bytes → Option CommandName
@@ -236,7 +244,8 @@ command_named word =
     else (if bytes_eq word (codes "make") then Some name.Make
     else (if bytes_eq word (codes "plan") then Some name.Plan
     else (if bytes_eq word (codes "scan") then Some name.Scan
-    else (if bytes_eq word (codes "reply") then Some name.Reply else None)))))))))))))
+    else (if bytes_eq word (codes "reply") then Some name.Reply
+    else (if bytes_eq word (codes "board") then Some name.Board else None))))))))))))))
 
 abbrev pub command_form : CommandName → Form
 command_form name.Bound = bound_form
@@ -253,6 +262,7 @@ command_form name.Make = make_form
 command_form name.Plan = plan_form
 command_form name.Scan = scan_form
 command_form name.Reply = reply_form
+command_form name.Board = board_form
 
 abbrev pub command_values : CommandName → Values → Asked
 command_values name.Bound given = bound_values given
@@ -269,3 +279,4 @@ command_values name.Make given = make_values given
 command_values name.Plan given = plan_values given
 command_values name.Scan given = scan_values given
 command_values name.Reply given = reply_values given
+command_values name.Board given = board_values given

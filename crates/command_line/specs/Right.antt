@@ -5,6 +5,7 @@ use Rattle.roll_table.specs.Rolls.{IsRoll}
 use Rattle.cube_actions.specs.Scores.{MatchScore}
 use Rattle.cube_actions.specs.declared.name.StakesName.TheVariants.{Match}
 use Rattle.word_forms.specs.Form.{Bytes}
+use Rattle.command_line.specs.declared.command.Board.{Board as BoardWords}
 use Rattle.command_line.specs.declared.command.Bound.{Bound as BoundWords}
 use Rattle.command_line.specs.declared.command.Race.{Race as RaceWords}
 use Rattle.command_line.specs.declared.command.Solve.{Solve as SolveWords}
@@ -13,7 +14,7 @@ use Rattle.command_line.specs.declared.command.Migrate.{Migrate as MigrateWords}
 use Rattle.command_line.specs.declared.command.Advise.{Advise as AdviseWords}
 use Rattle.command_line.specs.declared.command.Analyse.{Analyse as AnalyseWords}
 use Rattle.command_line.specs.declared.command.Command.{Command}
-use Rattle.command_line.specs.declared.command.Command.TheVariants.{Bound, Race, Solve, Show, Migrate, Advise, Verify, Ladder, Analyse, Study, Make, Plan, Scan, Reply}
+use Rattle.command_line.specs.declared.command.Command.TheVariants.{Bound, Race, Solve, Show, Migrate, Advise, Verify, Ladder, Analyse, Study, Make, Plan, Scan, Reply, Board}
 use Rattle.command_line.specs.declared.command.Ladder.{Ladder as LadderWords}
 use Rattle.command_line.specs.declared.command.Make.{Make as MakeWords}
 use Rattle.command_line.specs.declared.command.Plan.{Plan as PlanWords}
@@ -124,6 +125,10 @@ pub record IsRightReply (reply : ReplyWords) : Type 0 where
   pub begun : 1 ≤ reply.rounds
   pub ended : reply.rounds ≤ 4096
 
+pub record IsRightBoard (board : BoardWords) : Type 0 where
+  pub position : IsPosition board.position
+  pub live : IsLive board.position
+
 -- numbers within their limits, names of files within theirs, stakes that aren't a match, live
 -- positions, and rolls of two dice
 abbrev pub IsRightCommand : Command → Type 0
@@ -141,3 +146,4 @@ IsRightCommand (Make make) = IsRightMake make
 IsRightCommand (Plan plan) = IsRightPlan plan
 IsRightCommand (Scan scan) = IsRightScan scan
 IsRightCommand (Reply reply) = IsRightReply reply
+IsRightCommand (Board board) = IsRightBoard board

@@ -158,6 +158,12 @@ pub struct Reply {
     pub rounds: u32,
 }
 
+/// A position that is drawn.
+#[derive(Drop)]
+pub struct Board {
+    pub position: Position,
+}
+
 /// What a user asks for.
 #[derive(Drop)]
 pub enum Command {
@@ -175,6 +181,7 @@ pub enum Command {
     Plan(Plan),
     Scan(Scan),
     Reply(Reply),
+    Board(Board),
 }
 
 /// The commands.
@@ -194,6 +201,7 @@ pub enum CommandName {
     Plan,
     Scan,
     Reply,
+    Board,
 }
 
 static BOUND: [&str; 3] = ["CHECKERS", "ROUNDS", "POSITION"];
@@ -242,6 +250,8 @@ static REPLY: [&str; 2] = ["FILE", "POSITION"];
 
 static REPLY_OPTIONS: [&str; 2] = ["kind", "rounds"];
 
+static BOARD: [&str; 1] = ["POSITION"];
+
 static NO_OPTIONS: [&str; 0] = [];
 
 impl CommandName {
@@ -264,6 +274,7 @@ impl CommandName {
             "plan" => Some(CommandName::Plan),
             "scan" => Some(CommandName::Scan),
             "reply" => Some(CommandName::Reply),
+            "board" => Some(CommandName::Board),
             _ => None,
         }
     }
@@ -287,6 +298,7 @@ impl CommandName {
             CommandName::Plan => PLAN.as_slice(),
             CommandName::Scan => SCAN.as_slice(),
             CommandName::Reply => REPLY.as_slice(),
+            CommandName::Board => BOARD.as_slice(),
         }
     }
 
@@ -308,7 +320,8 @@ impl CommandName {
             | CommandName::Race
             | CommandName::Show
             | CommandName::Analyse
-            | CommandName::Make => NO_OPTIONS.as_slice(),
+            | CommandName::Make
+            | CommandName::Board => NO_OPTIONS.as_slice(),
         }
     }
 }

@@ -1,11 +1,11 @@
 ghost use Rattle.word_forms.specs.Form.{Values};
 ghost use Rattle.word_forms.specs.Clap.{HasValues};
-ghost use Rattle.command_line.specs.Commands.{bound_values, race_values, solve_values, show_values, migrate_values, advise_values, command_values, verify_values, ladder_values, analyse_values, study_values, make_values, plan_values, scan_values, reply_values};
+ghost use Rattle.command_line.specs.Commands.{bound_values, race_values, solve_values, show_values, migrate_values, advise_values, command_values, verify_values, ladder_values, analyse_values, study_values, make_values, plan_values, scan_values, reply_values, board_values};
 ghost use Rattle.command_line.specs.Reading.{Gives};
 
 use crate::command::{
-    Advise, Analyse, Bound, Command, CommandName, Ladder, Make, Migrate, Plan, Race, Reply, Scan,
-    Show, Solve, Study, Verify,
+    Advise, Analyse, Board, Bound, Command, CommandName, Ladder, Make, Migrate, Plan, Race, Reply,
+    Scan, Show, Solve, Study, Verify,
 };
 use crate::stop::{WordsStop, bad_value};
 use crate::text::Text;
@@ -44,6 +44,7 @@ pub(crate) fn read_values(
         CommandName::Plan => read_plan(alloc, values),
         CommandName::Scan => read_scan(alloc, values),
         CommandName::Reply => read_reply(alloc, values),
+        CommandName::Board => read_board(values),
     }
 }
 
@@ -336,5 +337,17 @@ fn read_reply(alloc: Global, values: &ArgMatches<'_>) -> Result<Command, WordsSt
         file: Text::new(alloc, file)?,
         kind,
         rounds,
+    }))
+}
+
+fn read_board(values: &ArgMatches<'_>) -> Result<Command, WordsStop>
+    ensures { (given : Values) → HasValues given values.now
+        → Gives (board_values given) result }
+{
+    let Some(position) = values.get_str("POSITION") else {
+        return Err(bad_value(1));
+    };
+    Ok(Command::Board(Board {
+        position: position_given(position)?,
     }))
 }

@@ -10,8 +10,8 @@ mod values;
 mod words;
 
 pub use command::{
-    Advise, Analyse, Bound, Command, CommandName, Ladder, Make, Migrate, Plan, Race, Reply, Scan,
-    Show, Solve, Study, Verify,
+    Advise, Analyse, Board, Bound, Command, CommandName, Ladder, Make, Migrate, Plan, Race, Reply,
+    Scan, Show, Solve, Study, Verify,
 };
 pub use laws::commands_are_right;
 pub use stop::{WordsFault, WordsStop};

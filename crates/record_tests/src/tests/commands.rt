@@ -133,7 +133,11 @@ reply;x;6 / 1;--kind=yours;--rounds=0 => Value 3\n\
 reply;x;y;--rounds=0 => Value 4\n\
 reply;x;y => Position Shape\n\
 reply;--rounds;4097;x;6 / 1 => Value 4\n\
-reply;x;6 / 1;--rounds => Form 0\n";
+reply;x;6 / 1;--rounds => Form 0\n\
+board => Form 0\n\
+board;6 / 1;x => Form 0\n\
+board;6 / 1;--kind=mine => Form 0\n\
+board;6 / 19 => Position SharedPoint\n";
 
 /// Words with `;` between them, and what they ask for.
 const TAKEN: &str = r#"bound;3;4096;6 / 1 => (["6 / 1", ""], [3, 4096, 0, 0], None, None)
@@ -165,6 +169,7 @@ scan;x; ;--workers;3 => (["x", " "], [3, 0, 0, 0], None, None)
 reply;x;6 / 1 => (["x", "6 / 1"], [16, 0, 0, 0], None, None)
 reply;--rounds=1;x;6 / 1 => (["x", "6 / 1"], [1, 0, 0, 0], None, None)
 reply;x;--kind;mine;6 / 1;--rounds=4096 => (["x", "6 / 1"], [4096, 0, 0, 0], Some(Mine), None)
+board;6 bar / 18 24 => (["bar 6 / 24 18", ""], [0, 0, 0, 0], None, None)
 "#;
 
 /// The texts and the numbers that a command asks with, in the order of its fields, its kind of state and its roll.
@@ -173,7 +178,7 @@ type Asked<'a> = ([&'a str; 2], [u64; 4], Option<KindName>, Option<&'a str>);
 /// The texts of a command in which a position has this text.
 fn texts<'a>(command: &'a Command, position: &'a str) -> [&'a str; 2] {
     match command {
-        Command::Bound(_) | Command::Race(_) => [position, ""],
+        Command::Bound(_) | Command::Race(_) | Command::Board(_) => [position, ""],
         Command::Solve(solve) => [solve.file.as_str(), ""],
         Command::Verify(verify) => [verify.file.as_str(), ""],
         Command::Advise(advise) => [advise.file.as_str(), position],
@@ -197,6 +202,7 @@ fn position_text(command: &Command) -> ArrayString<32> {
         Command::Show(show) => &show.position,
         Command::Advise(advise) => &advise.position,
         Command::Reply(reply) => &reply.position,
+        Command::Board(board) => &board.position,
         _ => return ArrayString::new(),
     };
     print_position(position)

@@ -41,3 +41,6 @@ returns-in-Scan c = λ given has. rw c.in-Scan.is (c.read_scan.ensures given has
 
 pub returns-in-Reply : goal.returns-in-Reply
 returns-in-Reply c = λ given has. rw c.in-Reply.is (c.read_reply.ensures given has)
+
+pub returns-in-Board : goal.returns-in-Board
+returns-in-Board c = λ given has. rw c.in-Board.is (c.read_board.ensures given has)

@@ -1,0 +1,8 @@
+//! Positions as boards of text.
+#![tactic(auto)]
+
+mod board;
+mod laws;
+
+pub use board::{BoardText, print_board};
+pub use laws::boards_are_as_drawn;
