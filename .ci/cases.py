@@ -5,6 +5,7 @@ import filecmp
 import os
 import pty
 import re
+import select
 import subprocess
 from typing import NamedTuple
 from xml.etree import ElementTree
@@ -13,6 +14,7 @@ import base_file
 from base import Base, lines, live_rank, read_places
 from documents import large_files
 from imports import try_imports
+from mistakes import try_mistakes
 from tally import PROGRAM, SCRIPT, SECONDS, TOP, old_file, run
 
 # What the script `hypergammon` asks for, where the program itself is run, many times.
@@ -31,8 +33,8 @@ alone -2.833334 3.000000 -12169074006 12884901888
 
 # Files of older versions, which are made of SMALL, and what makes them.
 OLDER_VERSIONS = {"old.base": base_file.as_version_one, "older.base": base_file.as_version_two}
-# What is answered of a file of version 1 or 2, and what the script says then on standard error.
-OLDER = (4, b"refused 4 file version 8\n", b"an older file: migrate OLD NEW\n")
+# What is answered of a file of version 1 or 2.
+OLDER = (4, b"refused 4 file version 8\n")
 
 OF_FEWER = b"refused 10 base wanted checkers 2 found checkers 1 stakes jacoby\n"
 
@@ -122,7 +124,12 @@ BOARDS = (
 COLUMNS = "13 12,14 11,15 10,16 9,17 8,18 7,bar,19 6,20 5,21 4,22 3,23 2,24 1,off".split(",")
 
 DRAW = TOP / "results/draw"
+MOST_OF_A_BOARD = 2500
 SHARED = b"draw: both sides hold the mover's point 19, which is the other side's point 6\n"
+
+
+# For so many seconds nothing comes to a terminal that has got all.
+QUIET = 0.5
 
 
 class Shown(NamedTuple):
@@ -158,19 +165,14 @@ def on_terminal(words, folder):
     """Runs the program with standard error on a terminal: its status, its output, and what the terminal got."""
     terminal, end = pty.openpty()
     ran = subprocess.Popen([SCRIPT, *words], cwd=folder, stdin=subprocess.DEVNULL, stdout=subprocess.PIPE, stderr=end)
-    os.close(end)
-    got = b"".join(iter(lambda: read_terminal(terminal), b""))
-    os.close(terminal)
     output, _ = ran.communicate(timeout=SECONDS)
+    # A terminal whose other end nobody holds any more may lose what was written last.
+    got = b""
+    while select.select([terminal], [], [], QUIET)[0]:
+        got += os.read(terminal, 4096)
+    os.close(end)
+    os.close(terminal)
     return ran.returncode, output, got
-
-
-def read_terminal(terminal):
-    """Some bytes, or none where nobody holds the terminal's other end any more."""
-    try:
-        return os.read(terminal, 4096)
-    except OSError:
-        return b""
 
 
 def differences(what, found, due):
@@ -199,19 +201,11 @@ def try_terminal(tally, folder):
         tally.note(f"on a terminal: {' '.join(shown.words)}", faults)
 
 
-def try_refusal_on_terminal(tally, folder):
-    """A refusal of words is explained by the first line of the command's page."""
-    usage = (TOP / "docs/help/show.txt").read_text().splitlines()[0]
-    status, output, got = on_terminal(("show",), folder)
-    due = f"expected: {usage}; more: hypergammon help show\r\n".encode()
-    faults = differences("status", status, 1) + differences("output", output, b"refused 1 words form 0\n")
-    tally.note("on a terminal: wrong words", faults + differences("the terminal got", got, due))
-
-
 def numbers_of(picture):
     """The numbers around a board with their places, from the left and from above."""
-    found = picture.iterfind("{*}g[@class='numbers']/{*}text")
-    return sorted((int(it.get("x")), int(it.get("y")), it.text) for it in found)
+    rows = picture.iterfind("{*}g[@class='numbers']")
+    heights = ((row, int(re.fullmatch(r"translate\(0 (\d+)\)", row.get("transform"))[1])) for row in rows)
+    return sorted((int(it.get("x")), y, it.text) for row, y in heights for it in row.iterfind("{*}text"))
 
 
 def read_off(picture, side):
@@ -244,6 +238,8 @@ def try_boards(tally, folder):
         tally.note(f"the board of {board.position}", faults)
     ran = run([DRAW, "--compare"], folder)
     tally.note("the boards of the pages", differences("they are other ones", (ran.status, ran.output), (0, b"")))
+    large = [it.name for it in (TOP / "results/boards").iterdir() if it.stat().st_size > MOST_OF_A_BOARD]
+    tally.note("the size of the boards", differences("too large are", large, []))
 
 
 def try_help(tally, folder):
@@ -270,8 +266,7 @@ def try_older_versions(tally, folder):
         status, _ = ask(("migrate", name, "new.base", "--workers", "2"), folder)
         tally.note(f"migrate {name}", differences("status", status, 0) or same_bytes(SMALL, "new.base", folder))
         for words in (("show", name, "6 / 1"), ("verify", name), ("scan", name, "pips=1"), ("reply", name, "6 / 1")):
-            ran = run([SCRIPT, *words], folder)
-            tally.note(f"{words[0]} {name}", differences("answer", (ran.status, ran.output, ran.told), OLDER))
+            tally.note(f"{words[0]} {name}", differences("answer", ask(words, folder), OLDER))
 
 
 def try_pages(tally, folder):
@@ -373,7 +368,7 @@ def try_cases(tally, folder, solved):
     solved.solve(["solve", "two.base", "--checkers", "2"], folder)
     solved.solve(["ladder", "match", "--checkers", "1", "--length", "5"], folder)
     solved.solve(["ladder", "m", "--checkers", "2", "--workers", "4"], folder)
-    parts = (try_words, try_terminal, try_refusal_on_terminal, try_help, try_boards, try_migrations, try_three_checkers)
+    parts = (try_words, try_mistakes, try_terminal, try_help, try_boards, try_migrations, try_three_checkers)
     parts += (try_reader, try_imports)
     for part in parts:
         with tally.going_on(part.__name__):

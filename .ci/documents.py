@@ -8,7 +8,7 @@ import shutil
 from typing import NamedTuple, Optional
 
 import base_file
-from tally import SCRIPT, TOP, Ran, run
+from tally import SCRIPT, TOP, Ran, has_note, run
 
 PAGES_OF_HELP = sorted(f"docs/help/{it.name}" for it in (TOP / "docs/help").glob("*.txt"))
 DOCUMENTS = ("README.md", "docs/USING.md", "docs/HYPERGAMMON.md", "docs/OTHER_PROGRAMS.md", *PAGES_OF_HELP)
@@ -258,7 +258,7 @@ class Reader:
         due = int(refused[1]) if refused else 0
         if answer.status != due and not example.status_told:
             yield f"it ends with {answer.status}, and {due} is due"
-        if answer.told:
+        if not has_note(answer.status, answer.told):
             yield f"standard error: {answer.told.decode(errors='replace')}"
 
     def need(self, name, text=None):

@@ -17,7 +17,7 @@ import threading
 import time
 
 import base_file
-from tally import BASE_START, PROGRAM, RECORD_START, Ran, old_file
+from tally import BASE_START, PROGRAM, RECORD_START, Ran, has_note, old_file
 
 # After how many seconds a run of these small games counts as one that doesn't end.
 LIMIT = 20
@@ -48,14 +48,14 @@ def begin(words, folder, **how):
 
 
 def end(running, given=None):
-    """What comes of a run, which is killed where it doesn't end."""
+    """What comes of a run, which is killed where it doesn't end; without the note on a refusal, where that is one."""
     try:
         output, told = running.communicate(given, timeout=LIMIT)
     except subprocess.TimeoutExpired:
         running.kill()
         running.communicate()
         return Ran(None, b"", b"")
-    return Ran(running.returncode, output, told)
+    return Ran(running.returncode, output, b"" if has_note(running.returncode, told) else told)
 
 
 def ask(words, folder, given=None, **how):

@@ -3,6 +3,7 @@
 import collections
 import contextlib
 import pathlib
+import re
 import resource
 import signal
 import subprocess
@@ -41,6 +42,11 @@ def run(words, folder, given=b"", environment=None):
     except subprocess.TimeoutExpired:
         return Ran(None, b"", b"")
     return Ran(ran.returncode, ran.stdout, ran.stderr)
+
+
+def has_note(status, told):
+    """Whether standard error got what it is to get: a line without a control byte after a refusal, and else nothing."""
+    return bool(re.fullmatch(rb"[ -~\x80-\xff]+\n", told)) if status else not told
 
 
 class Tally:

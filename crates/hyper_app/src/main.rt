@@ -8,6 +8,7 @@ use std::io::IsTerminal;
 use std::process::ExitCode;
 
 fn main(rt: HostRuntime) -> ExitCode {
-    let shows = rt.stderr().is_terminal();
-    ExitCode::from(start(&rt, shows))
+    let errors = rt.stderr();
+    let shows = errors.is_terminal();
+    ExitCode::from(start(&rt, errors, shows))
 }

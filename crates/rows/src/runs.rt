@@ -8,6 +8,9 @@ use top_call::run;
 /// How many bytes a run may put.
 const ROOM: usize = 1 << 14;
 
+/// How many bytes a note on a refusal may have.
+const NOTE: usize = 1 << 10;
+
 /// Words as the program gets them.
 fn owned(alloc: Global, words: &[&str]) -> Result<Vec<String>, NoMemory> {
     let mut all = Vec::new(alloc);
@@ -27,7 +30,16 @@ pub fn ask_at<R: Threads + Sync, F: Files, G: Gate + Sync>(
 ) -> Result<(u8, HonestSink), NoMemory> {
     let words = owned(alloc, words)?;
     let mut out = HonestSink::with_room(alloc, ROOM)?;
-    let status = run(rt, alloc, words.as_slice(), files, &mut out, gate);
+    let mut notes = HonestSink::with_room(alloc, NOTE)?;
+    let status = run(
+        rt,
+        alloc,
+        words.as_slice(),
+        files,
+        &mut out,
+        &mut notes,
+        gate,
+    );
     Ok((status, out))
 }
 
@@ -54,6 +66,15 @@ pub fn ask_failing<R: Threads + Sync, F: Files>(
     let mut out = MemSink::new(alloc);
     out.room(ROOM)?;
     out.fail_call(call, prefix)?;
-    let status = run(rt, alloc, words.as_slice(), files, &mut out, &OpenGate);
+    let mut notes = HonestSink::with_room(alloc, NOTE)?;
+    let status = run(
+        rt,
+        alloc,
+        words.as_slice(),
+        files,
+        &mut out,
+        &mut notes,
+        &OpenGate,
+    );
     Ok((status, out))
 }

@@ -14,7 +14,7 @@ use Rattle.command_line.specs.declared.command.Advise.{Advise as AdviseTask}
 use Rattle.command_line.specs.declared.command.Analyse.{Analyse as AnalyseTask}
 use Rattle.command_line.specs.declared.command.Bound.{Bound as BoundTask}
 use Rattle.command_line.specs.declared.command.Command.{Command}
-use Rattle.command_line.specs.declared.command.Command.TheVariants.{Bound, Race, Solve, Show, Migrate, Advise, Verify, Ladder, Analyse, Study, Make, Plan, Scan, Reply}
+use Rattle.command_line.specs.declared.command.Command.TheVariants.{Bound, Race, Solve, Show, Migrate, Advise, Verify, Ladder, Analyse, Study, Make, Plan, Scan, Reply, Board}
 use Rattle.command_line.specs.declared.command.Ladder.{Ladder as LadderTask}
 use Rattle.command_line.specs.declared.command.Migrate.{Migrate as MigrateTask}
 use Rattle.command_line.specs.declared.command.Plan.{Plan as PlanTask}
@@ -101,6 +101,7 @@ module _ (files : FileLaws) (records : RecordLaws) (before after : List Event) (
   not-refused (Plan task) right run = files.plan task (standing before (first_file task)) refusal right (faithfully (λ told. MayRefusePlanning task told (standing before (first_file task)) refusal) run.0)
   not-refused (Scan task) right run = files.scan task (standing before task.file) refusal right (faithfully (λ told. MayRefuseScanning task told (standing before task.file) refusal) run.0)
   not-refused (Reply task) right run = files.reply task (standing before task.file) refusal right (faithfully (λ told. MayRefuseReplying task told (standing before task.file) refusal) run.0)
+  not-refused (Board task) right run = absurd run.0
 
 -- ---- the status
 

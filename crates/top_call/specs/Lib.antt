@@ -1,3 +1,4 @@
+pub mod Boards
 pub mod Headline
 pub mod Outcomes
 pub mod RightRuns

@@ -7,7 +7,7 @@ use Rattle.outside_log.specs.Readings.{ReadsOn, is_faithful, read_faults}
 use Rattle.outside_log.specs.Sink.{Output}
 use Rattle.word_forms.specs.Clap.{bytes_of}
 use Rattle.command_line.specs.declared.command.Command.{Command}
-use Rattle.command_line.specs.declared.command.Command.TheVariants.{Bound, Race, Solve, Show, Migrate, Advise, Verify, Ladder, Analyse, Study, Make, Plan, Scan, Reply}
+use Rattle.command_line.specs.declared.command.Command.TheVariants.{Bound, Race, Solve, Show, Migrate, Advise, Verify, Ladder, Analyse, Study, Make, Plan, Scan, Reply, Board}
 use Rattle.command_line.specs.declared.stop.WordsFault.{WordsFault}
 use Rattle.command_line.specs.declared.stop.WordsFault.TheVariants as faults
 use Rattle.command_line.specs.declared.stop.WordsStop.{WordsStop}
@@ -31,6 +31,7 @@ use Rattle.solve_commands.specs.Truth.{TellsBound}
 use Rattle.record_commands.specs.Analyses.{TellsAnalysis}
 use Rattle.record_commands.specs.Makes.{Makes}
 use Rattle.record_commands.specs.Studies.{TellsStudy}
+use Rattle.top_call.specs.Boards.{TellsBoard}
 
 -- ---- what is asked for
 
@@ -67,6 +68,7 @@ Ends (Make task) ending = EndsBy IsOfWriting ending
 Ends (Plan task) ending = EndsBy IsOfShowing ending
 Ends (Scan task) ending = EndsBy IsOfScanning ending
 Ends (Reply task) ending = EndsBy IsOfShowing ending
+Ends (Board task) ending = EndsBy (λ refusal. ⊥) ending
 
 -- ---- what is done
 
@@ -99,6 +101,7 @@ HasRun (Scan task) before after old new ending =
     TellsScan task (is_faithful after) (standing before task.file) old new ending
 HasRun (Reply task) before after old new ending =
     TellsReply task (is_faithful after) (standing before task.file) old new ending
+HasRun (Board task) before after old new ending = TellsBoard task old new ending
 
 -- No file took a name's place but where all was done, and but those of the scores that a ladder had solved; which these are is said with what it
 -- has done. Where nothing is to be written, calls that read were made alone.
@@ -144,10 +147,11 @@ pub record Runs (expected : Result Command WordsFault) (before after : List Even
   pub line : PutsEnding ending behind new
   pub is_status : status ≡ status_at ending
 
--- no call of the files is made: a pair or a race is asked for, or a search by what is no condition
+-- no call of the files is made: a pair, a race or a board is asked for, or a search by what is no condition
 abbrev pub LeavesFiles : Command → Ending → Type 0
 LeavesFiles (Bound task) ending = ⊤
 LeavesFiles (Race task) ending = ⊤
+LeavesFiles (Board task) ending = ⊤
 LeavesFiles (Scan task) ending = (word : ℕ) × (ending ≡ Err (Refused (Condition word)))
 LeavesFiles _ ending = ⊥
 

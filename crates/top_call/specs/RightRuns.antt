@@ -1,5 +1,5 @@
 -- Which files are right for a command: a run over them is done, but where reading or writing failed or there was no memory.
-use Rattle.std.specs.Prelude.{◌≡◌, ◌⊎◌, ◌<◌, ℕ, List, sum, IsTrue, IsFalse}
+use Rattle.std.specs.Prelude.{◌≡◌, ◌⊎◌, ◌<◌, ℕ, List, sum, IsTrue, IsFalse, ⊤}
 use Rattle.hyper_outside.specs.Causes.{Rose}
 use Rattle.outside_log.specs.Files.{Contents}
 use Rattle.outside_log.specs.Log.{Event, failures}
@@ -11,7 +11,7 @@ use Rattle.record_commands.specs.Makes.{title_line}
 use Rattle.word_pages.specs.declared.version.Version.TheVariants.{Three}
 use Rattle.base_head.specs.Headers.{magic}
 use Rattle.command_line.specs.declared.command.Command.{Command}
-use Rattle.command_line.specs.declared.command.Command.TheVariants.{Bound, Race, Solve, Show, Migrate, Advise, Verify, Ladder, Analyse, Study, Make, Plan, Scan, Reply}
+use Rattle.command_line.specs.declared.command.Command.TheVariants.{Bound, Race, Solve, Show, Migrate, Advise, Verify, Ladder, Analyse, Study, Make, Plan, Scan, Reply, Board}
 use Rattle.command_line.specs.declared.command.Ladder.{Ladder as LadderTask}
 use Rattle.base_commands.specs.Plans.{first_file}
 use Rattle.base_commands.specs.RightFiles.{IsRightForAdvising, IsRightForMigrating, IsRightForPlanning, IsRightForReplying, IsRightForScanning, IsRightForShowing, IsRightForVerifying}
@@ -29,7 +29,7 @@ abbrev pub IsRightForLadder : LadderTask → Contents → Type 0
 IsRightForLadder task held =
     (place : ℕ) → place < scores_in task → MayBeReplaced magic held (file_of task place)
 
--- What stands under the names of a command is right for what it asks. What asks for no file asks for a position that fits its words.
+-- What stands under the names of a command is right for what it asks. What asks for no file asks for a position that fits its words; any may be drawn.
 abbrev pub IsRightFor : Command → Contents → Type 0
 IsRightFor (Bound task) held = sum task.position.mover ≡ task.checkers
 IsRightFor (Race task) held = IsRaceOf task.checkers task.position
@@ -45,6 +45,7 @@ IsRightFor (Make task) held = MayBeReplaced title_line held task.file
 IsRightFor (Plan task) held = IsRightForPlanning task (held (first_file task))
 IsRightFor (Scan task) held = IsRightForScanning task (held task.file)
 IsRightFor (Reply task) held = IsRightForReplying task (held task.file)
+IsRightFor (Board task) held = ⊤
 
 -- ---- runs over them
 

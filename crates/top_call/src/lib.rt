@@ -1,6 +1,7 @@
 //! The top call: what a run of the program does with its words, and what it ends with.
 #![tactic(auto)]
 
+mod board;
 mod laws;
 mod top;
 

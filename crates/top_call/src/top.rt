@@ -5,15 +5,18 @@ ghost use Rattle.outside_log.specs.Readings.{read_faults};
 ghost use Rattle.command_line.specs.Right.{IsRightCommand};
 ghost use Rattle.equity_report.specs.declared.refusal.Refusal.TheVariants.{Read};
 ghost use Rattle.run_endings.specs.declared.ending.RunStop.TheVariants.{NotWritten, Refused};
-ghost use Rattle.run_endings.specs.Endings.{Ending};
+ghost use Rattle.run_endings.specs.Endings.{Ending, PutsEnding, status_at};
+ghost use Rattle.refusal_notes.specs.Notes.{PutsNote};
 ghost use Rattle.top_call.specs.Outcomes.{Ends, HasRun, KeepsFiles, LeavesAllFiles, LeavesFiles, Runs, asked, unread_refusal};
 
+use crate::board::run_board;
 use base_commands::{run_advise, run_migrate, run_plan, run_reply, run_scan, run_show, run_verify};
 use command_line::{Command, WordsFault, WordsStop, read_words};
 use equity_report::Refusal;
 use hyper_outside::Gate;
 use outside_log::{Files, Sink};
 use record_commands::{run_analyse, run_make, run_study};
+use refusal_notes::put_note;
 use run_endings::{RunStop, end};
 use solve_commands::{run_bound, run_ladder, run_race, run_solve};
 use std::alloc::Global;
@@ -86,10 +89,26 @@ fn perform<R: Threads + Sync, F: Files, O: Sink, G: Gate + Sync>(
             run_scan(&team, alloc, &task, files, out)
         }
         Command::Reply(task) => run_reply(&Team::new(rt, 1), alloc, &task, files, out),
+        Command::Board(task) => run_board(&task, out),
     }
 }
 
-/// Runs the program on the words after its name, over these files, this output and this gate, and answers its status.
+/// Ends a run of these words: puts the note and the line of the refusal where they are due, and answers the status.
+fn conclude<O: Sink, N: Sink>(
+    words: &[String],
+    out: &mut O,
+    notes: &mut N,
+    ending: Result<(), RunStop>,
+) -> u8
+    ensures status { result ≡ status_at ending }
+    ensures line { PutsEnding ending (O.output out.old) (O.output out.new) }
+    ensures note { PutsNote ending (N.output notes.old) (N.output notes.new) }
+{
+    put_note(notes, words, &ending);
+    end(out, ending)
+}
+
+/// Runs the program on the words after its name, over these files, this output, these notes and this gate, and answers its status.
 ///
 /// At status 0 the report was put.
 ///
@@ -132,6 +151,7 @@ fn perform<R: Threads + Sync, F: Files, O: Sink, G: Gate + Sync>(
 ///   on, with nothing asked of a file.
 /// - `make`: of a record that is drawn from a number and breaks no rule, with both players' totals after eight rounds. The file
 ///   holds its text, and no other changed.
+/// - `board`: of the position as a board.
 ///
 /// Else the line of one refusal was put, or a front of it where that failed, each only where the ones before don't come:
 ///
@@ -154,25 +174,33 @@ fn perform<R: Threads + Sync, F: Files, O: Sink, G: Gate + Sync>(
 ///
 /// 6 comes only where reading a file failed, 7 only where writing a file or the output failed, 8 where there was no memory. At 7 the
 /// report or a front of it may stand before the line. At all but 0 no file changed, but that those of the scores stay that a `ladder`
-/// has solved; their lines stand before that of the refusal.
-pub fn run<R: Threads + Sync, F: Files, O: Sink, G: Gate + Sync>(
+/// has solved; their lines stand before that of the refusal. What lets one mend the call is put to the notes, a line without a control
+/// byte in it, or a front of it where that failed; at status 0 nothing is.
+pub fn run<R: Threads + Sync, F: Files, O: Sink, N: Sink, G: Gate + Sync>(
     rt: &R,
     alloc: Global,
     words: &[String],
     files: &mut F,
     out: &mut O,
+    notes: &mut N,
     gate: &G,
 ) -> u8
     ensures { (ending : Ending)
         × Runs (asked words.now) (F.log files.old) (F.log files.new)
         (O.output out.old) (O.output out.new) result ending
-        × (LeavesAllFiles (asked words.now) ending → files.new ≡ files.old) }
+        × (LeavesAllFiles (asked words.now) ending → files.new ≡ files.old)
+        × PutsNote ending (N.output notes.old) (N.output notes.new) }
 {
     match read_words(alloc, words) {
         Ok(command) => {
             let ending = perform(rt, alloc, command, files, out, gate);
-            end(out, ending)
+            conclude(words, out, notes, ending)
         }
-        Err(stop) => end(out, Err(RunStop::Refused(words_refusal(stop)))),
+        Err(stop) => conclude(
+            words,
+            out,
+            notes,
+            Err(RunStop::Refused(words_refusal(stop))),
+        ),
     }
 }

@@ -6,7 +6,7 @@ use Rattle.top_call.proofs.Endings.{is-status}
 use Rattle.hyper_app.proofs.program.start.Goals as goal
 
 pub returns-in-Ok : goal.returns-in-Ok
-returns-in-Ok g c = let (ending, runs, rest) = c.run_real.ensures in subst IsStatus (sym runs.is_status) (is-status ending)
+returns-in-Ok g c = let (ending, runs, rest, note) = c.run_real.ensures in subst IsStatus (sym runs.is_status) (is-status ending)
 
 pub returns-in-Err : goal.returns-in-Err
 returns-in-Err g c = elim c.refuse_unread.ensures.refused [
@@ -22,6 +22,6 @@ run_real-requires-sync-R g c κs within =
       within.0,
       (
         ⊑_meet κ (lives ++ []) ((κ ++ lives) ++ []) (⊑_meet κ lives [] within.1.0 (⊑_static κ)) (⊑_meet κ (κ ++ lives) [] (⊑_meet κ κ lives (⊑_refl κ) within.1.0) (⊑_static κ)),
-        (within.1.1.0, (within.1.1.1, c.type_bounds.sync-R)),
+        (within.1.1.0, (within.1.1.1.0, (within.1.1.1.1, c.type_bounds.sync-R))),
       ),
     )

@@ -12,10 +12,11 @@ returns-in-Ok g c =
       record {
         behind = g.O.Sink.output c.perform-ending.new.out;
         does = inl (record { ends = does.ends; has_run = does.has_run; cause = does.cause; read_cause = does.read_cause; kept = does.kept });
-        line = c.end.ensures.line;
-        is_status = c.end.ensures.status;
+        line = c.conclude.ensures.line;
+        is_status = c.conclude.ensures.status;
       },
       does.untouched,
+      c.conclude.ensures.note,
     )
 
 pub returns-in-Err : goal.returns-in-Err
@@ -25,8 +26,9 @@ returns-in-Err g c =
       record {
         behind = g.O.Sink.output c.args.out.now;
         does = unread (g.F.Files.log c.args.files.now) (g.O.Sink.output c.args.out.now) (asked c.args.words.now) c.in-Err.stop c.in-Err.ensures.reads;
-        line = rw (told) at c.end-in-Err.ensures.line;
-        is_status = rw (told) at c.end-in-Err.ensures.status;
+        line = rw (told) at c.conclude-in-Err.ensures.line;
+        is_status = rw (told) at c.conclude-in-Err.ensures.status;
       },
       λ leaves. refl,
+      c.conclude-in-Err.ensures.note,
     )

@@ -1,0 +1,325 @@
+"""Mistakes that are easily made, each with the line that programs read and the sentence that lets one mend it."""
+
+import subprocess
+from typing import NamedTuple
+
+import base_file
+from tally import SCRIPT, SECONDS, run
+
+# A file of one checker by the Jacoby rule, with three kinds.
+SMALL = "1-jacoby.base"
+KINDS = 3
+LENGTH = base_file.file_length(1, KINDS)
+PAGE_DIGEST = LENGTH - base_file.DIGEST
+
+GAME = b"hypergammon record 1\ncheckers 1\nstakes jacoby\ngame 1\nA 31 24/21 21/20\nstop\nclose\n"
+MATCH = b"hypergammon record 1\ncheckers 1\nstakes match 2\ngame 1 away 2 2\nA 21 24/22 22/21\nB double\nA pass\nend B 1\nclose\n"
+
+# What stands in the files that are read beside those that are solved.
+RECORDS = {
+    "game.rec": GAME,
+    "points.rec": MATCH,
+    "form.rec": GAME.replace(b"A 31 ", b"A 31  "),
+    "turn.rec": GAME.replace(b"stop", b"A 21 20/18 18/17\nstop"),
+    "rules.rec": GAME.replace(b"jacoby", b"Jacoby"),
+    "number.rec": GAME.replace(b"31", b"13"),
+    "text.rec": GAME.replace(b"24/21 21/20", b"24/21/20"),
+    "hit.rec": GAME.replace(b"21/20", b"21/20*"),
+    "dice.rec": GAME.replace(b"21/20", b"21/19"),
+    "few.rec": GAME.replace(b" 21/20", b""),
+    "cube.rec": GAME.replace(b"A 31", b"A double\nB take\nA 31").replace(b"game 1\n", b"game 1\nB 21 24/22 22/21\n").replace(b"jacoby", b"cubeless"),
+    "end.rec": GAME.replace(b"stop", b"end A 1"),
+    "open.rec": GAME.replace(b"close\n", b""),
+}
+
+
+class Mistake(NamedTuple):
+    words: tuple
+    line: str
+    sentence: str
+
+
+COMMANDS = "write solve, show, advise, migrate, verify, scan, reply, ladder, plan, analyse, study, make, race, bound or board"
+FORM = 'write hypergammon show FILE POSITION, with quotes around the POSITION, as "24 23 / 24 23"'
+STEPS = 'as in "24 23 / 24 23"'
+
+MISTAKES = (
+    # Words.
+    Mistake(("shwo", SMALL, "6 / 1"), "1 words command 0", f'"shwo" is no command: {COMMANDS}'),
+    Mistake(("show", SMALL), "1 words form 0", f"a word is missing: {FORM}"),
+    Mistake(("show", SMALL, "6", "/", "1"), "1 words form 0", f'"/" is a word too many: {FORM}'),
+    Mistake(("show", SMALL, "6 / 1", "--roll", "41"), "1 words form 0", "--roll is no option of show, which has none: leave it out"),
+    Mistake(
+        ("scan", SMALL, "kind=0", "pips<8"),
+        "1 words form 0",
+        '"pips<8" is a word too many: write hypergammon scan FILE CONDITION, with quotes around the CONDITION, as "kind=0 pips<8"',
+    ),
+    Mistake(
+        ("solve", "new", "--worker", "4"),
+        "1 words form 0",
+        "--worker is no option of solve: write --checkers, --stakes, --rounds or --workers",
+    ),
+    Mistake(("advise", SMALL, "6 / 1", "--dice=41"), "1 words form 0", "--dice is no option of advise: write --kind or --roll"),
+    Mistake(("solve", "new", "--workers", "4", "--workers=2"), "1 words form 0", "--workers is given twice: leave one out"),
+    Mistake(("solve", "new", "--workers"), "1 words form 0", "--workers has no value: write a whole number from 1 to 64 behind it"),
+    Mistake(("solve", "new", "--workers="), "1 words word 2", "--workers has no value: write a whole number from 1 to 64 behind it"),
+    Mistake(("solve", "new", "-w", "4"), "1 words word 2", '"-w" is no option: one has two dashes and a name, as --workers'),
+    Mistake(("show", "", "6 / 1"), "1 words word 1", "a word is empty: write something between the quotes, or leave it out"),
+    Mistake(("show", SMALL, "6" * 4097), "1 words word 2", f'"{"6" * 60}.." is too long: a word has at most 4096 bytes'),
+    Mistake((b"show", b"\xff", b"6 / 1"), "1 words word 0", "a word isn't text: write it in UTF-8"),
+    # Values.
+    Mistake(("solve", "new", "--checkers", "4"), "1 words value 2", '--checkers "4": write 1, 2 or 3'),
+    Mistake(
+        ("solve", "new", "--stakes", "Jacoby"),
+        "1 words value 3",
+        '--stakes "Jacoby": write cubeless, money, jacoby, money-beavers or jacoby-beavers',
+    ),
+    Mistake(("solve", "new", "--rounds", "0"), "1 words value 4", '--rounds "0": write a whole number from 1 to 4096'),
+    Mistake(("solve", "new", "--workers=65"), "1 words value 5", '--workers "65": write a whole number from 1 to 64'),
+    Mistake(("ladder", "new", "--length", "7"), "1 words value 3", '--length "7": write a whole number from 1 to 5'),
+    Mistake(
+        ("advise", SMALL, "6 / 1", "--kind", "center"),
+        "1 words value 3",
+        '--kind "center": write alone, centred, mine or theirs, or in a match as near:1:centred',
+    ),
+    Mistake(("bound", "24 / 24", "1", "1"), "1 words value 1", 'CHECKERS "24 / 24": write 1, 2 or 3'),
+    Mistake(("bound", "1", "5000", "24 / 24"), "1 words value 2", 'ROUNDS "5000": write a whole number from 1 to 4096'),
+    Mistake(("make", "one", "1", "new"), "1 words value 1", 'NUMBER "one": write a whole number from 0 to 18446744073709551615'),
+    Mistake(("make", "1", "0", "new"), "1 words value 2", 'GAMES "0": write a whole number from 1 to 1000'),
+    Mistake(("migrate", SMALL, SMALL), "1 words value 2", "NEW is OLD: give the new file another name"),
+    Mistake(("show", "n" * 256, "6 / 1"), "1 words value 1", f'FILE "{"n" * 60}..": write a file\'s name, 1 to 255 bytes'),
+    # Positions, rolls and conditions.
+    Mistake(("show", SMALL, "24,23 / 24 23"), "2 position 2", f'"24,23" is no place: write bar, 1 to 24 or off, {STEPS}'),
+    Mistake(
+        ("show", SMALL, "24 23 24 23"),
+        "2 position 1",
+        f'"24 23 24 23" has no slash: write the places of the side to move, a slash and the other side\'s, {STEPS}',
+    ),
+    Mistake(("show", SMALL, "24/24"), "2 position 1", f'"24/24" has no space on either side of the slash: write it {STEPS}'),
+    Mistake(
+        ("show", SMALL, "24  23 / 24 23"),
+        "2 position 1",
+        f'"24  23 / 24 23" has a slash or a space too many: write one slash, and single spaces, {STEPS}',
+    ),
+    Mistake(
+        ("show", SMALL, "6 5 / 1"),
+        "2 position 3",
+        "the side to move has 2 places and the other side 1: write as many for each, one to three, those off too, "
+        'as in "6 off / 1 off"',
+    ),
+    Mistake(
+        ("show", SMALL, "24 / 1"),
+        "2 position 4",
+        "both sides hold the same point: your 24 is the other side's 1; each side counts from its own view",
+    ),
+    Mistake(
+        ("show", SMALL, "off / 1"),
+        "2 position 5",
+        'in "off / 1" a side has all its checkers off, so the game is over: leave one on the bar or a point',
+    ),
+    Mistake(
+        ("show", "6 / 1", SMALL), "2 position 1", "FILE and POSITION seem exchanged: write hypergammon show FILE POSITION"
+    ),
+    Mistake(
+        ("advise", SMALL, "6 / 1", "--roll", "7"),
+        "2 roll 1",
+        '--roll "7": write two digits from 1 to 6, the higher first, as 61',
+    ),
+    Mistake(
+        ("advise", SMALL, "6 / 1", "--roll", "16"),
+        "2 roll 2",
+        '--roll "16" has the lower die first: write the higher one first, as 61',
+    ),
+    Mistake(("scan", SMALL, "pips=1 |"), "11 condition 2", '"pips=1 |" ends too early: write a test as kind=0 at its end'),
+    Mistake(
+        ("scan", SMALL, "pips=1 off"),
+        "11 condition 1",
+        '"off" can\'t stand there in "pips=1 off": write tests of lower, upper, width, kind, pips, opips, off, ooff, bar, obar, '
+        "offer or answer, as kind=0 or !pips<8, at most 64, with single spaces, and | between groups of them",
+    ),
+    Mistake(
+        ("race", "1", "13 / 13"),
+        "12 contact",
+        "the sides can still meet: in a race the highest places of both add up to less than 25",
+    ),
+    # Files.
+    Mistake(
+        ("show", "none.base", "6 / 1"),
+        "3 missing none.base",
+        '"none.base" is missing: write the name of a file that solve or ladder wrote, as m.1.3.c',
+    ),
+    Mistake(
+        ("show", "no\x1b[31m.base", "6 / 1"),
+        "3 missing no\x1b[31m.base",
+        '"no?[31m.base" is missing: write the name of a file that solve or ladder wrote, as m.1.3.c',
+    ),
+    Mistake(
+        ("study", "none.rec"),
+        "3 missing none.rec",
+        '"none.rec" is missing: write the name of a record; hypergammon help record shows one',
+    ),
+    Mistake(
+        ("analyse", SMALL, "points.rec"),
+        f"3 missing {SMALL}.2.2.n",
+        f'"{SMALL}.2.2.n" is missing: a match needs the prefix that ladder was given',
+    ),
+    Mistake(
+        ("plan", "m", "--length", "5"),
+        "3 missing m.5.5.n",
+        '"m.5.5.n" is missing: write the prefix and the --length that ladder was given',
+    ),
+    Mistake(
+        ("show", "game.rec", "6 / 1"),
+        "4 file magic 0",
+        '"game.rec" is no file of bounds: write the name of one that solve or ladder wrote',
+    ),
+    Mistake(
+        ("show", "one.base", "6 / 1"),
+        "4 file version 8",
+        '"one.base" isn\'t of the latest version: migrate OLD NEW writes an older file anew',
+    ),
+    Mistake(
+        ("verify", "cut.base"),
+        f"4 file short {LENGTH - 1}",
+        f'"cut.base" ends too early, at byte {LENGTH - 1}: it was cut off, so make it again',
+    ),
+    Mistake(
+        ("verify", "longer.base"),
+        f"4 file long {LENGTH}",
+        f'"longer.base" goes on at byte {LENGTH}, behind its end: cut that off, or make it again',
+    ),
+    Mistake(
+        ("verify", "damaged.base"),
+        f"4 file page-digest {PAGE_DIGEST}",
+        f'"damaged.base" is damaged in the page whose digest is at byte {PAGE_DIGEST}: make it again',
+    ),
+    Mistake(("show", "folder", "6 / 1"), "6 read", "a file can't be read: it is a folder, or not yours to read, or the disk has a fault"),
+    Mistake(
+        ("solve", "none/new", "--checkers", "1"),
+        "7 write",
+        "writing failed: the folder has to be there and yours to write in, and the disk needs room",
+    ),
+    Mistake(("make", "1", "1", SMALL), f"13 other {SMALL}", f'"{SMALL}" is there and is no record, so it stays: give another name'),
+    Mistake(
+        ("solve", "game.rec", "--checkers", "1"),
+        "13 other game.rec",
+        '"game.rec" is there and is no file of bounds, so it stays: give another name',
+    ),
+    Mistake(
+        ("verify", "flawed.base"),
+        "9 inconsistent lower mine 8288358957 8288358956 4 2 / 14 4",
+        '"flawed.base" has bounds that don\'t follow from each other, first at 4 2 / 14 4: whoever made it, don\'t use it',
+    ),
+    # Another game.
+    Mistake(
+        ("show", SMALL, "24 23 / 24 23"),
+        "10 base wanted checkers 2 found checkers 1 stakes jacoby",
+        f'the position has 2 checkers a side and "{SMALL}" has 1: write as many places for each side, those off too',
+    ),
+    Mistake(
+        ("bound", "1", "1", "24 23 / 24 23"),
+        "10 base wanted checkers 2 found checkers 1 stakes cubeless",
+        "the position has 2 checkers a side and CHECKERS is 1: write 2",
+    ),
+    Mistake(
+        ("advise", SMALL, "6 / 1", "--kind", "alone"),
+        "10 base wanted kind alone found checkers 1 stakes jacoby",
+        f'"{SMALL}" has no states of the kind alone: write centred, mine or theirs',
+    ),
+    Mistake(
+        ("analyse", "two.base", "game.rec"),
+        "10 base wanted checkers 1 stakes jacoby found checkers 2 stakes jacoby",
+        'the record has checkers 1 stakes jacoby, and BASE "two.base" has checkers 2 stakes jacoby: make a file of the record\'s game',
+    ),
+    # Records.
+    Mistake(
+        ("study", SMALL),
+        "5 record 1 shape",
+        f'"{SMALL}" is no record, whose line 1 is "hypergammon record 1": write the name of one; hypergammon help record shows one',
+    ),
+    Mistake(
+        ("analyse", "game.rec", SMALL),
+        "5 record 1 shape",
+        f'"{SMALL}" is no record, whose line 1 is "hypergammon record 1": look whether BASE and RECORD are exchanged',
+    ),
+    Mistake(
+        ("study", "form.rec"),
+        "5 record 5 shape",
+        "line 5 has no form of a record's lines: write it as A 31 24/21 21/20, B double or end A 1, with single spaces; "
+        "no line is empty",
+    ),
+    Mistake(
+        ("study", "turn.rec"),
+        "5 record 6 order",
+        "line 6 can't come there: the players roll in turn, a double is answered, and end or stop ends a game",
+    ),
+    Mistake(
+        ("study", "rules.rec"),
+        "5 record 3 rules",
+        "line 3: write 1, 2 or 3 checkers, and stakes cubeless, money, jacoby, money-beavers, jacoby-beavers or match 1 to match 5",
+    ),
+    Mistake(
+        ("study", "number.rec"),
+        "5 record 5 number",
+        "line 5 has a wrong number: games count from 1, away has 1 to 5 and end 1 to 3, a roll has the higher die first, "
+        "and a game doesn't begin with a double",
+    ),
+    Mistake(
+        ("study", "text.rec"),
+        "5 record 5 play",
+        "line 5 has no play behind its roll: write a step for each die, as 24/18 23/17*, or - where none can be made",
+    ),
+    Mistake(("study", "open.rec"), "5 record 7 unended", "the record ends before line 7: write close as its last line"),
+    Mistake(
+        ("study", "hit.rec"),
+        "5 record 5 illegal-play 6",
+        "line 5: a * stands where no checker is hit, or lacks where one is",
+    ),
+    Mistake(("study", "dice.rec"), "5 record 5 illegal-play 1", "line 5: a step isn't made by a die that is left"),
+    Mistake(("study", "few.rec"), "5 record 5 illegal-play 7", "line 5: more steps can be made, so they have to be"),
+    Mistake(
+        ("study", "cube.rec"),
+        "5 record 6 illegal-cube",
+        "line 6: the player may not double there, or the stakes are without beavers",
+    ),
+    Mistake(
+        ("study", "end.rec"),
+        "5 record 6 score-wrong",
+        "line 6 doesn't fit what was played before: look at the score, who won, and the points",
+    ),
+)
+
+
+def made_files(folder):
+    """What the mistakes read, made of two files that are solved."""
+    small = (folder / SMALL).read_bytes()
+    damaged = bytearray(small)
+    damaged[PAGE_DIGEST // 2] ^= 1
+    flawed = base_file.with_tighter_bound((folder / "two.base").read_bytes(), ((2, 4), (4, 14)), "mine")
+    yield from RECORDS.items()
+    yield "one.base", base_file.as_version_one(small, KINDS)
+    yield "cut.base", small[:-1]
+    yield "longer.base", small + b"\0"
+    yield "damaged.base", bytes(damaged)
+    yield "flawed.base", flawed
+
+
+def try_mistakes(tally, folder):
+    for name, text in made_files(folder):
+        (folder / name).write_bytes(text)
+    (folder / "folder").mkdir()
+    for mistake in MISTAKES:
+        ran = run([SCRIPT, *mistake.words], folder)
+        due = int(mistake.line.split()[0]), f"refused {mistake.line}\n".encode(), f"{mistake.sentence}\n".encode()
+        faults = [] if tuple(ran) == due else [f"answer {tuple(ran)}, due is {due}"]
+        tally.note(f"the mistake {mistake.words}", faults)
+    try_lost_note(tally, folder)
+
+
+def try_lost_note(tally, folder):
+    """A note that can't be put changes nothing else."""
+    with open("/dev/full", "wb") as full:
+        for errors in (full, subprocess.DEVNULL):
+            ran = subprocess.run([SCRIPT, "show"], cwd=folder, stdout=subprocess.PIPE, stderr=errors, timeout=SECONDS, check=False)
+            found = (ran.returncode, ran.stdout)
+            tally.note("a note that is lost", [] if found == (1, b"refused 1 words form 0\n") else [f"answer {found}"])

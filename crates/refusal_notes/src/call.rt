@@ -1,0 +1,99 @@
+use command_line::CommandName;
+
+/// The words of a call as those of its command.
+#[derive(Clone, Copy)]
+pub(crate) struct Call<'a> {
+    pub name: &'a str,
+    pub command: CommandName,
+    /// Those behind the name.
+    pub words: &'a [String],
+}
+
+/// Whether a word is an option. A value that stands behind one isn't.
+pub(crate) fn is_option(word: &str) -> bool {
+    word.starts_with("--")
+}
+
+/// The name of an option, which may have its value behind `=`.
+pub(crate) fn option_name(word: &str) -> &str {
+    let option = word.strip_prefix("--").unwrap_or(word);
+    match option.split_once('=') {
+        Some((name, _)) => name,
+        None => option,
+    }
+}
+
+impl<'a> Call<'a> {
+    /// `None` where the first word is no command's name.
+    pub fn new(words: &'a [String]) -> Option<Call<'a>> {
+        let (name, words) = words.split_first()?;
+        let name = name.as_str();
+        let command = CommandName::read(name)?;
+        Some(Call {
+            name,
+            command,
+            words,
+        })
+    }
+
+    /// The word that stands for the argument of this number, from 0.
+    pub fn argument(&self, number: usize) -> Option<&'a str> {
+        let mut left = number;
+        let mut is_value = false;
+        for word in self.words {
+            let word = word.as_str();
+            if is_option(word) {
+                is_value = !word.contains('=');
+            } else if is_value {
+                is_value = false;
+            } else if left == 0 {
+                return Some(word);
+            } else {
+                left -= 1;
+            }
+        }
+        None
+    }
+
+    /// The value of the option of this name.
+    fn option(&self, name: &str) -> Option<&'a str> {
+        let mut is_value = false;
+        for word in self.words {
+            let word = word.as_str();
+            if is_value {
+                return Some(word);
+            }
+            if is_option(word) && option_name(word) == name {
+                match word.split_once('=') {
+                    Some((_, value)) => return Some(value),
+                    None => is_value = true,
+                }
+            }
+        }
+        None
+    }
+
+    /// What is given for the argument or option of this name.
+    pub fn given(&self, name: &str) -> Option<&'a str> {
+        let arguments = self.command.arguments();
+        match arguments.iter().position(|argument| *argument == name) {
+            Some(number) => self.argument(number),
+            None => self.option(name),
+        }
+    }
+
+    /// The name of the argument or option of this number, from 1: first the arguments.
+    pub fn name_of(&self, number: u32) -> Option<&'static str> {
+        let at = (number as usize).checked_sub(1)?;
+        let arguments = self.command.arguments();
+        let found = match at.checked_sub(arguments.len()) {
+            Some(at) => self.command.options().get(at),
+            None => arguments.get(at),
+        };
+        found.copied()
+    }
+
+    pub fn takes(&self, argument: &str) -> bool {
+        self.command.arguments().contains(&argument)
+    }
+}

@@ -1,0 +1,83 @@
+ghost use Rattle.std.specs.Prelude.{◌≡◌};
+ghost use Rattle.refusal_notes.specs.Notes.{PutsNote, WasNoted};
+
+use crate::call::Call;
+use crate::files::{add_file, add_game, add_missing, add_other, add_unheld};
+use crate::record::add_record;
+use crate::sentence::{Text, line_of, say};
+use crate::texts::{add_condition, add_position, add_roll};
+use crate::words::add_words;
+use equity_report::Refusal;
+use outside_log::Sink;
+use run_endings::RunStop;
+
+const NOT_TEXT: &str = "a word isn't text: write it in UTF-8";
+
+const NO_MEMORY: &str =
+    "there is no memory: fewer checkers need less; to solve three takes about 800 MB";
+
+const NOT_READ: &str =
+    "a file can't be read: it is a folder, or not yours to read, or the disk has a fault";
+
+const NOT_WRITTEN: &str =
+    "writing failed: the folder has to be there and yours to write in, and the disk needs room";
+
+const NOT_A_RACE: &str =
+    "the sides can still meet: in a race the highest places of both add up to less than 25";
+
+/// On a refusal of a command, whose words are in their form.
+fn add_refusal(text: &mut Text, call: &Call<'_>, refusal: &Refusal) {
+    match refusal {
+        Refusal::Position(bad) => add_position(text, call, *bad),
+        Refusal::Roll(bad) => add_roll(text, call, *bad),
+        Refusal::Missing(name) => add_missing(text, call, name.as_str()),
+        Refusal::File(bad) => add_file(text, call, *bad),
+        Refusal::Base { wanted, found } => add_game(text, call, *wanted, *found),
+        Refusal::Inconsistent(unheld) => add_unheld(text, call, unheld),
+        Refusal::Record(bad) => add_record(text, call, *bad),
+        Refusal::Condition { word } => add_condition(text, call, *word),
+        Refusal::Other(name) => add_other(text, call, name.as_str()),
+        Refusal::Contact => say(text, NOT_A_RACE, &[]),
+        Refusal::Read => say(text, NOT_READ, &[]),
+        Refusal::Write => say(text, NOT_WRITTEN, &[]),
+        Refusal::Memory | Refusal::Words(_) => say(text, NO_MEMORY, &[]),
+    }
+}
+
+/// What lets one mend the call of these words.
+fn text_of(words: &[String], stop: &RunStop) -> Text {
+    let mut text = Text::new();
+    match (stop, Call::new(words)) {
+        (RunStop::NotWritten, _) => say(&mut text, NOT_WRITTEN, &[]),
+        (RunStop::Refused(Refusal::Words(bad)), _) => add_words(&mut text, words, *bad),
+        (RunStop::Refused(refusal), Some(call)) => add_refusal(&mut text, &call, refusal),
+        (RunStop::Refused(_), None) => say(&mut text, NO_MEMORY, &[]),
+    }
+    text
+}
+
+/// Puts the line of a sentence, or a front of it where that fails.
+fn put_line<N: Sink>(notes: &mut N, text: &Text)
+    ensures { WasNoted (N.output notes.old) (N.output notes.new) }
+{
+    let _ = notes.put(line_of(text).as_slice());
+}
+
+/// Puts a line on why a run of these words ended before all was done, by which the call can be mended. Where putting fails, a front of it
+/// was put. Nothing is put where all was done.
+pub fn put_note<N: Sink>(notes: &mut N, words: &[String], ending: &Result<(), RunStop>)
+    ensures { PutsNote ending.now (N.output notes.old) (N.output notes.new) }
+{
+    if let Err(stop) = ending {
+        put_line(notes, &text_of(words, stop));
+    }
+}
+
+/// Puts such a line on words that couldn't be had: one isn't text, or there was no memory for them.
+pub fn put_unread_note<N: Sink>(notes: &mut N, not_text: bool)
+    ensures { WasNoted (N.output notes.old) (N.output notes.new) }
+{
+    let mut text = Text::new();
+    say(&mut text, if not_text { NOT_TEXT } else { NO_MEMORY }, &[]);
+    put_line(notes, &text);
+}

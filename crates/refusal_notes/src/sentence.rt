@@ -1,0 +1,142 @@
+ghost use Rattle.std.specs.Prelude.{◌≡◌};
+ghost use Rattle.refusal_notes.specs.Notes.{IsNote, IsShown};
+
+use arrayvec::{ArrayString, ArrayVec};
+use cube_actions::KindName;
+use equity_report::{GameName, Report, add_game};
+use itoa::Buffer;
+use position_rank::{Position, print_position};
+
+/// The most bytes of a sentence. None has more: of a word of the user's it has a front.
+const LONGEST: usize = 1000;
+
+/// The most bytes of a sentence's line.
+const LINE: usize = LONGEST + 1;
+
+/// The most bytes of a word that a sentence has.
+const LONGEST_FRONT: usize = 60;
+
+/// A part of a sentence that its form leaves open.
+#[derive(Clone, Copy)]
+pub(crate) enum Part<'a> {
+    /// A word of the user's or a name, which is put in quotes; of a long one its front.
+    Word(&'a str),
+    Text(&'a str),
+    Number(u64),
+    Kind(KindName),
+    Game(&'a GameName),
+    Position(&'a Position),
+    /// The arguments of a command, each behind a space.
+    Arguments(&'static [&'static str]),
+    /// The options of a command, of which it has one or more.
+    Options(&'static [&'static str]),
+}
+
+/// A sentence, or what there is of it.
+pub(crate) type Text = ArrayString<LONGEST>;
+
+/// Adds what fits.
+fn add(text: &mut Text, more: &str) {
+    let _ = text.try_push_str(more);
+}
+
+/// At most so many bytes of a word, none but whole signs.
+fn front_of(word: &str) -> &str {
+    for fewer in 0..4 {
+        if let Some(front) = word.get(..LONGEST_FRONT - fewer) {
+            return front;
+        }
+    }
+    word
+}
+
+fn add_word(text: &mut Text, word: &str) {
+    let front = front_of(word);
+    add(text, "\"");
+    add(text, front);
+    if front.len() < word.len() {
+        add(text, "..");
+    }
+    add(text, "\"");
+}
+
+fn add_arguments(text: &mut Text, arguments: &[&str]) {
+    for argument in arguments {
+        add(text, " ");
+        add(text, argument);
+    }
+}
+
+fn add_options(text: &mut Text, options: &[&str]) {
+    let mut left = options.len();
+    for option in options {
+        add(text, "--");
+        add(text, option);
+        match left {
+            0 | 1 => {}
+            2 => add(text, " or "),
+            _ => add(text, ", "),
+        }
+        left = left.saturating_sub(1);
+    }
+}
+
+fn add_game_told(text: &mut Text, game: &GameName) {
+    let mut told = Report::new();
+    add_game(&mut told, *game);
+    add(text, told.as_str());
+}
+
+fn add_part(text: &mut Text, part: Part<'_>) {
+    match part {
+        Part::Word(word) => add_word(text, word),
+        Part::Text(more) => add(text, more),
+        Part::Number(number) => add(text, Buffer::new().format(number)),
+        Part::Kind(kind) => add(text, kind.print().as_str()),
+        Part::Game(game) => add_game_told(text, game),
+        Part::Position(position) => add(text, print_position(position).as_str()),
+        Part::Arguments(arguments) => add_arguments(text, arguments),
+        Part::Options(options) => add_options(text, options),
+    }
+}
+
+/// Adds a sentence: in its form each `@` stands for the next part.
+pub(crate) fn say(text: &mut Text, form: &str, parts: &[Part<'_>]) {
+    let mut left = parts.iter();
+    let mut is_first = true;
+    for piece in form.split('@') {
+        if is_first {
+            is_first = false;
+        } else if let Some(part) = left.next() {
+            add_part(text, *part);
+        }
+        add(text, piece);
+    }
+}
+
+/// The byte, or `?` for one by which a terminal could be told to do something: a control byte, and what makes one of Unicode's control
+/// signs with the byte before it.
+fn shown(before: u8, byte: u8) -> u8
+    ensures { IsShown result }
+{
+    if byte < 32 || byte == 127 || before == 0xC2 && byte < 0xA0 {
+        b'?'
+    } else {
+        byte
+    }
+}
+
+/// The line of a sentence, in which no control byte stands but the line feed.
+pub(crate) fn line_of(text: &Text) -> ArrayVec<u8, LINE>
+    ensures { IsNote result.items }
+{
+    let mut line = ArrayVec::new();
+    let mut before = 0;
+    let bytes = text.as_str().as_bytes();
+    'bytes: for byte in bytes {
+        line.push(shown(before, *byte));
+        before = *byte;
+    }
+    line.push(b'\n');
+    line
+}

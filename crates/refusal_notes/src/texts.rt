@@ -1,0 +1,135 @@
+ghost use Rattle.std.specs.Prelude.{◌≤◌};
+
+use crate::call::Call;
+use crate::sentence::{Part, Text, say};
+use position_rank::{BadPosition, read_place, read_position};
+use roll_table::BadRoll;
+
+/// A roll's text that shows none.
+pub(crate) fn add_roll(text: &mut Text, call: &Call<'_>, bad: BadRoll) {
+    let form = match bad {
+        BadRoll::Shape => "--roll @: write two digits from 1 to 6, the higher first, as 61",
+        BadRoll::Order => "--roll @ has the lower die first: write the higher one first, as 61",
+    };
+    say(text, form, &[Part::Word(call.given("roll").unwrap_or(""))]);
+}
+
+/// A text with an empty word, or without one slash.
+fn add_shape(text: &mut Text, position: &str) {
+    let form = if !position.contains('/') {
+        "@ has no slash: write the places of the side to move, a slash and the other side's, as in \"24 23 / 24 23\""
+    } else if !position.contains(" / ") {
+        "@ has no space on either side of the slash: write it as in \"24 23 / 24 23\""
+    } else {
+        "@ has a slash or a space too many: write one slash, and single spaces, as in \"24 23 / 24 23\""
+    };
+    say(text, form, &[Part::Word(position)]);
+}
+
+/// The first word that is neither a place nor the slash.
+fn wrong_place(text: &str) -> &str {
+    for word in text.split(' ') {
+        if word != "/" && read_place(word).is_none() {
+            return word;
+        }
+    }
+    text
+}
+
+fn count_places(side: &str) -> u64 {
+    let mut count = 0u64;
+    for word in side.split(' ') {
+        if !word.is_empty() {
+            count = count.saturating_add(1);
+        }
+    }
+    count
+}
+
+fn holds(side: &str, place: u8) -> bool {
+    for word in side.split(' ') {
+        if read_place(word) == Some(place) {
+            return true;
+        }
+    }
+    false
+}
+
+/// The first point that both sides hold, as the mover counts it.
+fn shared_point(mover: &str, other: &str) -> u8
+    ensures { result ≤ 24 }
+{
+    for mine in 1..24 {
+        if holds(mover, mine) && holds(other, 25 - mine) {
+            return mine;
+        }
+    }
+    24
+}
+
+fn add_shared(text: &mut Text, mover: &str, other: &str) {
+    let mine = shared_point(mover, other);
+    say(
+        text,
+        "both sides hold the same point: your @ is the other side's @; each side counts from its own view",
+        &[
+            Part::Number(u64::from(mine)),
+            Part::Number(u64::from(25 - mine)),
+        ],
+    );
+}
+
+/// A position's text that describes none.
+pub(crate) fn add_position(text: &mut Text, call: &Call<'_>, bad: BadPosition) {
+    let position = call.given("POSITION").unwrap_or("");
+    let (mover, other) = position.split_once('/').unwrap_or((position, ""));
+    if read_position(call.given("FILE").unwrap_or("")).is_ok() {
+        return say(
+            text,
+            "FILE and POSITION seem exchanged: write hypergammon @@",
+            &[
+                Part::Text(call.name),
+                Part::Arguments(call.command.arguments()),
+            ],
+        );
+    }
+    match bad {
+        BadPosition::Shape => add_shape(text, position),
+        BadPosition::Place => say(
+            text,
+            "@ is no place: write bar, 1 to 24 or off, as in \"24 23 / 24 23\"",
+            &[Part::Word(wrong_place(position))],
+        ),
+        BadPosition::Count => say(
+            text,
+            "the side to move has @ places and the other side @: write as many for each, one to three, those off too, as in \"6 off / 1 off\"",
+            &[
+                Part::Number(count_places(mover)),
+                Part::Number(count_places(other)),
+            ],
+        ),
+        BadPosition::SharedPoint => add_shared(text, mover, other),
+        BadPosition::Over => say(
+            text,
+            "in @ a side has all its checkers off, so the game is over: leave one on the bar or a point",
+            &[Part::Word(position)],
+        ),
+    }
+}
+
+/// A condition's text with which none can go on at the word of this number, from 0.
+pub(crate) fn add_condition(text: &mut Text, call: &Call<'_>, word: u32) {
+    let condition = call.given("CONDITION").unwrap_or("");
+    match condition.split(' ').nth(word as usize) {
+        None => say(
+            text,
+            "@ ends too early: write a test as kind=0 at its end",
+            &[Part::Word(condition)],
+        ),
+        Some(word) => say(
+            text,
+            "@ can't stand there in @: write tests of lower, upper, width, kind, pips, opips, off, ooff, bar, obar, offer or answer, as kind=0 or !pips<8, at most 64, with single spaces, and | between groups of them",
+            &[Part::Word(word), Part::Word(condition)],
+        ),
+    }
+}

@@ -1,0 +1,192 @@
+use crate::call::{Call, is_option, option_name};
+use crate::sentence::{Part, Text, say};
+use hyper_outside::{BadWords, WordsKind};
+
+/// What may stand for an argument or an option of this name.
+fn may_stand(name: &str) -> Part<'static> {
+    Part::Text(match name {
+        "CHECKERS" | "checkers" => "1, 2 or 3",
+        "ROUNDS" | "rounds" => "a whole number from 1 to 4096",
+        "workers" => "a whole number from 1 to 64",
+        "length" => "a whole number from 1 to 5",
+        "GAMES" => "a whole number from 1 to 1000",
+        "NUMBER" => "a whole number from 0 to 18446744073709551615",
+        "stakes" => "cubeless, money, jacoby, money-beavers or jacoby-beavers",
+        "kind" => "alone, centred, mine or theirs, or in a match as near:1:centred",
+        "roll" => "two digits from 1 to 6, the higher first, as 61",
+        "PREFIX" => "1 to 240 bytes, with which the names of a match's files begin",
+        _ => "a file's name, 1 to 255 bytes",
+    })
+}
+
+fn add_no_command(text: &mut Text, words: &[String]) {
+    match words.first() {
+        Some(word) => say(
+            text,
+            "@ is no command: write solve, show, advise, migrate, verify, scan, reply, ladder, plan, analyse, study, make, race, bound or board",
+            &[Part::Word(word.as_str())],
+        ),
+        None => say(
+            text,
+            "no command is given: write one, as show; hypergammon help has them all",
+            &[],
+        ),
+    }
+}
+
+fn add_no_value(text: &mut Text, name: &str) {
+    say(
+        text,
+        "--@ has no value: write @ behind it",
+        &[Part::Text(name), may_stand(name)],
+    );
+}
+
+/// A word that can't stand in any command.
+fn add_faulty(text: &mut Text, word: &str) {
+    if is_option(word) && word.len() > 2 && word.len() <= 4096 {
+        return add_no_value(text, option_name(word));
+    }
+    let form = if word.is_empty() {
+        "a word is empty: write something between the quotes, or leave it out"
+    } else if word.len() > 4096 {
+        "@ is too long: a word has at most 4096 bytes"
+    } else {
+        "@ is no option: one has two dashes and a name, as --workers"
+    };
+    say(text, form, &[Part::Word(word)]);
+}
+
+/// Whether one of these words is the option of this name.
+fn has_option(words: &[String], name: &str) -> bool {
+    for word in words {
+        if is_option(word.as_str()) && option_name(word.as_str()) == name {
+            return true;
+        }
+    }
+    false
+}
+
+/// Whether an option has its value in it, or in the word behind it.
+fn has_value(option: &str, behind: Option<&String>) -> bool {
+    match behind {
+        Some(value) if !is_option(value.as_str()) => true,
+        _ => option.contains('='),
+    }
+}
+
+/// An option that isn't the command's.
+fn add_unknown<'a>(text: &mut Text, call: &Call<'a>, name: &'a str) {
+    let (name, command) = (Part::Text(name), Part::Text(call.name));
+    let options = call.command.options();
+    if options.is_empty() {
+        say(
+            text,
+            "--@ is no option of @, which has none: leave it out",
+            &[name, command],
+        );
+    } else {
+        say(
+            text,
+            "--@ is no option of @: write @",
+            &[name, command, Part::Options(options)],
+        );
+    }
+}
+
+/// What is wrong with the word at this index, where it is an option that isn't the command's, comes again or has no value; whether it is.
+fn add_option_fault(text: &mut Text, call: &Call<'_>, at: usize) -> bool {
+    let Some(word) = call.words.get(at) else {
+        return false;
+    };
+    let name = option_name(word.as_str());
+    if !is_option(word.as_str()) {
+        false
+    } else if !call.command.options().contains(&name) {
+        add_unknown(text, call, name);
+        true
+    } else if has_option(call.words.get(..at).unwrap_or(&[]), name) {
+        say(
+            text,
+            "--@ is given twice: leave one out",
+            &[Part::Text(name)],
+        );
+        true
+    } else if !has_value(word.as_str(), call.words.get(at + 1)) {
+        add_no_value(text, name);
+        true
+    } else {
+        false
+    }
+}
+
+/// An argument too few or too many.
+fn add_other_arguments(text: &mut Text, call: &Call<'_>) {
+    let arguments = call.command.arguments();
+    let hint = if call.takes("POSITION") {
+        ", with quotes around the POSITION, as \"24 23 / 24 23\""
+    } else if call.takes("CONDITION") {
+        ", with quotes around the CONDITION, as \"kind=0 pips<8\""
+    } else {
+        ""
+    };
+    match call.argument(arguments.len()) {
+        Some(word) => say(text, "@ is a word too many: ", &[Part::Word(word)]),
+        None => say(text, "a word is missing: ", &[]),
+    }
+    say(
+        text,
+        "write hypergammon @@@",
+        &[
+            Part::Text(call.name),
+            Part::Arguments(arguments),
+            Part::Text(hint),
+        ],
+    );
+}
+
+/// Words that aren't the command's arguments and options.
+fn add_misformed(text: &mut Text, call: &Call<'_>) {
+    for at in 0..call.words.len() {
+        if add_option_fault(text, call, at) {
+            return;
+        }
+    }
+    add_other_arguments(text, call);
+}
+
+/// The value of this number, from 1.
+fn add_bad_value(text: &mut Text, call: &Call<'_>, number: u32) {
+    let name = call.name_of(number).unwrap_or("");
+    let value = call.given(name).unwrap_or("");
+    if name == "NEW" && call.given("OLD") == Some(value) {
+        return say(text, "NEW is OLD: give the new file another name", &[]);
+    }
+    let dashes = if call.takes(name) { "" } else { "--" };
+    say(
+        text,
+        "@@ @: write @",
+        &[
+            Part::Text(dashes),
+            Part::Text(name),
+            Part::Word(value),
+            may_stand(name),
+        ],
+    );
+}
+
+/// Words that are no command's.
+pub(crate) fn add_words(text: &mut Text, words: &[String], bad: BadWords) {
+    let Some(call) = Call::new(words) else {
+        return add_no_command(text, words);
+    };
+    match bad.kind {
+        WordsKind::Command => add_no_command(text, words),
+        WordsKind::Word => match words.get(bad.place as usize) {
+            Some(word) => add_faulty(text, word.as_str()),
+            None => add_no_command(text, words),
+        },
+        WordsKind::Form => add_misformed(text, &call),
+        WordsKind::Value => add_bad_value(text, &call, bad.place),
+    }
+}
