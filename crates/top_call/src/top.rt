@@ -167,8 +167,9 @@ fn conclude<O: Sink, N: Sink>(
 ///    `show`, `advise` and `analyse` up to its pages; 10 where these or `reply` are asked for a position of another number of
 ///    checkers, `advise` or `reply` for a kind that the game hasn't, or `analyse` for a record of another game, or where the file
 ///    of `plan` isn't of the first game of the match; 4 where the page of the position isn't right, or that of a state on which the
-///    advice or a loss rests. For a record of a match `analyse` looks at what stands before the pages of all files, those of the
-///    first games first, before it looks at a page.
+///    advice or a loss rests, and of several such pages the one that is met first: decisions as recorded; rolls from 11 to 66,
+///    first without a double and then answer by answer; plays in their order, the played one first. For a record of a match
+///    `analyse` looks at what stands before the pages of all files, those of the first games first, before it looks at a page.
 /// 6. 9 where the words of a file that `verify` or `migrate` checks aren't consistent, with the first that doesn't hold by rising
 ///    live rank, then by kind, the lower word before the upper one.
 ///
