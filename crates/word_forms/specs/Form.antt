@@ -1,16 +1,27 @@
 -- How the words behind a command's name are read as its arguments and options.
-use Rattle.std.specs.Prelude.{ℕ, ◌+◌, ◌==◌, ◌&&◌, Bool, false, not, List, [], ◌∷◌, ◌++◌, Option, Some, None, is_some, if◌then◌else◌, find, slice_get, option_map, option_and_then}
+use Rattle.std.specs.Prelude.{ℕ, ◌+◌, ◌==◌, ◌&&◌, Bool, false, not, List, [], ◌∷◌, ◌++◌, Option, Some, None, is_some, if◌then◌else◌, find, codes, map, slice_get, option_map, option_and_then}
 use Rattle.std.specs.List.{list_all, list_any, before_first, after_first}
+use Rattle.std.specs.Option.{option_map_or}
 use Rattle.std.specs.Str.{bytes_eq}
 
 -- a word's bytes
 abbrev pub Bytes : Type 0
 Bytes = List ℕ
 
--- the names of a command's arguments, in their order, and of its options
+-- the names of a command's arguments, in their order, of its options, each with a value, and of its
+-- flags, which have none
 pub record Form : Type 0 where
   pub arguments : List Bytes
   pub options : List Bytes
+  pub flags : List Bytes
+
+abbrev pub is_among : Bytes → List Bytes → Bool
+is_among name names = list_any (λ n. bytes_eq n name) names
+
+-- the name is a flag's alone
+abbrev pub is_flag : Form → Bytes → Bool
+is_flag f name =
+    is_among name f.flags && not (is_among name f.options) && not (is_among name f.arguments)
 
 -- values by the names that they are given to, in the order of the words
 abbrev pub Values : Type 0
@@ -55,6 +66,11 @@ is_given name given = list_any (λ v. bytes_eq v.0 name) given
 abbrev pub value_of : Bytes → Values → Option Bytes
 value_of name given = option_map (λ v. v.1) (find (λ v. bytes_eq v.0 name) given)
 
+-- the flag is given
+abbrev pub is_set : Bytes → Values → Bool
+is_set name given =
+    option_map_or (λ value. bytes_eq value (codes "true")) (value_of name given) false
+
 -- a value for a name that has none yet
 abbrev pub give : Bytes → Bytes → Reading → Option Reading
 give name value r = if is_given name r.given
@@ -76,10 +92,19 @@ abbrev pub take_known : Bytes → Option Bytes → Reading → Option Reading
 take_known name None r = Some (record r { waiting = Some name })
 take_known name (Some value) r = give name value r
 
--- no option is read as the value of another
+-- a flag of the command, which takes no value
+abbrev pub take_flag : Bytes → Option Bytes → Reading → Option Reading
+take_flag name None r = give name (codes "true") r
+take_flag name (Some value) r = None
+
+-- an option or a flag of the command
+abbrev pub take_named : Form → Bytes × Option Bytes → Reading → Option Reading
+take_named f o r = if is_among o.0 f.options then take_known o.0 o.1 r
+    else (if is_among o.0 f.flags then take_flag o.0 o.1 r else None)
+
+-- neither is read as the value of an option
 abbrev pub take_option : Form → Bytes × Option Bytes → Reading → Option Reading
-take_option f o r = if is_some r.waiting then None
-    else (if list_any (λ name. bytes_eq name o.0) f.options then take_known o.0 o.1 r else None)
+take_option f o r = if is_some r.waiting then None else take_named f o r
 
 abbrev pub take_as : Form → Option (Bytes × Option Bytes) → Bytes → Reading → Option Reading
 take_as f None word r = take_value f r.waiting word r
@@ -100,7 +125,12 @@ is_whole f r = not (is_some r.waiting) && list_all (λ name. is_given name r.giv
 abbrev pub nothing_read : Reading
 nothing_read = record { given = []; count = 0; waiting = None }
 
+-- behind the values that were given stands `false` for each flag: a name's first value counts
+abbrev pub with_flags : Form → Values → Values
+with_flags f given = given ++ map (λ name. (name, codes "false")) f.flags
+
 -- the values that the words give, if they have the form
 abbrev pub values_of : Form → List Bytes → Option Values
-values_of f words = option_and_then (λ (r : Reading). if is_whole f r then Some r.given else None)
+values_of f words =
+    option_and_then (λ (r : Reading). if is_whole f r then Some (with_flags f r.given) else None)
     (read f words (Some nothing_read))
