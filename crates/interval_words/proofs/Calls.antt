@@ -1,5 +1,5 @@
 -- The calls of a board over its table.
-use Rattle.std.proofs.Common.{◌≡◌, ◌<◌, ◌+◌, ◌*◌, ◌^◌, ℕ, ℤ, pos, ◌+ℤ◌, ◌-ℤ◌, [], ◌++◌, length, get_or, Some, arith, refl, sym, ap, subst, ◌∙◌}
+use Rattle.std.proofs.Common.{◌≡◌, ◌<◌, ◌+◌, ◌*◌, ◌^◌, ℕ, ℤ, pos, ◌+ℤ◌, ◌-ℤ◌, [], ◌++◌, get_or, Some, arith, refl, sym, ap, subst, ◌∙◌}
 use Rattle.std.specs.List.{Contains}
 use Rattle.std.proofs.lemmas.Int.{ints}
 use Rattle.std.proofs.lemmas.List.Elements.{All-contains}
@@ -15,14 +15,14 @@ use Rattle.turn_rule.specs.declared.game.Game.{Game}
 use Rattle.turn_rule.proofs.Within.{bound-small}
 use Rattle.interval_words.specs.declared.view.View.{View}
 use Rattle.interval_words.specs.Numbers.{state_of, states_in, word_of, value_of, tightest_word}
-use Rattle.interval_words.specs.Core.{Core, IsTrueOf, words_in_core, AreReached, words_in, noted, known, first_view, with_note, brought, without_work, settled, joined}
+use Rattle.interval_words.specs.Core.{Core, IsTrueOf, words_in_core, AreReached, words_in, noted, known, first_view, with_note, brought, settled, joined}
 use Rattle.interval_words.specs.Events.{IsLoose, IsRoundDone}
 use Rattle.interval_words.specs.Seats.{GameSeat, IsNumber, MayTighten, AreKnown, Knows, WasHeld, noting, bringing, settling}
 use Rattle.interval_words.specs.Rule.{Holds, Reads, Tightens, Settles}
 use Rattle.position_rank.specs.LiveRanks.{live_rank_of, live_positions}
-use Rattle.cube_actions.specs.Stakes.{Terms}
 use Rattle.interval_words.proofs.SomeState.{some-state}
 use Rattle.interval_words.proofs.Places.{state-in, word-in}
+use Rattle.interval_words.proofs.EachNumber.{each-number}
 use Rattle.turn_rule.specs.Turn.{Words, rounds, bound_words}
 use Rattle.interval_words.proofs.TurnLaws.{rounds-later, rounds-none}
 use Rattle.interval_words.proofs.Ends.{tight-refl, tight-tightest}
@@ -66,6 +66,12 @@ module _ (key game : Game) (same : key ≡ game) (slots id : ℕ) (me : Mine) (v
       subst (λ (g : Game). Allows (Holds g) slots id me 0 (λ n. n) (Settles (step slots 0 0 0 none) me)) (sym same)
       (settles game slots id me named (subst (λ (v : View). IsRoundDone game v) (sym mine) done))
 
+-- each number below the number of states is that of a state
+pub is-number : (game : Game) → IsGame game → (state : ℕ) → state < states_in game.checkers (kinds_of game) → IsNumber game state
+is-number game right state below =
+    let is = each-number game.checkers (kinds_of game) state right.low right.high right.stakes.some below in
+    record { position = is.position; kind = is.kind; is = is.is; number = is.number }
+
 -- the seat after a step that notes a value
 pub noting-at : (seat : GameSeat) (table later : TableId) (me next : Mine) (place word : ℕ) (found value : ℤ) → record { table = table; view = me.0 } ≡ seat → later ≡ table → next ≡ (with_note me.0 place found, me.1) → place ≡ word → found ≡ value → record { table = later; view = next.0 } ≡ noting seat word value
 noting-at seat table later me next place word found value is table_is next_is place_is found_is =
@@ -79,10 +85,6 @@ bringing-at seat table later me next place word found value is table_is next_is 
     let tables : later ≡ seat.table = table_is ∙ ap (λ (s : GameSeat). s.table) is in
     let views : next.0 ≡ brought seat.view word value = ap (λ (m : Mine). m.0) next_is ∙ (λ i. brought ((ap (λ (s : GameSeat). s.view) is) i) (place_is i) (found_is i)) in
     λ i. record { table = tables i; view = views i }
-
--- what is known without the work
-pub knows-without_work : (view : View) → Knows view → Knows (without_work view)
-knows-without_work view knows = record { notes = knows.notes }
 
 -- the seat after a round
 pub settled-at : (seat : GameSeat) (table later : TableId) (me next : Mine) → record { table = table; view = me.0 } ≡ seat → later ≡ table → next ≡ (settled me.0, me.1) → record { table = later; view = next.0 } ≡ settling seat
@@ -170,8 +172,3 @@ knows-joined game is view other names also knows those = record { notes = λ nam
 -- a first view tells nothing
 pub knows-first : (game : Game) → IsGame game → Knows (first_view game)
 knows-first game is = record { notes = λ named e. subst (λ (g : Game). AreKnown g []) (one-game (first_view game) game named refl e) (known-notes game is [] (0, subst (λ (u : Words). AreNoLooser game u (bound_words game.stakes)) (sym (rounds-none game.stakes)) (λ end p k state. tight-refl end _))) }
-
--- how many words there are, as it is counted
-pub words-as-counted : (checkers : ℕ) (stakes : Terms) (states : ℕ) → states ≡ live_positions checkers * length stakes.kinds → 2 * states ≡ words_in (record { checkers = checkers; stakes = stakes })
-unfolding states_in
-words-as-counted checkers stakes states many = ap (λ (n : ℕ). 2 * n) many

@@ -8,7 +8,8 @@ use Rattle.turn_rule.specs.Turn.{rounds}
 use Rattle.turn_rule.specs.States.{AreWithin, AreNoLooser}
 use Rattle.turn_rule.specs.declared.game.Game.{Game}
 use Rattle.interval_words.specs.declared.view.View.{View}
-use Rattle.interval_words.specs.Core.{Core, IsKept, IsTrueOf, words_in_core}
+use Rattle.interval_words.specs.Core.{Core, IsKept, IsTrueOf, words_in_core, noted}
+use Rattle.interval_words.specs.Numbers.{words_of}
 use Rattle.interval_words.specs.Rule.{core_of, Holds}
 use Rattle.interval_words.specs.WordLists.{AreRight, AreClosed, pair_at}
 use Rattle.interval_words.proofs.Ends.{tight-trans}
@@ -64,3 +65,11 @@ module _ (key game : Game) (same : key ≡ game) (id : ℕ) (me : Me (Unit {0}) 
       let bases : me.0.base ≡ r = ap (λ (v : View). v.base) mine ∙ sym base in
       let tight : AreNoLooser game (words_in_core core) (rounds game.stakes r) = subst (λ (n : ℕ). AreNoLooser game (words_in_core core) (rounds game.stakes n)) bases is.base in
       subst (λ (xs : List ℕ). AreClosed (record { game = game; rounds = r; list = xs })) listed (closed-at-end core kept r tight)
+
+  -- the words at the end are at least as tight as all that was noted
+  pub noted-of-last : AreNoLooser game (words_of (kinds_of game) list) (noted game view.notes)
+  unfolding core
+  noted-of-last =
+      let is = All-at (IsTrueOf game (words_in_core core)) end.0.views id me.0 kept.views end.1.1 in
+      let mine_notes : AreNoLooser game (words_in_core core) (noted game view.notes) = subst (λ (v : View). AreNoLooser game (words_in_core core) (noted game v.notes)) mine is.notes in
+      subst (λ (xs : List ℕ). AreNoLooser game (words_of (kinds_of game) xs) (noted game view.notes)) listed mine_notes

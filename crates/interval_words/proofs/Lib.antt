@@ -9,6 +9,7 @@ pub mod Allowed
 pub mod SomeState
 pub mod Calls
 pub mod SeatNotes
+pub mod Narrow
 pub mod Lists
 pub mod EachNumber
 pub mod Closing

@@ -47,9 +47,6 @@ pub record AreWidths (list : List ℕ) (states : ℕ) (widest : ℤ) : Type 0 wh
   pub each : (n : ℕ) → n < states → width (pair_at list n) ≤ℤ widest
   pub reached : 0 < states → (n : ℕ) × (n < states) × (widest ≡ width (pair_at list n))
 
-pub no-widths : (list : List ℕ) → AreWidths list 0 (pos 0)
-no-widths list = record { each = λ n h. absurd (omega arith); reached = λ h. absurd (omega arith) }
-
 -- one state more, whose width isn't negative
 pub widths-more : (list : List ℕ) (states : ℕ) (widest wide : ℤ) → AreWidths list states widest → (states ≡ 0 → widest ≡ pos 0) → pos 0 ≤ℤ wide → wide ≡ width (pair_at list states) → AreWidths list (states + 1) (int_max widest wide)
 widths-more list states widest wide are none positive is = record {

@@ -1,10 +1,9 @@
 -- Every game has a state.
-use Rattle.std.proofs.Common.{◌≡◌, ◌≤◌, ◌<◌, ◌*◌, ◌+◌, ℕ, zero, suc, true, List, ◌∷◌, replicate, sum, arith, refl, ap, sym, ◌∙◌, inl, inr}
-use Rattle.std.proofs.lemmas.Bool.{cases_lt}
+use Rattle.std.proofs.Common.{◌≡◌, ◌≤◌, ◌<◌, ◌*◌, ◌+◌, ℕ, zero, suc, true, List, ◌∷◌, replicate, sum, arith, refl, ap, sym, ◌∙◌}
 use Rattle.position_rank.specs.Placement.{Placement, IsLayout, IsPosition, IsLive}
 use Rattle.position_rank.specs.LiveRanks.{are_apart, is_live, live_below, live_rank_of, live_positions}
 use Rattle.position_rank.specs.Ranks.{layouts, square_rank_of}
-use Rattle.position_rank.proofs.LiveLaws.{live-from, live-rank-in, live_below-none, live-counts, dead-counts}
+use Rattle.position_rank.proofs.LiveLaws.{live-from, live-rank-in, live-counts, dead-counts}
 use Rattle.std.proofs.Math.Nat.{mul-le-mul_right}
 use Rattle.interval_words.specs.Numbers.{states_in}
 
@@ -47,16 +46,6 @@ unfolding states_in
 some-state checkers kinds low high some =
     let one : 1 * kinds ≤ live_positions checkers * kinds = mul-le-mul_right kinds (some-live checkers low high) in
     omega (arith, one, some)
-
--- there is a square below all squares
-pub some-square : (checkers : ℕ) → 1 ≤ checkers → checkers ≤ 3 → 1 ≤ layouts checkers * layouts checkers
-some-square checkers low high = elim (cases_lt 0 (layouts checkers * layouts checkers)) [
-  | inl some ↦ omega arith
-  | inr none ↦ (
-      let no : layouts checkers * layouts checkers ≡ 0 = omega arith in
-      let nothing : live_positions checkers ≡ 0 = ap (live_below checkers) no ∙ live_below-none checkers in
-      absurd (omega (arith, nothing, some-live checkers low high)))
-]
 
 module _ (checkers last : ℕ) (all : last + 1 ≡ layouts checkers * layouts checkers) (p : Placement) (is : IsPosition p) (many : sum p.mover ≡ checkers) (at : square_rank_of p ≡ last) where
   pub all-with-last : IsLive p → live_below checkers last + 1 ≡ live_positions checkers

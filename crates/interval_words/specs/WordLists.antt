@@ -1,14 +1,15 @@
 -- Words that stand in a list.
 use Rattle.std.specs.Prelude.{◌≡◌, ◌<◌, ℕ, ℤ, ◌-ℤ◌, ◌≤ℤ◌, List, length, true, None}
+use Rattle.position_rank.specs.Placement.{Placement}
 use Rattle.directed_fixed.specs.declared.bounds.End.TheVariants.{Lower, Upper}
 use Rattle.directed_fixed.specs.Bounds.{Bounds, IsWithin}
 use Rattle.turn_rule.specs.Games.{kinds_of}
-use Rattle.turn_rule.specs.States.{AreNoLooser}
+use Rattle.turn_rule.specs.States.{IsState, AreNoLooser, pair_of}
 use Rattle.turn_rule.specs.Turn.{Words, rounds}
 use Rattle.turn_rule.specs.Truth.{AreSound, AreConsistent}
 use Rattle.turn_rule.specs.Looks.{Source}
 use Rattle.turn_rule.specs.declared.game.Game.{Game}
-use Rattle.interval_words.specs.Numbers.{states_in, words_of, value_in}
+use Rattle.interval_words.specs.Numbers.{state_of, states_in, words_of, value_in}
 use Rattle.interval_words.specs.Core.{words_in}
 
 -- the words of a game after some rounds, two for each state by its number, the lower one first
@@ -33,6 +34,17 @@ pair_at list state = record {
 
 abbrev pub width : Bounds → ℤ
 width pair = pair.upper -ℤ pair.lower
+
+-- the pair of the state with this number is at most so wide
+abbrev pub IsNarrowAt : Game → Words → ℤ → ℕ → Type 0
+IsNarrowAt game u widest state =
+    (p : Placement) (k : ℕ) → IsState game p k → state ≡ state_of (kinds_of game) p k
+    → width (pair_of u p k) ≤ℤ widest
+
+-- each state's pair is at most so wide
+abbrev pub AreNarrow : Game → Words → ℤ → Type 0
+AreNarrow game u widest =
+    (p : Placement) (k : ℕ) → IsState game p k → width (pair_of u p k) ≤ℤ widest
 
 -- how many states a game has
 abbrev pub states_of : Game → ℕ

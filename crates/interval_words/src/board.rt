@@ -1,17 +1,17 @@
-ghost use Rattle.std.specs.Prelude.{◌≡◌, ◌<◌, ◌≤◌, ◌^◌, ℕ, pos, ◌≤ℤ◌, IfOk};
+ghost use Rattle.std.specs.Prelude.{◌≡◌, ◌<◌, ◌≤◌, ◌^◌, ℕ, pos, ◌≤ℤ◌, true, false, IfOk};
 ghost use Rattle.position_rank.specs.Placement.{Placement};
 ghost use Rattle.position_rank.specs.Ranks.{square_rank_of};
 ghost use Rattle.directed_fixed.specs.declared.bounds.End.TheVariants.{Lower, Upper};
 ghost use Rattle.directed_fixed.specs.declared.word.TheConstants.{WORD_OFFSET};
 ghost use Rattle.directed_fixed.specs.Bounds.{IsNoLooser, IsWithinUnits};
 ghost use Rattle.turn_rule.specs.Games.{kinds_of, game_of};
-ghost use Rattle.turn_rule.specs.States.{IsState};
+ghost use Rattle.turn_rule.specs.States.{IsState, AreNoLooser};
 ghost use Rattle.interval_words.specs.Numbers.{state_of, states_in, word_of, AreBoundWords};
-ghost use Rattle.interval_words.specs.Core.{known};
+ghost use Rattle.interval_words.specs.Core.{noted, known};
 ghost use Rattle.interval_words.specs.Events.{IsRoundDone};
-ghost use Rattle.interval_words.specs.WordLists.{AreClosed};
+ghost use Rattle.interval_words.specs.WordLists.{AreClosed, AreNarrow, IsNarrowAt, words_in_list};
 ghost use Rattle.std.specs.Slots.{slots_items, slots_len, IsFull};
-ghost use Rattle.interval_words.specs.Seats.{GameSeat, SitsAt, IsNumber, MayTighten, Knows, WasHeld, Brings, first_seat, noting, bringing, settling, joining, knowing, giving, hiring};
+ghost use Rattle.interval_words.specs.Seats.{GameSeat, SitsAt, IsNumber, MayTighten, Knows, WasHeld, KeepsNotes, Brings, first_seat, noting, bringing, settling, joining, knowing, giving, hiring};
 
 use crate::live_index::LiveIndex;
 use crate::number::{state_count, state_number, state_number_at};
@@ -357,14 +357,54 @@ impl Board {
         shared.join_seat::<Joining>(&mut seat.seat, other.seat);
     }
 
+    /// Whether the pair of the state with this number is at most so wide, as its words are read one
+    /// after the other.
+    fn is_narrow_at(&self, seat: &mut BoardSeat, state: u64, width: Fixed) -> bool
+        requires seat { SitsAt self.now seat.old }
+        requires state { IsNumber self.now.game state }
+        ensures keeps { KeepsNotes seat.old seat.new }
+        ensures work { seat.new.view.work ≡ seat.old.view.work }
+        ensures narrow { result ≡ true
+            → IsNarrowAt self.now.game (noted self.now.game seat.new.view.notes) width state }
+        ensures wide { result ≡ false
+            → ¬ IsNarrowAt self.now.game (known self.now.game seat.old.view) width state }
+    {
+        let lower = self.read_lower(seat, state);
+        let upper = self.read_upper(seat, state);
+        upper.units() - lower.units() <= width.units()
+    }
+
+    /// Whether the pair of each state is at most so wide, in units. The words are read by rising number
+    /// of the state, up to the first pair that is wider, and noted. Where one is wider, some state's
+    /// pair was so by what the seat knew before.
+    pub fn is_narrow(&self, seat: &mut BoardSeat, width: Fixed) -> bool
+        requires { SitsAt self.now seat.old }
+        ensures keeps { KeepsNotes seat.old seat.new }
+        ensures work { seat.new.view.work ≡ seat.old.view.work }
+        ensures narrow { result ≡ true
+            → AreNarrow self.now.game (noted self.now.game seat.new.view.notes) width }
+        ensures wide { result ≡ false
+            → ¬ AreNarrow self.now.game (known self.now.game seat.old.view) width }
+    {
+        for state in 0..state_count(&self.index, &self.stakes) as u64 {
+            if !self.is_narrow_at(seat, state, width) {
+                return false;
+            }
+        }
+        true
+    }
+
     /// The board's words at the end, after the rounds that the seat has settled. For a while they
-    /// stand in memory twice. After `NoMemory` the board and the seat are gone.
+    /// stand in memory twice. They are at least as tight as all that the seat has noted. After
+    /// `NoMemory` the board and the seat are gone.
     pub fn close(self, alloc: Global, seat: BoardSeat, rounds: u32) -> Result<Closed, NoMemory>
         requires seat { SitsAt self seat }
         requires rounds { rounds ≡ seat.view.base }
         ensures game { IfOk result (λ closed. closed.game ≡ self.game) }
         ensures rounds { IfOk result (λ closed. closed.rounds ≡ rounds) }
         ensures closed { IfOk result AreClosed }
+        ensures noted { IfOk result (λ closed. AreNoLooser closed.game (words_in_list closed)
+            (noted closed.game seat.view.notes)) }
     {
         let Board {
             table,

@@ -7,7 +7,7 @@ use Rattle.cube_actions.specs.Starts.{StartPairs, AreStarts, Covers}
 use Rattle.turn_rule.specs.declared.game.Game.{Game}
 use Rattle.interval_words.specs.WordLists.{WordList, list_of, words_in_list}
 use Rattle.match_scores.specs.Openings.{start_over}
-use Rattle.match_scores.specs.Ladders.{score_at, with_pair, game_at, AreWordsOf}
+use Rattle.match_scores.specs.Ladders.{score_at, with_pair, game_at, AreWordsAt}
 use Rattle.match_scores.specs.Keepers.{Keeper, IsForSame, CountsOn, KeptOneMore, MayKeep, IsKeeperFor, HasKept, IsSolvedSoFar, IsWholeLadder}
 use Rattle.match_scores.proofs.OpeningSums.{GoOn}
 use Rattle.match_scores.proofs.Places.{place-first}
@@ -22,7 +22,7 @@ covers-next starts score more is =
     subst (Covers starts) (sym is) (record { listed = omega (arith, first, more); held = first })
 
 pub may-keep : GoOn → LeadDown → AreScores → (checkers r : ℕ) → 1 ≤ checkers → checkers ≤ 3 → (starts : StartPairs) → AreStarts starts → (keeper : Keeper) → IsSolvedSoFar checkers starts.match_length r starts → IsKeeperFor checkers starts.match_length r keeper → HasKept starts keeper
-    → length starts.pairs < length (ladder starts.match_length) → (score : MatchScore) → score ≡ score_at starts.match_length (length starts.pairs) → (words : WordList) → AreWordsOf checkers r score starts words → MayKeep keeper score starts words
+    → length starts.pairs < length (ladder starts.match_length) → (score : MatchScore) → score ≡ score_at starts.match_length (length starts.pairs) → (words : WordList) → AreWordsAt checkers r score starts words → MayKeep keeper score starts words
 may-keep goes down scores checkers r low high starts valid keeper so_far it kept more score is words closed = record {
   works = kept.works;
   before = sym kept.held;
@@ -32,13 +32,13 @@ may-keep goes down scores checkers r low high starts valid keeper so_far it kept
   earlier = rw (it.of_checkers, it.of_rounds) (so_far.solved.0, solved-ladder goes down scores checkers r low high starts valid so_far.solved.0 so_far.solved.1);
 }
 
-pub solved-more : (checkers r : ℕ) (starts : StartPairs) (score : MatchScore) (words : WordList) (pair : Bounds) (more : StartPairs) → IsSolvedSoFar checkers starts.match_length r starts → score ≡ score_at starts.match_length (length starts.pairs) → AreWordsOf checkers r score starts words
+pub solved-more : (checkers r : ℕ) (starts : StartPairs) (score : MatchScore) (words : WordList) (pair : Bounds) (more : StartPairs) → IsSolvedSoFar checkers starts.match_length r starts → score ≡ score_at starts.match_length (length starts.pairs) → AreWordsAt checkers r score starts words
     → pair ≡ start_over words.game.checkers (words_in_list words) score → more ≡ with_pair starts pair → IsSolvedSoFar checkers starts.match_length r more
 solved-more checkers r starts score words pair more so_far is closed start added =
     let count = length starts.pairs in
     let score' = score_at starts.match_length count in
     let same_checkers : words.game.checkers ≡ checkers = ap (λ (g : Game). g.checkers) closed.game in
-    let closed' : AreWordsOf checkers r score' starts words = subst (λ (s : MatchScore). AreWordsOf checkers r s starts words) is closed in
+    let closed' : AreWordsAt checkers r score' starts words = subst (λ (s : MatchScore). AreWordsAt checkers r s starts words) is closed in
     let start' : pair ≡ start_over checkers (words_in_list words) score' = start ∙ (ap (λ (n : ℕ). start_over n (words_in_list words) score) same_checkers ∙ ap (start_over checkers (words_in_list words)) is) in
     let next = solved-next checkers r starts so_far.solved.0 words so_far.solved.1 closed' in
     subst (λ (s : StartPairs). IsSolvedSoFar checkers starts.match_length r s) (sym (added ∙ ap (with_pair starts) start'))

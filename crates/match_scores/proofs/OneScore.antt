@@ -14,7 +14,7 @@ use Rattle.turn_rule.specs.States.{pair_of}
 use Rattle.turn_rule.specs.Truth.{Encloses, IsScoring, AreEnclosing, AreSoundFrom}
 use Rattle.match_scores.specs.Openings.{start_over, thirty_starts}
 use Rattle.match_scores.specs.Payoffs.{EndScores, cube_game, points_left, game_parts, scale_of, starts_before, match_scoring, match_start, start_scale}
-use Rattle.match_scores.specs.Ladders.{AreEndScores, EncloseStarts, EnclosesStart, game_at, pair_at, score_at}
+use Rattle.match_scores.specs.Ladders.{AreEndScores, EncloseStarts, EnclosesStart, game_at, start_pair_at, score_at}
 use Rattle.match_scores.proofs.Centred.{centred-terms}
 use Rattle.match_scores.proofs.OpeningSums.{GoOn}
 use Rattle.match_scores.proofs.Starts.{start-encloses, both-ends}
@@ -37,7 +37,7 @@ module _ (down : LeadDown) (checkers turns : ℕ) (ends : EndScores) (score : Ma
       let before : place < ladder_place starts.match_length score = down starts.match_length score winner won valid.from valid.to covers.listed some less in
       let held : place < length starts.pairs = omega (arith, before, covers.held) in
       let listed : place < length (ladder starts.match_length) = omega (arith, held, valid.room) in
-      subst (λ (s : MatchScore). Encloses (pair_at starts place) (match_start checkers turns ends s) (start_scale turns s)) (score-found starts.match_length next listed) (enclosed place held)
+      subst (λ (s : MatchScore). Encloses (start_pair_at starts place) (match_start checkers turns ends s) (start_scale turns s)) (score-found starts.match_length next listed) (enclosed place held)
 
   -- the exact payoffs and the end scores lie within the stakes
   pub payoffs-within : AreEndScores checkers turns ends → AreStarts starts → IsScore score → Covers starts score → EncloseStarts checkers turns ends starts → IsScoring (game_at checkers score starts) (match_scoring checkers turns ends score)

@@ -1,8 +1,8 @@
 -- Sums over the opening rolls of what the best plays are worth.
-use Rattle.std.proofs.Common.{◌≡◌, ◌<◌, ◌≤◌, ◌+◌, ◌++◌, ◌*◌, ◌^◌, ◌∙◌, ℕ, zero, suc, ℤ, pos, neg_ℤ, ◌+ℤ◌, ◌-ℤ◌, ◌*ℤ◌, ◌≤ℤ◌, ◌↔◌, List, [], ◌∷◌, All, Contains, length, map, take, get_or, inl, inr, ap, add-one, refl, sym, subst, arith}
+use Rattle.std.proofs.Common.{◌≡◌, ◌<◌, ◌≤◌, ◌+◌, ◌++◌, ◌*◌, ◌^◌, ◌∙◌, ℕ, zero, suc, ℤ, pos, ◌+ℤ◌, ◌-ℤ◌, ◌*ℤ◌, ◌≤ℤ◌, ◌↔◌, List, [], ◌∷◌, All, Contains, length, map, take, get_or, inl, inr, ap, add-one, refl, sym, subst, arith}
 use Rattle.std.specs.Int.{int_max}
 use Rattle.std.proofs.lemmas.Int.{ints, clamps}
-use Rattle.std.proofs.lemmas.List.{take_all, take_more, get_or-map, length-map}
+use Rattle.std.proofs.lemmas.List.{take_more, get_or-map, length-map}
 use Rattle.position_rank.specs.Placement.{Placement, IsPosition, IsLive, swap}
 use Rattle.position_rank.specs.Packed.{start_placement}
 use Rattle.position_rank.proofs.StartLive.{start-live, start-sum, start-position}
@@ -104,10 +104,6 @@ sum-next f p [] i roll h e = absurd (omega arith)
 sum-next f p (first ∷ rest) zero roll h e = ap (λ (r : Dice). pos 1 *ℤ greatest f (legal_ends p r) +ℤ pos 0) (sym e) ∙ once-more (greatest f (legal_ends p roll))
 sum-next f p (first ∷ rest) (suc i) roll h e = regroup _ _ _ _ (sum-next f p rest i roll (omega arith) e)
 
--- after the last of them
-pub sum-all : (f : Placement → ℤ) (p : Placement) (i : ℕ) → length openings ≤ i → sum_over (take i openings) f p ≡ sum_over openings f p
-sum-all f p i past = ap (λ (rolls : List (Dice × ℕ)). sum_over rolls f p) (take_all i openings past)
-
 -- the listed plays have the greatest worth of the legal ends
 pub listed-best : (f : Placement → ℤ) (p : Placement) (roll : Dice) (ends : List Placement) → ((q : Placement) → Contains ends q → IsLegalEnd p roll q) → ((q : Placement) → IsLegalEnd p roll q → Contains ends q) → greatest f ends ≡ greatest f (legal_ends p roll)
 listed-best f p roll ends sound complete =
@@ -130,9 +126,6 @@ listed-states goes checkers kinds low high k inside roll is ends sound =
 length-opening_rolls : length opening_rolls ≡ 15
 unfolding opening_rolls all_rolls
 length-opening_rolls = refl
-
-pub length-openings : length openings ≡ 15
-length-openings = length-map opening_rolls (λ (roll : Dice). (roll, 1)) ∙ length-opening_rolls
 
 -- a roll of the list is an opening roll
 pub roll-at : (rolls : List Dice) (i : ℕ) (roll : Dice) → rolls ≡ opening_rolls → i < 15 → roll ≡ get_or rolls i roll → (i < length opening_rolls) × (roll ≡ get_or opening_rolls i roll) × Contains opening_rolls roll

@@ -15,13 +15,13 @@ use Rattle.turn_rule.specs.Turn.{win}
 use Rattle.turn_rule.specs.Truth.{AreNoLooserDoubles, IsNoLooserKind, AreNoLooserStakes}
 use Rattle.turn_rule.proofs.Integers.{le_refl, neg_le}
 use Rattle.match_scores.specs.Payoffs.{mover_in, cube_in}
-use Rattle.match_scores.specs.Ladders.{pair_at}
+use Rattle.match_scores.specs.Ladders.{start_pair_at}
 use Rattle.match_scores.proofs.MatchPayoffs.{kind-at, kinds-many}
 
 -- at each place, the first start pairs are at least as tight as the second
 pub record AreNoLooserStarts (a b : StartPairs) : Type 0 where
   pub of_length : a.match_length ≡ b.match_length
-  pub pairs : (place : ℕ) → AreNoLooserPairs (pair_at a place) (pair_at b place)
+  pub pairs : (place : ℕ) → AreNoLooserPairs (start_pair_at a place) (start_pair_at b place)
 
 negated-tighter : (a b : Bounds) → AreNoLooserPairs a b → AreNoLooserPairs (negated a) (negated b)
 negated-tighter a b h = record { lower = neg_le _ _ h.upper; upper = neg_le _ _ h.lower }
@@ -31,7 +31,7 @@ same-pair a = record { lower = le_refl _; upper = le_refl _ }
 
 module _ (score : MatchScore) (a b : StartPairs) (tight : AreNoLooserStarts a b) where
   start-no-looser : (s : MatchScore) → AreNoLooserPairs (start_pair a s) (start_pair b s)
-  start-no-looser s = subst (λ (n : ℕ). AreNoLooserPairs (start_pair a s) (pair_at b (ladder_place n s))) tight.of_length (tight.pairs (ladder_place a.match_length s))
+  start-no-looser s = subst (λ (n : ℕ). AreNoLooserPairs (start_pair a s) (start_pair_at b (ladder_place n s))) tight.of_length (tight.pairs (ladder_place a.match_length s))
 
   win-tighter : (winner : Side) (won : ℕ) → AreNoLooserPairs (value_of_win a score winner won) (value_of_win b score winner won)
   win-tighter winner won = by_need (nat_le (needs score winner) won) where

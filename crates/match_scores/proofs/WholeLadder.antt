@@ -24,7 +24,7 @@ use Rattle.turn_rule.proofs.Tight.{words-trans}
 use Rattle.interval_words.specs.WordLists.{WordList, words_in_list}
 use Rattle.match_scores.specs.Openings.{start_over}
 use Rattle.match_scores.specs.Payoffs.{EndScores, match_scoring, match_start, start_scale}
-use Rattle.match_scores.specs.Ladders.{score_at, pair_at, starts_till, with_pair, game_at, AreEndScores, EnclosesStart, EncloseStarts, EnclosesGame, AreWordsOf, IsSolvedAt, IsSolved, IsTrueFrom, plain_starts, IsTightAt, IsLadder}
+use Rattle.match_scores.specs.Ladders.{score_at, start_pair_at, starts_till, with_pair, game_at, AreEndScores, EnclosesStart, EncloseStarts, EnclosesGame, AreWordsAt, IsSolvedAt, IsSolved, IsTrueFrom, plain_starts, IsTightAt, IsLadder}
 use Rattle.match_scores.proofs.Centred.{centred-terms}
 use Rattle.match_scores.proofs.OpeningSums.{GoOn}
 use Rattle.match_scores.proofs.Starts.{start-tighter}
@@ -54,7 +54,7 @@ till-covers starts place listed here =
     let first = place-first starts.match_length place listed in
     record { listed = omega (arith, first, listed); held = rw (length-take-le place starts.pairs here) first }
 
-pub pair-till : (starts : StartPairs) (count place : ℕ) → place < count → pair_at (starts_till starts count) place ≡ pair_at starts place
+pub pair-till : (starts : StartPairs) (count place : ℕ) → place < count → start_pair_at (starts_till starts count) place ≡ start_pair_at starts place
 pair-till starts count place before = get_or-take count starts.pairs place nothing before
 
 either-max : (a b n : ℕ) → max a b ≤ n → (a ≤ n) × (b ≤ n)
@@ -128,15 +128,15 @@ plain-many checkers r match_length zero = refl
 plain-many checkers r match_length (suc count) = length-append (plain_starts checkers r match_length count).pairs _ ∙ (let before = plain-many checkers r match_length count in omega (arith, before))
 
 -- a plain start stays as it was made
-plain-at : (checkers r match_length count place : ℕ) → place < count → pair_at (plain_starts checkers r match_length count) place ≡ pair_at (plain_starts checkers r match_length (suc place)) place
+plain-at : (checkers r match_length count place : ℕ) → place < count → start_pair_at (plain_starts checkers r match_length count) place ≡ start_pair_at (plain_starts checkers r match_length (suc place)) place
 plain-at checkers r match_length zero place less = absurd (omega arith)
 plain-at checkers r match_length (suc count) place less = elim (cases_lt place count) [
   | inl earlier ↦ get_or_append_left (plain_starts checkers r match_length count).pairs _ nothing place (rw plain-many earlier) ∙ plain-at checkers r match_length count place earlier
-  | inr last ↦ ap (λ (n : ℕ). pair_at (plain_starts checkers r match_length (suc n)) place) (sym (same-place place count less last))
+  | inr last ↦ ap (λ (n : ℕ). start_pair_at (plain_starts checkers r match_length (suc n)) place) (sym (same-place place count less last))
 ]
 
 -- the last of them is that of the rounds for the stakes of those before it
-plain-last : (checkers r match_length count : ℕ) → pair_at (plain_starts checkers r match_length (suc count)) count ≡ start_over checkers (rounds (terms_of (score_at match_length count) (plain_starts checkers r match_length count)) r) (score_at match_length count)
+plain-last : (checkers r match_length count : ℕ) → start_pair_at (plain_starts checkers r match_length (suc count)) count ≡ start_over checkers (rounds (terms_of (score_at match_length count) (plain_starts checkers r match_length count)) r) (score_at match_length count)
 plain-last checkers r match_length count =
     let before = plain_starts checkers r match_length count in
     let start = start_over checkers (rounds (terms_of (score_at match_length count) before) r) (score_at match_length count) in
@@ -146,7 +146,7 @@ no-looser : (pair : Bounds) → AreNoLooserPairs pair pair
 no-looser pair = record { lower = le_refl _; upper = le_refl _ }
 
 -- the start pairs before a place are as tight as the plain ones
-pub till-tight : (checkers r : ℕ) (starts : StartPairs) (count : ℕ) → count ≤ length starts.pairs → ((place : ℕ) → place < count → AreNoLooserPairs (pair_at starts place) (pair_at (plain_starts checkers r starts.match_length (suc place)) place))
+pub till-tight : (checkers r : ℕ) (starts : StartPairs) (count : ℕ) → count ≤ length starts.pairs → ((place : ℕ) → place < count → AreNoLooserPairs (start_pair_at starts place) (start_pair_at (plain_starts checkers r starts.match_length (suc place)) place))
     → AreNoLooserStarts (starts_till starts count) (plain_starts checkers r starts.match_length count)
 till-tight checkers r starts count here before =
     let plain = plain_starts checkers r starts.match_length in
@@ -162,7 +162,7 @@ module _ (goes : GoOn) (checkers r : ℕ) (low : 1 ≤ checkers) (high : checker
   abbrev plain : ℕ → StartPairs
   plain = plain_starts checkers r starts.match_length
 
-  next-tight : (count : ℕ) → count < length starts.pairs → ((place : ℕ) → place < count → AreNoLooserPairs (pair_at starts place) (pair_at (plain (suc place)) place)) → IsTightAt checkers r starts count (words count)
+  next-tight : (count : ℕ) → count < length starts.pairs → ((place : ℕ) → place < count → AreNoLooserPairs (start_pair_at starts place) (start_pair_at (plain (suc place)) place)) → IsTightAt checkers r starts count (words count)
   next-tight count here before =
       let at = solved count here in
       let score = score_at starts.match_length count in
@@ -214,7 +214,7 @@ pub and_then-before : {A : Type 0} (words : ℕ → A) (count : ℕ) (next : A) 
 unfolding and_then
 and_then-before words count next place less = let apart : eqb place count ≡ false = grind (arith, nat_tests) in rw apart refl
 
-pair-before : (starts : StartPairs) (pair : Bounds) (place : ℕ) → place < length starts.pairs → pair_at (with_pair starts pair) place ≡ pair_at starts place
+pair-before : (starts : StartPairs) (pair : Bounds) (place : ℕ) → place < length starts.pairs → start_pair_at (with_pair starts pair) place ≡ start_pair_at starts place
 pair-before starts pair place here = get_or_append_left starts.pairs (pair ∷ []) nothing place here
 
 pub till-same : (starts : StartPairs) (pair : Bounds) (place : ℕ) → place ≤ length starts.pairs → starts_till (with_pair starts pair) place ≡ starts_till starts place
@@ -223,7 +223,7 @@ till-same starts pair place here = ap (λ (pairs : List Bounds). record starts {
 pub all-taken : (starts : StartPairs) → starts_till starts (length starts.pairs) ≡ starts
 all-taken starts = ap (λ (pairs : List Bounds). record starts { pairs = pairs }) (take_all (length starts.pairs) starts.pairs (omega arith))
 
-pub solved-next : (checkers r : ℕ) (starts : StartPairs) (words : ℕ → WordList) (next : WordList) → IsSolved checkers r starts words → AreWordsOf checkers r (score_at starts.match_length (length starts.pairs)) starts next
+pub solved-next : (checkers r : ℕ) (starts : StartPairs) (words : ℕ → WordList) (next : WordList) → IsSolved checkers r starts words → AreWordsAt checkers r (score_at starts.match_length (length starts.pairs)) starts next
     → IsSolved checkers r (with_pair starts (start_over checkers (words_in_list next) (score_at starts.match_length (length starts.pairs)))) (and_then words (length starts.pairs) next)
 solved-next checkers r starts words next solved closed place less =
     let count = length starts.pairs in

@@ -25,9 +25,9 @@ to_near_second value end p zero = pos 0
 to_near_second value end p (suc k) = neg_ℤ value
 
 -- nothing is known but the value of the match
-abbrev pub unknown : Words
-unknown Lower p k = neg_ℤ (point_units 1)
-unknown Upper p k = point_units 1
+abbrev pub unknown_starts : Words
+unknown_starts Lower p k = neg_ℤ (point_units 1)
+unknown_starts Upper p k = point_units 1
 
 -- each unfinished game is won by the near side, over a scale of 1
 abbrev pub near_wins : EndScores

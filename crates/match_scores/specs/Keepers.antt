@@ -6,7 +6,7 @@ use Rattle.cube_actions.specs.Starts.{StartPairs}
 use Rattle.hyper_outside.specs.Causes.{Rose}
 use Rattle.interval_words.specs.WordLists.{WordList, words_in_list}
 use Rattle.match_scores.specs.Openings.{start_over}
-use Rattle.match_scores.specs.Ladders.{score_at, with_pair, AreWordsOf, IsSolved, IsLadder}
+use Rattle.match_scores.specs.Ladders.{score_at, with_pair, AreWordsAt, IsSolved, IsLadder}
 use Rattle.match_scores.specs.declared.ladder.LadderStop.{LadderStop}
 use Rattle.match_scores.specs.declared.ladder.LadderStop.TheVariants.{Keep}
 
@@ -63,7 +63,7 @@ pub record MayKeep (keeper : Keeper) (score : MatchScore) (starts : StartPairs)
   pub before : starts ≡ keeper.starts
   pub more : length starts.pairs < length (ladder starts.match_length)
   pub is_next : score ≡ score_at starts.match_length (length starts.pairs)
-  pub closed : AreWordsOf keeper.checkers keeper.rounds score starts words
+  pub closed : AreWordsAt keeper.checkers keeper.rounds score starts words
   pub earlier : (words_before : ℕ → WordList)
       × IsLadder keeper.checkers keeper.rounds starts words_before
 

@@ -24,8 +24,8 @@ abbrev pub score_at : ℕ → ℕ → MatchScore
 score_at match_length place = slice_index_or (ladder match_length) place last_game
 
 -- the start pair at this place
-abbrev pub pair_at : StartPairs → ℕ → Bounds
-pair_at starts place = slice_index_or starts.pairs place nothing
+abbrev pub start_pair_at : StartPairs → ℕ → Bounds
+start_pair_at starts place = slice_index_or starts.pairs place nothing
 
 -- the start pairs of the scores before this place
 abbrev pub starts_till : StartPairs → ℕ → StartPairs
@@ -52,7 +52,7 @@ pub record AreEndScores (checkers turns : ℕ) (ends : EndScores) : Type 0 where
 abbrev pub EnclosesStart : ℕ → ℕ → EndScores → StartPairs → ℕ → Type 0
 EnclosesStart checkers turns ends starts place =
     let score = score_at starts.match_length place in
-    Encloses (pair_at starts place) (match_start checkers turns ends score)
+    Encloses (start_pair_at starts place) (match_start checkers turns ends score)
     (start_scale turns score)
 
 -- each start pair that is held encloses the start of its score
@@ -69,7 +69,7 @@ EnclosesGame checkers turns ends starts place words =
 -- ---- how it is solved
 
 -- these are words of the game at a score, closed after so many rounds
-pub record AreWordsOf (checkers r : ℕ) (score : MatchScore) (starts : StartPairs)
+pub record AreWordsAt (checkers r : ℕ) (score : MatchScore) (starts : StartPairs)
     (words : WordList) : Type 0 where
   pub game : words.game ≡ game_at checkers score starts
   pub valid : IsGame words.game
@@ -79,9 +79,9 @@ pub record AreWordsOf (checkers r : ℕ) (score : MatchScore) (starts : StartPai
 -- the start pair at a place is that of these words of its score
 pub record IsSolvedAt (checkers r : ℕ) (starts : StartPairs) (place : ℕ)
     (words : WordList) : Type 0 where
-  pub closed : AreWordsOf checkers r (score_at starts.match_length place) (starts_till starts place)
+  pub closed : AreWordsAt checkers r (score_at starts.match_length place) (starts_till starts place)
       words
-  pub start : pair_at starts place
+  pub start : start_pair_at starts place
       ≡ start_over checkers (words_in_list words) (score_at starts.match_length place)
 
 -- each start pair that is held is that of words of its score
@@ -112,8 +112,8 @@ plain_starts checkers r match_length (suc place) =
 -- each start pair is at least as tight as the plain one, and the words of each score as those after the rounds for the stakes of the plain starts
 pub record IsTightAt (checkers r : ℕ) (starts : StartPairs) (place : ℕ)
     (words : WordList) : Type 0 where
-  pub start : AreNoLooserPairs (pair_at starts place)
-      (pair_at (plain_starts checkers r starts.match_length (suc place)) place)
+  pub start : AreNoLooserPairs (start_pair_at starts place)
+      (start_pair_at (plain_starts checkers r starts.match_length (suc place)) place)
   pub states :
       AreNoLooser words.game (words_in_list words)
       (rounds (terms_of (score_at starts.match_length place)

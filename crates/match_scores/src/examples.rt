@@ -7,7 +7,7 @@ ghost use Rattle.cube_actions.specs.Stakes.{exactly, nothing};
 ghost use Rattle.turn_rule.specs.Examples.{between, gains, losses};
 ghost use Rattle.match_scores.specs.Openings.{start_over};
 ghost use Rattle.match_scores.specs.Payoffs.{exact_win, match_start, start_scale};
-ghost use Rattle.match_scores.specs.Examples.{to_roller, to_near, to_near_second, unknown, near_wins, drawn, told};
+ghost use Rattle.match_scores.specs.Examples.{to_roller, to_near, to_near_second, unknown_starts, near_wins, drawn, told};
 
 /// Starts of the last game, of one checker a side. A game that the near side is sure to win is worth the match to it,
 /// whichever side opens. What whoever rolls next has, as much for both sides, makes no start. Where only the far side's
@@ -17,7 +17,7 @@ pub fn start_examples()
     ensures lost { start_over 1 (to_near (neg_ℤ (pos 4294967296))) last_game
         ≡ losses 4294967296 4294967296 }
     ensures even { start_over 1 (to_roller (pos 1234)) last_game ≡ nothing }
-    ensures unknown { start_over 1 unknown last_game ≡ between 4294967296 4294967296 }
+    ensures unknown { start_over 1 unknown_starts last_game ≡ between 4294967296 4294967296 }
     ensures half { start_over 1 (to_near_second (pos 2)) last_game ≡ gains 1 1 }
     ensures rounded { start_over 1 (to_near_second (pos 1)) last_game ≡ gains 0 1 }
 {}

@@ -3,7 +3,7 @@ ghost use Rattle.cube_actions.specs.Ladder.{ladder};
 ghost use Rattle.cube_actions.specs.Starts.{Covers};
 ghost use Rattle.cube_actions.specs.declared.name.StakesName.TheVariants.{Match};
 ghost use Rattle.match_scores.specs.Keepers.{IsKeeperFor, HasKept, IsSolvedSoFar, HandsOver, IsWholeLadder, no_pairs};
-ghost use Rattle.match_scores.specs.Ladders.{score_at, AreWordsOf};
+ghost use Rattle.match_scores.specs.Ladders.{score_at, AreWordsAt};
 
 use crate::keep::Keep;
 use crate::openings::start_pair;
@@ -39,11 +39,11 @@ fn solve_score<R: Threads + Sync, G: Gate + Sync>(
     requires high { checkers ≤ 3 }
     requires rounds { (1 ≤ rounds) × (rounds ≤ 4096) }
     requires covered { Covers starts.now score }
-    ensures words { IfOk result (AreWordsOf checkers rounds score starts.now) }
+    ensures words { IfOk result (AreWordsAt checkers rounds score starts.now) }
     ensures name { IfOk result (λ closed. closed.game.stakes.name ≡ Match score) }
 {
     let stakes = Stakes::of_score(score, starts);
-    let closed = run_rounds(team, alloc, checkers, &stakes, rounds, gate)?.closed;
+    let closed = run_rounds(team, alloc, checkers, &stakes, rounds, None, gate)?.closed;
     // Words are of a game of one to three checkers and valid stakes.
     closed.words().right();
     Ok(closed)

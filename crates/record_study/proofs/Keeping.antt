@@ -12,7 +12,7 @@ use Rattle.turn_rule.specs.Games.{IsGame}
 use Rattle.turn_rule.specs.Looks.{all_told}
 use Rattle.interval_words.specs.WordLists.{WordList, list_of, source_of, words_in_list}
 use Rattle.match_scores.specs.Keepers.{no_pairs}
-use Rattle.match_scores.specs.Ladders.{score_at, with_pair, game_at, AreWordsOf, IsSolved}
+use Rattle.match_scores.specs.Ladders.{score_at, with_pair, game_at, AreWordsAt, IsSolved}
 use Rattle.match_scores.specs.Openings.{start_over}
 use Rattle.match_scores.proofs.Places.{apart-later}
 use Rattle.match_scores.proofs.WholeLadder.{and_then, and_then-before, and_then-last, solved-next}
@@ -37,7 +37,7 @@ pub can-judge : (words : WordList) (decision : Decision) → IsDecisionOf words.
 can-judge words decision is = record { state = is.state; choice = is.choice }
 
 module _ (judged : JudgedMatch) (score : MatchScore) (starts : StartPairs) (words : WordList) (so_far : IsJudgedSoFar judged) (before : starts ≡ judged.starts) (more : length starts.pairs < length (ladder starts.match_length))
-    (next : score ≡ score_at starts.match_length (length starts.pairs)) (closed : AreWordsOf judged.checkers judged.rounds score starts words) where
+    (next : score ≡ score_at starts.match_length (length starts.pairs)) (closed : AreWordsAt judged.checkers judged.rounds score starts words) where
   in-match : All (λ (one : Judged). IsDecisionInMatch judged.checkers starts.match_length one.decision) judged.list
   in-match = subst (λ (s : StartPairs). All (λ (one : Judged). IsDecisionInMatch judged.checkers s.match_length one.decision) judged.list) (sym before) so_far.decisions
 
@@ -103,7 +103,7 @@ module _ (judged : JudgedMatch) (score : MatchScore) (starts : StartPairs) (word
         let before-all : All Before judged.list = λ i d below. (in-match i d below, subst (λ (s : StartPairs). IsJudgedBy s so_far.words (get_or judged.list i d)) (sym before) (so_far.losses i d below)) in
         let same_checkers : words.game.checkers ≡ judged.checkers = ap (λ (g : Game). g.checkers) closed.game in
         let solved-before : IsSolved judged.checkers judged.rounds starts so_far.words = subst (λ (s : StartPairs). IsSolved judged.checkers judged.rounds s so_far.words) (sym before) so_far.solved in
-        let solved = solved-next judged.checkers judged.rounds starts so_far.words words solved-before (subst (λ (s : MatchScore). AreWordsOf judged.checkers judged.rounds s starts words) next closed) in
+        let solved = solved-next judged.checkers judged.rounds starts so_far.words words solved-before (subst (λ (s : MatchScore). AreWordsAt judged.checkers judged.rounds s starts words) next closed) in
         let start : start_over judged.checkers (words_in_list words) (score_at starts.match_length count) ≡ start_over words.game.checkers (words_in_list words) score =
         ap (λ (s : MatchScore). start_over judged.checkers (words_in_list words) s) (sym next) ∙ ap (λ (n : ℕ). start_over n (words_in_list words) score) (sym same_checkers) in
         record {

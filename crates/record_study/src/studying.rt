@@ -73,7 +73,7 @@ pub fn study<R: Threads + Sync, G: Gate + Sync>(
     analyses_enclose_what_is_lost();
     tighter_words_give_tighter_analyses();
     let stakes = stakes_of(rec.stakes);
-    let closed = run_rounds(team, alloc, rec.checkers, &stakes, rounds, gate)?.closed;
+    let closed = run_rounds(team, alloc, rec.checkers, &stakes, rounds, None, gate)?.closed;
     let words = closed.words();
     words.right();
     analysis_by(alloc, words, decisions)

@@ -2,6 +2,7 @@ pub mod SeatLemmas
 pub mod BlockLemmas
 pub mod StateLemmas
 pub mod TakeIn
+pub mod LastLemmas
 pub mod RoundLemmas
 pub mod ShareLemmas
 pub mod RestLemmas

@@ -18,6 +18,13 @@ module _ (board : GameTable) (claims : ClaimTable) (base : ℕ) where
     after = kept.base ∙ at.after;
   }
 
+  -- so does one that is ready
+  pub ready-on : (old new : SeatsAndMarks) → IsReady board claims base old → KeepsNotes old.seat new.seat → new.marks ≡ old.marks → new.claims ≡ old.claims → new.number ≡ old.number → IsReady board claims base new
+  ready-on old new ready kept marked claimed numbered = record {
+    works = works-on old new ready.works kept (ap length marked) (ap (λ c. c.table) claimed) numbered;
+    unmarked = marked ∙ ready.unmarked;
+  }
+
   -- a worker whose marks were taken in
   pub unmarks : (old new : SeatsAndMarks) → IsAtWork board claims base old → new ≡ record old { marks = unmarked (length old.marks) } → IsReady board claims base new
   unmarks old new at is = subst (IsReady board claims base) (sym is) (record {

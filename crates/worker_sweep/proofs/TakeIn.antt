@@ -61,6 +61,14 @@ honest-swept board old new marks block sits kept inside before done game names b
           let was : is_marked marks b ≡ true = sym (get_or-set_other marks block b true false other) ∙ marked in
           swept-still game old.view new.view b kept.base (kept.notes game named) (before game named b was)
 
+-- with no note lost, what is marked stays swept
+pub honest-kept : (old new : GameSeat) (marks : List Bool) → KeepsNotes old new
+    → ((game : Game) → old.view.game ≡ Some game → (block : ℕ) → is_marked marks block ≡ true → IsSwept game old.view block)
+    → (game : Game) → new.view.game ≡ Some game → (block : ℕ) → is_marked marks block ≡ true → IsSwept game new.view block
+honest-kept old new marks kept before game names block marked =
+    let named : old.view.game ≡ Some game = sym kept.game ∙ names in
+    swept-still game old.view new.view block kept.base (kept.notes game named) (before game named block marked)
+
 -- there is room for the columns of a board's game, whichever seat at it names it
 pub room-of : (board : GameTable) (seat : GameSeat) (column : ColumnPairs) → SitsAt board seat → HasRoom seat.view column → IsRoomOf board.game column
 room-of board seat column sits has = has.room board.game sits.game

@@ -2,4 +2,5 @@ pub mod Blocks
 pub mod Sources
 pub mod Workers
 pub mod Shares
+pub mod LastRounds
 pub mod Columns

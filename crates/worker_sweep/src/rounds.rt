@@ -1,17 +1,20 @@
-ghost use Rattle.std.specs.Prelude.{◌≡◌, ◌+◌, ◌-◌, ◌<◌, ◌≤◌, All, IfOk, length};
+ghost use Rattle.std.specs.Prelude.{◌≡◌, ◌+◌, ◌-◌, ◌<◌, ◌≤◌, true, false, All, IfOk, IfSome, IsSomeAnd, length};
 ghost use Rattle.turn_rule.specs.Games.{game_of};
-ghost use Rattle.interval_words.specs.Core.{all_hands};
-ghost use Rattle.interval_words.specs.Seats.{SitsAt};
-ghost use Rattle.interval_words.specs.WordLists.{AreClosed};
+ghost use Rattle.turn_rule.specs.Turn.{rounds as rounds_after};
+ghost use Rattle.interval_words.specs.Core.{all_hands, noted};
+ghost use Rattle.interval_words.specs.Seats.{SitsAt, KeepsNotes};
+ghost use Rattle.interval_words.specs.WordLists.{AreClosed, AreNarrow, words_in_list};
 ghost use Rattle.worker_sweep.specs.Blocks.{blocks as blocks_in};
 ghost use Rattle.block_claims.specs.Views.{fresh};
-ghost use Rattle.worker_sweep.specs.Workers.{IsAtWork, IsReady, HaveGoneThrough, HasMarksOf};
+ghost use Rattle.worker_sweep.specs.Workers.{WorksAt, IsAtWork, IsReady, HaveGoneThrough, HasMarksOf};
+ghost use Rattle.worker_sweep.specs.LastRounds.{IsLastRound};
 ghost use Rattle.worker_sweep.specs.Shares.{HasDone, IsOnLeft, IsDivided, with_hands, shares_of, works_of, hands_of, all_claims};
 
 use crate::blocks::block_count;
 use crate::worker::Worker;
 use block_claims::{ClaimSeat, Claims};
 use cube_actions::Stakes;
+use directed_fixed::Fixed;
 use hyper_outside::{Gate, NoMemory};
 use interval_words::{Board, BoardSeat, Closed};
 use std::alloc::Global;
@@ -116,7 +119,26 @@ fn run_round<R: Threads + Sync, G: Gate + Sync>(
     follow_all(board, claims, owner, crew, base);
 }
 
-/// So many rounds.
+/// Whether the owner finds every pair to be at most as wide as the goal. Without a goal it reads none.
+fn has_met(owner: &mut Worker, board: &Board, goal: &Option<Fixed>) -> bool
+    requires { WorksAt board.now owner.old }
+    ensures seat { KeepsNotes owner.old.seat owner.new.seat }
+    ensures work { owner.new.seat.view.work ≡ owner.old.seat.view.work }
+    ensures marks { owner.new.marks ≡ owner.old.marks }
+    ensures claims { owner.new.claims ≡ owner.old.claims }
+    ensures number { owner.new.number ≡ owner.old.number }
+    ensures met { result ≡ true → IsSomeAnd goal.now
+        (AreNarrow board.now.game (noted board.now.game owner.new.seat.view.notes)) }
+    ensures unmet { result ≡ false → IfSome goal.now (λ widest. ¬ AreNarrow board.now.game
+        (rounds_after board.now.game.stakes owner.old.seat.view.base) widest) }
+{
+    match goal {
+        Some(width) => owner.is_narrow(board, *width),
+        None => false,
+    }
+}
+
+/// So many rounds, or fewer where the owner finds that the goal is met. Answers how many were made.
 fn run_each<R: Threads + Sync, G: Gate + Sync>(
     team: &Team<R>,
     board: &Board,
@@ -125,24 +147,32 @@ fn run_each<R: Threads + Sync, G: Gate + Sync>(
     owner: &mut Worker,
     crew: &mut [Worker],
     rounds: u32,
-)
+    goal: Option<Fixed>,
+) -> u32
     requires many { claims.now.blocks ≡ blocks_in board.now.game.checkers }
     requires owner { IsReady board.now claims.now 0 owner.old }
     requires crew { All (IsReady board.now claims.now 0) crew.old }
     requires done { All (HasDone board.now.game 0) (shares_of crew.old) }
     requires rest { All (IsOnLeft board.now.game 0 (shares_of crew.old)) owner.old.seat.view.work }
-    ensures owner { IsReady board.now claims.now rounds owner.new }
+    requires some { 1 ≤ rounds }
+    ensures owner { IsReady board.now claims.now result owner.new }
     ensures claims { owner.new.claims ≡ owner.old.claims }
     ensures hands { owner.new.seat.view.hands ≡ owner.old.seat.view.hands }
     ensures len { length crew.new ≡ length crew.old }
-    ensures crew { All (IsReady board.now claims.now rounds) crew.new }
-    ensures done { All (HasDone board.now.game rounds) (shares_of crew.new) }
-    ensures rest { All (IsOnLeft board.now.game rounds (shares_of crew.new))
+    ensures crew { All (IsReady board.now claims.now result) crew.new }
+    ensures done { All (HasDone board.now.game result) (shares_of crew.new) }
+    ensures rest { All (IsOnLeft board.now.game result (shares_of crew.new))
         owner.new.seat.view.work }
+    ensures last { IsLastRound board.now.game goal rounds
+        (noted board.now.game owner.new.seat.view.notes) result }
 {
     for base in 0..rounds {
         run_round(team, board, claims, gate, owner, crew, base);
+        if has_met(owner, board, &goal) {
+            return base + 1;
+        }
     }
+    rounds
 }
 
 /// The seat takes over the claims of all workers, one after the other.
@@ -193,9 +223,10 @@ fn make_crew(
 ///
 /// In a round each worker goes once through all blocks, from the first on, claims each, and sweeps those that it gets,
 /// with the words as they then stand. A block that is claimed passes the gate first. Then the blocks that no worker has
-/// marked are swept. The words are sound, consistent and at least as tight as those after so many rounds of a plain
-/// table. All memory but that of the closed words is asked for before the first round. It may answer `NoMemory`, and no
-/// other error.
+/// marked are swept. After each round, where there is a goal, the pairs are read up to the first that is wider than the
+/// goal, and no more rounds are made where there is none. The words are sound, consistent and at least as tight as those
+/// after as many rounds of a plain table as were made. All memory but that of the closed words is asked for before the
+/// first round. It may answer `NoMemory`, and no other error.
 ///
 /// Each worker came to each block once in each round, and tightened only words in blocks that it got for that round;
 /// no block was got twice for a round; and what was tightened after the workers was in blocks that none of them had got.
@@ -205,16 +236,18 @@ pub fn run_rounds<R: Threads + Sync, G: Gate + Sync>(
     checkers: u8,
     stakes: &Stakes,
     rounds: u32,
+    goal: Option<Fixed>,
     gate: &G,
 ) -> Result<Solved, NoMemory>
     requires low { 1 ≤ checkers }
     requires high { checkers ≤ 3 }
     requires rounds { (1 ≤ rounds) × (rounds ≤ 4096) }
     ensures game { IfOk result (λ solved. solved.closed.game ≡ game_of checkers stakes.now) }
-    ensures rounds { IfOk result (λ solved. solved.closed.rounds ≡ rounds) }
     ensures closed { IfOk result (λ solved. AreClosed solved.closed) }
-    ensures divided { IfOk result (λ solved. IsDivided solved.closed.game rounds team.now
-        solved.claims solved.crew.items solved.owner) }
+    ensures rounds { IfOk result (λ solved. IsLastRound solved.closed.game goal rounds
+        (words_in_list solved.closed) solved.closed.rounds) }
+    ensures divided { IfOk result (λ solved. IsDivided solved.closed.game solved.closed.rounds
+        team.now solved.claims solved.crew.items solved.owner) }
 {
     let (board, mut seat) = Board::new(alloc, checkers, stakes)?;
     let (claims, mut claim_seat) = Claims::new(alloc, block_count(&board))?;
@@ -227,13 +260,15 @@ pub fn run_rounds<R: Threads + Sync, G: Gate + Sync>(
         team.workers(),
     )?;
     let mut owner = Worker::new(alloc, &board, seat, claim_seat, 0)?;
-    run_each(team, &board, &claims, gate, &mut owner, &mut crew, rounds);
+    let made = run_each(
+        team, &board, &claims, gate, &mut owner, &mut crew, rounds, goal,
+    );
     let (mut owner, mut all) = owner.into_seats();
     hand_all(&claims, &mut all, &mut crew);
     // The prover is told that none of all claims comes twice.
     all.has_each_once();
     let known = board.split(&mut owner);
-    let closed = board.close(alloc, known, rounds)?;
+    let closed = board.close(alloc, known, made)?;
     Ok(Solved {
         closed,
         claims: all,

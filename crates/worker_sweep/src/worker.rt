@@ -1,6 +1,8 @@
-ghost use Rattle.std.specs.Prelude.{◌≡◌, ℕ, ◌+◌, ◌<◌, ◌≤◌, ◌||◌, true, IfOk, length, replicate, slice_set};
-ghost use Rattle.interval_words.specs.Core.{settled};
+ghost use Rattle.std.specs.Prelude.{◌≡◌, ℕ, ◌+◌, ◌<◌, ◌≤◌, ◌||◌, true, false, IfOk, length, replicate, slice_set};
+ghost use Rattle.turn_rule.specs.Turn.{rounds};
+ghost use Rattle.interval_words.specs.Core.{noted, settled};
 ghost use Rattle.interval_words.specs.Seats.{SitsAt, KeepsNotes, AddsWork, joining, knowing};
+ghost use Rattle.interval_words.specs.WordLists.{AreNarrow};
 ghost use Rattle.block_claims.specs.Claiming.{with_taken};
 ghost use Rattle.worker_sweep.specs.Blocks.{blocks, IsSwept, WorksIn};
 ghost use Rattle.worker_sweep.specs.Workers.{SeatsAndMarks, WorksAt, IsHonest, IsOnUnmarked, WentThrough, is_marked, unmarked, unmarked_worker};
@@ -9,6 +11,7 @@ use crate::blocks::block_count;
 use crate::columns::sweep_column;
 use block_claims::{ClaimSeat, Claims};
 use column_turns::ColumnTurns;
+use directed_fixed::Fixed;
 use hyper_outside::{Gate, NoMemory};
 use interval_words::{Board, BoardSeat};
 use std::alloc::Global;
@@ -195,6 +198,24 @@ impl Worker {
                 self.sweep(board, block);
             }
         }
+    }
+
+    /// Whether the pair of each state is at most so wide, as the worker reads them up to the first that
+    /// is wider.
+    pub(crate) fn is_narrow(&mut self, board: &Board, width: Fixed) -> bool
+        requires works { WorksAt board.now self.old }
+        ensures seat { KeepsNotes self.old.seat self.new.seat }
+        ensures work { self.new.seat.view.work ≡ self.old.seat.view.work }
+        ensures marks { self.new.marks ≡ self.old.marks }
+        ensures claims { self.new.claims ≡ self.old.claims }
+        ensures number { self.new.number ≡ self.old.number }
+        ensures narrow { result ≡ true
+            → AreNarrow board.now.game (noted board.now.game self.new.seat.view.notes) width }
+        ensures wide { result ≡ false
+            → ¬ AreNarrow board.now.game
+            (rounds board.now.game.stakes self.old.seat.view.base) width }
+    {
+        board.is_narrow(&mut self.seat, width)
     }
 
     /// Ends the round, for which all blocks are marked.

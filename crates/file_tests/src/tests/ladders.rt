@@ -154,7 +154,10 @@ fn a_win_is_worth_the_match(rt: HostRuntime) {
     assert!(rt; starts.covers(score));
     let stakes = Stakes::of_score(score, &starts);
     let team = Team::new(&rt, 1);
-    let solved = run_rounds(&team, rt.alloc(), 1, &stakes, 4, &OpenGate).expect(&rt, "no memory");
+    let solved = run_rounds(&team, rt.alloc(), 1, &stakes, 4, None, &OpenGate).expect(
+        &rt,
+        "no memory",
+    );
     let words = solved.closed.words();
     same(&rt, &words.stakes().kinds(), &2, &"kinds");
     for kind in 0..2 {

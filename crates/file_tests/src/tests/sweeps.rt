@@ -27,7 +27,7 @@ fn closed<R: Threads + Sync + Abort + AllocGlobal>(
     requires workers { (1 ≤ workers) × (workers ≤ 64) }
 {
     let team = Team::new(rt, workers);
-    let solved = run_rounds(&team, rt.alloc(), checkers, stakes, rounds, &OpenGate);
+    let solved = run_rounds(&team, rt.alloc(), checkers, stakes, rounds, None, &OpenGate);
     solved.expect(rt, "no memory").closed
 }
 
@@ -35,7 +35,7 @@ fn closed<R: Threads + Sync + Abort + AllocGlobal>(
 fn each_block_passes_once_a_round(rt: HostRuntime) {
     let gate = Counting::new(&rt, rt.alloc(), 4);
     let team = Team::new(&rt, 4);
-    run_rounds(&team, rt.alloc(), 1, &Stakes::money(), 3, &gate).expect(&rt, "no memory");
+    run_rounds(&team, rt.alloc(), 1, &Stakes::money(), 3, None, &gate).expect(&rt, "no memory");
     gate.check(&rt, 3);
 }
 

@@ -8,6 +8,7 @@ use Rattle.turn_rule.specs.declared.game.Game.{Game}
 use Rattle.interval_words.specs.WordLists.{AreClosed, WordList, source_of, words_in_list}
 use Rattle.record_analysis.specs.Analyses.{analysis_of}
 use Rattle.record_analysis.specs.declared.analysis.Judged.{Judged}
+use Rattle.worker_sweep.proofs.LastLemmas.{last-asked}
 use Rattle.record_study.specs.Studies.{AreStudied, game_of_record}
 use Rattle.record_study.proofs.Records.{can-be-judged, decisions-of, if-ok, no_starts}
 use Rattle.record_study.proofs.studying.study.Goals as goal
@@ -29,7 +30,7 @@ returns g c =
     let u = words_in_list words in
     let game : words.game ≡ game_of_record rec = ap (λ (w : WordList). w.game) c.words-words.ensures.words ∙ c.in_ok-closed.ensures.game ∙ ap (λ (t : Terms). game_of rec.checkers t) c.stakes_of-stakes.ensures in
     let closed : AreClosed words = rw c.words-words.ensures.words c.words-words.ensures.closed in
-    let many : words.rounds ≡ c.args.rounds = ap (λ (w : WordList). w.rounds) c.words-words.ensures.words ∙ c.in_ok-closed.ensures.rounds in
+    let many : words.rounds ≡ c.args.rounds = ap (λ (w : WordList). w.rounds) c.words-words.ensures.words ∙ last-asked _ _ _ _ c.in_ok-closed.ensures.rounds in
     let can = can-be-judged c.right_decisions_can_be_judged.ensures rec c.requires.plain no_starts decisions c.requires.right (source_of words) stakes
     (ap (λ (g : Game). g.checkers) game) (ap (λ (g : Game). g.stakes) game) c.right.ensures.game.stakes (record { kinds = refl; bound = refl }) in
     let are = decisions-of words decisions can in

@@ -1,7 +1,7 @@
 use Rattle.std.proofs.Common.{◌≡◌, ◌∙◌, Some, ap, sym, subst}
 use Rattle.turn_rule.specs.Looks.{all_told}
 use Rattle.interval_words.specs.WordLists.{WordList, source_of, words_in_list}
-use Rattle.match_scores.specs.Ladders.{AreWordsOf}
+use Rattle.match_scores.specs.Ladders.{AreWordsAt}
 use Rattle.match_scores.specs.Openings.{start_over}
 use Rattle.record_analysis.specs.Judging.{Judges}
 use Rattle.record_study.specs.Keeping.{JudgedMatch, decisions_in}
@@ -22,7 +22,7 @@ invariant_of-self c =
     let start : c.start_pair.result ≡ start_over words.game.checkers (words_in_list words) score = c.start_pair.ensures.start ∙ ap (λ (w : WordList). start_over w.game.checkers (words_in_list w) score) same in
     let valid = c.match_length-length.ensures.valid in
     judged-next judged score starts words c.self.invariant (c.requires.before ∙ ap (λ (j : JudgedMatch). j.starts) (sym c.self.view_is)) c.requires.more c.requires.is_next
-    (subst (λ (j : JudgedMatch). AreWordsOf j.checkers j.rounds score starts words) (sym c.self.view_is) c.requires.closed)
+    (subst (λ (j : JudgedMatch). AreWordsAt j.checkers j.rounds score starts words) (sym c.self.view_is) c.requires.closed)
     c.one_list_gives_the_loss.ensures (c.ladders_are_exact.ensures.order starts.match_length valid.from valid.to) c.judge.new.self judges c.start_pair.result start c.add.new.self c.add.ensures
 
 pub returns-clause-stays : goal.returns-clause-stays
