@@ -15,16 +15,16 @@ use Rattle.database_file.specs.Texts.{AreWordsOf as AreFileWords}
 use Rattle.match_scores.specs.Keepers.{no_pairs}
 use Rattle.match_scores.proofs.Places.{place-of}
 use Rattle.command_line.specs.Right.{IsRightLadder}
-use Rattle.match_scores.specs.Ladders.{score_at, starts_till, with_pair, game_at, AreWordsOf, IsSolved, IsSolvedAt, IsLadder}
+use Rattle.match_scores.specs.Ladders.{score_at, starts_till, with_pair, game_at, AreWordsAt, IsSolved, IsSolvedAt, IsLadder}
 use Rattle.match_scores.proofs.WholeLadder.{and_then, and_then-before, and_then-last, till-same, all-taken, solved-next}
 use Rattle.command_line.specs.declared.command.Ladder.{Ladder}
-use Rattle.solve_commands.specs.Ladders.{AreScoresSolved, HasKeptSince, IsScoreSolved, LadderPast, SolvedScore, WroteScores, file_of, lines_of, score_bytes, score_head, score_line, score_of, scores_in}
+use Rattle.solve_commands.specs.Ladders.{AreScoresSolved, HasKeptSince, IsScoreSolved, LadderPast, SolvedScore, WroteScores, file_of, first_score_lines, score_bytes, score_head, score_line, ladder_score, scores_in}
 use Rattle.run_endings.proofs.Loaded.{three-takes}
 use Rattle.solve_commands.proofs.Puts.{nothing-put}
 
 -- ---- lines of the same scores
 
-same-lines : (task : Ladder) (scores others : ℕ → SolvedScore) (many : ℕ) → ((place : ℕ) → place < many → others place ≡ scores place) → lines_of task others many ≡ lines_of task scores many
+same-lines : (task : Ladder) (scores others : ℕ → SolvedScore) (many : ℕ) → ((place : ℕ) → place < many → others place ≡ scores place) → first_score_lines task others many ≡ first_score_lines task scores many
 same-lines task scores others zero same = refl
 same-lines task scores others (suc many) same =
     rw (same-lines task scores others many (λ place earlier. same place (omega (arith, earlier))), same many (omega arith)) refl
@@ -39,11 +39,11 @@ LadderLaw =
 solved-same : (checkers r : ℕ) (starts : StartPairs) (words others : ℕ → WordList) → ((place : ℕ) → place < length starts.pairs → others place ≡ words place) → IsSolved checkers r starts words → IsSolved checkers r starts others
 solved-same checkers r starts words others same solved place here = subst (λ (w : WordList). IsSolvedAt checkers r starts place w) (sym (same place here)) (solved place here)
 
-solved-next-of : (checkers r n : ℕ) (starts : StartPairs) (words : ℕ → WordList) (next : WordList) → starts.match_length ≡ n → IsSolved checkers r starts words → AreWordsOf checkers r (score_at n (length starts.pairs)) starts next
+solved-next-of : (checkers r n : ℕ) (starts : StartPairs) (words : ℕ → WordList) (next : WordList) → starts.match_length ≡ n → IsSolved checkers r starts words → AreWordsAt checkers r (score_at n (length starts.pairs)) starts next
     → IsSolved checkers r (with_pair starts (start_over checkers (words_in_list next) (score_at n (length starts.pairs)))) (and_then words (length starts.pairs) next)
 solved-next-of checkers r n starts words next is solved closed =
     let count = length starts.pairs in
-    subst (λ (m : ℕ). AreWordsOf checkers r (score_at m count) starts next
+    subst (λ (m : ℕ). AreWordsAt checkers r (score_at m count) starts next
     → IsSolved checkers r (with_pair starts (start_over checkers (words_in_list next) (score_at m count))) (and_then words count next)) is
     (λ here. solved-next checkers r starts words next solved here) closed
 
@@ -62,10 +62,10 @@ head-valid task right starts valid order score more is =
       starts = rw is (record { listed = omega (arith, place, more); held = sym place });
     }
 
-pub file-words : (task : Ladder) (score : MatchScore) (starts : StartPairs) (words : WordList) → AreWordsOf task.checkers task.rounds score starts words → AreFileWords (score_head task score starts) words
+pub file-words : (task : Ladder) (score : MatchScore) (starts : StartPairs) (words : WordList) → AreWordsAt task.checkers task.rounds score starts words → AreFileWords (score_head task score starts) words
 file-words task score starts words closed = record { game = closed.game; rounds = closed.rounds }
 
-pub score-solved : (task : Ladder) (score : MatchScore) (starts : StartPairs) (words : WordList) (widest : ℤ) → IsHead (score_head task score starts) → AreWordsOf task.checkers task.rounds score starts words → AreRight words → IsWidest words widest
+pub score-solved : (task : Ladder) (score : MatchScore) (starts : StartPairs) (words : WordList) (widest : ℤ) → IsHead (score_head task score starts) → AreWordsAt task.checkers task.rounds score starts words → AreRight words → IsWidest words widest
     → IsScoreSolved task score starts (record { words = words; widest = widest })
 score-solved task score starts words widest valid closed right is_widest = record {
   closed = closed;
@@ -100,10 +100,10 @@ nothing-since past task after leaves = record {
 
 -- the file of the same score, for the same start pairs
 same-file : (task : Ladder) (place : ℕ) (given other : StartPairs) (score another : SolvedScore) (before after : List Event) → other ≡ given → another ≡ score
-    → WritesFile (file_of task place) (score_bytes task (score_of task place) given score.words) before after → WritesFile (file_of task place) (score_bytes task (score_of task place) other another.words) before after
+    → WritesFile (file_of task place) (score_bytes task (ladder_score task place) given score.words) before after → WritesFile (file_of task place) (score_bytes task (ladder_score task place) other another.words) before after
 same-file task place given other score another before after same_starts same_score writes =
-    subst (λ (n : SolvedScore). WritesFile (file_of task place) (score_bytes task (score_of task place) other n.words) before after) (sym same_score)
-    (subst (λ (s : StartPairs). WritesFile (file_of task place) (score_bytes task (score_of task place) s score.words) before after) (sym same_starts) writes)
+    subst (λ (n : SolvedScore). WritesFile (file_of task place) (score_bytes task (ladder_score task place) other n.words) before after) (sym same_score)
+    (subst (λ (s : StartPairs). WritesFile (file_of task place) (score_bytes task (ladder_score task place) s score.words) before after) (sym same_starts) writes)
 
 -- the files of the same scores
 same-wrote : (task : Ladder) (starts longer : StartPairs) (scores others : ℕ → SolvedScore) (before : List Event) (many : ℕ) → ((place : ℕ) → place < many → starts_till longer place ≡ starts_till starts place) → ((place : ℕ) → place < many → others place ≡ scores place) → (after : List Event)
@@ -118,9 +118,9 @@ same-wrote task starts longer scores others before (suc many) till same after (m
 -- ---- one score more, or one that failed
 
 module _ (task : Ladder) (right : IsRightLadder task) (law : LadderLaw) where
-  module _ (starts : StartPairs) (scores : ℕ → SolvedScore) (solved : AreScoresSolved task starts scores) (next : SolvedScore) (more : length starts.pairs < scores_in task) (is : IsScoreSolved task (score_of task (length starts.pairs)) starts next) where
+  module _ (starts : StartPairs) (scores : ℕ → SolvedScore) (solved : AreScoresSolved task starts scores) (next : SolvedScore) (more : length starts.pairs < scores_in task) (is : IsScoreSolved task (ladder_score task (length starts.pairs)) starts next) where
     abbrev pub longer : StartPairs
-    longer = with_pair starts (start_over task.checkers (words_in_list next.words) (score_of task (length starts.pairs)))
+    longer = with_pair starts (start_over task.checkers (words_in_list next.words) (ladder_score task (length starts.pairs)))
 
     abbrev pub with_next : ℕ → SolvedScore
     with_next = and_then scores (length starts.pairs) next
@@ -143,10 +143,10 @@ module _ (task : Ladder) (right : IsRightLadder task) (law : LadderLaw) where
     last-next : with_next (length starts.pairs) ≡ next
     last-next = and_then-last scores (length starts.pairs) next
 
-    each-more : (place : ℕ) → place < length longer.pairs → IsScoreSolved task (score_of task place) (starts_till longer place) (with_next place)
+    each-more : (place : ℕ) → place < length longer.pairs → IsScoreSolved task (ladder_score task place) (starts_till longer place) (with_next place)
     each-more place here = elim (cases_lt place (length starts.pairs)) [
       | inl earlier ↦ rw (same-till place (omega (arith, earlier)), before-next place earlier) (solved.each place earlier)
-      | inr last ↦ at-last (λ p. IsScoreSolved task (score_of task p) (starts_till longer p) (with_next p)) (rw (same-till (length starts.pairs) (omega arith), all-taken starts, last-next) is) place here last
+      | inr last ↦ at-last (λ p. IsScoreSolved task (ladder_score task p) (starts_till longer p) (with_next p)) (rw (same-till (length starts.pairs) (omega arith), all-taken starts, last-next) is) place here last
     ]
 
     words-more : (place : ℕ) → place < length longer.pairs → (with_next place).words ≡ and_then (λ p. (scores p).words) (length starts.pairs) next.words place
@@ -163,7 +163,7 @@ module _ (task : Ladder) (right : IsRightLadder task) (law : LadderLaw) where
         words-more
         (solved-next-of task.checkers task.rounds task.match_length starts (λ place. (scores place).words) next.words solved.of_length solved.solved.solved is.closed))
 
-    pub lines-more : lines_of task with_next (length longer.pairs) ≡ lines_of task scores (length starts.pairs) ++ score_line task (score_of task (length starts.pairs)) next.words next.widest
+    pub lines-more : first_score_lines task with_next (length longer.pairs) ≡ first_score_lines task scores (length starts.pairs) ++ score_line task (ladder_score task (length starts.pairs)) next.words next.widest
     lines-more = rw (one_more, same-lines task scores with_next (length starts.pairs) before-next, last-next) refl
 
     pub scores-more : AreStarts longer → AreScoresSolved task longer with_next
@@ -174,7 +174,7 @@ module _ (task : Ladder) (right : IsRightLadder task) (law : LadderLaw) where
       solved = ladder-more valid;
     }
 
-    pub wrote-more : (before after later : List Event) → WroteScores task starts scores (length starts.pairs) before after → WritesFile (file_of task (length starts.pairs)) (score_bytes task (score_of task (length starts.pairs)) starts next.words) after later
+    pub wrote-more : (before after later : List Event) → WroteScores task starts scores (length starts.pairs) before after → WritesFile (file_of task (length starts.pairs)) (score_bytes task (ladder_score task (length starts.pairs)) starts next.words) after later
         → WroteScores task longer with_next (length longer.pairs) before later
     wrote-more before after later wrote writes =
         let last = same-file task (length starts.pairs) starts (starts_till longer (length starts.pairs)) next (with_next (length starts.pairs)) after later (same-till (length starts.pairs) (omega arith) ∙ all-taken starts) last-next writes in

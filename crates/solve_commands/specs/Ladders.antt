@@ -12,7 +12,7 @@ use Rattle.cube_actions.specs.Starts.{StartPairs}
 use Rattle.interval_words.specs.WordLists.{WordList, IsWidest, words_in_list}
 use Rattle.match_scores.specs.declared.ladder.LadderStop.{LadderStop}
 use Rattle.match_scores.specs.declared.ladder.LadderStop.TheVariants.{Keep, NoMemory}
-use Rattle.match_scores.specs.Ladders.{score_at, starts_till, AreWordsOf, IsLadder}
+use Rattle.match_scores.specs.Ladders.{score_at, starts_till, AreWordsAt, IsLadder}
 use Rattle.match_scores.specs.Openings.{start_over}
 use Rattle.word_pages.specs.declared.version.Version.TheVariants.{Three}
 use Rattle.base_head.specs.Heads.{FileHead}
@@ -64,11 +64,11 @@ pub record WritesAndTells {T E : Type 0} (name text report : List ℕ) (before a
 abbrev pub scores_in : Ladder → ℕ
 scores_in task = length (ladder task.match_length)
 
-abbrev pub score_of : Ladder → ℕ → MatchScore
-score_of task place = score_at task.match_length place
+abbrev pub ladder_score : Ladder → ℕ → MatchScore
+ladder_score task place = score_at task.match_length place
 
 abbrev pub file_of : Ladder → ℕ → List ℕ
-file_of task place = score_file task.prefix (score_of task place)
+file_of task place = score_file task.prefix (ladder_score task place)
 
 -- the words of a score that was solved, and how wide their widest pair is
 pub record SolvedScore : Type 0 where
@@ -79,7 +79,7 @@ pub record SolvedScore : Type 0 where
 -- with its head.
 pub record IsScoreSolved (task : Ladder) (score : MatchScore) (starts : StartPairs)
     (solved : SolvedScore) : Type 0 where
-  pub closed : AreWordsOf task.checkers task.rounds score starts solved.words
+  pub closed : AreWordsAt task.checkers task.rounds score starts solved.words
   pub text : IsText Three (score_head task score starts) solved.words
       (score_bytes task score starts solved.words)
   pub widest : IsWidest solved.words solved.widest
@@ -92,7 +92,7 @@ pub record AreScoresSolved (task : Ladder) (starts : StartPairs)
   pub of_length : starts.match_length ≡ task.match_length
   pub some : length starts.pairs ≤ scores_in task
   pub each : (place : ℕ) → place < length starts.pairs
-      → IsScoreSolved task (score_of task place) (starts_till starts place) (scores place)
+      → IsScoreSolved task (ladder_score task place) (starts_till starts place) (scores place)
   pub solved : IsLadder task.checkers task.rounds starts (λ place. (scores place).words)
 
 -- the files of the first so many scores were written, one after another
@@ -102,15 +102,15 @@ WroteScores task starts scores zero before after = LeavesPlaces before after
 WroteScores task starts scores (suc place) before after =
     (middle : List Event) × WroteScores task starts scores place before middle
     × WritesFile (file_of task place)
-    (score_bytes task (score_of task place) (starts_till starts place) (scores place).words)
+    (score_bytes task (ladder_score task place) (starts_till starts place) (scores place).words)
     middle after
 
 -- the lines of the first so many scores
-abbrev pub lines_of : Ladder → (ℕ → SolvedScore) → ℕ → List ℕ
-lines_of task scores zero = []
-lines_of task scores (suc place) =
-    lines_of task scores place
-    ++ score_line task (score_of task place) (scores place).words (scores place).widest
+abbrev pub first_score_lines : Ladder → (ℕ → SolvedScore) → ℕ → List ℕ
+first_score_lines task scores zero = []
+first_score_lines task scores (suc place) =
+    first_score_lines task scores place
+    ++ score_line task (ladder_score task place) (scores place).words (scores place).widest
 
 -- The first scores are solved, their files were written, and their lines were put, in this way.
 pub record HasSolvedScores (task : Ladder) (starts : StartPairs) (before after : List Event)
@@ -118,15 +118,15 @@ pub record HasSolvedScores (task : Ladder) (starts : StartPairs) (before after :
   pub scores : ℕ → SolvedScore
   pub solved : AreScoresSolved task starts scores
   pub files : WroteScores task starts scores (length starts.pairs) before after
-  pub lines : ArePut (lines_of task scores (length starts.pairs))
+  pub lines : ArePut (first_score_lines task scores (length starts.pairs))
 
 -- the next score is solved too, and its line was put, or a front of it
 pub record IsInWork (task : Ladder) (starts : StartPairs) (old new : Output) : Type 0 where
   pub more : length starts.pairs < scores_in task
   pub score : SolvedScore
-  pub solved : IsScoreSolved task (score_of task (length starts.pairs)) starts score
+  pub solved : IsScoreSolved task (ladder_score task (length starts.pairs)) starts score
   pub line : WasPut old new
-      (score_line task (score_of task (length starts.pairs)) score.words score.widest)
+      (score_line task (ladder_score task (length starts.pairs)) score.words score.widest)
 
 -- ---- the whole ladder
 

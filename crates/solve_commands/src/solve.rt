@@ -1,4 +1,4 @@
-ghost use Rattle.std.specs.Prelude.{◌≡◌, ◌⊎◌, IfOk, OnErr, Err};
+ghost use Rattle.std.specs.Prelude.{◌≡◌, ◌≤◌, ◌⊎◌, IfOk, OnErr, Err};
 ghost use Rattle.hyper_outside.specs.Causes.{Rose};
 ghost use Rattle.outside_log.specs.Readings.{is_faithful, read_faults};
 ghost use Rattle.outside_log.specs.Log.{LeavesPlaces, failures, standing};
@@ -27,7 +27,7 @@ use word_pages::Version;
 use worker_sweep::run_rounds;
 use worker_team::Team;
 
-/// The words after the rounds of the workers, which the gate is told of.
+/// The words after the rounds of the workers, of whose greatest number the gate is told.
 fn solved_words<R: Threads + Sync, G: Gate + Sync>(
     team: &Team<R>,
     alloc: Global,
@@ -37,31 +37,47 @@ fn solved_words<R: Threads + Sync, G: Gate + Sync>(
     requires { IsRightSolve task.now }
     ensures { IfOk result (AreSolved task.now) }
 {
-    let stakes = head_of(task).stakes();
-    gate.expect(task.rounds, layout_count(task.checkers));
-    Ok(run_rounds(team, alloc, task.checkers, &stakes, task.rounds, gate)?.closed)
+    let stakes = head_of(task, task.rounds).stakes();
+    let rounds = task.rounds;
+    gate.expect(rounds, layout_count(task.checkers));
+    Ok(
+        run_rounds(
+            team,
+            alloc,
+            task.checkers,
+            &stakes,
+            rounds,
+            task.width,
+            gate,
+        )?
+        .closed,
+    )
 }
 
-fn head_of(task: &Solve) -> Head
-    requires { IsRightSolve task.now }
-    ensures { result ≡ head_of task.now }
+/// The head of the file after so many rounds.
+fn head_of(task: &Solve, made: u32) -> Head
+    requires right { IsRightSolve task.now }
+    requires made { (1 ≤ made) × (made ≤ 4096) }
+    ensures { result ≡ head_of task.now made }
 {
-    Head::of_stakes(task.checkers, task.stakes, task.rounds)
+    Head::of_stakes(task.checkers, task.stakes, made)
 }
 
-/// Puts the report on words whose widest pair is so wide.
-fn report<O: Sink>(task: &Solve, widest: Fixed, out: &mut O) -> Result<(), Failed>
-    requires { IsRightSolve task.now }
-    ensures { Puts (O.output out.old) (O.output out.new) (solved_report task.now widest) result }
+/// Puts the report on words after so many rounds, whose widest pair is so wide.
+fn report<O: Sink>(task: &Solve, made: u32, widest: Fixed, out: &mut O) -> Result<(), Failed>
+    requires right { IsRightSolve task.now }
+    requires made { (1 ≤ made) × (made ≤ 4096) }
+    ensures { Puts (O.output out.old) (O.output out.new)
+        (solved_report task.now made widest) result }
 {
-    let header = Header::of(&head_of(task), Version::Three);
+    let header = Header::of(&head_of(task, made), Version::Three);
     let solved = Solved {
         game: GameName {
             checkers: task.checkers,
             stakes: task.stakes,
             match_length: 1,
         },
-        rounds: task.rounds,
+        rounds: made,
         workers: task.workers,
         positions: header.positions,
         kinds: u64::from(header.kinds),
@@ -80,14 +96,16 @@ fn complete<F: Files, O: Sink>(
     out: &mut O,
 ) -> Result<(), Failed>
     requires right { IsRightSolve task.now }
-    requires words { AreWordsOf (head_of task.now) words.now }
+    requires words { AreWordsOf (head_of task.now words.now.rounds) words.now }
+    requires made { (1 ≤ words.now.rounds) × (words.now.rounds ≤ 4096) }
     ensures { Completes task.now.file (solved_file task.now words.now)
-        (solved_report task.now widest) (F.log files.old) (F.log files.new)
+        (solved_report task.now words.now.rounds widest) (F.log files.old) (F.log files.new)
         (O.output out.old) (O.output out.new) result }
 {
     let name = task.file.as_str();
-    append_base(files, name, &head_of(task), words, Version::Three)?;
-    let put = report(task, widest, out);
+    let made = words.rounds();
+    append_base(files, name, &head_of(task, made), words, Version::Three)?;
+    let put = report(task, made, widest, out);
     settle(files, name, put)
 }
 

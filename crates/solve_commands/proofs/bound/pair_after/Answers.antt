@@ -7,7 +7,7 @@ use Rattle.turn_rule.specs.Turn.{rounds}
 use Rattle.turn_rule.specs.States.{IsState, pair_of}
 use Rattle.turn_rule.proofs.Cubeless.{cubeless-valid}
 use Rattle.turn_rule.proofs.Enclosing.{rounds-enclose}
-use Rattle.plain_table.specs.Tables.{words_of}
+use Rattle.plain_table.specs.Tables.{words_at}
 use Rattle.solve_commands.specs.Truth.{IsTrueOfBound, bound_pair}
 use Rattle.solve_commands.proofs.bound.pair_after.Goals as goal
 
@@ -21,7 +21,7 @@ returns c =
     let last : c.loop-round._round ≡ task.rounds = omega (arith, c.loop-round-test.false, c.loop-round.auto._round-end) in
     let state : IsState (game_of task.checkers cubeless) p 0 = record { position = right.position; many = c.requires.same; live = right.live; kind = omega arith } in
     let there : IsState (game_of table.table.checkers table.stakes) p 0 = rw (reached.checkers, reached.stakes) state in
-    let same : pair_of (words_of table.table) p 0 ≡ pair_of (rounds table.stakes c.loop-round._round) p 0 = rw (reached.rounds Lower p 0 there, reached.rounds Upper p 0 there) refl in
+    let same : pair_of (words_at table.table) p 0 ≡ pair_of (rounds table.stakes c.loop-round._round) p 0 = rw (reached.rounds Lower p 0 there, reached.rounds Upper p 0 there) refl in
     let is : c.pair.result ≡ bound_pair task = c.pair.ensures ∙ (rw (reached.stakes, last) at same) in
     let true_of : IsTrueOfBound task (bound_pair task) = record { encloses = λ turns scoring more within. rounds-enclose (game_of task.checkers cubeless) cubeless-valid task.rounds turns more scoring within p 0 state } in
     record { pair = is; truth = subst (λ (pair : Bounds). IsTrueOfBound task pair) (sym is) true_of }
