@@ -64,7 +64,7 @@ not-other p asked head refusal has (inr w) = w.none (subst (λ (name : Option Ki
 -- ---- files that are looked up
 
 -- what is right before the pages refuses nothing
-right-opens : (name bytes : List ℕ) → fault_before_pages (whole bytes) ≡ None → (refusal : Refusal) → RefusesOpening name refusal (Some bytes) → IsOutside refusal
+pub right-opens : (name bytes : List ℕ) → fault_before_pages (whole bytes) ≡ None → (refusal : Refusal) → RefusesOpening name refusal (Some bytes) → IsOutside refusal
 right-opens name bytes front (Missing missing) r = absurd (none-some bytes (sym r.1))
 right-opens name bytes front (File bad) r = absurd (none-some bad (sym front ∙ r))
 right-opens name bytes front Read r = tt

@@ -1,4 +1,6 @@
 pub mod Fitting
+mod ListLines
+mod ListLaws
 mod LookedUp
 mod ShowLaws
 mod AdviseLaws

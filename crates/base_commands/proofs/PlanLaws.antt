@@ -17,7 +17,7 @@ use Rattle.turn_rule.specs.Truth.{Encloses}
 use Rattle.turn_rule.proofs.Fractions.{bound-neg}
 use Rattle.interval_words.specs.WordLists.{WordList, words_in_list}
 use Rattle.match_scores.specs.Openings.{start_over}
-use Rattle.match_scores.specs.Ladders.{AreEndScores, IsTrueFrom, pair_at, score_at, starts_till, with_pair}
+use Rattle.match_scores.specs.Ladders.{AreEndScores, IsTrueFrom, start_pair_at, score_at, starts_till, with_pair}
 use Rattle.match_scores.specs.Payoffs.{EndScores, ExactStarts, exact_win, match_start, points_left, scale_of, start_scale, starts_before}
 use Rattle.match_scores.proofs.MatchPayoffs.{fewer-left, later-start, scale-some}
 use Rattle.match_scores.proofs.OneScore.{LeadDown}
@@ -114,7 +114,7 @@ module _ (down : LeadDown) (scores : AreScores) (checkers enough : ℕ) (plan : 
         let there : at < length (ladder plan.match_length) = omega (arith, before, listed) in
         let enclosed = (is_true turns more ends within at (omega (arith, there, whole))).1 in
         later-start checkers turns ends (start_pair plan next) next left (fewer-left score winner won valid some less)
-        (subst (λ (s : MatchScore). Encloses (pair_at plan at) (match_start checkers turns ends s) (start_scale turns s)) (score-found plan.match_length next there) enclosed)
+        (subst (λ (s : MatchScore). Encloses (start_pair_at plan at) (match_start checkers turns ends s) (start_scale turns s)) (score-found plan.match_length next there) enclosed)
 
     holds-there : (side : Side) → HoldsAt plan score side (scale_of turns left) (starts_before checkers turns ends left)
     holds-there side = holds-inside plan score side (scale_of turns left) (starts_before checkers turns ends left) (scale-some turns left) starts-inside
@@ -157,13 +157,13 @@ module _ (base : FileBase) (starts : StartPairs) (words : ℕ → WordList) (som
       let place : ladder_place starts.match_length first ≡ last = omega (arith, ends.whole, place-last starts.match_length from to) in
       ap first_score to-is ∙ sym (score-found starts.match_length first (omega (arith, place-last starts.match_length from to))) ∙ ap (score_at starts.match_length) place
 
-  pair-is : start_over base.head.checkers (words_in_list base.words) (first_score base.head.starts.match_length) ≡ pair_at starts last
+  pair-is : start_over base.head.checkers (words_in_list base.words) (first_score base.head.starts.match_length) ≡ start_pair_at starts last
   pair-is =
       ap (λ (w : WordList). start_over base.head.checkers (words_in_list w) (first_score base.head.starts.match_length)) ends.last
       ∙ ap (start_over base.head.checkers (words_in_list (words last))) score-is
       ∙ sym (ends.solved.solved last here).start
 
-  pairs-are : take last starts.pairs ++ pair_at starts last ∷ [] ≡ starts.pairs
+  pairs-are : take last starts.pairs ++ start_pair_at starts last ∷ [] ≡ starts.pairs
   pairs-are = sym (take_more starts.pairs last nothing here) ∙ take_all (last + 1) starts.pairs (omega (arith, here))
 
   -- the planned starts are those of the match

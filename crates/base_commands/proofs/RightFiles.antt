@@ -1,7 +1,8 @@
 -- Right files are refused for no fault of theirs.
-use Rattle.std.proofs.Common.{◌≡◌, ◌∙◌, List, ℕ, true, Option, Some, None, inl, inr, refl, sym, subst}
+use Rattle.std.proofs.Common.{◌≡◌, ◌∙◌, List, ℕ, length, true, Option, Some, None, inl, inr, refl, sym, subst, arith}
 use Rattle.std.specs.Prelude.{IsFalse}
 use Rattle.std.proofs.lemmas.Bool.{false≢true}
+use Rattle.std.proofs.lemmas.Option.{none-some}
 use Rattle.position_rank.specs.Text.{words}
 use Rattle.outside_log.specs.Files.{Contents}
 use Rattle.outside_log.specs.Reading.{begins_otherwise}
@@ -19,8 +20,9 @@ use Rattle.command_line.specs.declared.command.Plan.{Plan}
 use Rattle.command_line.specs.declared.command.Reply.{Reply as ReplyTask}
 use Rattle.command_line.specs.declared.command.Scan.{Scan}
 use Rattle.command_line.specs.declared.command.Show.{Show as ShowTask}
+use Rattle.command_line.specs.declared.command.ShowList.{ShowList as ShowListTask}
 use Rattle.equity_report.specs.declared.refusal.Refusal.{Refusal}
-use Rattle.equity_report.specs.declared.refusal.Refusal.TheVariants.{Other, Read, Memory}
+use Rattle.equity_report.specs.declared.refusal.Refusal.TheVariants.{Missing, Other, Read, Record, Memory}
 use Rattle.run_endings.specs.Beginnings.{RefusesBeginning}
 use Rattle.run_endings.specs.Endings.{IsOutside}
 use Rattle.base_commands.specs.Advises.{MayRefuseAdvice, RestsOn}
@@ -28,11 +30,14 @@ use Rattle.base_commands.specs.Games.{IsKindAsked, WantsCheckers, WantsOther}
 use Rattle.base_commands.specs.Migrates.{MayRefuseMigrating}
 use Rattle.base_commands.specs.Plans.{MayRefusePlanning, RefusesPlanning, WantsFirst, first_file}
 use Rattle.base_commands.specs.Replies.{MayRefuseReplying, RefusesReplying}
-use Rattle.base_commands.specs.RightFiles.{IsRightForAdvising, IsRightForMigrating, IsRightForPlanning, IsRightForReplying, IsRightForScanning, IsRightForShowing, IsRightForVerifying}
+use Rattle.base_commands.specs.RightFiles.{IsRightForAdvising, IsRightForMigrating, IsRightForPlanning, IsRightForReplying, IsRightForScanning, IsRightForShowing, IsRightForShowingList, IsRightForVerifying, HasRightFront, IsRightList}
 use Rattle.base_commands.specs.Scans.{MayRefuseScanning, RefusesScanning}
+use Rattle.base_commands.specs.Lists.{RefusesList}
+use Rattle.base_commands.specs.ShowLists.{RefusesShowList}
 use Rattle.base_commands.specs.Shows.{RefusesShowing}
+use Rattle.run_endings.specs.Pages.{RefusesOpening}
 use Rattle.base_commands.specs.Verifies.{MayRefuseVerifying, RefusesVerifying}
-use Rattle.base_commands.proofs.Fitting.{not-other, right-fits, right-front, right-loads, right-page}
+use Rattle.base_commands.proofs.Fitting.{not-other, right-fits, right-front, right-loads, right-opens, right-page}
 use Rattle.base_commands.proofs.ScanFiles.{no-bad}
 
 -- ---- files that are looked up
@@ -42,6 +47,22 @@ right-shown task None refusal can refused = absurd can
 right-shown task (Some bytes) refusal can (inl opening) =
     right-front bytes can (WantsCheckers task.position) task.file refusal (λ wants. wants.other can.fits) opening
 right-shown task (Some bytes) refusal can (inr bad) = absurd (right-page bytes can task.position 0 refl refusal bad.page)
+
+right-list : (name : List ℕ) (held : Option (List ℕ)) (refusal : Refusal) → IsRightList held → RefusesList name refusal held → IsOutside refusal
+right-list name None refusal right refused = absurd right
+right-list name (Some list) (Missing missing) right refused = absurd (none-some list (sym refused.1))
+right-list name (Some list) (Record bad) right refused = absurd (omega (arith, right, refused.1))
+right-list name (Some list) Read right refused = tt
+right-list name (Some list) Memory right refused = tt
+right-list name (Some list) refusal right refused = absurd refused
+
+right-opened : (name : List ℕ) (held : Option (List ℕ)) (refusal : Refusal) → HasRightFront held → RefusesOpening name refusal held → IsOutside refusal
+right-opened name None refusal right refused = absurd right
+right-opened name (Some bytes) refusal right refused = right-opens name bytes right refusal refused
+
+pub right-shown-list : (task : ShowListTask) (held : Contents) (refusal : Refusal) → IsRightForShowingList task held → RefusesShowList task refusal held → IsOutside refusal
+right-shown-list task held refusal right (inl list) = right-list task.list (held task.list) refusal right.0 list
+right-shown-list task held refusal right (inr file) = right-opened task.file (held task.file) refusal right.1 file
 
 pub right-advised : (task : AdviseTask) (held : Option (List ℕ)) (refusal : Refusal) → IsRightForAdvising task held → MayRefuseAdvice task true held refusal → IsOutside refusal
 right-advised task None refusal can may = absurd can

@@ -5,8 +5,8 @@ use Rattle.std.proofs.lemmas.List.{take-append-drop}
 use Rattle.position_rank.specs.Text.{words}
 use Rattle.base_scan.specs.declared.condition.Test.{Test}
 use Rattle.base_scan.specs.declared.found.State.{State}
-use Rattle.base_scan.specs.Conditions.{AreWordsOf, IsFirstBad}
-use Rattle.base_scan.specs.Found.{AreFound, IsStateIn, meeting}
+use Rattle.base_scan.specs.Conditions.{AreConditionWords, IsFirstBad}
+use Rattle.base_scan.specs.Found.{AreFound, IsFoundState, meeting}
 use Rattle.interval_words.specs.WordLists.{WordList}
 use Rattle.database_file.specs.Bases.{AnswersBase}
 use Rattle.database_file.specs.FileBases.{FileBase}
@@ -17,7 +17,7 @@ use Rattle.base_commands.specs.Scans.{HasScanned, IsTextOf}
 
 -- the report was put of the states that were found
 pub has-scanned : (task : Scan) (told : Bool) (held : Option (List ℕ)) (groups : List (List Test)) → IsTextOf task.condition groups → (base : FileBase) → OfFile told held (λ file. AnswersBase file (Ok base))
-    → (words : WordList) → words ≡ base.words → (states : List State) → states ≡ meeting words groups → All (IsStateIn words.game) states
+    → (words : WordList) → words ≡ base.words → (states : List State) → states ≡ meeting words groups → All (IsFoundState words.game) states
     → (IsReport : List ℕ → Type 0) → IsReport (scan_text base.words states) → HasScanned task told held IsReport
 has-scanned task told held groups text base read words is states all right IsReport report = record {
   groups = groups;
@@ -32,10 +32,10 @@ has-scanned task told held groups text base read words is states all right IsRep
 -- ---- texts of conditions
 
 -- a text that is a condition's has no first wrong word
-no-bad-before : (groups : List (List Test)) (all : List (List ℕ)) (n rest : ℕ) → AreWordsOf groups all → IsFirstBad all n → length all ≡ n + rest → ⊥
+no-bad-before : (groups : List (List Test)) (all : List (List ℕ)) (n rest : ℕ) → AreConditionWords groups all → IsFirstBad all n → length all ≡ n + rest → ⊥
 no-bad-before groups all n zero are bad long = bad.end (omega (arith, long)) groups are
 no-bad-before groups all n (suc rest) are bad long =
-    bad.here (omega (arith, long)) (groups, drop (n + 1) all, subst (AreWordsOf groups) (sym (take-append-drop (n + 1) all)) are)
+    bad.here (omega (arith, long)) (groups, drop (n + 1) all, subst (AreConditionWords groups) (sym (take-append-drop (n + 1) all)) are)
 
-pub no-bad : (groups : List (List Test)) (all : List (List ℕ)) (n : ℕ) → AreWordsOf groups all → IsFirstBad all n → ⊥
+pub no-bad : (groups : List (List Test)) (all : List (List ℕ)) (n : ℕ) → AreConditionWords groups all → IsFirstBad all n → ⊥
 no-bad groups all n are bad = no-bad-before groups all n (length all - n) are bad (omega (arith, bad.inside))

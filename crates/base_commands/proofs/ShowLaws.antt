@@ -11,6 +11,7 @@ use Rattle.cube_actions.specs.declared.name.StakesName.{StakesName}
 use Rattle.cube_actions.specs.Names.{names_of}
 use Rattle.hyper_outside.specs.declared.outside.LookStop.{LookStop}
 use Rattle.hyper_outside.specs.declared.outside.LookStop.TheVariants as looks
+use Rattle.hyper_outside.specs.declared.outside.PageFault.{PageFault}
 use Rattle.turn_rule.specs.Turn.{Words}
 use Rattle.word_pages.specs.declared.flaws.Flaw.{Flaw}
 use Rattle.base_head.specs.Fronts.{bad_of, digest_in}
@@ -28,7 +29,7 @@ use Rattle.base_reports.specs.declared.files.KindRow.{KindRow}
 use Rattle.equity_report.specs.declared.refusal.Refusal.{Refusal}
 use Rattle.equity_report.specs.declared.refusal.Refusal.TheVariants.{File}
 use Rattle.command_line.specs.declared.command.Show.{Show as ShowTask}
-use Rattle.base_commands.specs.Shows.{AnswersOnPage, AnswersRows, RefusesShowing, ShowsPairs, rows_from}
+use Rattle.base_commands.specs.Shows.{AnswersOnPage, AnswersRows, IsBadAt, RefusesShowing, ShowsPairs, rows_from}
 use Rattle.run_endings.specs.Loads.{look_refusal}
 use Rattle.run_endings.specs.Pages.{OfHeld, words_in_file}
 
@@ -39,14 +40,13 @@ rows-same u v p k (name ∷ names) same =
     let upper = same Upper k (omega arith) in
     rw (lower, upper, rows-same u v p (suc k) names (λ end j h. same end j (omega (arith, h)))) refl
 
-pub shown-told : (task : ShowTask) (held : Option (List ℕ)) (base : PagedFile) (rows : ArrayVec KindRow) → AnswersPaged (option_map whole held) (Ok base)
+pub shown-told : (p : Placement) (held : Option (List ℕ)) (base : PagedFile) (rows : ArrayVec KindRow) → AnswersPaged (option_map whole held) (Ok base)
     → IsHeader base.header → base.head.checkers ≡ base.header.checkers → base.head.name ≡ base.header.name
-    → IsPosition task.position → IsLive task.position → sum task.position.mover ≡ base.head.checkers
-    → AnswersRows base.header held task.position (Ok rows) → OfHeld held (λ bytes. ShowsPairs bytes task.position base.head rows.items)
-shown-told task None base rows a valid many name position live fits told = absurd a
-shown-told task (Some bytes) base rows a valid many name position live fits told =
+    → IsPosition p → IsLive p → sum p.mover ≡ base.head.checkers
+    → AnswersRows base.header held p (Ok rows) → OfHeld held (λ bytes. ShowsPairs bytes p base.head rows.items)
+shown-told p None base rows a valid many name position live fits told = absurd a
+shown-told p (Some bytes) base rows a valid many name position live fits told =
     let header = a.header in
-    let p = task.position in
     let among : (end : End) (j : ℕ) → j < length (names_of base.header.name) + 0 → word_at base.header (Some bytes) end p j ≡ words_in_file bytes end p j =
     λ end j inside. word-among base.header bytes end p j valid (record { position = position; many = fits ∙ many; live = live; kind = omega (arith, inside, valid.kinds) }) ∙ ap (λ (h : Header). words_of h.kinds (words_in (pages_behind h (digest_in h bytes)) (drop (front_length h) bytes)) end p j) header in
     record {
@@ -60,17 +60,24 @@ shown-told task (Some bytes) base rows a valid many name position live fits told
 abbrev refused : Option Flaw → Option Refusal
 refused flaw = option_map (λ f. File (bad_of f)) flaw
 
+-- where the first flaw of its page stops a look-up, a position's page is bad
+pub bad-page : (p : Placement) (held : Option (List ℕ)) (base : PagedFile) (stop : LookStop) (fault : PageFault) (at : ℕ) → stop ≡ looks.BadPage fault at → AnswersPaged (option_map whole held) (Ok base)
+    → sum p.mover ≡ base.head.checkers → AnswersRows base.header held p (Err stop) → OfHeld held (λ bytes. IsBadAt bytes p (look_refusal stop))
+bad-page p None base stop fault at is a fits told = absurd a
+bad-page p (Some bytes) base stop fault at is a fits told =
+    subst (λ (s : LookStop). IsBadAt bytes p (look_refusal s)) (sym is) (record {
+      front = a.right;
+      checkers = sym (fits ∙ ap (λ (h : FileHead). h.checkers) a.head);
+      page = subst (λ (h : Header). refused (flaw_at h (Some bytes) p) ≡ Some (File (bad_of (record { fault = fault; at = at })))) a.header
+          (ap (λ (flaw : Option Flaw). refused flaw) (subst (λ (s : LookStop). AnswersRows base.header (Some bytes) p (Err s)) is told));
+    })
+
 pub not-found : (task : ShowTask) (held : Option (List ℕ)) (base : PagedFile) (stop : LookStop) → AnswersPaged (option_map whole held) (Ok base)
     → sum task.position.mover ≡ base.head.checkers
     → AnswersRows base.header held task.position (Err stop) → RefusesShowing task (look_refusal stop) held
 not-found task held base looks.ReadFault a fits told = inl (inl tt)
 not-found task held base looks.NoMemory a fits told = inl (inl tt)
-not-found task None base (looks.BadPage fault at) a fits told = absurd a
-not-found task (Some bytes) base (looks.BadPage fault at) a fits told = inr (record {
-  front = a.right;
-  checkers = sym (fits ∙ ap (λ (h : FileHead). h.checkers) a.head);
-  page = subst (λ (h : Header). refused (flaw_at h (Some bytes) task.position) ≡ Some (File (bad_of (record { fault = fault; at = at })))) a.header (ap (λ (flaw : Option Flaw). refused flaw) told);
-})
+not-found task held base (looks.BadPage fault at) a fits told = inr (bad-page task.position held base (looks.BadPage fault at) fault at refl a fits told)
 
 -- what stops a look-up stops all that is looked up on the same page
 pub stopped : {A : Type 0} (header : Header) (file : Option (List ℕ)) (p : Placement) (right : A → Type 0) (stop : LookStop) (result : Result A LookStop)

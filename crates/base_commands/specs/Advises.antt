@@ -25,7 +25,7 @@ use Rattle.database_file.specs.Faults.{fault_before_pages, header_of_file, whole
 use Rattle.database_file.specs.Paged.{paged_source, told_notes}
 use Rattle.database_file.specs.Texts.{game_in}
 use Rattle.equity_report.specs.declared.refusal.Refusal.{Refusal}
-use Rattle.base_reports.specs.Advice.{cube_text, ranking_text}
+use Rattle.base_reports.specs.Advice.{cube_report, ranking_text}
 use Rattle.base_commands.specs.declared.advise.AskedKind.{AskedKind}
 use Rattle.base_commands.specs.declared.advise.FoundAdvice.{FoundAdvice}
 use Rattle.base_commands.specs.declared.advise.FoundRanking.{FoundRanking}
@@ -99,7 +99,7 @@ pub record HasAdvisedCube (task : AdviseTask) (told : Bool) (held : Option (List
   pub kind : AskedKind
   pub advice : CubeAdvice
   pub file : IsTrue told → OfHeld held (λ bytes. Advises task bytes head kind advice)
-  pub report : IsReport (cube_text task.position kind.name advice)
+  pub report : IsReport (cube_report task.take task.position kind.name advice)
 
 abbrev pub HasAdvisedOn : Option Dice → AdviseTask → Bool → Option (List ℕ) → (List ℕ → Type 0)
     → Type 0

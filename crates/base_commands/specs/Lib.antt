@@ -1,5 +1,7 @@
 pub mod Games
 pub mod Shows
+pub mod Lists
+pub mod ShowLists
 pub mod Advises
 pub mod Verifies
 pub mod Migrates

@@ -1,5 +1,5 @@
 -- Which files are right for what is asked of them: nothing refuses it then but a fault of the files or want of memory.
-use Rattle.std.specs.Prelude.{◌≡◌, ℕ, List, sum, IsFalse, Option, None, ⊤}
+use Rattle.std.specs.Prelude.{◌≡◌, ◌≤◌, ℕ, List, length, sum, IsFalse, Option, None, ⊤}
 use Rattle.outside_log.specs.Files.{Contents}
 use Rattle.outside_log.specs.Reading.{begins_otherwise}
 use Rattle.turn_rule.specs.Looks.{States}
@@ -19,6 +19,7 @@ use Rattle.command_line.specs.declared.command.Plan.{Plan}
 use Rattle.command_line.specs.declared.command.Reply.{Reply as ReplyTask}
 use Rattle.command_line.specs.declared.command.Scan.{Scan}
 use Rattle.command_line.specs.declared.command.Show.{Show as ShowTask}
+use Rattle.command_line.specs.declared.command.ShowList.{ShowList as ShowListTask}
 use Rattle.run_endings.specs.Pages.{AreOnRightPages, OfHeld}
 use Rattle.base_commands.specs.declared.advise.AskedKind.{AskedKind}
 use Rattle.base_commands.specs.Advises.{RestsOn}
@@ -45,6 +46,17 @@ pub record CanLookUp (Fits : FileHead → Type 0) (Rests : FileHead → States)
 abbrev pub IsRightForShowing : ShowTask → Option (List ℕ) → Type 0
 IsRightForShowing task held = OfHeld held
     (CanLookUp (λ head. head.checkers ≡ sum task.position.mover) (λ head q k. q ≡ task.position))
+
+-- a list is there, and isn't too long
+abbrev pub IsRightList : Option (List ℕ) → Type 0
+IsRightList held = OfHeld held (λ list. length list ≤ 67108864)
+
+-- nothing is wrong with what stands before a file's pages
+abbrev pub HasRightFront : Option (List ℕ) → Type 0
+HasRightFront held = OfHeld held (λ bytes. fault_before_pages (whole bytes) ≡ None)
+
+abbrev pub IsRightForShowingList : ShowListTask → Contents → Type 0
+IsRightForShowingList task held = IsRightList (held task.list) × HasRightFront (held task.file)
 
 -- the states on which the advice that is asked for rests
 abbrev pub AdviceRestsOn : AdviseTask → FileHead → States

@@ -4,7 +4,7 @@ use Rattle.position_rank.specs.Text.{words}
 use Rattle.outside_log.specs.Sink.{Output}
 use Rattle.base_scan.specs.declared.condition.Test.{Test}
 use Rattle.base_scan.specs.declared.found.State.{State}
-use Rattle.base_scan.specs.Conditions.{AreWordsOf, IsFirstBad}
+use Rattle.base_scan.specs.Conditions.{AreConditionWords, IsFirstBad}
 use Rattle.base_scan.specs.Found.{AreFound}
 use Rattle.database_file.specs.Bases.{AnswersBase}
 use Rattle.database_file.specs.FileBases.{FileBase}
@@ -18,7 +18,7 @@ use Rattle.run_endings.specs.Endings.{Ending, Tells}
 
 -- the text is that of the condition with these groups of tests
 abbrev pub IsTextOf : List ℕ → List (List Test) → Type 0
-IsTextOf text groups = AreWordsOf groups (words text)
+IsTextOf text groups = AreConditionWords groups (words text)
 
 -- some condition has this text
 abbrev pub IsConditionText : List ℕ → Type 0

@@ -245,7 +245,8 @@ pub fn run_advise<F: Files, O: Sink>(
         }
         None => {
             let found = find_advice(alloc, task, files)?;
-            match write_cube(out, &task.position, found.kind.name, &found.advice) {
+            let kind = found.kind.name;
+            match write_cube(out, task.take, &task.position, kind, &found.advice) {
                 Ok(()) => Ok(()),
                 Err(Failed) => Err(RunStop::NotWritten),
             }

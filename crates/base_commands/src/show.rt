@@ -62,7 +62,7 @@ fn pair_of<F: Files>(
 }
 
 /// A position's pairs in all kinds.
-fn rows_of<F: Files>(
+pub(crate) fn rows_of<F: Files>(
     base: &mut PagedBase,
     files: &mut F,
     position: &Position,
@@ -75,6 +75,9 @@ fn rows_of<F: Files>(
         → AnswersRows base.old.header
         (standing (F.log files.old) (base.old.name)) position.now result }
     ensures few { IfOk result (λ rows. length rows.items ≤ 14) }
+    ensures of_file { KeepsPagesOf base.new (F.log files.new) }
+    ensures kept { base.new ≡ record base.old { kept = base.new.kept } }
+    ensures later { read_faults (F.log files.old) ≤ read_faults (F.log files.new) }
     ensures cause { result ≡ Err ReadFault
         → Rose (read_faults (F.log files.old)) (read_faults (F.log files.new)) }
     ensures reads { ReadsOn (F.log files.old) (F.log files.new) }
@@ -139,7 +142,7 @@ pub fn run_show<F: Files, O: Sink>(
 {
     let shown = look_up(alloc, task, files)?;
     let rows = shown.rows.as_slice();
-    match write_shown(out, &task.position, shown.game, shown.rounds, rows) {
+    match write_shown(out, task.id, &task.position, shown.game, shown.rounds, rows) {
         Ok(()) => Ok(()),
         Err(Failed) => Err(RunStop::NotWritten),
     }

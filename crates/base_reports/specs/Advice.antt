@@ -1,5 +1,5 @@
 -- The reports of advice: the plays of a roll from the best to the worst, or what to do with the cube.
-use Rattle.std.specs.Prelude.{ℕ, suc, ℤ, List, [], ◌∷◌, ◌++◌, codes, decimal, Option, Some, None}
+use Rattle.std.specs.Prelude.{ℕ, suc, ℤ, Bool, true, false, List, [], ◌∷◌, ◌++◌, codes, decimal, Option, Some, None}
 use Rattle.position_rank.specs.Placement.{Placement}
 use Rattle.position_rank.specs.Text.{position_text}
 use Rattle.roll_table.specs.Rolls.{Dice}
@@ -60,6 +60,12 @@ abbrev pub beaver_text : Option Bounds → List ℕ
 beaver_text None = []
 beaver_text (Some pair) = line (codes "double-beaver") (points_text pair)
 
+-- the answer to a double that is advised
+abbrev pub answer_advised : Option CubeAction → List ℕ
+answer_advised None = codes "no cube action\n"
+answer_advised (Some action) =
+    advised_text (codes "answer") (answer_text action.answer) action.answer_bound
+
 -- what a double leads to, and what is advised
 abbrev pub action_text : Option CubeAction → List ℕ
 action_text None = codes "no cube action\n"
@@ -67,10 +73,15 @@ action_text (Some action) =
     line (codes "double-take") (points_text action.take) ++ beaver_text action.beaver
     ++ line (codes "double-pass") (points_text action.pass)
     ++ advised_text (codes "offer") (offer_text action.offer) action.offer_bound
-    ++ advised_text (codes "answer") (answer_text action.answer) action.answer_bound
+    ++ answer_advised (Some action)
 
 -- what to do with the cube before a roll
 abbrev pub cube_text : Placement → KindName → CubeAdvice → List ℕ
 cube_text p kind advice =
     line (codes "position") (position_text p) ++ line (codes "kind") (kind_text kind)
     ++ line (codes "no-double") (points_text advice.no_double) ++ action_text advice.action
+
+-- the same, for whoever asks whether to take with the answer before it
+abbrev pub cube_report : Bool → Placement → KindName → CubeAdvice → List ℕ
+cube_report true p kind advice = answer_advised advice.action ++ cube_text p kind advice
+cube_report false p kind advice = cube_text p kind advice

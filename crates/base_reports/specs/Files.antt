@@ -1,8 +1,9 @@
 -- The reports on a file of bounds: of a position, of its words, and of writing it anew.
-use Rattle.std.specs.Prelude.{ℕ, List, ◌++◌, codes}
+use Rattle.std.specs.Prelude.{ℕ, Bool, List, ◌++◌, codes}
 use Rattle.std.specs.List.{flat_map}
 use Rattle.position_rank.specs.Placement.{Placement}
 use Rattle.position_rank.specs.Text.{position_text}
+use Rattle.position_id.specs.Ids.{id_told}
 use Rattle.cube_actions.specs.Names.{kind_text}
 use Rattle.equity_report.specs.declared.text.GameName.{GameName}
 use Rattle.equity_report.specs.Files.{rounds_text, written_text}
@@ -23,8 +24,8 @@ verified_text game rounds positions = line (codes "consistent")
 abbrev pub row_text : KindRow → List ℕ
 row_text row = line (kind_text row.kind) (pair_text row.pair)
 
--- a position's pairs in each kind
-abbrev pub shown_text : Placement → GameName → ℕ → List KindRow → List ℕ
-shown_text p game rounds rows =
-    line (codes "position") (position_text p) ++ rounds_text game rounds ++ codes "\n"
-    ++ flat_map row_text rows
+-- a position, its ID where that is asked for, and its pairs in each kind
+abbrev pub shown_text : Bool → Placement → GameName → ℕ → List KindRow → List ℕ
+shown_text id p game rounds rows =
+    line (codes "position") (position_text p) ++ id_told id p
+    ++ rounds_text game rounds ++ codes "\n" ++ flat_map row_text rows

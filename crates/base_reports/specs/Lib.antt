@@ -1,4 +1,5 @@
 pub mod Files
+pub mod Lists
 pub mod Advice
 pub mod Scans
 pub mod Replies

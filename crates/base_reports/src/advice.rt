@@ -5,7 +5,7 @@ ghost use Rattle.move_rules.specs.declared.play.TheConstants.{MOST_PLAYS};
 ghost use Rattle.roll_table.specs.Text.{roll_text};
 ghost use Rattle.cube_actions.specs.Names.{kind_text};
 ghost use Rattle.equity_report.specs.Reports.{line, points_text};
-ghost use Rattle.base_reports.specs.Advice.{action_text, advised_text, answer_text, beaver_text, cube_text, offer_text, ranked_text, ranked_texts, ranking_text};
+ghost use Rattle.base_reports.specs.Advice.{action_text, advised_text, answer_advised, answer_text, beaver_text, cube_report, offer_text, ranked_text, ranked_texts, ranking_text};
 
 use arrayvec::ArrayString;
 use cube_actions::KindName;
@@ -153,8 +153,22 @@ fn add_beaver(report: &mut Report, beaver: Option<Pair>)
     }
 }
 
+fn add_answer(report: &mut Report, action: Option<CubeAction>)
+    requires { length report.old.bytes ≤ 1000 }
+    ensures bytes { report.new.bytes ≡ report.old.bytes ++ answer_advised action }
+    ensures length { length report.new.bytes ≤ length report.old.bytes + 80 }
+{
+    match action {
+        None => report.push_str("no cube action\n"),
+        Some(action) => {
+            let answer = answer_text(action.answer);
+            add_advised(report, "answer", answer, action.answer_bound);
+        }
+    }
+}
+
 fn add_action(report: &mut Report, action: Option<CubeAction>)
-    requires { length report.old.bytes ≤ 200 }
+    requires { length report.old.bytes ≤ 500 }
     ensures bytes { report.new.bytes ≡ report.old.bytes ++ action_text action }
 {
     match action {
@@ -169,14 +183,13 @@ fn add_action(report: &mut Report, action: Option<CubeAction>)
                 offer_text(action.offer),
                 action.offer_bound,
             );
-            let answer = answer_text(action.answer);
-            add_advised(report, "answer", answer, action.answer_bound);
+            add_answer(report, Some(action));
         }
     }
 }
 
 pub(crate) fn add_kind(report: &mut Report, kind: KindName)
-    requires { length report.old.bytes ≤ 50 }
+    requires { length report.old.bytes ≤ 500 }
     ensures bytes { report.new.bytes ≡ report.old.bytes ++ line (codes "kind") (kind_text kind) }
     ensures length { length report.new.bytes ≤ length report.old.bytes + 22 }
 {
@@ -187,17 +200,22 @@ pub(crate) fn add_kind(report: &mut Report, kind: KindName)
 
 /// Puts what to do with the cube before a roll: the position and the kind, what rolling is worth and what each answer to a double leads to, in
 /// points, and the offer and the answer that are advised, each with what it loses at most, rounded up; or `no cube action` where this side may
-/// not double. `Failed` comes only where `put` failed; then a front of the text was put.
+/// not double. Where the answer is asked for, it stands before all that. `Failed` comes only where `put` failed; then a front of the text was
+/// put.
 pub fn write_cube<O: Sink>(
     out: &mut O,
+    take: bool,
     position: &Position,
     kind: KindName,
     advice: &CubeAdvice,
 ) -> Result<(), Failed>
     ensures { Puts (O.output out.old) (O.output out.new)
-        (cube_text position.now kind advice.now) result }
+        (cube_report take position.now kind advice.now) result }
 {
     let mut report = Report::new();
+    if take {
+        add_answer(&mut report, advice.action);
+    }
     add_position(&mut report, position);
     add_kind(&mut report, kind);
     add_worth(&mut report, "no-double", advice.no_double);

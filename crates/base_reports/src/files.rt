@@ -10,6 +10,7 @@ use equity_report::{
 };
 use hyper_outside::Failed;
 use outside_log::Sink;
+use position_id::id_told;
 use position_rank::Position;
 
 /// A kind of state with a position's pair in it.
@@ -83,10 +84,11 @@ fn add_rows(report: &mut Report, rows: &[KindRow])
     }
 }
 
-/// Puts a position's pairs in a game after so many rounds, one for each of at most 14 kinds. `Failed` comes only where `put` failed; then a
-/// front of the text was put.
+/// Puts a position, its ID where that is asked for, and its pairs in a game after so many rounds, one for each of at most 14 kinds. `Failed`
+/// comes only where `put` failed; then a front of the text was put.
 pub fn write_shown<O: Sink>(
     out: &mut O,
+    id: bool,
     position: &Position,
     game: GameName,
     rounds: u32,
@@ -94,10 +96,11 @@ pub fn write_shown<O: Sink>(
 ) -> Result<(), Failed>
     requires { length rows.now ≤ 14 }
     ensures { Puts (O.output out.old) (O.output out.new)
-        (shown_text position.now game rounds rows.now) result }
+        (shown_text id position.now game rounds rows.now) result }
 {
     let mut report = Report::new();
     add_position(&mut report, position);
+    report.push_str(id_told(id, position).as_str());
     add_rounds(&mut report, game, rounds);
     report.push_str("\n");
     add_rows(&mut report, rows);

@@ -1,7 +1,7 @@
 ghost use Rattle.std.specs.Prelude.{◌≡◌, All};
 ghost use Rattle.std.specs.List.{flat_map};
 ghost use Rattle.outside_log.specs.Sink.{Puts};
-ghost use Rattle.base_scan.specs.Found.{IsStateIn};
+ghost use Rattle.base_scan.specs.Found.{IsFoundState};
 ghost use Rattle.base_reports.specs.Scans.{found_end_text, found_text, scan_text};
 
 use base_scan::{Found, State};
@@ -13,7 +13,7 @@ use position_rank::print_position;
 
 /// The line of a state that was found.
 fn found_line(words: &Words, state: &State) -> Report
-    requires { IsStateIn words.now.game state.now }
+    requires { IsFoundState words.now.game state.now }
     ensures { result.bytes ≡ found_text words.now state.now }
 {
     let mut line = Report::new();
@@ -28,14 +28,14 @@ fn found_line(words: &Words, state: &State) -> Report
 }
 
 fn put_state<O: Sink>(out: &mut O, words: &Words, state: &State) -> Result<(), Failed>
-    requires { IsStateIn words.now.game state.now }
+    requires { IsFoundState words.now.game state.now }
     ensures { Puts (O.output out.old) (O.output out.new) (found_text words.now state.now) result }
 {
     out.put(found_line(words, state).as_str().as_bytes())
 }
 
 fn put_states<O: Sink>(out: &mut O, words: &Words, states: &[State]) -> Result<(), Failed>
-    requires { All (IsStateIn words.now.game) states.now }
+    requires { All (IsFoundState words.now.game) states.now }
     ensures { Puts (O.output out.old) (O.output out.new)
         (flat_map (found_text words.now) states.now) result }
 {
@@ -62,7 +62,7 @@ fn put_end<O: Sink>(out: &mut O, found: usize, all: usize) -> Result<(), Failed>
 /// outwards. Then how many these are of all states. It takes no memory. `Failed` comes only where `put` failed; then a front of the
 /// text was put.
 pub fn write_scan<O: Sink>(out: &mut O, words: &Words, found: &Found) -> Result<(), Failed>
-    requires { All (IsStateIn words.now.game) found.now }
+    requires { All (IsFoundState words.now.game) found.now }
     ensures { Puts (O.output out.old) (O.output out.new) (scan_text words.now found.now) result }
 {
     let states = found.as_slice();

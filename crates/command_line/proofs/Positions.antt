@@ -1,7 +1,7 @@
--- Texts that are read as positions give live ones.
-use Rattle.std.proofs.Common.{◌≡◌, ◌≤◌, ◌-◌, ◌∙◌, ℕ, false, ◌&&◌, nat_lt, slice_index, get_or, List, [], ◌∷◌, length, Option, Some, None, All, refl, inl, inr, arith}
-use Rattle.std.specs.Prelude.{IfOk}
-use Rattle.std.specs.List.{filter_map, cons_option, range_with_len}
+-- Texts and IDs that are read as positions give live ones.
+use Rattle.std.proofs.Common.{◌≡◌, ◌≤◌, ◌-◌, ◌∙◌, ℕ, Bool, true, false, ◌&&◌, nat_lt, slice_index, get_or, List, [], ◌∷◌, length, Option, Some, None, Result, Ok, Err, All, refl, inl, inr, arith}
+use Rattle.std.specs.Prelude.{IfOk, ◌==◌, if◌then◌else◌}
+use Rattle.std.specs.List.{filter_map, cons_option, list_any, range_with_len}
 use Rattle.std.proofs.lemmas.Bool.{cases_lt}
 use Rattle.std.proofs.lemmas.Bool.Decides.{nat_tests}
 use Rattle.std.proofs.lemmas.List.Elements.{All-cons, All-nil}
@@ -10,8 +10,16 @@ use Rattle.std.proofs.lemmas.List.FromFn.{length-range_with_len, get_or-range_wi
 use Rattle.position_rank.specs.Placement.{Placement, IsLayout, IsPosition, IsLive, AreApart}
 use Rattle.position_rank.specs.Packed.{counts_of}
 use Rattle.position_rank.specs.PackedLaws.{length-counts_of, sum-counts_of}
-use Rattle.position_rank.specs.Text.{place, read_placement, read_places, read_words, share_point}
+use Rattle.position_rank.specs.Text.{place, read_placement, read_places, read_position, read_words, share_point, words}
+use Rattle.position_rank.specs.declared.text.BadPosition.{BadPosition}
+use Rattle.position_rank.specs.declared.text.BadPosition.TheVariants.{Shape}
 use Rattle.position_rank.proofs.PlaceTexts.{place-text}
+use Rattle.base64.specs.Engines.{standard_no_pad}
+use Rattle.base64.specs.GeneralPurpose.{decode_of}
+use Rattle.base64.specs.declared.decode.DecodeError.{DecodeError}
+use Rattle.position_id.specs.Readings.{bits_of_bytes, has_id_form, mover_told, other_told, places_told, read_id, read_key, read_told, with_off}
+use Rattle.position_id.proofs.Told.{mover-within, other-within, off-within}
+use Rattle.command_line.specs.Values.{read_given}
 
 abbrev IsPlace : ℕ → Type 0
 IsPlace place = place ≤ 25
@@ -46,5 +54,30 @@ within : (ws : List (List ℕ)) → All IsPlace (filter_map place ws)
 within [] = All-nil IsPlace
 within (w ∷ ws) = onto (place w) (filter_map place ws) (λ p e. (place-text w p e).0) (within ws)
 
-pub words-live : (ws : List (List ℕ)) → IfOk (read_words ws) IsLivePosition
+words-live : (ws : List (List ℕ)) → IfOk (read_words ws) IsLivePosition
 words-live ws = grind (arith, places-live, within)
+
+told-live : (behind : Bool) (places : List ℕ) → list_any (λ place. nat_lt 50 place) places ≡ behind → IfOk (read_told places) IsLivePosition
+unfolding read_told
+told-live true places e = rw e tt
+told-live false places e =
+    let mover = mover_told places in
+    let other = other_told places in
+    rw e (places-live (with_off mover other) (with_off other mover) (off-within mover other (mover-within places e)) (off-within other mover (other-within places)))
+
+key-live : (key : Result (List ℕ) DecodeError) → IfOk (read_key key) IsLivePosition
+key-live (Ok key) = told-live _ (places_told 1 (bits_of_bytes key)) refl
+key-live (Err bad) = tt
+
+id-live : (text : List ℕ) → IfOk (read_id text) IsLivePosition
+unfolding read_id
+id-live text = taken (length text == 14) (read_key (decode_of standard_no_pad text)) (key-live (decode_of standard_no_pad text)) where
+  taken : (b : Bool) (answer : Result Placement BadPosition) → IfOk answer IsLivePosition → IfOk (if b then answer else Err Shape) IsLivePosition
+  taken true answer h = h
+  taken false answer h = tt
+
+pub given-live : (word : List ℕ) → IfOk (read_given word) IsLivePosition
+given-live word = chosen (has_id_form word) where
+  chosen : (b : Bool) → IfOk (if b then read_id word else read_position word) IsLivePosition
+  chosen true = id-live word
+  chosen false = words-live (words word)

@@ -1,12 +1,13 @@
 -- What is read keeps to its limits.
-use Rattle.std.proofs.Common.{◌≡◌, ◌≢◌, ◌^◌, ◌<◌, ◌≤◌, ◌&&◌, ℕ, true, List, [], ◌∷◌, Option, Some, None, Result, Ok, Err, subst, arith}
+use Rattle.std.proofs.Common.{◌≡◌, ◌≢◌, ◌^◌, ◌<◌, ◌≤◌, ◌-◌, ◌&&◌, ℕ, Bool, true, false, inl, inr, slice_index, sym, List, [], ◌∷◌, Option, Some, None, Result, Ok, Err, subst, arith, ◌*◌, ◌/◌, ℤ, pos, if◌then◌else◌, option_map, option_and_then, refl}
 use Rattle.std.specs.Prelude.{IfOk, IfSome, nat_le}
 use Rattle.std.specs.Option.{option_map_or}
+use Rattle.std.proofs.lemmas.Bool.{cases_lt}
+use Rattle.std.proofs.lemmas.Int.{ints}
 use Rattle.std.proofs.lemmas.Bool.Decides.{nat_tests}
 use Rattle.std.proofs.lemmas.Slice.Eq.{bytes_eq-Decides}
-use Rattle.position_rank.specs.Placement.{Placement, IsPosition, IsLive}
-use Rattle.command_line.proofs.Positions.{words-live}
-use Rattle.position_rank.specs.Text.{words}
+use Rattle.position_rank.specs.Placement.{Placement, IsPosition, IsLive, swap}
+use Rattle.command_line.proofs.Positions.{given-live}
 use Rattle.roll_table.specs.Rolls.{Dice, IsRoll}
 use Rattle.cube_actions.specs.Scores.{MatchScore}
 use Rattle.cube_actions.specs.declared.name.StakesName.{StakesName}
@@ -16,11 +17,11 @@ use Rattle.command_line.specs.declared.command.Command.{Command}
 use Rattle.command_line.specs.declared.command.CommandName.{CommandName}
 use Rattle.command_line.specs.declared.command.CommandName.TheVariants as name
 use Rattle.command_line.specs.declared.stop.WordsStop.{WordsStop}
-use Rattle.command_line.specs.Values.{long_number_given, number_given, number_or, stakes_or, file_name, other_name, prefix, position_given, roll_given}
+use Rattle.command_line.specs.Values.{long_number_given, number_given, number_or, stakes_or, file_name, other_name, prefix, position_given, roll_given, seen_by_doubler, usual_rounds, millionths_of, width_given}
 use Rattle.command_line.specs.Commands.{Asked, checked, read, command_values}
 use Rattle.command_line.specs.Words.{reading}
 use Rattle.command_line.specs.Reading.{Gives}
-use Rattle.command_line.specs.Right.{IsName, IsPrefix, IsRightCommand}
+use Rattle.command_line.specs.Right.{IsName, IsPrefix, IsWidth, IsRightCommand}
 
 -- what is asked keeps to its limits
 record Right (asked : Asked) : Type 0 where
@@ -39,6 +40,25 @@ within-right number most given next each = grind (arith, nat_tests)
 or-right : (number most usual : ℕ) (given : Option Bytes) (next : ℕ → Asked) → (nat_le 1 usual && nat_le usual most) ≡ true → ((n : ℕ) → 1 ≤ n → n ≤ most → Right (next n)) → Right (checked number (number_or most usual given) next)
 or-right number most usual given next is each = grind (arith, nat_tests)
 
+rounds-right : (number : ℕ) (width given : Option Bytes) (next : ℕ → Asked) → ((n : ℕ) → 1 ≤ n → n ≤ 4096 → Right (next n)) → Right (checked number (number_or 4096 (usual_rounds width) given) next)
+rounds-right number None given next each = or-right number 4096 64 given next refl each
+rounds-right number (Some word) given next each = or-right number 4096 4096 given next refl each
+
+width-is : (n : ℕ) → 1 ≤ n → n ≤ 64000000 → IsWidth (pos (n * 2 ^ 32 / 1000000))
+width-is n some few = record { above = omega (arith, ints); within = omega (arith, ints) }
+
+some-width : (number n : ℕ) (next : Option ℤ → Asked) → ((width : Option ℤ) → IfSome width IsWidth → Right (next width))
+    → Right (checked number (option_map (λ width. Some width) (if nat_le 1 n && nat_le n 64000000 then Some (pos (n * 2 ^ 32 / 1000000)) else None)) next)
+some-width number n next each = grind (arith, nat_tests, width-is n, each (Some (pos (n * 2 ^ 32 / 1000000))))
+
+width-right : (number : ℕ) (given : Option Bytes) (next : Option ℤ → Asked) → ((width : Option ℤ) → IfSome width IsWidth → Right (next width)) → Right (checked number (width_given given) next)
+width-right number None next each = each None tt
+width-right number (Some word) next each = width-of number (millionths_of word) next each where
+  width-of : (number : ℕ) (n : Option ℕ) (next : Option ℤ → Asked) → ((width : Option ℤ) → IfSome width IsWidth → Right (next width))
+      → Right (checked number (option_map (λ width. Some width) (option_and_then (λ n. if nat_le 1 n && nat_le n 64000000 then Some (pos (n * 2 ^ 32 / 1000000)) else None) n)) next)
+  width-of number None next each = record { is = tt }
+  width-of number (Some n) next each = some-width number n next each
+
 long-right : (number : ℕ) (given : Option Bytes) (next : ℕ → Asked) → ((n : ℕ) → n < 2 ^ 64 → Right (next n)) → Right (checked number (long_number_given given) next)
 long-right number given next each = grind (arith, nat_tests)
 
@@ -55,19 +75,41 @@ other-right : (number : ℕ) (old : Bytes) (given : Option Bytes) (next : Bytes 
 other-right number old given next each = grind (arith, nat_tests, bytes_eq-Decides)
 
 position-right : (word : Bytes) (next : Placement → Asked) → ((p : Placement) → IsPosition p → IsLive p → Right (next p)) → Right (read (position_given word) next)
-position-right word next each = grind (arith, words-live (words word))
+position-right word next each = grind (arith, given-live word)
 
 roll-right : (given : Option Bytes) (next : Option Dice → Asked) → ((roll : Option Dice) → IfSome roll IsRoll → Right (next roll)) → Right (read (roll_given given) next)
 roll-right given next each = grind (arith, nat_tests)
 
+-- a live position is one from either side
+live-swap : (p : Placement) → IsLive p → IsLive (swap p)
+live-swap p live = record {
+  apart = λ point from to held.
+      let back : 25 - (25 - point) ≡ point = omega arith in
+      elim (cases_lt 0 (slice_index p.mover (25 - point))) [
+        | inl other ↦ absurd (omega (arith, held, subst (λ n. slice_index p.other n ≡ 0) back (live.apart (25 - point) (omega arith) (omega arith) other)))
+        | inr none ↦ omega (arith, none)
+      ];
+  mover = live.other;
+  other = live.mover;
+}
+
+seen-right : (take : Bool) (p : Placement) → IsPosition p → IsPosition (seen_by_doubler take p)
+seen-right true p valid = record { mover = valid.other; other = valid.mover; same = sym valid.same }
+seen-right false p valid = valid
+
+seen-live : (take : Bool) (p : Placement) → IsLive p → IsLive (seen_by_doubler take p)
+seen-live true p live = live-swap p live
+seen-live false p live = live
+
 -- one value after another, and then the command
-ruleset steps = (name-right, prefix-right, other-right, within-right, or-right, long-right, stakes-right, position-right, roll-right, option-right, ok-right)
+ruleset steps = (name-right, prefix-right, other-right, within-right, or-right, long-right, stakes-right, position-right, roll-right, option-right, ok-right, seen-right, seen-live, rounds-right, width-right)
 
 values-right : (command : CommandName) (given : Values) → Right (command_values command given)
 values-right name.Bound given = search steps depth 9
 values-right name.Race given = search steps depth 9
 values-right name.Solve given = search steps depth 9
 values-right name.Show given = search steps depth 9
+values-right name.ShowList given = search steps depth 9
 values-right name.Migrate given = search steps depth 9
 values-right name.Advise given = search steps depth 9
 values-right name.Verify given = search steps depth 9

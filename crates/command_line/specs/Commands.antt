@@ -5,14 +5,14 @@ use Rattle.std.specs.Str.{bytes_eq}
 use Rattle.hyper_outside.specs.declared.outside.WordsKind.{WordsKind}
 use Rattle.hyper_outside.specs.declared.outside.WordsKind.TheVariants.{Value}
 use Rattle.cube_actions.specs.declared.name.StakesName.TheVariants.{Jacoby}
-use Rattle.word_forms.specs.Form.{Bytes, Form, Values, value_of}
+use Rattle.word_forms.specs.Form.{Bytes, Form, Values, value_of, is_set}
 use Rattle.command_line.specs.declared.command.Command.{Command}
-use Rattle.command_line.specs.declared.command.Command.TheVariants.{Bound, Race, Solve, Show, Migrate, Advise, Verify, Ladder, Analyse, Study, Make, Plan, Scan, Reply, Board}
+use Rattle.command_line.specs.declared.command.Command.TheVariants.{Bound, Race, Solve, Show, ShowList, Migrate, Advise, Verify, Ladder, Analyse, Study, Make, Plan, Scan, Reply, Board}
 use Rattle.command_line.specs.declared.command.CommandName.{CommandName}
 use Rattle.command_line.specs.declared.command.CommandName.TheVariants as name
 use Rattle.command_line.specs.declared.stop.WordsFault.{WordsFault}
 use Rattle.command_line.specs.declared.stop.WordsFault.TheVariants.{Words}
-use Rattle.command_line.specs.Values.{long_number_given, number_given, number_or, stakes_or, kind_given, file_name, other_name, prefix, position_given, roll_given}
+use Rattle.command_line.specs.Values.{long_number_given, number_given, number_or, stakes_or, kind_given, file_name, other_name, prefix, position_given, roll_given, seen_by_doubler, take_given, usual_rounds, width_given}
 
 -- what words ask for, or why for nothing
 abbrev pub Asked : Type 0
@@ -38,6 +38,7 @@ abbrev pub bound_form : Form
 bound_form = record {
   arguments = codes "CHECKERS" ∷ codes "ROUNDS" ∷ codes "POSITION" ∷ [];
   options = [];
+  flags = [];
 }
 
 abbrev pub bound_values : Values → Asked
@@ -49,7 +50,11 @@ bound_values given =
     Ok (Bound (record { checkers = checkers; rounds = rounds; position = position }))))))
 
 abbrev pub race_form : Form
-race_form = record { arguments = codes "CHECKERS" ∷ codes "POSITION" ∷ []; options = [] }
+race_form = record {
+  arguments = codes "CHECKERS" ∷ codes "POSITION" ∷ [];
+  options = [];
+  flags = [];
+}
 
 abbrev pub race_values : Values → Asked
 race_values given =
@@ -61,7 +66,9 @@ race_values given =
 abbrev pub solve_form : Form
 solve_form = record {
   arguments = codes "FILE" ∷ [];
-  options = codes "checkers" ∷ codes "stakes" ∷ codes "rounds" ∷ codes "workers" ∷ [];
+  options = codes "checkers" ∷ codes "stakes" ∷ codes "rounds" ∷ codes "workers"
+      ∷ codes "width" ∷ [];
+  flags = [];
 }
 
 abbrev pub solve_values : Values → Asked
@@ -69,30 +76,55 @@ solve_values given =
     checked 1 (file_name (value_of (codes "FILE") given)) (λ file.
     checked 2 (number_or 3 3 (value_of (codes "checkers") given)) (λ checkers.
     checked 3 (stakes_or Jacoby (value_of (codes "stakes") given)) (λ stakes.
-    checked 4 (number_or 4096 64 (value_of (codes "rounds") given)) (λ rounds.
+    checked 4 (number_or 4096 (usual_rounds (value_of (codes "width") given))
+    (value_of (codes "rounds") given)) (λ rounds.
     checked 5 (number_or 64 1 (value_of (codes "workers") given)) (λ workers.
+    checked 6 (width_given (value_of (codes "width") given)) (λ width.
     Ok (Solve (record {
       file = file;
       checkers = checkers;
       stakes = stakes;
       rounds = rounds;
       workers = workers;
-    })))))))
+      width = width;
+    }))))))))
 
 abbrev pub show_form : Form
-show_form = record { arguments = codes "FILE" ∷ codes "POSITION" ∷ []; options = [] }
+show_form = record {
+  arguments = codes "FILE" ∷ codes "POSITION" ∷ [];
+  options = [];
+  flags = codes "id" ∷ [];
+}
 
 abbrev pub show_values : Values → Asked
 show_values given =
     checked 1 (file_name (value_of (codes "FILE") given)) (λ file.
     checked 2 (value_of (codes "POSITION") given) (λ text.
     read (position_given text) (λ position.
-    Ok (Show (record { file = file; position = position })))))
+    Ok (Show (record {
+      file = file;
+      position = position;
+      id = is_set (codes "id") given;
+    })))))
+
+abbrev pub show_list_form : Form
+show_list_form = record {
+  arguments = codes "FILE" ∷ [];
+  options = codes "positions" ∷ [];
+  flags = [];
+}
+
+abbrev pub show_list_values : Values → Asked
+show_list_values given =
+    checked 1 (file_name (value_of (codes "FILE") given)) (λ file.
+    checked 2 (file_name (value_of (codes "positions") given)) (λ list.
+    Ok (ShowList (record { file = file; list = list }))))
 
 abbrev pub migrate_form : Form
 migrate_form = record {
   arguments = codes "OLD" ∷ codes "NEW" ∷ [];
   options = codes "workers" ∷ [];
+  flags = [];
 }
 
 -- the new name is another one
@@ -107,19 +139,29 @@ abbrev pub advise_form : Form
 advise_form = record {
   arguments = codes "FILE" ∷ codes "POSITION" ∷ [];
   options = codes "kind" ∷ codes "roll" ∷ [];
+  flags = codes "take" ∷ [];
 }
 
+-- Who asks whether to take gives the position as the side sees it that was doubled, and no roll.
 abbrev pub advise_values : Values → Asked
 advise_values given =
+    let roll = value_of (codes "roll") given in
     checked 1 (file_name (value_of (codes "FILE") given)) (λ file.
     checked 2 (value_of (codes "POSITION") given) (λ text.
     checked 3 (kind_given (value_of (codes "kind") given)) (λ kind.
+    checked 4 (take_given (is_set (codes "take") given) roll) (λ take.
     read (position_given text) (λ position.
-    read (roll_given (value_of (codes "roll") given)) (λ roll.
-    Ok (Advise (record { file = file; position = position; kind = kind; roll = roll })))))))
+    read (roll_given roll) (λ roll.
+    Ok (Advise (record {
+      file = file;
+      position = seen_by_doubler take position;
+      kind = kind;
+      roll = roll;
+      take = take;
+    }))))))))
 
 abbrev pub verify_form : Form
-verify_form = record { arguments = codes "FILE" ∷ []; options = codes "workers" ∷ [] }
+verify_form = record { arguments = codes "FILE" ∷ []; options = codes "workers" ∷ []; flags = [] }
 
 abbrev pub verify_values : Values → Asked
 verify_values given =
@@ -131,6 +173,7 @@ abbrev pub ladder_form : Form
 ladder_form = record {
   arguments = codes "PREFIX" ∷ [];
   options = codes "checkers" ∷ codes "length" ∷ codes "rounds" ∷ codes "workers" ∷ [];
+  flags = [];
 }
 
 abbrev pub ladder_values : Values → Asked
@@ -149,7 +192,7 @@ ladder_values given =
     })))))))
 
 abbrev pub analyse_form : Form
-analyse_form = record { arguments = codes "BASE" ∷ codes "RECORD" ∷ []; options = [] }
+analyse_form = record { arguments = codes "BASE" ∷ codes "RECORD" ∷ []; options = []; flags = [] }
 
 abbrev pub analyse_values : Values → Asked
 analyse_values given =
@@ -161,6 +204,7 @@ abbrev pub study_form : Form
 study_form = record {
   arguments = codes "RECORD" ∷ [];
   options = codes "rounds" ∷ codes "workers" ∷ [];
+  flags = [];
 }
 
 abbrev pub study_values : Values → Asked
@@ -171,7 +215,11 @@ study_values given =
     Ok (Study (record { rec = rec; rounds = rounds; workers = workers })))))
 
 abbrev pub make_form : Form
-make_form = record { arguments = codes "NUMBER" ∷ codes "GAMES" ∷ codes "FILE" ∷ []; options = [] }
+make_form = record {
+  arguments = codes "NUMBER" ∷ codes "GAMES" ∷ codes "FILE" ∷ [];
+  options = [];
+  flags = [];
+}
 
 -- any number of 64 bits names a record, 0 too
 abbrev pub make_values : Values → Asked
@@ -182,7 +230,7 @@ make_values given =
     Ok (Make (record { number = number; games = games; file = file })))))
 
 abbrev pub plan_form : Form
-plan_form = record { arguments = codes "PREFIX" ∷ []; options = codes "length" ∷ [] }
+plan_form = record { arguments = codes "PREFIX" ∷ []; options = codes "length" ∷ []; flags = [] }
 
 abbrev pub plan_values : Values → Asked
 plan_values given =
@@ -194,6 +242,7 @@ abbrev pub scan_form : Form
 scan_form = record {
   arguments = codes "FILE" ∷ codes "CONDITION" ∷ [];
   options = codes "workers" ∷ [];
+  flags = [];
 }
 
 -- a condition has no form here
@@ -208,6 +257,7 @@ abbrev pub reply_form : Form
 reply_form = record {
   arguments = codes "FILE" ∷ codes "POSITION" ∷ [];
   options = codes "kind" ∷ codes "rounds" ∷ [];
+  flags = [];
 }
 
 abbrev pub reply_values : Values → Asked
@@ -220,12 +270,13 @@ reply_values given =
     Ok (Reply (record { file = file; position = position; kind = kind; rounds = rounds })))))))
 
 abbrev pub board_form : Form
-board_form = record { arguments = codes "POSITION" ∷ []; options = [] }
+board_form = record { arguments = codes "POSITION" ∷ []; options = []; flags = codes "id" ∷ [] }
 
 abbrev pub board_values : Values → Asked
 board_values given =
     checked 1 (value_of (codes "POSITION") given) (λ text.
-    read (position_given text) (λ position. Ok (Board (record { position = position }))))
+    read (position_given text) (λ position.
+    Ok (Board (record { position = position; id = is_set (codes "id") given }))))
 
 -- ---- all of them
 
@@ -252,6 +303,7 @@ command_form name.Bound = bound_form
 command_form name.Race = race_form
 command_form name.Solve = solve_form
 command_form name.Show = show_form
+command_form name.ShowList = show_list_form
 command_form name.Migrate = migrate_form
 command_form name.Advise = advise_form
 command_form name.Verify = verify_form
@@ -269,6 +321,7 @@ command_values name.Bound given = bound_values given
 command_values name.Race given = race_values given
 command_values name.Solve given = solve_values given
 command_values name.Show given = show_values given
+command_values name.ShowList given = show_list_values given
 command_values name.Migrate given = migrate_values given
 command_values name.Advise given = advise_values given
 command_values name.Verify given = verify_values given

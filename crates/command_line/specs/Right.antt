@@ -1,5 +1,5 @@
 -- What the commands that are read keep to.
-use Rattle.std.specs.Prelude.{◌≢◌, ◌^◌, ◌<◌, ◌≤◌, length, IfSome}
+use Rattle.std.specs.Prelude.{◌≢◌, ◌*◌, ◌^◌, ◌<◌, ◌≤◌, ℤ, pos, ◌<ℤ◌, ◌≤ℤ◌, length, IfSome}
 use Rattle.position_rank.specs.Placement.{IsPosition, IsLive}
 use Rattle.roll_table.specs.Rolls.{IsRoll}
 use Rattle.cube_actions.specs.Scores.{MatchScore}
@@ -10,11 +10,12 @@ use Rattle.command_line.specs.declared.command.Bound.{Bound as BoundWords}
 use Rattle.command_line.specs.declared.command.Race.{Race as RaceWords}
 use Rattle.command_line.specs.declared.command.Solve.{Solve as SolveWords}
 use Rattle.command_line.specs.declared.command.Show.{Show as ShowWords}
+use Rattle.command_line.specs.declared.command.ShowList.{ShowList as ShowListWords}
 use Rattle.command_line.specs.declared.command.Migrate.{Migrate as MigrateWords}
 use Rattle.command_line.specs.declared.command.Advise.{Advise as AdviseWords}
 use Rattle.command_line.specs.declared.command.Analyse.{Analyse as AnalyseWords}
 use Rattle.command_line.specs.declared.command.Command.{Command}
-use Rattle.command_line.specs.declared.command.Command.TheVariants.{Bound, Race, Solve, Show, Migrate, Advise, Verify, Ladder, Analyse, Study, Make, Plan, Scan, Reply, Board}
+use Rattle.command_line.specs.declared.command.Command.TheVariants.{Bound, Race, Solve, Show, ShowList, Migrate, Advise, Verify, Ladder, Analyse, Study, Make, Plan, Scan, Reply, Board}
 use Rattle.command_line.specs.declared.command.Ladder.{Ladder as LadderWords}
 use Rattle.command_line.specs.declared.command.Make.{Make as MakeWords}
 use Rattle.command_line.specs.declared.command.Plan.{Plan as PlanWords}
@@ -47,6 +48,11 @@ pub record IsRightRace (race : RaceWords) : Type 0 where
   pub position : IsPosition race.position
   pub live : IsLive race.position
 
+-- a width is above 0 and at most 64 points, in units of 2^-32 points
+pub record IsWidth (width : ℤ) : Type 0 where
+  pub above : pos 0 <ℤ width
+  pub within : width ≤ℤ pos (64 * 2 ^ 32)
+
 pub record IsRightSolve (solve : SolveWords) : Type 0 where
   pub file : IsName solve.file
   pub some : 1 ≤ solve.checkers
@@ -56,11 +62,16 @@ pub record IsRightSolve (solve : SolveWords) : Type 0 where
   pub ended : solve.rounds ≤ 4096
   pub one : 1 ≤ solve.workers
   pub most : solve.workers ≤ 64
+  pub width : IfSome solve.width IsWidth
 
 pub record IsRightShow (show : ShowWords) : Type 0 where
   pub file : IsName show.file
   pub position : IsPosition show.position
   pub live : IsLive show.position
+
+pub record IsRightShowList (show : ShowListWords) : Type 0 where
+  pub file : IsName show.file
+  pub list : IsName show.list
 
 pub record IsRightMigrate (migrate : MigrateWords) : Type 0 where
   pub old : IsName migrate.old
@@ -136,6 +147,7 @@ IsRightCommand (Bound bound) = IsRightBound bound
 IsRightCommand (Race race) = IsRightRace race
 IsRightCommand (Solve solve) = IsRightSolve solve
 IsRightCommand (Show show) = IsRightShow show
+IsRightCommand (ShowList show) = IsRightShowList show
 IsRightCommand (Migrate migrate) = IsRightMigrate migrate
 IsRightCommand (Advise advise) = IsRightAdvise advise
 IsRightCommand (Verify verify) = IsRightVerify verify

@@ -1,11 +1,13 @@
 -- The forms of values.
-use Rattle.std.specs.Prelude.{ℕ, ◌^◌, ◌==◌, nat_lt, nat_le, Bool, not, ◌&&◌, ◌||◌, length, slice_index, codes, Option, Some, None, Result, Ok, if◌then◌else◌, option_and_then, option_map}
-use Rattle.std.specs.List.{list_any}
+use Rattle.std.specs.Prelude.{ℕ, ◌^◌, ◌==◌, nat_lt, nat_le, Bool, not, ◌&&◌, ◌||◌, length, slice_index, codes, Option, Some, None, is_some, Result, Ok, if◌then◌else◌, option_and_then, option_map, ◌+◌, ◌-◌, ◌*◌, ◌/◌, ℤ, pos}
+use Rattle.std.specs.List.{list_any, position_or_len, before_first, after_first}
 use Rattle.std.specs.Result.{result_map_both}
 use Rattle.std.specs.Str.{bytes_eq, all_ascii_digits}
 use Rattle.std.specs.Str.Parse.{digits_value}
-use Rattle.position_rank.specs.Placement.{Placement}
+use Rattle.position_id.specs.Readings.{has_id_form, read_id}
+use Rattle.position_rank.specs.Placement.{Placement, swap}
 use Rattle.position_rank.specs.Text.{read_position}
+use Rattle.position_rank.specs.declared.text.BadPosition.{BadPosition}
 use Rattle.roll_table.specs.Rolls.{Dice}
 use Rattle.roll_table.specs.Text.{read_roll}
 use Rattle.word_forms.specs.Form.{Bytes}
@@ -47,6 +49,48 @@ abbrev pub number_or : ℕ → ℕ → Option Bytes → Option ℕ
 number_or most usual None = Some usual
 number_or most usual (Some word) = number_within most word
 
+-- the rounds that are made where none are given: the most where a width is
+abbrev pub usual_rounds : Option Bytes → ℕ
+usual_rounds None = 64
+usual_rounds (Some width) = 4096
+
+-- a number from 0 to 64
+abbrev pub points_of : Bytes → Option ℕ
+points_of word = option_and_then (λ n. if nat_le n 64 then Some n else None) (number_of word)
+
+-- the millionths that one to six digits write behind a point
+abbrev pub millionths_behind : Bytes → Option ℕ
+millionths_behind digits =
+    if nat_le 1 (length digits) && nat_le (length digits) 6 && all_ascii_digits digits
+    then Some (digits_value 10 digits * 10 ^ (6 - length digits)) else None
+
+abbrev pub is_point : ℕ → Bool
+is_point byte = byte == 46
+
+abbrev pub has_point : Bytes → Bool
+has_point word = nat_lt (position_or_len is_point word) (length word)
+
+-- the millionths of a number of points, behind which a point and more digits may stand
+abbrev pub millionths_of : Bytes → Option ℕ
+millionths_of word =
+    if has_point word
+    then option_and_then (λ points.
+    option_map (λ part. points * 1000000 + part) (millionths_behind (after_first is_point word)))
+    (points_of (before_first is_point word))
+    else option_map (λ points. points * 1000000) (points_of word)
+
+-- a width above 0 and of at most 64 points, in units of 2^-32 points, rounded down
+abbrev pub width_of : Bytes → Option ℤ
+width_of word =
+    option_and_then (λ n. if nat_le 1 n && nat_le n 64000000
+    then Some (pos (n * 2 ^ 32 / 1000000)) else None)
+    (millionths_of word)
+
+-- the width that is given, if one is
+abbrev pub width_given : Option Bytes → Option (Option ℤ)
+width_given None = Some None
+width_given (Some word) = option_map (λ width. Some width) (width_of word)
+
 abbrev pub stakes_named : Bytes → Option StakesName
 stakes_named word =
     if bytes_eq word (codes "cubeless") then Some Cubeless
@@ -65,14 +109,26 @@ abbrev pub kind_given : Option Bytes → Option (Option KindName)
 kind_given None = Some None
 kind_given (Some word) = option_map (λ kind. Some kind) (read_name word)
 
+-- a position by its ID, where the word has the form of one, and by its text otherwise
+abbrev pub read_given : Bytes → Result Placement BadPosition
+read_given word = if has_id_form word then read_id word else read_position word
+
 abbrev pub position_given : Bytes → Result Placement WordsFault
 position_given word =
-    result_map_both (λ position. position) (λ bad. Position bad) (read_position word)
+    result_map_both (λ position. position) (λ bad. Position bad) (read_given word)
 
 -- the roll that is given, if one is
 abbrev pub roll_given : Option Bytes → Result (Option Dice) WordsFault
 roll_given None = Ok None
 roll_given (Some word) = result_map_both (λ roll. Some roll) (λ bad. Roll bad) (read_roll word)
+
+-- whether the answer to a double is asked for, beside which no roll is given
+abbrev pub take_given : Bool → Option Bytes → Option Bool
+take_given set roll = if set && is_some roll then None else Some set
+
+-- a position that the side that was doubled gives as it sees it, as the doubler sees it
+abbrev pub seen_by_doubler : Bool → Placement → Placement
+seen_by_doubler take position = if take then swap position else position
 
 -- 1 to so many bytes, none of them 0
 abbrev pub is_name_within : ℕ → Bytes → Bool

@@ -1,9 +1,12 @@
 ghost use Rattle.std.specs.Prelude.{◌≡◌};
-ghost use Rattle.word_forms.specs.Clap.{names};
+ghost use Rattle.word_forms.specs.Clap.{bytes_of, names};
 ghost use Rattle.command_line.specs.Commands.{command_named, command_form};
+ghost use Rattle.command_line.specs.Words.{command_asked, for_list, has_option};
 
 use crate::text::Text;
+use crate::values::is_option_named;
 use cube_actions::{KindName, StakesName};
+use directed_fixed::Fixed;
 use position_rank::Position;
 use roll_table::Roll;
 
@@ -25,7 +28,7 @@ pub struct Race {
     pub position: Position,
 }
 
-/// A game that is solved by some rounds and written to a file.
+/// A game that is solved by some rounds, or until no pair is wider than is asked for, and written to a file.
 #[derive(Drop)]
 pub struct Solve {
     /// The file's name, 1 to 255 bytes.
@@ -34,10 +37,12 @@ pub struct Solve {
     pub checkers: u8,
     /// Any but a match.
     pub stakes: StakesName,
-    /// 1 to 4096.
+    /// The most rounds, 1 to 4096; all are made where no width is given.
     pub rounds: u32,
     /// 1 to 64.
     pub workers: u32,
+    /// The width at which no more rounds are made, above 0 and at most 64 points.
+    pub width: Option<Fixed>,
 }
 
 /// A position whose pairs are looked up in a file.
@@ -46,6 +51,17 @@ pub struct Show {
     /// The file's name, 1 to 255 bytes.
     pub file: Text,
     pub position: Position,
+    /// Whether the position's ID is told.
+    pub id: bool,
+}
+
+/// Positions, listed in a file, whose pairs are looked up in another.
+#[derive(Drop)]
+pub struct ShowList {
+    /// The name of the file of bounds, 1 to 255 bytes.
+    pub file: Text,
+    /// The name of the list's file, 1 to 255 bytes.
+    pub list: Text,
 }
 
 /// A file whose words are checked by some workers, and which is written anew under another name, in the latest
@@ -65,11 +81,14 @@ pub struct Migrate {
 pub struct Advise {
     /// The file's name, 1 to 255 bytes.
     pub file: Text,
+    /// As the side sees it that is to move or to double.
     pub position: Position,
     /// The kind of state; where none is given, the first of the file's game.
     pub kind: Option<KindName>,
     /// Where none is given, the advice is on the cube.
     pub roll: Option<Roll>,
+    /// Whether the side asks that was doubled: its answer is told first, and there is no roll.
+    pub take: bool,
 }
 
 /// A file whose words are checked by some workers.
@@ -162,6 +181,8 @@ pub struct Reply {
 #[derive(Drop)]
 pub struct Board {
     pub position: Position,
+    /// Whether the position's ID is told.
+    pub id: bool,
 }
 
 /// What a user asks for.
@@ -171,6 +192,7 @@ pub enum Command {
     Race(Race),
     Solve(Solve),
     Show(Show),
+    ShowList(ShowList),
     Migrate(Migrate),
     Advise(Advise),
     Verify(Verify),
@@ -191,6 +213,8 @@ pub enum CommandName {
     Race,
     Solve,
     Show,
+    /// `show` with the option `positions`.
+    ShowList,
     Migrate,
     Advise,
     Verify,
@@ -204,15 +228,28 @@ pub enum CommandName {
     Board,
 }
 
+/// Whether one of the words is this option, alone or with its value behind an `=`.
+fn has_option(words: &[String], option: &str) -> bool
+    ensures { result ≡ has_option option.now (bytes_of words.now) }
+{
+    words
+        .iter()
+        .any(|word| is_option_named(word.as_str(), option))
+}
+
 static BOUND: [&str; 3] = ["CHECKERS", "ROUNDS", "POSITION"];
 
 static RACE: [&str; 2] = ["CHECKERS", "POSITION"];
 
 static SOLVE: [&str; 1] = ["FILE"];
 
-static SOLVE_OPTIONS: [&str; 4] = ["checkers", "stakes", "rounds", "workers"];
+static SOLVE_OPTIONS: [&str; 5] = ["checkers", "stakes", "rounds", "workers", "width"];
 
 static SHOW: [&str; 2] = ["FILE", "POSITION"];
+
+static SHOW_LIST: [&str; 1] = ["FILE"];
+
+static SHOW_LIST_OPTIONS: [&str; 1] = ["positions"];
 
 static MIGRATE: [&str; 2] = ["OLD", "NEW"];
 
@@ -254,6 +291,12 @@ static BOARD: [&str; 1] = ["POSITION"];
 
 static NO_OPTIONS: [&str; 0] = [];
 
+static ID: [&str; 1] = ["id"];
+
+static TAKE: [&str; 1] = ["take"];
+
+static NO_FLAGS: [&str; 0] = [];
+
 impl CommandName {
     /// The command of a name. `None` exactly where no command has that name.
     pub fn read(word: &str) -> Option<CommandName>
@@ -279,6 +322,24 @@ impl CommandName {
         }
     }
 
+    /// The command that a name and the words behind it ask for. `None` exactly where no command has that name.
+    pub fn asked(name: &str, words: &[String]) -> Option<CommandName>
+        ensures { result ≡ command_asked name.now (bytes_of words.now) }
+    {
+        let command = CommandName::read(name)?;
+        Some(command.for_list(words))
+    }
+
+    /// The command of a list where one of the words has the option of that list, or this one.
+    fn for_list(self, words: &[String]) -> CommandName
+        ensures { result ≡ for_list self (bytes_of words.now) }
+    {
+        match self {
+            CommandName::Show if has_option(words, "--positions") => CommandName::ShowList,
+            command => command,
+        }
+    }
+
     /// The names of its arguments, in their order.
     pub fn arguments(self) -> &'static [&'static str]
         ensures { names result.now ≡ (command_form self).arguments }
@@ -288,6 +349,7 @@ impl CommandName {
             CommandName::Race => RACE.as_slice(),
             CommandName::Solve => SOLVE.as_slice(),
             CommandName::Show => SHOW.as_slice(),
+            CommandName::ShowList => SHOW_LIST.as_slice(),
             CommandName::Migrate => MIGRATE.as_slice(),
             CommandName::Advise => ADVISE.as_slice(),
             CommandName::Verify => VERIFY.as_slice(),
@@ -308,6 +370,7 @@ impl CommandName {
     {
         match self {
             CommandName::Solve => SOLVE_OPTIONS.as_slice(),
+            CommandName::ShowList => SHOW_LIST_OPTIONS.as_slice(),
             CommandName::Migrate => MIGRATE_OPTIONS.as_slice(),
             CommandName::Advise => ADVISE_OPTIONS.as_slice(),
             CommandName::Verify => VERIFY_OPTIONS.as_slice(),
@@ -322,6 +385,29 @@ impl CommandName {
             | CommandName::Analyse
             | CommandName::Make
             | CommandName::Board => NO_OPTIONS.as_slice(),
+        }
+    }
+
+    /// The names of its options without a value.
+    pub fn flags(self) -> &'static [&'static str]
+        ensures { names result.now ≡ (command_form self).flags }
+    {
+        match self {
+            CommandName::Show | CommandName::Board => ID.as_slice(),
+            CommandName::Advise => TAKE.as_slice(),
+            CommandName::Bound
+            | CommandName::Race
+            | CommandName::Solve
+            | CommandName::ShowList
+            | CommandName::Migrate
+            | CommandName::Verify
+            | CommandName::Ladder
+            | CommandName::Analyse
+            | CommandName::Study
+            | CommandName::Make
+            | CommandName::Plan
+            | CommandName::Scan
+            | CommandName::Reply => NO_FLAGS.as_slice(),
         }
     }
 }

@@ -1,18 +1,20 @@
+ghost use Rattle.std.specs.Prelude.{◌≡◌, Bool};
 ghost use Rattle.word_forms.specs.Form.{Values};
-ghost use Rattle.word_forms.specs.Clap.{HasValues};
-ghost use Rattle.command_line.specs.Commands.{bound_values, race_values, solve_values, show_values, migrate_values, advise_values, command_values, verify_values, ladder_values, analyse_values, study_values, make_values, plan_values, scan_values, reply_values, board_values};
+ghost use Rattle.word_forms.specs.Clap.{HasValues, HasFlags, TellsFlag};
+ghost use Rattle.command_line.specs.Commands.{bound_values, race_values, solve_values, show_values, show_list_values, migrate_values, advise_values, command_values, verify_values, ladder_values, analyse_values, study_values, make_values, plan_values, scan_values, reply_values, board_values, command_form, show_form, advise_form, board_form};
 ghost use Rattle.command_line.specs.Reading.{Gives};
 
 use crate::command::{
     Advise, Analyse, Board, Bound, Command, CommandName, Ladder, Make, Migrate, Plan, Race, Reply,
-    Scan, Show, Solve, Study, Verify,
+    Scan, Show, ShowList, Solve, Study, Verify,
 };
 use crate::stop::{WordsStop, bad_value};
 use crate::text::Text;
 use crate::values::{
     MOST_GAMES, MOST_POINTS, MOST_ROUNDS, MOST_WORKERS, USUAL_POINTS, USUAL_REPLY_ROUNDS,
     USUAL_ROUNDS, file_name, kind_given, long_number_given, number_given, number_or, other_name,
-    position_given, prefix, roll_given, stakes_or,
+    position_given, prefix, roll_given, seen_by_doubler, stakes_or, take_given, usual_rounds,
+    width_given,
 };
 use clap::ArgMatches;
 use cube_actions::StakesName;
@@ -27,6 +29,7 @@ pub(crate) fn read_values(
     values: &ArgMatches<'_>,
 ) -> Result<Command, WordsStop>
     ensures { (given : Values) → HasValues given values.now
+        → HasFlags (command_form name) given values.now
         → Gives (command_values name given) result }
 {
     match name {
@@ -34,6 +37,7 @@ pub(crate) fn read_values(
         CommandName::Race => read_race(values),
         CommandName::Solve => read_solve(alloc, values),
         CommandName::Show => read_show(alloc, values),
+        CommandName::ShowList => read_show_list(alloc, values),
         CommandName::Migrate => read_migrate(alloc, values),
         CommandName::Advise => read_advise(alloc, values),
         CommandName::Verify => read_verify(alloc, values),
@@ -98,11 +102,16 @@ fn read_solve(alloc: Global, values: &ArgMatches<'_>) -> Result<Command, WordsSt
     let Some(stakes) = stakes_or(values.get_str("stakes"), StakesName::Jacoby) else {
         return Err(bad_value(3));
     };
-    let Some(rounds) = number_or(values.get_str("rounds"), MOST_ROUNDS, USUAL_ROUNDS) else {
+    let width = values.get_str("width");
+    let rounds = values.get_str("rounds");
+    let Some(rounds) = number_or(rounds, MOST_ROUNDS, usual_rounds(width)) else {
         return Err(bad_value(4));
     };
     let Some(workers) = number_or(values.get_str("workers"), MOST_WORKERS, 1) else {
         return Err(bad_value(5));
+    };
+    let Some(width) = width_given(width) else {
+        return Err(bad_value(6));
     };
     Ok(Command::Solve(Solve {
         file: Text::new(alloc, file)?,
@@ -110,11 +119,13 @@ fn read_solve(alloc: Global, values: &ArgMatches<'_>) -> Result<Command, WordsSt
         stakes,
         rounds,
         workers,
+        width,
     }))
 }
 
 fn read_show(alloc: Global, values: &ArgMatches<'_>) -> Result<Command, WordsStop>
     ensures { (given : Values) → HasValues given values.now
+        → HasFlags show_form given values.now
         → Gives (show_values given) result }
 {
     let Some(file) = file_name(values.get_str("FILE")) else {
@@ -126,6 +137,23 @@ fn read_show(alloc: Global, values: &ArgMatches<'_>) -> Result<Command, WordsSto
     Ok(Command::Show(Show {
         position: position_given(position)?,
         file: Text::new(alloc, file)?,
+        id: is_set(values, "id"),
+    }))
+}
+
+fn read_show_list(alloc: Global, values: &ArgMatches<'_>) -> Result<Command, WordsStop>
+    ensures { (given : Values) → HasValues given values.now
+        → Gives (show_list_values given) result }
+{
+    let Some(file) = file_name(values.get_str("FILE")) else {
+        return Err(bad_value(1));
+    };
+    let Some(list) = file_name(values.get_str("positions")) else {
+        return Err(bad_value(2));
+    };
+    Ok(Command::ShowList(ShowList {
+        file: Text::new(alloc, file)?,
+        list: Text::new(alloc, list)?,
     }))
 }
 
@@ -152,6 +180,7 @@ fn read_migrate(alloc: Global, values: &ArgMatches<'_>) -> Result<Command, Words
 
 fn read_advise(alloc: Global, values: &ArgMatches<'_>) -> Result<Command, WordsStop>
     ensures { (given : Values) → HasValues given values.now
+        → HasFlags advise_form given values.now
         → Gives (advise_values given) result }
 {
     let Some(file) = file_name(values.get_str("FILE")) else {
@@ -163,11 +192,16 @@ fn read_advise(alloc: Global, values: &ArgMatches<'_>) -> Result<Command, WordsS
     let Some(kind) = kind_given(values.get_str("kind")) else {
         return Err(bad_value(3));
     };
+    let roll = values.get_str("roll");
+    let Some(take) = take_given(is_set(values, "take"), roll) else {
+        return Err(bad_value(4));
+    };
     Ok(Command::Advise(Advise {
-        position: position_given(position)?,
-        roll: roll_given(values.get_str("roll"))?,
+        position: seen_by_doubler(take, position_given(position)?),
+        roll: roll_given(roll)?,
         file: Text::new(alloc, file)?,
         kind,
+        take,
     }))
 }
 
@@ -342,6 +376,7 @@ fn read_reply(alloc: Global, values: &ArgMatches<'_>) -> Result<Command, WordsSt
 
 fn read_board(values: &ArgMatches<'_>) -> Result<Command, WordsStop>
     ensures { (given : Values) → HasValues given values.now
+        → HasFlags board_form given values.now
         → Gives (board_values given) result }
 {
     let Some(position) = values.get_str("POSITION") else {
@@ -349,5 +384,13 @@ fn read_board(values: &ArgMatches<'_>) -> Result<Command, WordsStop>
     };
     Ok(Command::Board(Board {
         position: position_given(position)?,
+        id: is_set(values, "id"),
     }))
+}
+
+/// Whether the flag is given.
+fn is_set(values: &ArgMatches<'_>, flag: &str) -> bool
+    ensures { (set : Bool) → TellsFlag set flag.now values.now → result ≡ set }
+{
+    values.get_flag(flag)
 }

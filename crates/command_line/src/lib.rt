@@ -11,13 +11,13 @@ mod words;
 
 pub use command::{
     Advise, Analyse, Board, Bound, Command, CommandName, Ladder, Make, Migrate, Plan, Race, Reply,
-    Scan, Show, Solve, Study, Verify,
+    Scan, Show, ShowList, Solve, Study, Verify,
 };
 pub use laws::commands_are_right;
 pub use stop::{WordsFault, WordsStop};
 pub use text::Text;
 pub use values::{
     MOST_GAMES, MOST_POINTS, MOST_ROUNDS, MOST_WORKERS, USUAL_POINTS, USUAL_REPLY_ROUNDS,
-    USUAL_ROUNDS,
+    USUAL_ROUNDS, position_given,
 };
 pub use words::read_words;

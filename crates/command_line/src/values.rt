@@ -1,17 +1,20 @@
-ghost use Rattle.std.specs.Prelude.{◌≡◌, ◌==◌, ℕ, ◌≤◌, IfSome, option_map};
+ghost use Rattle.std.specs.Prelude.{◌≡◌, ◌==◌, ℕ, ◌≤◌, IfOk, IfSome, option_map, ◌<◌};
 ghost use Rattle.std.specs.List.{list_any};
-ghost use Rattle.command_line.specs.Values.{number_within, long_number, long_number_given, number_given, number_or, stakes_named, stakes_or, kind_given, is_name_within, name_within, file_name, other_name, prefix, position_given, roll_given};
-ghost use Rattle.command_line.specs.Words.{is_option, is_faulty};
+ghost use Rattle.position_rank.specs.Placement.{IsPosition, IsLive};
+ghost use Rattle.command_line.specs.Values.{number_within, long_number, long_number_given, number_given, number_or, stakes_named, stakes_or, kind_given, is_name_within, name_within, file_name, other_name, prefix, position_given, read_given, roll_given, seen_by_doubler, take_given, points_of, millionths_behind, millionths_of, width_of, width_given, usual_rounds};
+ghost use Rattle.command_line.specs.Words.{is_option, is_option_named, is_faulty};
 
 use crate::stop::WordsFault;
 use cube_actions::{KindName, StakesName};
-use position_rank::{Position, read_position};
+use directed_fixed::Fixed;
+use position_id::{has_id_form, read_id};
+use position_rank::{BadPosition, Position, read_position};
 use roll_table::Roll;
 
 /// The most rounds.
 pub const MOST_ROUNDS: u32 = 4096;
 
-/// The rounds that are made where none are given.
+/// The rounds that are made where none are given, nor a width.
 pub const USUAL_ROUNDS: u32 = 64;
 
 /// The rounds of replies that are made where none are given.
@@ -28,6 +31,12 @@ pub const USUAL_POINTS: u32 = 3;
 
 /// The most games of a record that is made.
 pub const MOST_GAMES: u32 = 1000;
+
+/// The most points of a width that is given.
+const WIDEST_POINTS: u64 = 64;
+
+/// How many millionths a point has.
+const MILLIONTHS: u64 = 1_000_000;
 
 /// The most bytes of a word.
 pub const LONGEST_WORD: usize = 4096;
@@ -91,6 +100,75 @@ pub(crate) fn number_or(word: Option<&str>, most: u32, usual: u32) -> Option<u32
     }
 }
 
+/// A number from 0 to 64.
+fn points(word: &str) -> Option<u64>
+    ensures number { result ≡ points_of word.now }
+    ensures within { IfSome result (λ points. points ≤ 64) }
+{
+    let number = long_number(word)?;
+    if number <= WIDEST_POINTS {
+        Some(number)
+    } else {
+        None
+    }
+}
+
+/// The millionths that one to six digits write behind a point.
+fn millionths_behind(digits: &str) -> Option<u64>
+    ensures number { result ≡ millionths_behind digits.now }
+    ensures below { IfSome result (λ millionths. millionths < 1000000) }
+{
+    let bytes = digits.as_bytes();
+    if bytes.len() > 6 || bytes.starts_with(b"+") {
+        return None;
+    }
+    let number = digits.parse::<u64>().ok()?;
+    Some(number * 10u64.pow(6 - bytes.len() as u32))
+}
+
+/// The millionths of a number of points, behind which a point and more digits may stand.
+fn millionths(word: &str) -> Option<u64>
+    ensures number { result ≡ millionths_of word.now }
+    ensures below { IfSome result (λ millionths. millionths < 65000000) }
+{
+    match word.split_once('.') {
+        Some((whole, behind)) => Some(points(whole)? * MILLIONTHS + millionths_behind(behind)?),
+        None => Some(points(word)? * MILLIONTHS),
+    }
+}
+
+/// A width above 0 and of at most 64 points, rounded down to units.
+fn width(word: &str) -> Option<Fixed>
+    ensures { result ≡ width_of word.now }
+{
+    let millionths = millionths(word)?;
+    if millionths == 0 || millionths > WIDEST_POINTS * MILLIONTHS {
+        return None;
+    }
+    Fixed::new(((millionths << 32) / MILLIONTHS) as i64)
+}
+
+/// The rounds that are made where none are given: the most where a width is, so that it is reached.
+pub(crate) fn usual_rounds(width: Option<&str>) -> u32
+    ensures rounds { result ≡ usual_rounds (option_map (λ w. w.now) width.entry) }
+    ensures within { (1 ≤ result) × (result ≤ 4096) }
+{
+    match width {
+        Some(_) => MOST_ROUNDS,
+        None => USUAL_ROUNDS,
+    }
+}
+
+/// The width that is given, `Some(None)` where none is.
+pub(crate) fn width_given(word: Option<&str>) -> Option<Option<Fixed>>
+    ensures { result ≡ width_given (option_map (λ w. w.now) word.entry) }
+{
+    match word {
+        Some(word) => width(word).map(Some),
+        None => Some(None),
+    }
+}
+
 fn stakes_named(word: &str) -> Option<StakesName>
     ensures { result ≡ stakes_named word.now }
 {
@@ -124,11 +202,26 @@ pub(crate) fn kind_given(word: Option<&str>) -> Option<Option<KindName>>
     }
 }
 
-/// The position that is given.
-pub(crate) fn position_given(word: &str) -> Result<Position, WordsFault>
-    ensures { result ≡ position_given word.now }
+/// The live position that a word gives, or what is wrong with it.
+pub fn position_given(word: &str) -> Result<Position, WordsFault>
+    ensures given { result ≡ position_given word.now }
+    ensures position { IfOk result IsPosition }
+    ensures live { IfOk result IsLive }
 {
-    read_position(word).map_err(WordsFault::Position)
+    read_given(word).map_err(WordsFault::Position)
+}
+
+/// The position of an ID or of a text.
+fn read_given(word: &str) -> Result<Position, BadPosition>
+    ensures given { result ≡ read_given word.now }
+    ensures position { IfOk result IsPosition }
+    ensures live { IfOk result IsLive }
+{
+    if has_id_form(word) {
+        read_id(word)
+    } else {
+        read_position(word)
+    }
 }
 
 /// The roll that is given, if one is.
@@ -205,6 +298,16 @@ pub(crate) fn is_option(word: &[u8]) -> bool
     word.starts_with(b"--")
 }
 
+/// Whether the word is this option, alone or with its value behind an `=`.
+pub(crate) fn is_option_named(word: &str, option: &str) -> bool
+    ensures { result ≡ is_option_named option.now word.now }
+{
+    match word.split_once('=') {
+        Some((name, _)) => name == option,
+        None => word == option,
+    }
+}
+
 /// Whether the word can't stand in any command.
 pub(crate) fn is_faulty(word: &[u8]) -> bool
     ensures { result ≡ is_faulty word.now }
@@ -217,4 +320,22 @@ pub(crate) fn is_faulty(word: &[u8]) -> bool
     } else {
         word.starts_with(b"-")
     }
+}
+
+/// Whether the answer to a double is asked for. `None` exactly where a roll is given too.
+pub(crate) fn take_given(set: bool, roll: Option<&str>) -> Option<bool>
+    ensures { result ≡ take_given set (option_map (λ w. w.now) roll.entry) }
+{
+    if set && roll.is_some() {
+        None
+    } else {
+        Some(set)
+    }
+}
+
+/// The position as the doubler sees it, where the side that was doubled gives it as it sees it.
+pub(crate) fn seen_by_doubler(take: bool, position: Position) -> Position
+    ensures { result ≡ seen_by_doubler take position }
+{
+    if take { position.swap() } else { position }
 }

@@ -18,9 +18,9 @@ use word_forms::read_form;
 ///
 /// Of these refusals the first that holds is answered. `Command` comes at place 0 where no word is there or the first is no command's
 /// name. `Word` comes at the place of the first faulty word; the word after the name has place 1. `Form` comes at place 0 where an
-/// argument is missing or one is too many, or an option is another command's, repeated or without a value. `Value` comes at the lowest
-/// number of an argument or option out of its form. `Position` comes where the position's text describes none, and then `Roll` where the
-/// roll's text shows none.
+/// argument is missing or one is too many, or an option is another command's, repeated, without its value, or with one that it doesn't
+/// take. `Value` comes at the lowest number of an argument or option out of its form. `Position` comes where the position's text
+/// describes none, and then `Roll` where the roll's text shows none.
 pub fn read_words(alloc: Global, words: &[String]) -> Result<Command, WordsStop>
     ensures reads { Gives (reading (bytes_of words.now)) result }
     ensures right { IfOk result IsRightCommand }
@@ -28,7 +28,7 @@ pub fn read_words(alloc: Global, words: &[String]) -> Result<Command, WordsStop>
     let Some((name, words)) = words.split_first() else {
         return Err(bad(WordsKind::Command, 0));
     };
-    match CommandName::read(name.as_str()) {
+    match CommandName::asked(name.as_str(), words) {
         Some(command) => read_command(alloc, command, words),
         None => Err(bad(WordsKind::Command, 0)),
     }
@@ -49,7 +49,7 @@ fn read_arguments(alloc: Global, name: CommandName, words: &[String]) -> Result<
     requires { list_any is_misread (bytes_of words.now) ≡ false }
     ensures { Gives (form_reading name (bytes_of words.now)) result }
 {
-    match read_form(alloc, name.arguments(), name.options(), words) {
+    match read_form(alloc, name.arguments(), name.options(), name.flags(), words) {
         Ok(values) => read_values(alloc, name, &values),
         Err(stop) => Err(bad_form(stop)),
     }

@@ -104,6 +104,9 @@ reason_text Contact = codes "contact"
 reason_text (Condition word) = counted_text (codes "condition") word
 reason_text (Other name) = codes "other " ++ name.bytes
 
+-- its number and what it says
+abbrev pub refusal_told : Refusal → List ℕ
+refusal_told refusal = decimal (status_of refusal) ++ codes " " ++ reason_text refusal
+
 abbrev pub refusal_text : Refusal → List ℕ
-refusal_text refusal =
-    line (codes "refused") (decimal (status_of refusal) ++ codes " " ++ reason_text refusal)
+refusal_text refusal = line (codes "refused") (refusal_told refusal)

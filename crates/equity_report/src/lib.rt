@@ -8,7 +8,7 @@ mod text;
 mod unheld;
 
 pub use parts::{add_alone, add_position, add_rounds, add_written};
-pub use refusal::{FileName, Refusal, Wanted, write_refusal};
+pub use refusal::{FileName, Refusal, Wanted, add_refusal, write_refusal};
 pub use text::{
     GameName, Report, add_counted, add_game, add_number, add_points, add_stakes, add_units,
 };

@@ -9,10 +9,10 @@ use position_rank::{Position, print_position};
 
 /// Adds the line of a position, with which a report begins.
 pub fn add_position(report: &mut Report, position: &Position)
-    requires { length report.old.bytes ≤ 0 }
+    requires { length report.old.bytes ≤ 100 }
     ensures bytes { report.new.bytes
         ≡ report.old.bytes ++ line (codes "position") (position_text position.now) }
-    ensures length { length report.new.bytes ≤ 42 }
+    ensures length { length report.new.bytes ≤ length report.old.bytes + 42 }
 {
     report.push_str("position ");
     report.push_str(print_position(position).as_str());

@@ -1,5 +1,5 @@
 ghost use Rattle.std.specs.Prelude.{◌≡◌, ◌≤◌, ◌++◌, ◌+◌, ℕ, codes, decimal, length};
-ghost use Rattle.equity_report.specs.Refusals.{words_text, bad_words_text, file_fault_text, bad_file_text, base_text, wanted_text, position_kind, roll_kind, status_of, reason_text, refusal_text};
+ghost use Rattle.equity_report.specs.Refusals.{words_text, bad_words_text, file_fault_text, bad_file_text, base_text, wanted_text, position_kind, roll_kind, status_of, reason_text, refusal_told, refusal_text};
 ghost use Rattle.outside_log.specs.Sink.{Puts};
 
 use crate::record::add_bad_record;
@@ -214,15 +214,24 @@ fn add_reason(line: &mut Report, refusal: &Refusal)
     }
 }
 
+/// Adds a refusal's number and what it says, as `2 position 4`.
+pub fn add_refusal(line: &mut Report, refusal: &Refusal)
+    requires { length line.old.bytes ≤ 10 }
+    ensures bytes { line.new.bytes ≡ line.old.bytes ++ refusal_told refusal.now }
+    ensures length { length line.new.bytes ≤ 400 }
+{
+    add_number(line, u64::from(refusal.status()));
+    line.push_str(" ");
+    add_reason(line, refusal);
+}
+
 /// Puts a refusal's line, as `refused 2 position 4`. `Failed` comes only where `put` failed; then a front of the line was put.
 pub fn write_refusal<O: Sink>(out: &mut O, refusal: &Refusal) -> Result<(), Failed>
     ensures { Puts (O.output out.old) (O.output out.new) (refusal_text refusal.now) result }
 {
     let mut line = Report::new();
     line.push_str("refused ");
-    add_number(&mut line, u64::from(refusal.status()));
-    line.push_str(" ");
-    add_reason(&mut line, refusal);
+    add_refusal(&mut line, refusal);
     line.push_str("\n");
     out.put(line.as_str().as_bytes())
 }

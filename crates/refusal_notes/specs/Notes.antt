@@ -1,5 +1,5 @@
 -- What is said of a refusal beside its line.
-use Rattle.std.specs.Prelude.{◌≡◌, ◌≢◌, ◌≤◌, ℕ, List, [], ◌∷◌, ◌++◌, Ok, Err, All}
+use Rattle.std.specs.Prelude.{◌≡◌, ◌≢◌, ◌≤◌, ℕ, Bool, true, false, List, [], ◌∷◌, ◌++◌, Ok, Err, All}
 use Rattle.outside_log.specs.Sink.{Output}
 use Rattle.run_endings.specs.Endings.{Ending, WasPut}
 
@@ -19,3 +19,13 @@ WasNoted old new = (text : List ℕ) × IsNote text × WasPut old new text
 abbrev pub PutsNote : Ending → Output → Output → Type 0
 PutsNote (Ok done) old new = new ≡ old
 PutsNote (Err stop) old new = WasNoted old new
+
+-- the other way round: where a list was gone through, a note on it was put
+abbrev pub PutsTally : Ending → Output → Output → Type 0
+PutsTally (Ok done) old new = WasNoted old new
+PutsTally (Err stop) old new = new ≡ old
+
+-- both, of a run that goes through a list or not
+abbrev pub PutsNotes : Bool → Ending → Output → Output → Type 0
+PutsNotes false ending old new = PutsNote ending old new
+PutsNotes true ending old new = WasNoted old new

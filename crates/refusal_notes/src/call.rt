@@ -28,7 +28,7 @@ impl<'a> Call<'a> {
     pub fn new(words: &'a [String]) -> Option<Call<'a>> {
         let (name, words) = words.split_first()?;
         let name = name.as_str();
-        let command = CommandName::read(name)?;
+        let command = CommandName::asked(name, words)?;
         Some(Call {
             name,
             command,
@@ -43,7 +43,7 @@ impl<'a> Call<'a> {
         for word in self.words {
             let word = word.as_str();
             if is_option(word) {
-                is_value = !word.contains('=');
+                is_value = !word.contains('=') && !self.takes_flag(option_name(word));
             } else if is_value {
                 is_value = false;
             } else if left == 0 {
@@ -95,5 +95,15 @@ impl<'a> Call<'a> {
 
     pub fn takes(&self, argument: &str) -> bool {
         self.command.arguments().contains(&argument)
+    }
+
+    /// Whether the command has the option of this name, with a value.
+    pub fn takes_option(&self, name: &str) -> bool {
+        self.command.options().contains(&name)
+    }
+
+    /// Whether the command has the option of this name, without a value.
+    pub fn takes_flag(&self, name: &str) -> bool {
+        self.command.flags().contains(&name)
     }
 }

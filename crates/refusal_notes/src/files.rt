@@ -20,6 +20,8 @@ fn add_base(text: &mut Text, call: &Call<'_>) {
 pub(crate) fn add_missing(text: &mut Text, call: &Call<'_>, name: &str) {
     let form = if call.given("RECORD") == Some(name) {
         "@ is missing: write the name of a record; hypergammon help record shows one"
+    } else if call.given("positions") == Some(name) {
+        "@ is missing: write the name of a file with one position in each line, or /dev/stdin"
     } else {
         match call.command {
             CommandName::Analyse if call.given("BASE") != Some(name) => {

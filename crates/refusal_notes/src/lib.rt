@@ -9,4 +9,4 @@ mod sentence;
 mod texts;
 mod words;
 
-pub use note::{put_note, put_unread_note};
+pub use note::{put_note, put_tally, put_unread_note};

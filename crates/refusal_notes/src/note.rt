@@ -4,7 +4,7 @@ ghost use Rattle.refusal_notes.specs.Notes.{PutsNote, WasNoted};
 use crate::call::Call;
 use crate::files::{add_file, add_game, add_missing, add_other, add_unheld};
 use crate::record::add_record;
-use crate::sentence::{Text, line_of, say};
+use crate::sentence::{Part, Text, line_of, say};
 use crate::texts::{add_condition, add_position, add_roll};
 use crate::words::add_words;
 use equity_report::Refusal;
@@ -71,6 +71,32 @@ pub fn put_note<N: Sink>(notes: &mut N, words: &[String], ending: &Result<(), Ru
     if let Err(stop) = ending {
         put_line(notes, &text_of(words, stop));
     }
+}
+
+/// Puts a line on how many lines of a report on a list tell what is wrong. Where putting fails, a front of it was put.
+pub fn put_tally<N: Sink>(notes: &mut N, report: &[u8])
+    ensures { WasNoted (N.output notes.old) (N.output notes.new) }
+{
+    let (wrong, lines) = tally(report);
+    let mut text = Text::new();
+    let parts = [Part::Number(wrong), Part::Number(lines)];
+    say(&mut text, "@ of @ lines are wrong", &parts);
+    put_line(notes, &text);
+}
+
+/// How many lines begin with a `!`, and how many there are.
+fn tally(report: &[u8]) -> (u64, u64) {
+    let mut wrong: u64 = 0;
+    let mut lines: u64 = 0;
+    let mut begins = true;
+    for byte in report.iter() {
+        if begins && *byte == b'!' {
+            wrong = wrong.saturating_add(1);
+        }
+        begins = *byte == b'\n';
+        lines = lines.saturating_add(u64::from(begins));
+    }
+    (wrong, lines)
 }
 
 /// Puts such a line on words that couldn't be had: one isn't text, or there was no memory for them.

@@ -1,7 +1,10 @@
 use crate::call::Call;
 use crate::sentence::{Part, Text, say};
+use command_line::CommandName;
 use game_record::{BadRecord, RecordFault};
 use move_rules::BadPlay;
+
+const LONG_LIST: &str = "the list is too long: it may have 67108864 bytes, so cut it in two";
 
 fn play_form(bad: BadPlay) -> &'static str {
     match bad {
@@ -47,8 +50,11 @@ fn fault_form(fault: RecordFault) -> &'static str {
     }
 }
 
-/// The first wrong line of a record.
+/// The first wrong line of a record, or a list that is too long.
 pub(crate) fn add_record(text: &mut Text, call: &Call<'_>, bad: BadRecord) {
+    if call.command == CommandName::ShowList {
+        return say(text, LONG_LIST, &[]);
+    }
     if bad.line != 1 {
         return say(
             text,

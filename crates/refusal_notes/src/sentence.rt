@@ -2,6 +2,7 @@ ghost use Rattle.std.specs.Prelude.{◌≡◌};
 ghost use Rattle.refusal_notes.specs.Notes.{IsNote, IsShown};
 
 use arrayvec::{ArrayString, ArrayVec};
+use command_line::CommandName;
 use cube_actions::KindName;
 use equity_report::{GameName, Report, add_game};
 use itoa::Buffer;
@@ -28,8 +29,8 @@ pub(crate) enum Part<'a> {
     Position(&'a Position),
     /// The arguments of a command, each behind a space.
     Arguments(&'static [&'static str]),
-    /// The options of a command, of which it has one or more.
-    Options(&'static [&'static str]),
+    /// The options of a command, of which it has one or more, those without a value last.
+    Options(CommandName),
 }
 
 /// A sentence, or what there is of it.
@@ -67,9 +68,10 @@ fn add_arguments(text: &mut Text, arguments: &[&str]) {
     }
 }
 
-fn add_options(text: &mut Text, options: &[&str]) {
-    let mut left = options.len();
-    for option in options {
+fn add_options(text: &mut Text, command: CommandName) {
+    let (options, flags) = (command.options(), command.flags());
+    let mut left = options.len().saturating_add(flags.len());
+    for option in options.iter().chain(flags.iter()) {
         add(text, "--");
         add(text, option);
         match left {
@@ -96,7 +98,7 @@ fn add_part(text: &mut Text, part: Part<'_>) {
         Part::Game(game) => add_game_told(text, game),
         Part::Position(position) => add(text, print_position(position).as_str()),
         Part::Arguments(arguments) => add_arguments(text, arguments),
-        Part::Options(options) => add_options(text, options),
+        Part::Options(command) => add_options(text, command),
     }
 }
 

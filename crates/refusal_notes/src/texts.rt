@@ -2,6 +2,7 @@ ghost use Rattle.std.specs.Prelude.{◌≤◌};
 
 use crate::call::Call;
 use crate::sentence::{Part, Text, say};
+use position_id::has_id_form;
 use position_rank::{BadPosition, read_place, read_position};
 use roll_table::BadRoll;
 
@@ -79,10 +80,25 @@ fn add_shared(text: &mut Text, mover: &str, other: &str) {
     );
 }
 
+/// The form of a sentence on an ID that tells no position.
+fn form_of_id(bad: BadPosition) -> &'static str {
+    match bad {
+        BadPosition::Shape | BadPosition::Place => {
+            "@ is no position ID: write one of 14 signs, or a position as \"24 23 / 24 23\""
+        }
+        BadPosition::Count => "@ tells more than three checkers of a side, or none of either",
+        BadPosition::SharedPoint => "@ tells a point that both sides hold",
+        BadPosition::Over => "@ tells no checker of a side: the game is over",
+    }
+}
+
 /// A position's text that describes none.
 pub(crate) fn add_position(text: &mut Text, call: &Call<'_>, bad: BadPosition) {
     let position = call.given("POSITION").unwrap_or("");
     let (mover, other) = position.split_once('/').unwrap_or((position, ""));
+    if has_id_form(position) {
+        return say(text, form_of_id(bad), &[Part::Word(position)]);
+    }
     if read_position(call.given("FILE").unwrap_or("")).is_ok() {
         return say(
             text,

@@ -8,6 +8,7 @@ fn may_stand(name: &str) -> Part<'static> {
         "CHECKERS" | "checkers" => "1, 2 or 3",
         "ROUNDS" | "rounds" => "a whole number from 1 to 4096",
         "workers" => "a whole number from 1 to 64",
+        "width" => "points from 0.000001 to 64, with at most six decimals, as 0.001",
         "length" => "a whole number from 1 to 5",
         "GAMES" => "a whole number from 1 to 1000",
         "NUMBER" => "a whole number from 0 to 18446744073709551615",
@@ -42,10 +43,23 @@ fn add_no_value(text: &mut Text, name: &str) {
     );
 }
 
+fn add_needless_value(text: &mut Text, name: &str) {
+    say(
+        text,
+        "--@ takes no value: write --@ alone",
+        &[Part::Text(name), Part::Text(name)],
+    );
+}
+
 /// A word that can't stand in any command.
-fn add_faulty(text: &mut Text, word: &str) {
+fn add_faulty(text: &mut Text, call: &Call<'_>, word: &str) {
     if is_option(word) && word.len() > 2 && word.len() <= 4096 {
-        return add_no_value(text, option_name(word));
+        let name = option_name(word);
+        return if call.takes_flag(name) {
+            add_needless_value(text, name)
+        } else {
+            add_no_value(text, name)
+        };
     }
     let form = if word.is_empty() {
         "a word is empty: write something between the quotes, or leave it out"
@@ -78,8 +92,8 @@ fn has_value(option: &str, behind: Option<&String>) -> bool {
 /// An option that isn't the command's.
 fn add_unknown<'a>(text: &mut Text, call: &Call<'a>, name: &'a str) {
     let (name, command) = (Part::Text(name), Part::Text(call.name));
-    let options = call.command.options();
-    if options.is_empty() {
+    let has_none = call.command.options().is_empty() && call.command.flags().is_empty();
+    if has_none {
         say(
             text,
             "--@ is no option of @, which has none: leave it out",
@@ -89,12 +103,13 @@ fn add_unknown<'a>(text: &mut Text, call: &Call<'a>, name: &'a str) {
         say(
             text,
             "--@ is no option of @: write @",
-            &[name, command, Part::Options(options)],
+            &[name, command, Part::Options(call.command)],
         );
     }
 }
 
-/// What is wrong with the word at this index, where it is an option that isn't the command's, comes again or has no value; whether it is.
+/// What is wrong with the word at this index, where it is an option that isn't the command's, comes again, has no value or has one that it
+/// doesn't take; whether it is.
 fn add_option_fault(text: &mut Text, call: &Call<'_>, at: usize) -> bool {
     let Some(word) = call.words.get(at) else {
         return false;
@@ -102,7 +117,7 @@ fn add_option_fault(text: &mut Text, call: &Call<'_>, at: usize) -> bool {
     let name = option_name(word.as_str());
     if !is_option(word.as_str()) {
         false
-    } else if !call.command.options().contains(&name) {
+    } else if !call.takes_option(name) && !call.takes_flag(name) {
         add_unknown(text, call, name);
         true
     } else if has_option(call.words.get(..at).unwrap_or(&[]), name) {
@@ -112,7 +127,10 @@ fn add_option_fault(text: &mut Text, call: &Call<'_>, at: usize) -> bool {
             &[Part::Text(name)],
         );
         true
-    } else if !has_value(word.as_str(), call.words.get(at + 1)) {
+    } else if call.takes_flag(name) && word.contains('=') {
+        add_needless_value(text, name);
+        true
+    } else if call.takes_option(name) && !has_value(word.as_str(), call.words.get(at + 1)) {
         add_no_value(text, name);
         true
     } else {
@@ -162,6 +180,10 @@ fn add_bad_value(text: &mut Text, call: &Call<'_>, number: u32) {
     if name == "NEW" && call.given("OLD") == Some(value) {
         return say(text, "NEW is OLD: give the new file another name", &[]);
     }
+    if name == "roll" {
+        let form = "whoever was doubled has no roll: leave out --roll or --take";
+        return say(text, form, &[]);
+    }
     let dashes = if call.takes(name) { "" } else { "--" };
     say(
         text,
@@ -183,7 +205,7 @@ pub(crate) fn add_words(text: &mut Text, words: &[String], bad: BadWords) {
     match bad.kind {
         WordsKind::Command => add_no_command(text, words),
         WordsKind::Word => match words.get(bad.place as usize) {
-            Some(word) => add_faulty(text, word.as_str()),
+            Some(word) => add_faulty(text, &call, word.as_str()),
             None => add_no_command(text, words),
         },
         WordsKind::Form => add_misformed(text, &call),

@@ -5,8 +5,8 @@ ghost use Rattle.turn_rule.specs.States.{pair_of};
 ghost use Rattle.race_table.specs.Races.{IsRaceOf};
 ghost use Rattle.race_table.specs.RacePairs.{race_pair};
 ghost use Rattle.race_table.specs.TurnsLeft.{turns_left};
-ghost use Rattle.plain_table.specs.Rounds.{HasRounds};
-ghost use Rattle.plain_table.specs.Tables.{words_of};
+ghost use Rattle.plain_table.specs.Rounds.{HasTable};
+ghost use Rattle.plain_table.specs.Tables.{words_at};
 
 use cube_actions::Stakes;
 use hyper_outside::NoMemory;
@@ -35,7 +35,7 @@ impl BesideRounds {
         requires some { 1 ≤ checkers }
         requires few { checkers ≤ 3 }
         ensures many { IfOk result (λ both. both.checkers ≡ checkers) }
-        ensures rounds { IfOk result (λ both. HasRounds both.table 0) }
+        ensures rounds { IfOk result (λ both. HasTable both.table 0) }
     {
         let stakes = Stakes::cubeless();
         let races = RaceTable::build(alloc, checkers)?;
@@ -60,7 +60,7 @@ impl BesideRounds {
     /// One more round.
     pub(crate) fn sweep(&mut self)
         ensures many { self.new.checkers ≡ self.old.checkers }
-        ensures rounds { (r : ℕ) → HasRounds self.old.table r → HasRounds self.new.table (r + 1) }
+        ensures rounds { (r : ℕ) → HasTable self.old.table r → HasTable self.new.table (r + 1) }
     {
         self.table.sweep_all();
     }
@@ -80,13 +80,13 @@ impl BesideRounds {
     pub(crate) fn is_inside(&self, position: &Position) -> bool
         requires { IsRaceOf self.now.checkers position.now }
         ensures lower { IsTrue result
-            → (pair_of (words_of self.now.table.table) position.now 0).lower
+            → (pair_of (words_at self.now.table.table) position.now 0).lower
             ≤ℤ (race_pair position.now).lower }
         ensures upper { IsTrue result
             → (race_pair position.now).upper
-            ≤ℤ (pair_of (words_of self.now.table.table) position.now 0).upper }
+            ≤ℤ (pair_of (words_at self.now.table.table) position.now 0).upper }
         ensures each { AreNoLooserPairs (race_pair position.now)
-            (pair_of (words_of self.now.table.table) position.now 0) → IsTrue result }
+            (pair_of (words_at self.now.table.table) position.now 0) → IsTrue result }
     {
         let race = self.races.pair(position);
         let round = self.table.pair(position, 0);

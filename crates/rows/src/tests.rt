@@ -3,6 +3,7 @@ mod analyses;
 mod bench;
 mod every_state;
 mod files;
+mod lists;
 mod match_records;
 mod matches;
 mod meetings;

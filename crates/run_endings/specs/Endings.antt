@@ -49,6 +49,11 @@ abbrev pub IsOfShowing : Refusal → Type 0
 IsOfShowing (Base wanted found) = ⊤
 IsOfShowing refusal = IsOfLoading refusal
 
+-- a refusal of a list of positions, or of the file in which they are to be looked up: one of loading, or the list is too long
+abbrev pub IsOfListing : Refusal → Type 0
+IsOfListing (Record bad) = ⊤
+IsOfListing refusal = IsOfLoading refusal
+
 -- a refusal of a file whose words are to be checked: one of loading, or they aren't consistent
 abbrev pub IsOfVerifying : Refusal → Type 0
 IsOfVerifying (Inconsistent unheld) = ⊤

@@ -8,7 +8,7 @@ mod scores;
 mod writing;
 
 pub use ending::RunStop;
-pub use load::{game_told, load_file, look_refusal, open_file};
+pub use load::{game_told, load_file, look_refusal, open_file, open_keeping};
 pub use put::{DONE, end, refuse_unread};
 pub use scores::{ladder_rounds, score_file};
 pub use writing::{begin, settle};

@@ -35,7 +35,7 @@ fn stop_refusal(stop: LoadStop, name: &str) -> Refusal
     }
 }
 
-/// Opens a file of bounds whose pages are to be looked up, or says what refuses it.
+/// Opens a file of bounds whose pages are to be looked up, or says what refuses it. Of those it keeps the 64 that were used last.
 pub fn open_file<F: Files>(alloc: Global, name: &str, files: &mut F) -> Result<PagedBase, Refusal>
     requires { length name.now ≤ 272 }
     ensures told { IsTrue (is_faithful (F.log files.new))
@@ -48,7 +48,29 @@ pub fn open_file<F: Files>(alloc: Global, name: &str, files: &mut F) -> Result<P
         → Rose (read_faults (F.log files.old)) (read_faults (F.log files.new)) }
     ensures reads { ReadsOn (F.log files.old) (F.log files.new) }
 {
-    match open_paged(alloc, files, name, Version::Three, PAGES_KEPT) {
+    open_keeping(alloc, name, files, PAGES_KEPT)
+}
+
+/// The same, of which so many pages are kept at most.
+pub fn open_keeping<F: Files>(
+    alloc: Global,
+    name: &str,
+    files: &mut F,
+    pages: usize,
+) -> Result<PagedBase, Refusal>
+    requires name { length name.now ≤ 272 }
+    requires pages { 1 ≤ pages }
+    ensures told { IsTrue (is_faithful (F.log files.new))
+        → AnswersOpening name.now (standing (F.log files.old) name.now) result }
+    ensures kinds { IfErr result IsOfLoading }
+    ensures name { IfOk result (λ base. base.name ≡ name.now) }
+    ensures of_file { IfOk result (λ base. KeepsPagesOf base (F.log files.new)) }
+    ensures later { read_faults (F.log files.old) ≤ read_faults (F.log files.new) }
+    ensures cause { result ≡ Err Read
+        → Rose (read_faults (F.log files.old)) (read_faults (F.log files.new)) }
+    ensures reads { ReadsOn (F.log files.old) (F.log files.new) }
+{
+    match open_paged(alloc, files, name, Version::Three, pages) {
         Ok(base) => Ok(base),
         Err(stop) => Err(stop_refusal(stop, name)),
     }

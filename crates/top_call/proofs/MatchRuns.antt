@@ -41,7 +41,7 @@ use Rattle.base_commands.specs.Plans.{EndsLadder, HasPlanned, HoldsInTheEnd, fir
 use Rattle.base_commands.specs.Verifies.{MayRefuseVerifying}
 use Rattle.run_endings.specs.Pages.{OfHeld}
 use Rattle.run_endings.specs.Scores.{score_file}
-use Rattle.solve_commands.specs.Ladders.{HasSolvedLadder, SolvedScore, AreScoresSolved, file_of, score_of, scores_in}
+use Rattle.solve_commands.specs.Ladders.{HasSolvedLadder, SolvedScore, AreScoresSolved, file_of, ladder_score, scores_in}
 use Rattle.record_commands.specs.Analyses.{HasAnalysed, JudgesBy}
 use Rattle.record_commands.specs.MatchAnalyses.{HasTrueFile, HoldsTruth, JudgesMatch}
 use Rattle.record_commands.specs.Records.{HoldsRecord}
@@ -83,7 +83,7 @@ module _ (law : Law) (exact : (n : ℕ) → 1 ≤ n → n ≤ 5 → (score : Mat
   score-holds : (score : MatchScore) → IsOfMatch task.match_length score → OfHeld (held (score_file task.prefix score)) HoldsTruth
   score-holds score of_match =
       let (place, inside, is) = (exact task.match_length right.point right.points score).1 of_match in
-      let same : score_of task place ≡ score = get_or_default (ladder task.match_length) place last_game score inside ∙ is in
+      let same : ladder_score task place ≡ score = get_or_default (ladder task.match_length) place last_game score inside ∙ is in
       subst (λ (s : MatchScore). OfHeld (held (score_file task.prefix s)) HoldsTruth) same
       (subst (λ (file : Option (List ℕ)). OfHeld file HoldsTruth) (sym (holds place inside)) (holds-truth law task starts scores solved place (omega (arith, inside, all))))
 

@@ -43,7 +43,7 @@ use Rattle.database_file.proofs.Bases.{kinds-named}
 use Rattle.command_line.specs.declared.command.Advise.{Advise as AdviseTask}
 use Rattle.command_line.specs.declared.command.Analyse.{Analyse as AnalyseTask}
 use Rattle.command_line.specs.declared.command.Command.{Command}
-use Rattle.command_line.specs.declared.command.Command.TheVariants.{Show, Migrate, Advise, Verify, Analyse, Study, Plan, Scan, Reply}
+use Rattle.command_line.specs.declared.command.Command.TheVariants.{Show, ShowList, Migrate, Advise, Verify, Analyse, Study, Plan, Scan, Reply}
 use Rattle.command_line.specs.declared.command.Ladder.{Ladder as LadderTask}
 use Rattle.command_line.specs.declared.command.Make.{Make as MakeTask}
 use Rattle.command_line.specs.declared.command.Show.{Show as ShowTask}
@@ -53,7 +53,7 @@ use Rattle.command_line.specs.Right.{IsRightAdvise, IsRightCommand, IsRightLadde
 use Rattle.base_commands.specs.Advises.{RestsOn}
 use Rattle.base_commands.specs.Games.{HasState}
 use Rattle.base_commands.specs.Plans.{IsOfFirstGame}
-use Rattle.base_commands.specs.RightFiles.{AdviceRestsOn, CanLoad, CanLookUp, HasConsistentWords, IsRightForPlanning, IsRightForReplying, IsRightForVerifying}
+use Rattle.base_commands.specs.RightFiles.{AdviceRestsOn, CanLoad, CanLookUp, HasConsistentWords, HasRightFront, IsRightForPlanning, IsRightForReplying, IsRightForVerifying}
 use Rattle.run_endings.specs.Loads.{game_told}
 use Rattle.run_endings.specs.Pages.{OfHeld}
 use Rattle.run_endings.specs.Scores.{score_file}
@@ -62,7 +62,7 @@ use Rattle.record_commands.specs.MatchAnalyses.{game_at}
 use Rattle.record_commands.specs.Records.{HoldsRecord, game_recorded, match_length}
 use Rattle.record_commands.specs.RightRecords.{CanJudgeAll, CanJudgeAtScore, CanJudgeBy, HasRightPages}
 use Rattle.record_commands.specs.declared.record.Replayed.{Replayed}
-use Rattle.solve_commands.specs.Ladders.{HasSolvedLadder, SolvedScore, score_of, scores_in}
+use Rattle.solve_commands.specs.Ladders.{HasSolvedLadder, SolvedScore, ladder_score, scores_in}
 use Rattle.solve_commands.specs.Solves.{HasSolved, head_of, solved_file}
 use Rattle.top_call.specs.Headline.{HoldLadder, ladder_file, ladder_head}
 use Rattle.top_call.specs.RightRuns.{IsRightFor}
@@ -119,6 +119,7 @@ module _ (law : Law) (head : FileHead) (words : WordList) (bytes : List ℕ) (te
 
   right-for : (command : Command) → IsRightCommand command → (held : Contents) → AsksOf head held command → held (file_read command) ≡ Some bytes → IsRightFor command held
   right-for (Show task) fit held asks is = subst (λ (file : Option (List ℕ)). OfHeld file (CanLookUp (λ head. head.checkers ≡ sum task.position.mover) (λ head q k. q ≡ task.position))) (sym is) (show-file task fit asks)
+  right-for (ShowList task) fit held asks is = (asks, subst HasRightFront (sym is) (held-front law head words bytes text))
   right-for (Advise task) fit held asks is = subst (λ (file : Option (List ℕ)). OfHeld file (CanLookUp (HasState task.position task.kind) (AdviceRestsOn task))) (sym is) (advise-file task fit asks)
   right-for (Verify task) fit held asks is = subst (λ (file : Option (List ℕ)). IsRightForVerifying Three file) (sym is) (held-load law head words bytes text HasConsistentWords consistent)
   right-for (Migrate task) fit held asks is = (subst (λ (file : Option (List ℕ)). IsRightForVerifying One file) (sym is) (held-load-any law head words bytes text HasConsistentWords consistent), asks)
@@ -146,13 +147,13 @@ plain-stakes MoneyBeavers apart = search rules
 plain-stakes JacobyBeavers apart = search rules
 plain-stakes (Match score) apart = absurd (apart score refl)
 
-pub right-solved : Law → (solve : SolveTask) (before after : List Event) (put_before put_after : Output) → IsRightSolve solve → HasSolved solve before after put_before put_after
-    → (command : Command) (held : Contents) → IsRightCommand command → AsksOf (head_of solve) held command → held (file_read command) ≡ standing after solve.file → IsRightFor command held
+pub right-solved : Law → (solve : SolveTask) (before after : List Event) (put_before put_after : Output) → IsRightSolve solve → (solved : HasSolved solve before after put_before put_after)
+    → (command : Command) (held : Contents) → IsRightCommand command → AsksOf (head_of solve solved.words.rounds) held command → held (file_read command) ≡ standing after solve.file → IsRightFor command held
 right-solved law solve before after put_before put_after right solved command held fit asks is =
     let words = solved.words in
     let bytes = solved_file solve words in
-    let game : IsGame (game_in (head_of solve)) = record { low = right.some; high = right.few; stakes = plain-stakes solve.stakes right.no_match } in
-    right-for law (head_of solve) words bytes (solved-text solve words right solved.solved) game solved.solved.consistent command fit held asks
+    let game : IsGame (game_in (head_of solve words.rounds)) = record { low = right.some; high = right.few; stakes = plain-stakes solve.stakes right.no_match } in
+    right-for law (head_of solve words.rounds) words bytes (solved-text solve words right solved.solved) game solved.solved.consistent command fit held asks
     (is ∙ stands solve.file bytes before after solved.file)
 
 pub right-score : Law → (task : LadderTask) (before after : List Event) (put_before put_after : Output) (solved : HasSolvedLadder task before after put_before put_after) (place : ℕ) → place < scores_in task
@@ -174,8 +175,8 @@ MatchLaw = (prefix : List ℕ) (rec : RecordRead) (decisions : List Decision) (h
     → ((score : MatchScore) → IsOfMatch points score → OfHeld (held (score_file prefix score)) (HasRightPages (game_at rec score))) → All (CanJudgeAtScore prefix rec held) decisions
 
 pub right-analysis : Law → PlainLaw → (solve : SolveTask) (analyse : AnalyseTask) (held : Contents) (before after : List Event) (put_before put_after : Output) (replayed : Replayed) → IsRightSolve solve
-    → HasSolved solve before after put_before put_after → held analyse.base ≡ standing after solve.file → OfHeld (held analyse.rec) (λ bytes. HoldsRecord bytes replayed) → is_match replayed.rec.stakes ≡ false
-    → game_recorded replayed.rec ≡ game_told (head_of solve) → IsRightFor (Analyse analyse) held
+    → (solved : HasSolved solve before after put_before put_after) → held analyse.base ≡ standing after solve.file → OfHeld (held analyse.rec) (λ bytes. HoldsRecord bytes replayed) → is_match replayed.rec.stakes ≡ false
+    → game_recorded replayed.rec ≡ game_told (head_of solve solved.words.rounds) → IsRightFor (Analyse analyse) held
 right-analysis law judges solve analyse held before after put_before put_after replayed right solved is holds plain same = record {
   replayed = replayed;
   record_file = holds;
@@ -193,9 +194,9 @@ right-analysis law judges solve analyse held before after put_before put_after r
   can : CanJudgeAll (game_recorded replayed.rec) replayed.decisions bytes
   can =
       let (valid, replay) = read-right (held analyse.rec) replayed holds in
-      let game : IsGame (game_in (head_of solve)) = record { low = right.some; high = right.few; stakes = plain-stakes solve.stakes right.no_match } in
+      let game : IsGame (game_in (head_of solve words.rounds)) = record { low = right.some; high = right.few; stakes = plain-stakes solve.stakes right.no_match } in
       judges replayed.rec replayed.decisions bytes valid replay plain
-      (right-pages law (head_of solve) words bytes (solved-text solve words right solved.solved) game solved.solved.consistent (game_recorded replayed.rec) (sym same))
+      (right-pages law (head_of solve words.rounds) words bytes (solved-text solve words right solved.solved) game solved.solved.consistent (game_recorded replayed.rec) (sym same))
 
 pub right-match-analysis : Law → MatchLaw → ((n : ℕ) → 1 ≤ n → n ≤ 5 → (score : MatchScore) → Contains (ladder n) score ↔ IsOfMatch n score)
     → (task : LadderTask) (analyse : AnalyseTask) (held : Contents) (before after : List Event) (put_before put_after : Output) (replayed : Replayed) → IsRightLadder task → (solved : HasSolvedLadder task before after put_before put_after)
@@ -215,21 +216,21 @@ right-match-analysis law judges exact task analyse held before after put_before 
   rec : RecordRead
   rec = replayed.rec
 
-  place-pages : (place : ℕ) → place < scores_in task → HasRightPages (game_at rec (score_of task place)) (ladder_file task starts scores place)
+  place-pages : (place : ℕ) → place < scores_in task → HasRightPages (game_at rec (ladder_score task place)) (ladder_file task starts scores place)
   place-pages place inside =
       let score = solved.scores.solved.each place (subst (λ (n : ℕ). place < n) (sym solved.whole) inside) in
       let same_checkers = sym checkers in
       let same_length = solved.scores.solved.of_length ∙ ap match_length (sym stakes) in
-      let game : game_told (ladder_head task starts place) ≡ game_at rec (score_of task place) = λ i. record { checkers = same_checkers i; stakes = Match (score_of task place); match_length = same_length i } in
+      let game : game_told (ladder_head task starts place) ≡ game_at rec (ladder_score task place) = λ i. record { checkers = same_checkers i; stakes = Match (ladder_score task place); match_length = same_length i } in
       right-pages law (ladder_head task starts place) (scores place).words (ladder_file task starts scores place) score.text
-      (subst IsGame score.closed.game score.closed.valid) score.closed.closed.consistent (game_at rec (score_of task place)) game
+      (subst IsGame score.closed.game score.closed.valid) score.closed.closed.consistent (game_at rec (ladder_score task place)) game
 
   score-pages : (score : MatchScore) → IsOfMatch task.match_length score → OfHeld (held (score_file task.prefix score)) (HasRightPages (game_at rec score))
   score-pages score of_match =
       let (place, inside, is) = (exact task.match_length right.point right.points score).1 of_match in
-      let at : score_of task place ≡ score = get_or_default (ladder task.match_length) place last_game score inside ∙ is in
+      let at : ladder_score task place ≡ score = get_or_default (ladder task.match_length) place last_game score inside ∙ is in
       subst (λ (s : MatchScore). OfHeld (held (score_file task.prefix s)) (HasRightPages (game_at rec s))) at
-      (subst (λ (file : Option (List ℕ)). OfHeld file (HasRightPages (game_at rec (score_of task place)))) (sym (files place inside)) (place-pages place inside))
+      (subst (λ (file : Option (List ℕ)). OfHeld file (HasRightPages (game_at rec (ladder_score task place)))) (sym (files place inside)) (place-pages place inside))
 
   can : All (CanJudgeAtScore task.prefix rec held) replayed.decisions
   can =

@@ -52,19 +52,19 @@ no-starts-of (Match score) apart = absurd (apart score refl)
 none-before : AreStarts no_starts
 none-before = record { from = omega arith; to = omega arith; room = omega arith; within = λ k d lt. absurd (omega (arith, lt)) }
 
-solved-head : (solve : SolveTask) → IsRightSolve solve → IsHead (head_of solve)
-solved-head solve right = record {
+solved-head : (solve : SolveTask) (words : WordList) → IsRightSolve solve → AreSolved solve words → IsHead (head_of solve words.rounds)
+solved-head solve words right solved = record {
   some = right.some;
   few = right.few;
-  begun = right.begun;
-  ended = right.ended;
+  begun = solved.last.some;
+  ended = omega (arith, solved.last.most, right.ended);
   valid = none-before;
   starts = no-starts-of solve.stakes right.no_match;
 }
 
-pub solved-text : (solve : SolveTask) (words : WordList) → IsRightSolve solve → AreSolved solve words → IsText Three (head_of solve) words (solved_file solve words)
+pub solved-text : (solve : SolveTask) (words : WordList) → IsRightSolve solve → AreSolved solve words → IsText Three (head_of solve words.rounds) words (solved_file solve words)
 solved-text solve words right solved = record {
-  valid = solved-head solve right;
+  valid = solved-head solve words right solved;
   takes = three-takes solve.stakes;
   fitting = solved.fitting;
   right = solved.right;
@@ -120,23 +120,23 @@ plainly name replayed held list file plain stand judges =
 -- ---- the laws
 
 pub good-advice : Law
-    → (solve : SolveTask) (advise : AdviseTask) (before after : List Event) (put_before put_after old new : Output) → IsRightSolve solve → HasSolved solve before after put_before put_after
-    → HasAdvised advise true (standing after solve.file) (λ text. IsPut old new text) → PrintsGoodAdvice (head_of solve) advise (λ text. IsPut old new text)
+    → (solve : SolveTask) (advise : AdviseTask) (before after : List Event) (put_before put_after old new : Output) → IsRightSolve solve → (solved : HasSolved solve before after put_before put_after)
+    → HasAdvised advise true (standing after solve.file) (λ text. IsPut old new text) → PrintsGoodAdvice (head_of solve solved.words.rounds) advise (λ text. IsPut old new text)
 good-advice law solve advise before after put_before put_after old new right solved advised =
     let words = solved.words in
-    good-from law (head_of solve) words (solved_file solve words) (solved-text solve words right solved.solved) solved.solved.sound advise (λ text. IsPut old new text) (standing after solve.file)
+    good-from law (head_of solve words.rounds) words (solved_file solve words) (solved-text solve words right solved.solved) solved.solved.sound advise (λ text. IsPut old new text) (standing after solve.file)
     (stands solve.file (solved_file solve words) before after solved.file) advised
 
 pub solved-consistent : Law → (solve : SolveTask) (before after : List Event) (put_before put_after : Output) (refusal : Refusal) → IsRightSolve solve → HasSolved solve before after put_before put_after
     → MayRefuseVerifying Three solve.file true (standing after solve.file) refusal → IsOutside refusal
 solved-consistent law solve before after put_before put_after refusal right solved not =
     let words = solved.words in
-    held-consistent law (head_of solve) words (solved_file solve words) (solved-text solve words right solved.solved) solved.solved.consistent solve.file refusal
+    held-consistent law (head_of solve words.rounds) words (solved_file solve words) (solved-text solve words right solved.solved) solved.solved.consistent solve.file refusal
     (subst (λ (held : Option (List ℕ)). MayRefuseVerifying Three solve.file true held refusal) (stands solve.file (solved_file solve words) before after solved.file) not)
 
 pub true-losses : Law
-    → (solve : SolveTask) (analyse : Analyse) (held : Contents) (before after : List Event) (put_before put_after old new : Output) → IsRightSolve solve → HasSolved solve before after put_before put_after
-    → held analyse.base ≡ standing after solve.file → (analysed : HasAnalysed analyse true held (λ text. IsPut old new text)) → is_match analysed.analysed.replayed.rec.stakes ≡ false → PrintsTrueLosses (head_of solve) (λ text. IsPut old new text)
+    → (solve : SolveTask) (analyse : Analyse) (held : Contents) (before after : List Event) (put_before put_after old new : Output) → IsRightSolve solve → (solved : HasSolved solve before after put_before put_after)
+    → held analyse.base ≡ standing after solve.file → (analysed : HasAnalysed analyse true held (λ text. IsPut old new text)) → is_match analysed.analysed.replayed.rec.stakes ≡ false → PrintsTrueLosses (head_of solve solved.words.rounds) (λ text. IsPut old new text)
 true-losses law solve analyse held before after put_before put_after old new right solved finds analysed plain =
     let words = solved.words in
     let replayed = analysed.analysed.replayed in
@@ -144,6 +144,6 @@ true-losses law solve analyse held before after put_before put_after old new rig
     record {
       list = analysed.list;
       printed = analysed.report;
-      true = true-for law (head_of solve) words (solved_file solve words) (solved-text solve words right solved.solved) solved.solved.sound replayed.rec replayed.decisions analysed.list
+      true = true-for law (head_of solve words.rounds) words (solved_file solve words) (solved-text solve words right solved.solved) solved.solved.sound replayed.rec replayed.decisions analysed.list
           (plainly analyse.base replayed held analysed.list (solved_file solve words) plain stand (analysed.analysed.base_files refl));
     }

@@ -8,7 +8,7 @@ use Rattle.play_analyser.specs.declared.ranking.Ranking.{Ranking}
 use Rattle.play_analyser.specs.Advised.{ActionLosesAtMost, FirstLosesAtMost}
 use Rattle.base_head.specs.Heads.{FileHead}
 use Rattle.database_file.specs.Texts.{game_in}
-use Rattle.base_reports.specs.Advice.{cube_text, ranking_text}
+use Rattle.base_reports.specs.Advice.{cube_report, ranking_text}
 use Rattle.record_reports.specs.Analyses.{analysis_text}
 use Rattle.match_scores.specs.Ladders.{starts_till}
 use Rattle.record_analysis.specs.Truth.{IsTrueAnalysis}
@@ -21,7 +21,7 @@ use Rattle.run_endings.specs.Pages.{InTheEnd}
 use Rattle.match_plan.specs.Plans.{plan_text}
 use Rattle.base_commands.specs.Plans.{HoldsInTheEnd}
 use Rattle.base_commands.specs.Games.{IsKindAsked}
-use Rattle.solve_commands.specs.Ladders.{SolvedScore, file_of, score_bytes, score_head, score_of, scores_in}
+use Rattle.solve_commands.specs.Ladders.{SolvedScore, file_of, score_bytes, score_head, ladder_score, scores_in}
 
 -- The plays of a roll were printed from the best to the worst, and in the game of the head, of enough turns and however its unfinished end is
 -- scored, the first of them loses at most the printed bound.
@@ -43,7 +43,7 @@ pub record PrintsGoodActions (head : FileHead) (advise : AdviseTask)
   pub kind : AskedKind
   pub advice : CubeAdvice
   pub asked : IsKindAsked head advise.kind kind
-  pub printed : IsPrinted (cube_text advise.position kind.name advice)
+  pub printed : IsPrinted (cube_report advise.take advise.position kind.name advice)
   pub loses :
       InTheEnd (game_in head) (λ scoring turns.
       ActionLosesAtMost (game_in head) scoring turns advise.position kind.number
@@ -82,12 +82,12 @@ pub record PrintsTruePlan (checkers : ℕ) (IsPrinted : List ℕ → Type 0) : T
 
 -- the head of the file of the score at a place, for these start pairs
 abbrev pub ladder_head : LadderTask → StartPairs → ℕ → FileHead
-ladder_head task starts place = score_head task (score_of task place) (starts_till starts place)
+ladder_head task starts place = score_head task (ladder_score task place) (starts_till starts place)
 
 -- the file of the score at a place, as it was written for these start pairs
 abbrev pub ladder_file : LadderTask → StartPairs → (ℕ → SolvedScore) → ℕ → List ℕ
 ladder_file task starts scores place =
-    score_bytes task (score_of task place) (starts_till starts place) (scores place).words
+    score_bytes task (ladder_score task place) (starts_till starts place) (scores place).words
 
 -- the files of a match's scores hold what solving it wrote
 abbrev pub HoldLadder : (task : LadderTask) → StartPairs → (ℕ → SolvedScore) → Contents → Type 0

@@ -1,5 +1,5 @@
 -- What a run does, by what its words ask for.
-use Rattle.std.specs.Prelude.{◌≡◌, ℕ, List, String, Result, Ok, Err, ◌⊎◌, OnErr, ⊤}
+use Rattle.std.specs.Prelude.{◌≡◌, ℕ, Bool, true, false, List, String, Result, Ok, Err, ◌⊎◌, OnErr, ⊤}
 use Rattle.std.specs.declared.alloc.Global.{Global}
 use Rattle.hyper_outside.specs.Causes.{Rose}
 use Rattle.outside_log.specs.Log.{Event, LeavesPlaces, failures, standing}
@@ -7,21 +7,23 @@ use Rattle.outside_log.specs.Readings.{ReadsOn, is_faithful, read_faults}
 use Rattle.outside_log.specs.Sink.{Output}
 use Rattle.word_forms.specs.Clap.{bytes_of}
 use Rattle.command_line.specs.declared.command.Command.{Command}
-use Rattle.command_line.specs.declared.command.Command.TheVariants.{Bound, Race, Solve, Show, Migrate, Advise, Verify, Ladder, Analyse, Study, Make, Plan, Scan, Reply, Board}
+use Rattle.command_line.specs.declared.command.Command.TheVariants.{Bound, Race, Solve, Show, ShowList, Migrate, Advise, Verify, Ladder, Analyse, Study, Make, Plan, Scan, Reply, Board}
 use Rattle.command_line.specs.declared.stop.WordsFault.{WordsFault}
-use Rattle.command_line.specs.declared.stop.WordsFault.TheVariants as faults
 use Rattle.command_line.specs.declared.stop.WordsStop.{WordsStop}
 use Rattle.command_line.specs.declared.stop.WordsStop.TheVariants.{Bad, NoMemory}
 use Rattle.command_line.specs.Words.{reading}
 use Rattle.equity_report.specs.declared.refusal.Refusal.{Refusal}
-use Rattle.equity_report.specs.declared.refusal.Refusal.TheVariants.{Words, Position, Roll, Read, Memory, Condition}
+use Rattle.equity_report.specs.declared.refusal.Refusal.TheVariants.{Read, Memory, Condition}
 use Rattle.run_endings.specs.declared.ending.RunStop.TheVariants.{Refused, NotWritten}
-use Rattle.run_endings.specs.Endings.{Ending, EndsBy, IsOfAnalysing, IsOfBounding, IsOfMigrating, IsOfRacing, IsOfReplaying, IsOfScanning, IsOfShowing, IsOfVerifying, IsOfWriting, PutsEnding, status_at}
+use Rattle.run_endings.specs.Endings.{Ending, EndsBy, IsOfAnalysing, IsOfBounding, IsOfListing, IsOfMigrating, IsOfRacing, IsOfReplaying, IsOfScanning, IsOfShowing, IsOfVerifying, IsOfWriting, PutsEnding, status_at}
+use Rattle.refusal_notes.specs.Notes.{PutsTally}
 use Rattle.base_commands.specs.Advises.{TellsAdvice}
+use Rattle.base_commands.specs.Lists.{words_refusal}
 use Rattle.base_commands.specs.Migrates.{Migrates}
 use Rattle.base_commands.specs.Plans.{TellsPlan, first_file}
 use Rattle.base_commands.specs.Replies.{TellsReply}
 use Rattle.base_commands.specs.Scans.{TellsScan}
+use Rattle.base_commands.specs.ShowLists.{TellsShownList}
 use Rattle.base_commands.specs.Shows.{TellsShown}
 use Rattle.base_commands.specs.Verifies.{TellsVerified}
 use Rattle.solve_commands.specs.Ladders.{SolvesLadder}
@@ -39,13 +41,7 @@ use Rattle.top_call.specs.Boards.{TellsBoard}
 abbrev pub asked : List (String Global) → Result Command WordsFault
 asked words = reading (bytes_of words)
 
--- the refusal of words with which this is wrong
-abbrev pub words_refusal : WordsFault → Refusal
-words_refusal (faults.Words bad) = Words bad
-words_refusal (faults.Position bad) = Position bad
-words_refusal (faults.Roll bad) = Roll bad
-
--- the same, where there may have been no memory for them
+-- the refusal of words that weren't read, where there may have been no memory for them
 abbrev pub unread_refusal : WordsStop → Refusal
 unread_refusal (Bad fault) = words_refusal fault
 unread_refusal NoMemory = Memory
@@ -58,6 +54,7 @@ Ends (Bound task) ending = EndsBy IsOfBounding ending
 Ends (Race task) ending = EndsBy IsOfRacing ending
 Ends (Solve task) ending = EndsBy IsOfWriting ending
 Ends (Show task) ending = EndsBy IsOfShowing ending
+Ends (ShowList task) ending = EndsBy IsOfListing ending
 Ends (Migrate task) ending = EndsBy IsOfMigrating ending
 Ends (Advise task) ending = EndsBy IsOfShowing ending
 Ends (Verify task) ending = EndsBy IsOfVerifying ending
@@ -81,6 +78,8 @@ HasRun (Solve task) before after old new ending =
     Solves task (is_faithful after) (standing before task.file) before after old new ending
 HasRun (Show task) before after old new ending =
     TellsShown task (is_faithful after) (standing before task.file) old new ending
+HasRun (ShowList task) before after old new ending =
+    TellsShownList task (is_faithful after) (standing before) old new ending
 HasRun (Migrate task) before after old new ending =
     Migrates task (is_faithful after) (standing before) before after old new ending
 HasRun (Advise task) before after old new ending =
@@ -159,3 +158,19 @@ LeavesFiles _ ending = ⊥
 abbrev pub LeavesAllFiles : Result Command WordsFault → Ending → Type 0
 LeavesAllFiles (Ok command) ending = LeavesFiles command ending
 LeavesAllFiles (Err fault) ending = ⊤
+
+-- ---- notes
+
+-- whether a command goes through a list
+abbrev pub is_list : Command → Bool
+is_list (ShowList task) = true
+is_list _ = false
+
+abbrev pub asks_list : Result Command WordsFault → Bool
+asks_list (Ok command) = is_list command
+asks_list (Err fault) = false
+
+-- what is noted before a refusal is told: the tally of a list
+abbrev pub NotesBefore : Bool → Ending → Output → Output → Type 0
+NotesBefore true ending old new = PutsTally ending old new
+NotesBefore false ending old new = new ≡ old

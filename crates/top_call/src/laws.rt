@@ -47,9 +47,10 @@ pub fn advice_from_a_solved_file_loses_at_most_its_printed_bounds()
     ensures { (solve : Solve) (advise : Advise) (before after : List Event)
         (put_before put_after old new : Output)
         → IsRightSolve solve
-        → HasSolved solve before after put_before put_after
+        → (solved : HasSolved solve before after put_before put_after)
         → HasAdvised advise true (standing after solve.file) (λ text. IsPut old new text)
-        → PrintsGoodAdvice (head_of solve) advise (λ text. IsPut old new text) }
+        → PrintsGoodAdvice (head_of solve solved.words.rounds) advise
+        (λ text. IsPut old new text) }
 {
     texts_are_read_back();
 }
@@ -71,11 +72,11 @@ pub fn solved_files_are_consistent()
 pub fn analyses_by_a_solved_file_are_true()
     ensures { (solve : Solve) (analyse : Analyse) (held : Contents) (before after : List Event)
         (put_before put_after old new : Output)
-        → IsRightSolve solve → HasSolved solve before after put_before put_after
+        → IsRightSolve solve → (solved : HasSolved solve before after put_before put_after)
         → held analyse.base ≡ standing after solve.file
         → (analysed : HasAnalysed analyse true held (λ text. IsPut old new text))
         → is_match analysed.analysed.replayed.rec.stakes ≡ false
-        → PrintsTrueLosses (head_of solve) (λ text. IsPut old new text) }
+        → PrintsTrueLosses (head_of solve solved.words.rounds) (λ text. IsPut old new text) }
 {
     texts_are_read_back();
 }
@@ -159,9 +160,10 @@ pub fn right_runs_are_done()
 /// a kind of its states, the text of a condition, a new name that may be written. So by the law above such a run over it is done.
 pub fn solved_files_are_right()
     ensures { (solve : Solve) (before after : List Event) (put_before put_after : Output)
-        → IsRightSolve solve → HasSolved solve before after put_before put_after
+        → IsRightSolve solve → (solved : HasSolved solve before after put_before put_after)
         → (command : Command) (held : Contents) → IsRightCommand command
-        → AsksOf (head_of solve) held command → held (file_read command) ≡ standing after solve.file
+        → AsksOf (head_of solve solved.words.rounds) held command
+        → held (file_read command) ≡ standing after solve.file
         → IsRightFor command held }
 {
     texts_are_read_back();
@@ -185,11 +187,11 @@ pub fn files_of_a_solved_match_are_right()
 pub fn records_are_analysed_by_a_solved_file()
     ensures { (solve : Solve) (analyse : Analyse) (held : Contents) (before after : List Event)
         (put_before put_after : Output) (replayed : Replayed)
-        → IsRightSolve solve → HasSolved solve before after put_before put_after
+        → IsRightSolve solve → (solved : HasSolved solve before after put_before put_after)
         → held analyse.base ≡ standing after solve.file
         → OfHeld (held analyse.rec) (λ bytes. HoldsRecord bytes replayed)
         → is_match replayed.rec.stakes ≡ false
-        → game_recorded replayed.rec ≡ game_told (head_of solve)
+        → game_recorded replayed.rec ≡ game_told (head_of solve solved.words.rounds)
         → IsRightFor (ToAnalyse analyse) held }
 {
     texts_are_read_back();

@@ -6,12 +6,15 @@ ghost use Rattle.command_line.specs.Right.{IsRightCommand};
 ghost use Rattle.equity_report.specs.declared.refusal.Refusal.TheVariants.{Read};
 ghost use Rattle.run_endings.specs.declared.ending.RunStop.TheVariants.{NotWritten, Refused};
 ghost use Rattle.run_endings.specs.Endings.{Ending, PutsEnding, status_at};
-ghost use Rattle.refusal_notes.specs.Notes.{PutsNote};
-ghost use Rattle.top_call.specs.Outcomes.{Ends, HasRun, KeepsFiles, LeavesAllFiles, LeavesFiles, Runs, asked, unread_refusal};
+ghost use Rattle.refusal_notes.specs.Notes.{PutsNote, PutsNotes};
+ghost use Rattle.top_call.specs.Outcomes.{Ends, HasRun, KeepsFiles, LeavesAllFiles, LeavesFiles, NotesBefore, Runs, asked, asks_list, is_list, unread_refusal};
 
 use crate::board::run_board;
-use base_commands::{run_advise, run_migrate, run_plan, run_reply, run_scan, run_show, run_verify};
-use command_line::{Command, WordsFault, WordsStop, read_words};
+use base_commands::{
+    run_advise, run_migrate, run_plan, run_reply, run_scan, run_show, run_show_list, run_verify,
+    words_refusal,
+};
+use command_line::{Command, WordsStop, read_words};
 use equity_report::Refusal;
 use hyper_outside::Gate;
 use outside_log::{Files, Sink};
@@ -24,24 +27,23 @@ use std::thread::Threads;
 use worker_team::Team;
 
 /// The refusal of words that weren't read.
-fn words_refusal(stop: WordsStop) -> Refusal
+fn unread_refusal(stop: WordsStop) -> Refusal
     ensures { result ≡ unread_refusal stop }
 {
     match stop {
-        WordsStop::Bad(WordsFault::Words(bad)) => Refusal::Words(bad),
-        WordsStop::Bad(WordsFault::Position(bad)) => Refusal::Position(bad),
-        WordsStop::Bad(WordsFault::Roll(bad)) => Refusal::Roll(bad),
+        WordsStop::Bad(fault) => words_refusal(fault),
         WordsStop::NoMemory => Refusal::Memory,
     }
 }
 
 /// Does what is asked for, up to the line of a refusal.
-fn perform<R: Threads + Sync, F: Files, O: Sink, G: Gate + Sync>(
+fn perform<R: Threads + Sync, F: Files, O: Sink, N: Sink, G: Gate + Sync>(
     rt: &R,
     alloc: Global,
     command: Command,
     files: &mut F,
     out: &mut O,
+    notes: &mut N,
     gate: &G,
 ) -> Result<(), RunStop>
     requires { IsRightCommand command }
@@ -55,6 +57,8 @@ fn perform<R: Threads + Sync, F: Files, O: Sink, G: Gate + Sync>(
         → Rose (read_faults (F.log files.old)) (read_faults (F.log files.new)) }
     ensures kept { KeepsFiles command (F.log files.old) (F.log files.new) result }
     ensures untouched { LeavesFiles command result → files.new ≡ files.old }
+    ensures noted { NotesBefore (is_list command) result
+        (N.output notes.old) (N.output notes.new) }
 {
     match command {
         Command::Bound(task) => run_bound(alloc, &task, out),
@@ -64,6 +68,7 @@ fn perform<R: Threads + Sync, F: Files, O: Sink, G: Gate + Sync>(
             run_solve(&team, alloc, &task, files, out, gate)
         }
         Command::Show(task) => run_show(alloc, &task, files, out),
+        Command::ShowList(task) => run_show_list(alloc, &task, files, out, notes),
         Command::Migrate(task) => {
             let team = Team::new(rt, task.workers);
             run_migrate(&team, alloc, &task, files, out, gate)
@@ -128,6 +133,8 @@ fn conclude<O: Sink, N: Sink>(
 ///   Each encloses those of all exact starts inside these pairs; and where the file is the last one of a match that was solved, those of
 ///   the match itself, from one number of turns on for all of them.
 /// - `show`: of the position's pairs in the file, whose header and page are right.
+/// - `show` with `--positions`: for each line of a list, in their order, what `show` of its position alone says by the same file, whose header
+///   is right: the position's pairs, or behind a `!` the refusal of the line's text, of the position or of its page.
 /// - `migrate`: the new file, of version 3, holds the old one's head and words. The old one is of any version, and its words are
 ///   consistent as those of `verify` are.
 /// - `advise`: of the plays of a roll, or of what to do with the cube, by the pairs of the file, whose header and pages are right as
@@ -161,8 +168,8 @@ fn conclude<O: Sink, N: Sink>(
 ///    11 where the text of `scan` isn't that of a condition, with the first word with which none can go on.
 /// 3. 13 comes where what stands under the name of a file that `solve`, `migrate`, `make` or `ladder` is to write has a byte and
 ///    begins otherwise than files of its kind. That the file can be begun, of `ladder` each, is seen before any work is done.
-/// 4. Of a record that is to be read: 3 where it isn't there; 5 where its file is too long, or a line of it is wrong, with the
-///    first.
+/// 4. Of a record or a list that is to be read: 3 where it isn't there; 5 where its file is too long, or a line of a record is
+///    wrong, with the first.
 /// 5. Of a file of bounds that is to be read: 3 where it isn't there; 4 where it isn't one of version 3, or of any for `migrate`, of
 ///    `show`, `advise` and `analyse` up to its pages; 10 where these or `reply` are asked for a position of another number of
 ///    checkers, `advise` or `reply` for a kind that the game hasn't, or `analyse` for a record of another game, or where the file
@@ -176,7 +183,8 @@ fn conclude<O: Sink, N: Sink>(
 /// 6 comes only where reading a file failed, 7 only where writing a file or the output failed, 8 where there was no memory. At 7 the
 /// report or a front of it may stand before the line. At all but 0 no file changed, but that those of the scores stay that a `ladder`
 /// has solved; their lines stand before that of the refusal. What lets one mend the call is put to the notes, a line without a control
-/// byte in it, or a front of it where that failed; at status 0 nothing is.
+/// byte in it, or a front of it where that failed; at status 0 nothing is, but such a line of a list that was gone through: how many of its
+/// lines are wrong.
 pub fn run<R: Threads + Sync, F: Files, O: Sink, N: Sink, G: Gate + Sync>(
     rt: &R,
     alloc: Global,
@@ -190,18 +198,19 @@ pub fn run<R: Threads + Sync, F: Files, O: Sink, N: Sink, G: Gate + Sync>(
         × Runs (asked words.now) (F.log files.old) (F.log files.new)
         (O.output out.old) (O.output out.new) result ending
         × (LeavesAllFiles (asked words.now) ending → files.new ≡ files.old)
-        × PutsNote ending (N.output notes.old) (N.output notes.new) }
+        × PutsNotes (asks_list (asked words.now)) ending
+        (N.output notes.old) (N.output notes.new) }
 {
     match read_words(alloc, words) {
         Ok(command) => {
-            let ending = perform(rt, alloc, command, files, out, gate);
+            let ending = perform(rt, alloc, command, files, out, notes, gate);
             conclude(words, out, notes, ending)
         }
         Err(stop) => conclude(
             words,
             out,
             notes,
-            Err(RunStop::Refused(words_refusal(stop))),
+            Err(RunStop::Refused(unread_refusal(stop))),
         ),
     }
 }

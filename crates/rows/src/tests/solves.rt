@@ -36,6 +36,28 @@ fn a_game_is_solved(rt: HostRuntime) -> Result<(), Fail> {
     Ok(())
 }
 
+/// The widest pair of this game has 0.782189 points after 4 rounds of one worker, and 0.016477 after 8.
+const NARROW: &str = "solve, n1, --checkers=1, --stakes, cubeless, --width, 0.02";
+
+/// So this many rounds may be the last ones.
+const LAST: [&str; 4] = [
+    "solved checkers 1 stakes cubeless rounds 5 workers 1\n",
+    "solved checkers 1 stakes cubeless rounds 6 workers 1\n",
+    "solved checkers 1 stakes cubeless rounds 7 workers 1\n",
+    "solved checkers 1 stakes cubeless rounds 8 workers 1\n",
+];
+
+#[test]
+fn a_width_ends_the_rounds(rt: HostRuntime) -> Result<(), Fail> {
+    let mut files = MemFiles::new(rt.alloc());
+    let solved = answer(&rt, rt.alloc(), &mut files, NARROW)?;
+    let text = solved.text();
+    if solved.status != 0 || !LAST.iter().any(|front| text.starts_with(*front)) {
+        panic!(rt; "{text}");
+    }
+    Ok(())
+}
+
 /// What stands where the file is to be written.
 const KEPT: &str = "HYPGAMMN, and no more of a file of bounds";
 

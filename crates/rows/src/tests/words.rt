@@ -96,11 +96,29 @@ fn words_are_refused(rt: HostRuntime) -> Result<(), Fail> {
     run(&rt, &[&WORDS])
 }
 
-static OTHERS: [Step; 9] = [
+static OTHERS: [Step; 15] = [
     Row("solve", 1, "refused 1 words form 0\n"),
     Row("solve, x, -r, 3", 1, "refused 1 words word 2\n"),
     Row("solve, x, --rounds, 0", 1, "refused 1 words value 4\n"),
     Row("solve, x, --workers, 65", 1, "refused 1 words value 5\n"),
+    Row("solve, x, --width, 0", 1, "refused 1 words value 6\n"),
+    Row(
+        "solve, x, --width, 0.000000",
+        1,
+        "refused 1 words value 6\n",
+    ),
+    Row(
+        "solve, x, --width, 64.000001",
+        1,
+        "refused 1 words value 6\n",
+    ),
+    Row("solve, x, --width, 00.5", 1, "refused 1 words value 6\n"),
+    Row("solve, x, --width, 1.", 1, "refused 1 words value 6\n"),
+    Row(
+        "solve, x, --width, 1.0000000",
+        1,
+        "refused 1 words value 6\n",
+    ),
     Row("show, x, 6 / 1", 3, "refused 3 missing x\n"),
     Row("migrate, x, x", 1, "refused 1 words value 2\n"),
     Row("migrate, x, y", 3, "refused 3 missing x\n"),

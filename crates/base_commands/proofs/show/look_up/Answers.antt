@@ -27,7 +27,7 @@ returns-in-Ok-clause-told g c =
     let fits : sum c.args.task.now.position.mover ≡ base.head.checkers = sym c.checkers-wanted.ensures.checkers ∙ c.if-wanted-game.false ∙ ap (λ (n : GameName). n.checkers) game in (
       base.head,
       record { game = game; rounds = c.rounds-rounds.ensures.rounds ∙ ap (λ (h : FileHead). h.rounds) c.head-2.ensures.head },
-      λ told. shown-told c.args.task.now (standing (g.F.Files.log c.args.files.now) c.args.task.now.file) base c.in-Ok.rows
+      λ told. shown-told c.args.task.now.position (standing (g.F.Files.log c.args.files.now) c.args.task.now.file) base c.in-Ok.rows
           (rw (c.as_str-name.ensures) at c.in_ok-base.ensures.told (reads-before c.rows_of.ensures.reads told)) c.head.ensures.valid c.head.ensures.checkers c.head.ensures.name c.requires.position c.requires.live fits
           (rw (c.in_ok-base.ensures.name, c.as_str-name.ensures, reads-file c.in_ok-base.ensures.reads c.args.task.now.file) at c.in-Ok.ensures.told told),
     )

@@ -59,6 +59,9 @@ returns-clause-told g c told =
 pub returns-in_err-pair-clause-reads : goal.returns-in_err-pair-clause-reads
 returns-in_err-pair-clause-reads g c = reads-both _ _ _ c.kinds.invariant.reads c.pair_of.ensures.reads
 
+pub returns-in_err-pair-clause-kept : goal.returns-in_err-pair-clause-kept
+returns-in_err-pair-clause-kept g c = c.pair_of.ensures.kept ∙ ap (λ (b : PagedFile). record b { kept = c.pair_of.new.base.kept }) c.kinds.invariant.base
+
 pub returns-in_err-pair-clause-told : goal.returns-in_err-pair-clause-told
 returns-in_err-pair-clause-told g c told =
     let base = c.args.base.now in

@@ -1,7 +1,7 @@
 use Rattle.std.proofs.Common.{Err, inl, refl}
 use Rattle.run_endings.specs.declared.ending.RunStop.TheVariants.{Refused}
-use Rattle.top_call.specs.Outcomes.{asked, unread_refusal}
-use Rattle.top_call.proofs.Endings.{unread}
+use Rattle.top_call.specs.Outcomes.{asked, asks_list, is_list, unread_refusal}
+use Rattle.top_call.proofs.Endings.{noted-any, notes-both, unread}
 use Rattle.top_call.proofs.top.run.Goals as goal
 
 pub returns-in-Ok : goal.returns-in-Ok
@@ -16,12 +16,12 @@ returns-in-Ok g c =
         is_status = c.conclude.ensures.status;
       },
       does.untouched,
-      c.conclude.ensures.note,
+      notes-both (is_list c.in-Ok.command) c.perform-ending.result _ _ _ does.noted c.conclude.ensures.note,
     )
 
 pub returns-in-Err : goal.returns-in-Err
 returns-in-Err g c =
-    let told = c.words_refusal.ensures in (
+    let told = c.unread_refusal.ensures in (
       Err (Refused (unread_refusal c.in-Err.stop)),
       record {
         behind = g.O.Sink.output c.args.out.now;
@@ -30,5 +30,5 @@ returns-in-Err g c =
         is_status = rw (told) at c.conclude-in-Err.ensures.status;
       },
       λ leaves. refl,
-      c.conclude-in-Err.ensures.note,
+      noted-any (asks_list (asked c.args.words.now)) _ _ _ c.conclude-in-Err.ensures.note,
     )
