@@ -1,5 +1,5 @@
 -- The line that tells how far a solve has come.
-use Rattle.std.specs.Prelude.{ℕ, ◌+◌, ◌-◌, ◌*◌, ◌/◌, min, max, List, ◌++◌, codes, decimal}
+use Rattle.std.specs.Prelude.{ℕ, ◌+◌, ◌-◌, ◌*◌, ◌/◌, min, max, nat_le, if◌then◌else◌, List, [], ◌++◌, codes, decimal}
 use Rattle.progress_line.specs.declared.line.Progress.{Progress}
 
 -- how many blocks there are in all rounds, and how many of them were passed; a block may be passed again by no worker, so there are no more
@@ -22,15 +22,20 @@ abbrev pub percent_of : Progress → ℕ
 percent_of progress = 100 * done progress / whole progress
 
 -- words and a number
-abbrev pub counted_text : List ℕ → ℕ → List ℕ
-counted_text words number = words ++ decimal number
+abbrev pub numbered_text : List ℕ → ℕ → List ℕ
+numbered_text words number = words ++ decimal number
+
+-- the seconds left, of which there is no guess before a tenth is done
+abbrev pub left_text : Progress → List ℕ
+left_text progress = if nat_le 10 (percent_of progress)
+    then numbered_text (codes ", ") (seconds_left progress) ++ codes " s left"
+    else []
 
 -- the round, the share of all blocks, and the seconds gone and left
 abbrev pub progress_text : Progress → List ℕ
 progress_text progress =
-    counted_text (codes "round ") (round_of progress)
-    ++ counted_text (codes " of ") progress.rounds
-    ++ counted_text (codes ", ") (percent_of progress)
-    ++ counted_text (codes " %, ") progress.seconds
-    ++ counted_text (codes " s gone, ") (seconds_left progress)
-    ++ codes " s left"
+    numbered_text (codes "round ") (round_of progress)
+    ++ numbered_text (codes " of ") progress.rounds
+    ++ numbered_text (codes ", ") (percent_of progress)
+    ++ numbered_text (codes " %, ") progress.seconds
+    ++ codes " s gone" ++ left_text progress

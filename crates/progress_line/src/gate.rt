@@ -9,6 +9,9 @@ use std::sync::atomic::{AtomicU32, AtomicU64, Ordering};
 /// How long a line stands before it is written anew, in milliseconds.
 const PAUSE: u64 = 500;
 
+/// What has a terminal clear the rest of a line.
+const WIPE: &str = "\x1b[K";
+
 /// A gate that lets all pass, and tells on standard error how far a run has come, from where it says how many rounds are to come: in one
 /// line, which it writes anew at most twice a second. It changes nothing else.
 #[derive(Drop)]
@@ -22,7 +25,7 @@ pub struct ProgressGate<'a, R> {
     /// When they were said to come, in milliseconds.
     began: AtomicU64,
     passed: AtomicU64,
-    /// When the line is to be written next, in milliseconds; 0 where it was never written.
+    /// When the line is to be written next, in milliseconds; 0 where none stands.
     next: AtomicU64,
 }
 
@@ -52,10 +55,10 @@ impl<'a, R: Clock + Eprint> ProgressGate<'a, R> {
         }
     }
 
-    /// Leaves the line, where one was written.
-    pub fn end(&self) {
-        if self.next.load(Ordering::SeqCst) > 0 {
-            let _ = eprintln!(self.rt; "");
+    /// Wipes the line, where one stands. It is written again when the next block is passed.
+    pub fn wipe(&self) {
+        if self.next.swap(0, Ordering::SeqCst) > 0 {
+            let _ = eprint!(self.rt; "\r{WIPE}");
         }
     }
 
@@ -107,7 +110,7 @@ impl<'a, R: Clock + Eprint> Gate for ProgressGate<'a, R> {
         };
         if self.is_due(now) {
             let line = progress_line(&self.progress(now, passed));
-            let _ = eprint!(self.rt; "\r{}  ", line.as_str());
+            let _ = eprint!(self.rt; "\r{}{WIPE}", line.as_str());
         }
     }
 }

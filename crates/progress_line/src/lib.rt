@@ -3,5 +3,7 @@
 
 mod gate;
 mod line;
+mod wiping;
 
 pub use gate::ProgressGate;
+pub use wiping::WipingWriter;

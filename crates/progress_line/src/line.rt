@@ -1,5 +1,5 @@
 ghost use Rattle.std.specs.Prelude.{◌≡◌, ◌≤◌, ◌+◌, ◌++◌, length};
-ghost use Rattle.progress_line.specs.Lines.{counted_text, done, percent_of, progress_text, round_of, seconds_left, whole};
+ghost use Rattle.progress_line.specs.Lines.{numbered_text, done, percent_of, progress_text, round_of, seconds_left, whole};
 
 use arrayvec::ArrayString;
 use itoa::Buffer;
@@ -62,14 +62,14 @@ type Line = ArrayString<LONGEST>;
 fn add(line: &mut Line, words: &str, number: u128)
     requires words { length words.now ≤ 9 }
     requires room { length line.old.bytes ≤ 200 }
-    ensures bytes { line.new.bytes ≡ line.old.bytes ++ counted_text words.now number }
+    ensures bytes { line.new.bytes ≡ line.old.bytes ++ numbered_text words.now number }
     ensures length { length line.new.bytes ≤ length line.old.bytes + 48 }
 {
     line.push_str(words);
     line.push_str(Buffer::new().format(number));
 }
 
-/// The round, the share of all that is done in percent, and the seconds gone and left.
+/// The round, the share of all that is done in percent, and the seconds gone, and left where a tenth is done.
 pub(crate) fn progress_line(progress: &Progress) -> Line
     ensures { result.bytes ≡ progress_text progress.now }
 {
@@ -78,7 +78,10 @@ pub(crate) fn progress_line(progress: &Progress) -> Line
     add(&mut line, " of ", u128::from(progress.rounds));
     add(&mut line, ", ", progress.percent());
     add(&mut line, " %, ", u128::from(progress.seconds));
-    add(&mut line, " s gone, ", progress.seconds_left());
-    line.push_str(" s left");
+    line.push_str(" s gone");
+    if progress.percent() >= 10 {
+        add(&mut line, ", ", progress.seconds_left());
+        line.push_str(" s left");
+    }
     line
 }

@@ -5,12 +5,12 @@ use Rattle.turn_rule.specs.Turn.{Words}
 use Rattle.turn_rule.specs.Looks.{Source, Notes}
 
 -- each word is 0
-abbrev pub zeros : Words
-zeros end p k = pos 0
+abbrev pub zero_pairs : Words
+zero_pairs end p k = pos 0
 
 -- nothing is told
-abbrev pub untold_zeros : Notes
-untold_zeros = record { words = zeros; told = false }
+abbrev pub untold_zero_pairs : Notes
+untold_zero_pairs = record { words = zero_pairs; told = false }
 
 -- words that aren't told, with the cube centred or on either side
 abbrev pub untold_cube : Source
@@ -19,6 +19,6 @@ untold_cube = record {
   kinds = 3;
   bound = point_units 3;
   sure = true;
-  floor = zeros;
+  floor = zero_pairs;
   damage = λ p k. None;
 }

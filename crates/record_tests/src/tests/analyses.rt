@@ -2,7 +2,7 @@
 ghost use Rattle.std.specs.Prelude.{◌≡◌, ◌≤◌, Err, false};
 ghost use Rattle.hyper_outside.specs.Causes.{counted};
 ghost use Rattle.hyper_outside.specs.declared.outside.LookStop.TheVariants.{ReadFault};
-ghost use Rattle.record_tests.specs.TestPairs.{untold_cube, untold_zeros};
+ghost use Rattle.record_tests.specs.TestPairs.{untold_cube, untold_zero_pairs};
 
 use crate::tests::asserts::same;
 use crate::tests::judging::{decisions, judged};
@@ -107,7 +107,7 @@ impl Pairs for Failing {
 
     ghost seen = { λ s. record {
       source = record untold_cube { sure = false };
-      notes = untold_zeros;
+      notes = untold_zero_pairs;
       faults = s.faults;
     } };
 

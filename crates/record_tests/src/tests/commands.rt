@@ -134,6 +134,11 @@ reply;x;y;--rounds=0 => Value 4\n\
 reply;x;y => Position Shape\n\
 reply;--rounds;4097;x;6 / 1 => Value 4\n\
 reply;x;6 / 1;--rounds => Form 0\n\
+advise;x;6 / 1;--take;--roll;21 => Value 4\n\
+solve;x;--width;0 => Value 6\n\
+show;x;6 / 1;--id;--id => Form 0\n\
+show;x;6 / 1;--positions;y => Form 0\n\
+board;6 / 1;--id=x => Form 0\n\
 board => Form 0\n\
 board;6 / 1;x => Form 0\n\
 board;6 / 1;--kind=mine => Form 0\n\
@@ -170,6 +175,11 @@ reply;x;6 / 1 => (["x", "6 / 1"], [16, 0, 0, 0], None, None)
 reply;--rounds=1;x;6 / 1 => (["x", "6 / 1"], [1, 0, 0, 0], None, None)
 reply;x;--kind;mine;6 / 1;--rounds=4096 => (["x", "6 / 1"], [4096, 0, 0, 0], Some(Mine), None)
 board;6 bar / 18 24 => (["bar 6 / 24 18", ""], [0, 0, 0, 0], None, None)
+board;AACgAgAAKgAAAA;--id => (["24 23 22 / 24 23 22", ""], [0, 0, 0, 0], None, None)
+show;--positions=y;x => (["x", "y"], [0, 0, 0, 0], None, None)
+advise;x;--take;24 / 2 => (["x", "2 / 24"], [0, 0, 0, 0], None, None)
+solve;x;--width;0.5 => (["x", ""], [3, 4096, 1, 0], None, None)
+solve;x;--width;64;--rounds;9 => (["x", ""], [3, 9, 1, 0], None, None)
 "#;
 
 /// The texts and the numbers that a command asks with, in the order of its fields, its kind of state and its roll.
@@ -190,6 +200,7 @@ fn texts<'a>(command: &'a Command, position: &'a str) -> [&'a str; 2] {
         Command::Scan(scan) => [scan.file.as_str(), scan.condition.as_str()],
         Command::Reply(reply) => [reply.file.as_str(), position],
         Command::Show(show) => [show.file.as_str(), position],
+        Command::ShowList(show) => [show.file.as_str(), show.list.as_str()],
         Command::Migrate(migrate) => [migrate.old.as_str(), migrate.new.as_str()],
     }
 }

@@ -4,7 +4,7 @@ ghost use Rattle.directed_fixed.specs.Bounds.{IsWithinUnits};
 ghost use Rattle.cube_actions.specs.Money.{jacoby};
 ghost use Rattle.cube_actions.specs.Stakes.{point_units};
 ghost use Rattle.record_analysis.specs.Judging.{CanBeJudged};
-ghost use Rattle.record_tests.specs.TestPairs.{untold_cube, untold_zeros};
+ghost use Rattle.record_tests.specs.TestPairs.{untold_cube, untold_zero_pairs};
 
 use crate::tests::games::ONE_CHECKER;
 use cube_actions::Stakes;
@@ -54,7 +54,7 @@ fn next_wins(kind: usize) -> Fixed
 impl Pairs for NextWins {
     ghost stays = { λ s. tt };
 
-    ghost seen = { λ s. record { source = untold_cube; notes = untold_zeros; faults = 0 } };
+    ghost seen = { λ s. record { source = untold_cube; notes = untold_zero_pairs; faults = 0 } };
 
     fn lower_of(&mut self, _position: &Position, kind: usize) -> Result<Fixed, LookStop> {
         Ok(next_wins(kind))

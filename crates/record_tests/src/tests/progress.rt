@@ -1,11 +1,11 @@
 //! The line that tells how far a solve has come.
 use crate::tests::asserts::same;
 use hyper_outside::Gate;
-use progress_line::ProgressGate;
+use progress_line::{ProgressGate, WipingWriter};
 use std::alloc::Global;
 use std::cell::Cell;
 use std::fmt::Display;
-use std::io;
+use std::io::{self, Write};
 use std::rt::Clock;
 use std::time::Duration;
 
@@ -39,24 +39,44 @@ impl Eprint for Stage {
 }
 
 /// Rounds, blocks of a round, blocks passed, seconds gone, and the line.
-const LINES: [(u32, u32, u64, u64, &str); 5] = [
-    (64, 3276, 0, 0, "\rround 1 of 64, 0 %, 0 s gone, 0 s left  "),
+const LINES: [(u32, u32, u64, u64, &str); 7] = [
+    (64, 3276, 0, 0, "\rround 1 of 64, 0 %, 0 s gone\x1b[K"),
     (
         64,
         3276,
         104832,
         120,
-        "\rround 33 of 64, 50 %, 120 s gone, 120 s left  ",
+        "\rround 33 of 64, 50 %, 120 s gone, 120 s left\x1b[K",
     ),
     (
         64,
         3276,
         209664,
         240,
-        "\rround 64 of 64, 100 %, 240 s gone, 0 s left  ",
+        "\rround 64 of 64, 100 %, 240 s gone, 0 s left\x1b[K",
     ),
-    (1, 26, 13, 7, "\rround 1 of 1, 50 %, 7 s gone, 7 s left  "),
-    (2, 26, 60, 9, "\rround 2 of 2, 100 %, 9 s gone, 0 s left  "),
+    (10, 10, 9, 7, "\rround 1 of 10, 9 %, 7 s gone\x1b[K"),
+    (
+        10,
+        10,
+        10,
+        7,
+        "\rround 2 of 10, 10 %, 7 s gone, 63 s left\x1b[K",
+    ),
+    (
+        1,
+        26,
+        13,
+        7,
+        "\rround 1 of 1, 50 %, 7 s gone, 7 s left\x1b[K",
+    ),
+    (
+        2,
+        26,
+        60,
+        9,
+        "\rround 2 of 2, 100 %, 9 s gone, 0 s left\x1b[K",
+    ),
 ];
 
 /// Nothing is shown, and the clock stands at so many seconds.
@@ -95,8 +115,23 @@ fn untold_or_unshown_there_is_no_line(rt: HostRuntime) {
             gate.expect(2, 26);
         }
         gate.pass(0, 0);
-        gate.end();
+        gate.wipe();
         let shown = stage.shown.replace(String::new(rt.alloc()));
         same(&rt, &shown.as_str(), &"", &(shows, said));
+    }
+}
+
+// What is written stands in a line of its own, once, whether the line stood before or not.
+#[test]
+fn the_line_is_wiped_before_a_report(rt: HostRuntime) {
+    let stage = stage_at(rt.alloc(), 9);
+    let gate = ProgressGate::new(&stage, true);
+    let mut report = WipingWriter::new(&gate, Vec::new(rt.alloc()));
+    for due in ["", "\r\x1b[K", "\r\x1b[K"] {
+        let written = report.write(b"solved").is_ok();
+        let shown = stage.shown.replace(String::new(rt.alloc()));
+        same(&rt, &(written, shown.as_str()), &(true, due), &due);
+        gate.expect(2, 26);
+        gate.pass(0, 0);
     }
 }

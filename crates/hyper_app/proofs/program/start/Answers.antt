@@ -8,8 +8,8 @@ use Rattle.hyper_app.proofs.program.start.Goals as goal
 pub returns-in-Ok : goal.returns-in-Ok
 returns-in-Ok g c = let (ending, runs, rest, note) = c.run_real.ensures in subst IsStatus (sym runs.is_status) (is-status ending)
 
-pub returns-in-Err : goal.returns-in-Err
-returns-in-Err g c = elim c.refuse_unread.ensures.refused [
+pub returns : goal.returns
+returns g c = elim c.refuse_unread.ensures.refused [
   | inl text ↦ inr (no_text, text)
   | inr memory ↦ inr (Memory, memory)
 ]
@@ -17,7 +17,7 @@ returns-in-Err g c = elim c.refuse_unread.ensures.refused [
 -- the runtime lives as long as the call that it is lent to
 pub run_real-requires-sync-R : goal.run_real-requires-sync-R
 run_real-requires-sync-R g c κs within =
-    let κ = κs.1.1.1.0 in
+    let κ = κs.1.1.1.1.0 in
     let lives = g.row.R.lives in (
       within.0,
       (
