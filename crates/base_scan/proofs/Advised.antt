@@ -24,7 +24,7 @@ use Rattle.play_analyser.specs.Losses.{least_pair}
 use Rattle.play_analyser.specs.Regrets.{taken_pair}
 use Rattle.interval_words.specs.WordLists.{WordList, source_of, words_in_list}
 use Rattle.base_scan.specs.declared.condition.Field.TheVariants.{Answered, Offered}
-use Rattle.base_scan.specs.Meets.{action_in, answer_number, answer_told, best_answer, best_offer, number_of, of_double, offer_number, offer_told, rolling, taken}
+use Rattle.base_scan.specs.Meets.{action_in, answer_number, answer_told, best_answer, best_offer, number_of, number_of_double, offer_number, offer_told, rolling, taken}
 
 offer-one : (r d : Bounds) (o : Offer) → IsBestOffer r d o → o ≡ best_offer r d
 offer-one r d Double best = let less : int_lt r.lower d.lower ≡ true = grind (arith, ints) in rw less refl
@@ -57,7 +57,7 @@ module _ (words : WordList) (p : Placement) (k : ℕ) where
 
   offer-on : (no_double rolls : Bounds) → no_double ≡ rolls → (double : Option DoubleOf) (action : Option CubeAction)
       → IsAdviceOn double action (λ double action. IsActionBy Are no_double double action)
-      → offer_told action ≡ of_double double (λ double. offer_number (best_offer rolls (least_pair double.pass (taken words p double))))
+      → offer_told action ≡ number_of_double double (λ double. offer_number (best_offer rolls (least_pair double.pass (taken words p double))))
   offer-on no_double rolls same None None on = refl
   offer-on no_double rolls same None (Some action) on = absurd on
   offer-on no_double rolls same (Some double) None on = absurd on
@@ -68,7 +68,7 @@ module _ (words : WordList) (p : Placement) (k : ℕ) where
       ∙ ap (λ (bs : List Bounds). best_offer rolls (least_pair double.pass bs)) on.taken)))
 
   answer-on : (no_double : Bounds) (double : Option DoubleOf) (action : Option CubeAction) → IsAdviceOn double action (λ double action. IsActionBy Are no_double double action)
-      → answer_told action ≡ of_double double (λ double. answer_number (best_answer double.pass (taken words p double)))
+      → answer_told action ≡ number_of_double double (λ double. answer_number (best_answer double.pass (taken words p double)))
   answer-on no_double None None on = refl
   answer-on no_double None (Some action) on = absurd on
   answer-on no_double (Some double) None on = absurd on

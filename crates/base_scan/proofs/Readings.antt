@@ -11,8 +11,8 @@ use Rattle.base_scan.specs.declared.condition.Part.TheVariants.{Bar, Asks}
 use Rattle.base_scan.specs.declared.condition.Joined.{Joined}
 use Rattle.base_scan.specs.declared.condition.Joint.{Joint}
 use Rattle.base_scan.specs.declared.condition.Joint.TheVariants.{And, Or}
-use Rattle.base_scan.specs.Groups.{grouped, groups_of, joined_to, joint_of, TakesIn}
-use Rattle.base_scan.specs.Conditions.{AreWordsOf, CanGoOn, IsFirstBad, IsTestText, IsWordOf, MayCome, behind_bar, tests_of}
+use Rattle.base_scan.specs.Groups.{grouped, groups_of, joined_to, joint_of, TakesInPart}
+use Rattle.base_scan.specs.Conditions.{AreConditionWords, CanGoOn, IsFirstBad, IsTestText, IsWordOf, MayComeInCondition, behind_bar, tests_of}
 use Rattle.base_scan.proofs.TestTexts.{a_test, bar-no-test, some-test}
 
 abbrev pub Word : Type 0
@@ -74,7 +74,7 @@ wanted-room room (Asks test ∷ parts) fits = fits.0
 
 -- a word that can't come next
 pub never-next : (parts : List Part) (word : Word) (more : List Word) (wanted full : Bool) (room : ℕ) → (0 < room → full ≡ false)
-    → ((part : Part) → MayCome wanted full part → IsWordOf part word → ⊥) → AllZip IsWordOf parts (word ∷ more) → Fits wanted room parts → ⊥
+    → ((part : Part) → MayComeInCondition wanted full part → IsWordOf part word → ⊥) → AllZip IsWordOf parts (word ∷ more) → Fits wanted room parts → ⊥
 never-next [] word more wanted full room has never zip fits = zip
 never-next (Bar ∷ parts) word more wanted full room has never zip fits = never Bar (fits.0, has (wanted-room room parts fits.1)) zip.0
 never-next (Asks test ∷ parts) word more wanted full room has never zip fits = never (Asks test) (has fits.0) zip.0
@@ -216,25 +216,25 @@ not-full n full is few e = let other : eqb n 64 ≡ false = sym is ∙ e in grin
 pub has-room : (n : ℕ) (full : Bool) → full ≡ eqb n 64 → n < 64 → full ≡ false
 has-room n full is room = let other : eqb n 64 ≡ false = grind (arith, nat_tests, room) in is ∙ other
 
-may-room : (wanted full : Bool) (part : Part) → MayCome wanted full part → full ≡ false
+may-room : (wanted full : Bool) (part : Part) → MayComeInCondition wanted full part → full ≡ false
 may-room wanted full Bar may = may.1
 may-room wanted full (Asks test) may = may
 
 pub read-part : (all : List Word) (tests new : List Joined) (n : ℕ) (word : Word) (wanted wants full : Bool) (part : Part) → n < length all → word ≡ get_or all n word → HasRead all tests wanted n
-    → (full ≡ false → length tests < 64) → MayCome wanted full part → IsWordOf part word → TakesIn part tests wanted new wants → HasRead all new wants (n + 1)
+    → (full ≡ false → length tests < 64) → MayComeInCondition wanted full part → IsWordOf part word → TakesInPart part tests wanted new wants → HasRead all new wants (n + 1)
 read-part all tests new n word wanted wants full Bar low is read room may text takes =
     let at = subst (λ (w : Bool). HasRead all tests w n) may.0 read in
     rw (takes.0, takes.1) (read-bar all tests n word low is at (room may.1) text)
 read-part all tests new n word wanted wants full (Asks test) low is read room may text takes =
     rw (takes.0, takes.1) (read-test all tests n word low is wanted (record { joint = joint_of wanted; test = test }) read (room may) refl text)
 
-pub room-for : (wanted full : Bool) (part : Part) (tests : List Joined) → (full ≡ false → length tests < 64) → MayCome wanted full part → length tests < 64
+pub room-for : (wanted full : Bool) (part : Part) (tests : List Joined) → (full ≡ false → length tests < 64) → MayComeInCondition wanted full part → length tests < 64
 room-for wanted full part tests room may = room (may-room wanted full part may)
 
 -- ---- the end, and the first bad word
 
 -- words that end with a test are those of its groups
-are-words : (all : List Word) (tests : List Joined) → AllZip IsWordOf (flat_map marks tests) (codes "|" ∷ all) → (grouped tests).rest ≡ [] → 0 < length tests → length tests ≤ 64 → AreWordsOf (groups_of tests) all
+are-words : (all : List Word) (tests : List Joined) → AllZip IsWordOf (flat_map marks tests) (codes "|" ∷ all) → (grouped tests).rest ≡ [] → 0 < length tests → length tests ≤ 64 → AreConditionWords (groups_of tests) all
 are-words all tests zip begins some few = record {
   some = has-group tests begins some;
   each = groups-some tests;
@@ -249,7 +249,7 @@ are-words all tests zip begins some few = record {
     join Or e = omega arith
 
 module _ (all : List Word) (tests : List Joined) (n : ℕ) where
-  pub read-all : HasRead all tests false n → n ≡ length all → AreWordsOf (groups_of tests) all
+  pub read-all : HasRead all tests false n → n ≡ length all → AreConditionWords (groups_of tests) all
   read-all read end =
       are-words all tests (subst (λ (ws : List Word). AllZip IsWordOf (flat_map marks tests) (codes "|" ∷ ws)) (take_all n all (omega (arith, end)))
       (subst (λ (ps : List Part). AllZip IsWordOf ps (codes "|" ∷ take n all)) (append-nil (flat_map marks tests)) read.so_far)) read.begins (read.some refl) read.few
@@ -258,7 +258,7 @@ can-go-on-behind : (all : List Word) (tests : List Joined) (n : ℕ) (wanted : B
 can-go-on-behind all tests n false read inside = (
   groups_of tests,
   [],
-  subst (AreWordsOf (groups_of tests)) (sym (append-nil (take n all)))
+  subst (AreConditionWords (groups_of tests)) (sym (append-nil (take n all)))
       (are-words (take n all) tests (subst (λ (ps : List Part). AllZip IsWordOf ps (codes "|" ∷ take n all)) (append-nil (flat_map marks tests)) read.so_far) read.begins (read.some refl) read.few),
 )
 can-go-on-behind all tests n true read inside =
@@ -275,7 +275,7 @@ can-go-on-behind all tests n true read inside =
 
 module _ (all : List Word) (tests : List Joined) (wanted : Bool) (n : ℕ) (read : HasRead all tests wanted n) where
   -- the parts behind the words that were read, of any condition that begins with them
-  behind : (groups : List (List Test)) (more : List Word) → AreWordsOf groups (take n all ++ more) → (rest : List Part) × AllZip IsWordOf rest more × Fits wanted (64 - length tests) rest
+  behind : (groups : List (List Test)) (more : List Word) → AreConditionWords groups (take n all ++ more) → (rest : List Part) × AllZip IsWordOf rest more × Fits wanted (64 - length tests) rest
   behind groups more are =
       let found = parts-behind (read_parts tests wanted) (flat_map behind_bar groups) (codes "|" ∷ take n all) more false 64 read.so_far are.words (fits-groups groups 64 are.each are.few) in (
         found.0,
@@ -285,7 +285,7 @@ module _ (all : List Word) (tests : List Joined) (wanted : Bool) (n : ℕ) (read
       )
 
   pub bad-word : (word : Word) (full : Bool) → n < length all → word ≡ get_or all n word → (length tests < 64 → full ≡ false)
-      → ((part : Part) → MayCome wanted full part → IsWordOf part word → ⊥) → IsFirstBad all n
+      → ((part : Part) → MayComeInCondition wanted full part → IsWordOf part word → ⊥) → IsFirstBad all n
   bad-word word full low is has never = record {
     inside = omega (arith, low);
     before = can-go-on-behind all tests n wanted read (omega (arith, low));
@@ -293,7 +293,7 @@ module _ (all : List Word) (tests : List Joined) (wanted : Bool) (n : ℕ) (read
         let more = goes.1 in
         let whole : take (n + 1) all ++ more ≡ take n all ++ word ∷ more =
         ap (λ (ws : List Word). ws ++ more) (sym (next-word all tests n word low is)) ∙ append_assoc (take n all) (word ∷ []) more in
-        let found = behind goes.0 (word ∷ more) (subst (AreWordsOf goes.0) whole goes.2) in
+        let found = behind goes.0 (word ∷ more) (subst (AreConditionWords goes.0) whole goes.2) in
         never-next found.0 word more wanted full (64 - length tests) (λ room. has (omega (arith, room))) never found.1 found.2;
     end = λ e. absurd (omega (arith, e, low));
   }
@@ -305,6 +305,6 @@ bad-end all tests n read e = record {
   here = λ low. absurd (omega (arith, e, low));
   end = λ _ groups are.
       let whole : all ≡ take n all ++ [] = sym (append-nil (take n all) ∙ take_all n all (omega (arith, e))) in
-      let found = behind all tests true n read groups [] (subst (AreWordsOf groups) whole are) in
+      let found = behind all tests true n read groups [] (subst (AreConditionWords groups) whole are) in
       never-ends found.0 (64 - length tests) found.1 found.2;
 }

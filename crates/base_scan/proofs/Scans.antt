@@ -20,8 +20,8 @@ use Rattle.base_scan.specs.declared.condition.Test.{Test}
 use Rattle.base_scan.specs.declared.found.State.{State}
 use Rattle.base_scan.specs.declared.sides.Listed.{Listed}
 use Rattle.base_scan.specs.Meets.{meets}
-use Rattle.base_scan.specs.Sides.{AreListed, IsListed, position_of}
-use Rattle.base_scan.specs.Found.{AreFound, IsScanned, IsStateIn, first_row, meeting, meeting_among, states_at, states_from, states_of_row, with_kinds}
+use Rattle.base_scan.specs.Sides.{AreLayoutsListed, IsLayoutListed, position_of}
+use Rattle.base_scan.specs.Found.{AreFound, IsScanned, IsFoundState, first_row, meeting, meeting_among, states_at, states_from, states_of_row, with_kinds}
 
 range-append : (a m n : ℕ) → range_with_len a (m + n) ≡ range_with_len a m ++ range_with_len (a + m) n
 range-append a zero n =
@@ -114,9 +114,9 @@ module _ (words : WordList) (groups : List (List Test)) where
       (ap (λ (xs : List State). meeting_among words groups (with_kinds k p) ++ xs) (ap (λ (s : State). cond kept (s ∷ []) []) at ∙ ap (λ (b : Bool). cond b (record { position = p; kind = k } ∷ []) []) is)
       ∙ sym (filter_of_map_range_with_len_more (λ state. meets words groups state.position state.kind) (λ (j : ℕ). record { position = p; kind = j }) 0 k k (omega arith)))))
 
-  pub right-more : (kept : Bool) (state : State) (so_far new : List State) → IsStateIn words.game state → All (IsStateIn words.game) so_far → new ≡ so_far ++ cond kept (state ∷ []) [] → All (IsStateIn words.game) new
+  pub right-more : (kept : Bool) (state : State) (so_far new : List State) → IsFoundState words.game state → All (IsFoundState words.game) so_far → new ≡ so_far ++ cond kept (state ∷ []) [] → All (IsFoundState words.game) new
   right-more kept state so_far new is right e =
-      subst (All (IsStateIn words.game)) (sym e) (All-append (IsStateIn words.game) so_far (cond kept (state ∷ []) []) right (kept-one (IsStateIn words.game) kept state is))
+      subst (All (IsFoundState words.game)) (sym e) (All-append (IsFoundState words.game) so_far (cond kept (state ∷ []) []) right (kept-one (IsFoundState words.game) kept state is))
 
   share-rise : (count parts a b : ℕ) → 0 < parts → a ≤ b → count * a / parts ≤ count * b / parts
   share-rise count parts a b some le =
@@ -129,7 +129,7 @@ module _ (words : WordList) (groups : List (List Test)) where
     first-rise number = share-rise (layouts words.game.checkers) parts number (number + 1) some (omega arith)
 
     pub part-done : (number from to row : ℕ) (states : List State) → from ≡ first_row words.game parts number → to ≡ first_row words.game parts (number + 1)
-        → row - from ≡ to - from → states ≡ of_rows from (row - from) → All (IsStateIn words.game) states → IsScanned words groups parts number states
+        → row - from ≡ to - from → states ≡ of_rows from (row - from) → All (IsFoundState words.game) states → IsScanned words groups parts number states
     part-done number from to row states begins ends many have right = record {
       found = have ∙ (ap (of_rows from) many ∙ (ap (λ (t : ℕ). of_rows from (t - from)) ends ∙ ap (λ (f : ℕ). of_rows f (first_row words.game parts (number + 1) - f)) begins));
       right = right;
@@ -138,13 +138,13 @@ module _ (words : WordList) (groups : List (List Test)) where
     -- the states of the first so many parts
     pub record AreOf (i : ℕ) (all : List State) : Type 0 where
       pub have : all ≡ of_rows 0 (first_row words.game parts i)
-      pub right : All (IsStateIn words.game) all
+      pub right : All (IsFoundState words.game) all
 
     pub of-none : (all : List State) → all ≡ [] → AreOf 0 all
     of-none all none =
         let small : layouts words.game.checkers * 0 / parts ≤ 0 = div-le_of_le-mul parts (omega arith) in
         let first : first_row words.game parts 0 ≡ 0 = omega (arith, small) in
-        record { have = none ∙ sym (ap (of_rows 0) first ∙ no-rows 0); right = subst (All (IsStateIn words.game)) (sym none) (All-nil (IsStateIn words.game)) }
+        record { have = none ∙ sym (ap (of_rows 0) first ∙ no-rows 0); right = subst (All (IsFoundState words.game)) (sym none) (All-nil (IsFoundState words.game)) }
 
     pub of-more : (i : ℕ) (all states new : List State) → AreOf i all → IsScanned words groups parts i states → new ≡ all ++ states → AreOf (i + 1) new
     of-more i all states new are is e =
@@ -156,7 +156,7 @@ module _ (words : WordList) (groups : List (List Test)) where
         record {
           have = e ∙ (ap (λ (xs : List State). xs ++ states) are.have ∙ (ap (λ (xs : List State). of_rows 0 from ++ xs) (is.found ∙ ap (λ (r : ℕ). of_rows r (to - from)) at)
               ∙ (sym (rows-append 0 from (to - from)) ∙ ap (of_rows 0) whole)));
-          right = subst (All (IsStateIn words.game)) (sym e) (All-append (IsStateIn words.game) all states are.right is.right);
+          right = subst (All (IsFoundState words.game)) (sym e) (All-append (IsFoundState words.game) all states are.right is.right);
         }
 
     pub of-all : (i : ℕ) (all : List State) → i ≡ parts → AreOf i all → AreFound words groups all
@@ -169,24 +169,24 @@ pub state-at : (p q : Placement) (k : ℕ) (state : State) → state ≡ record 
 state-at p q k state e at = subst (λ (r : Placement). state ≡ record { position = r; kind = k }) at e
 
 -- there are few layouts, and few squares before a row
-pub few-layouts : (checkers : ℕ) (one : Listed) → IsListed checkers one → layouts checkers ≤ 3276
+pub few-layouts : (checkers : ℕ) (one : Listed) → IsLayoutListed checkers one → layouts checkers ≤ 3276
 few-layouts checkers one is = (layouts-in checkers (subst (λ (n : ℕ). 1 ≤ n) is.many is.valid.at_least_one) (subst (λ (n : ℕ). n ≤ 3) is.many is.valid.at_most_three)).1
 
-pub few-before : (checkers row many : ℕ) (one : Listed) → IsListed checkers one → row < layouts checkers → many ≡ layouts checkers → row * many ≤ 3276 * 3276
+pub few-before : (checkers row many : ℕ) (one : Listed) → IsLayoutListed checkers one → row < layouts checkers → many ≡ layouts checkers → row * many ≤ 3276 * 3276
 few-before checkers row many one is inside same =
     let few = few-layouts checkers one is in
     mul-le row many 3276 3276 (omega (arith, few, inside)) (omega (arith, few, same))
 
 -- what stands in a list of all layouts
-module _ (checkers : ℕ) (all : List Listed) (are : AreListed checkers all) (rank : ℕ) (one : Listed) (at : one ≡ slice_index_or all rank one) (inside : rank < length all) where
-  pub is-listed : IsListed checkers one
-  is-listed = subst (IsListed checkers) (sym at) (are.each rank one inside)
+module _ (checkers : ℕ) (all : List Listed) (are : AreLayoutsListed checkers all) (rank : ℕ) (one : Listed) (at : one ≡ slice_index_or all rank one) (inside : rank < length all) where
+  pub is-listed : IsLayoutListed checkers one
+  is-listed = subst (IsLayoutListed checkers) (sym at) (are.each rank one inside)
 
   pub has-rank : rank_of one.layout ≡ rank
   has-rank = subst (λ (l : Listed). rank_of l.layout ≡ rank) (sym at) (are.ranked rank one inside)
 
 -- the states at a square of a row
-module _ (game : Game) (row rank : ℕ) (mover other : Listed) (one : IsListed game.checkers mover) (another : IsListed game.checkers other) (high : rank_of mover.layout ≡ row) (low : rank_of other.layout ≡ rank) where
+module _ (game : Game) (row rank : ℕ) (mover other : Listed) (one : IsLayoutListed game.checkers mover) (another : IsLayoutListed game.checkers other) (high : rank_of mover.layout ≡ row) (low : rank_of other.layout ≡ rank) where
   at-square : rank < layouts game.checkers → placement_at game.checkers (row * layouts game.checkers + rank) ≡ position_of mover other
   at-square inside =
       row-placement game.checkers row rank inside

@@ -16,7 +16,7 @@ use Rattle.base_scan.specs.declared.condition.Test.{Test}
 use Rattle.base_scan.specs.declared.condition.Field.{Field}
 use Rattle.base_scan.specs.declared.condition.Field.TheVariants.{LowerWord, UpperWord, Width, KindNumber, Pips, OtherPips, Off, OtherOff, OnBar, OtherOnBar, Offered, Answered}
 use Rattle.base_scan.specs.Conditions.{IsNumberText, IsTestText, comparison_text, field_text, minus_text, not_text}
-use Rattle.base_scan.specs.Cuts.{AreParts, IsCutAt, LacksSigns, lacks, sign_of}
+use Rattle.base_scan.specs.Cuts.{MakeUp, IsCutAt, LacksSigns, lacks, sign_of}
 
 -- ---- where the comparison stands
 
@@ -55,7 +55,7 @@ module _ (c : Comparison) (text : List ℕ) (r : Option (Bor (List ℕ) × Bor (
   pub parts-none : r ≡ None → (name number : List ℕ) → IsCutAt text name c number → ⊥
   parts-none none name number is = rw none at (after name number is)
 
-  pub parts-found : (name number : Bor (List ℕ)) → r ≡ Some (name, number) → AreParts text name.now c number.now
+  pub parts-found : (name number : Bor (List ℕ)) → r ≡ Some (name, number) → MakeUp text name.now c number.now
   parts-found name number some =
       let parts = rw some at (split_parts (sign_of c) text r cases (sign-small c)) in
       record {

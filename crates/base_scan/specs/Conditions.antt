@@ -66,7 +66,7 @@ tests_of groups = flat_map (λ group. group) groups
 
 -- The words of a condition: it has a group, each group has a test, and there are at most 64 tests. With one more bar before them, the words
 -- are a bar and the tests of each group.
-pub record AreWordsOf (groups : List (List Test)) (all : List (List ℕ)) : Type 0 where
+pub record AreConditionWords (groups : List (List Test)) (all : List (List ℕ)) : Type 0 where
   pub some : 0 < length groups
   pub each : All (λ group. 0 < length group) groups
   pub few : length (tests_of groups) ≤ 64
@@ -75,7 +75,7 @@ pub record AreWordsOf (groups : List (List Test)) (all : List (List ℕ)) : Type
 -- some condition's words begin with these
 abbrev pub CanGoOn : List (List ℕ) → Type 0
 CanGoOn front =
-    (groups : List (List Test)) × (more : List (List ℕ)) × AreWordsOf groups (front ++ more)
+    (groups : List (List Test)) × (more : List (List ℕ)) × AreConditionWords groups (front ++ more)
 
 -- The first word with which no condition's words can go on: some condition's words begin with those before it, and none with these and the
 -- word itself. The end counts as a word.
@@ -83,9 +83,9 @@ pub record IsFirstBad (all : List (List ℕ)) (number : ℕ) : Type 0 where
   pub inside : number ≤ length all
   pub before : CanGoOn (take number all)
   pub here : number < length all → CanGoOn (take (number + 1) all) → ⊥
-  pub end : number ≡ length all → (groups : List (List Test)) → AreWordsOf groups all → ⊥
+  pub end : number ≡ length all → (groups : List (List Test)) → AreConditionWords groups all → ⊥
 
 -- a word may come next: a bar where no test has to come, and anything only where there is room for one more test
-abbrev pub MayCome : Bool → Bool → Part → Type 0
-MayCome wanted full Bar = (wanted ≡ false) × (full ≡ false)
-MayCome wanted full (Asks test) = full ≡ false
+abbrev pub MayComeInCondition : Bool → Bool → Part → Type 0
+MayComeInCondition wanted full Bar = (wanted ≡ false) × (full ≡ false)
+MayComeInCondition wanted full (Asks test) = full ≡ false

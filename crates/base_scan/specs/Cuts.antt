@@ -25,7 +25,7 @@ pub record IsCutAt (whole name : List ℕ) (comparison : Comparison) (number : L
   pub text : whole ≡ name ++ (comparison_text comparison ++ number)
 
 -- these parts make up the text, and no others can with one comparison among them
-pub record AreParts (whole name : List ℕ) (comparison : Comparison) (number : List ℕ) : Type 0 where
+pub record MakeUp (whole name : List ℕ) (comparison : Comparison) (number : List ℕ) : Type 0 where
   pub text : whole ≡ name ++ (comparison_text comparison ++ number)
   pub only :
       (other_name : List ℕ) (other : Comparison) (other_number : List ℕ)

@@ -53,8 +53,8 @@ abbrev pub meeting : WordList → List (List Test) → List State
 meeting words groups = meeting_among words groups (all_states words.game)
 
 -- a live position of the game's checkers, and one of its kinds
-abbrev pub IsStateIn : Game → State → Type 0
-IsStateIn game state = IsState game state.position state.kind
+abbrev pub IsFoundState : Game → State → Type 0
+IsFoundState game state = IsState game state.position state.kind
 
 -- the rank of the layout of the mover where a part begins, where so many parts share the layouts
 abbrev pub first_row : Game → ℕ → ℕ → ℕ
@@ -67,7 +67,7 @@ pub record IsScanned (words : WordList) (groups : List (List Test)) (parts numbe
       let from = first_row words.game parts number in
       states ≡ meeting_among words groups (states_of_rows words.game from
       (first_row words.game parts (number + 1) - from))
-  pub right : All (IsStateIn words.game) states
+  pub right : All (IsFoundState words.game) states
 
 -- each of so many parts has its states, unless memory ran out
 pub record AreScanned (words : WordList) (groups : List (List Test)) (parts : ℕ)
@@ -82,4 +82,4 @@ pub record AreScanned (words : WordList) (groups : List (List Test)) (parts : �
 pub record AreFound (words : WordList) (groups : List (List Test))
     (states : List State) : Type 0 where
   pub all : states ≡ meeting words groups
-  pub right : All (IsStateIn words.game) states
+  pub right : All (IsFoundState words.game) states

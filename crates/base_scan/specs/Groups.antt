@@ -36,7 +36,7 @@ joint_of false = And
 
 -- Tests that were read, and whether one has to come, before and after one more part: a bar says that a test has to come, and a test is put
 -- behind the others.
-abbrev pub TakesIn : Part → List Joined → Bool → List Joined → Bool → Type 0
-TakesIn Bar old wanted new wants = (new ≡ old) × (wants ≡ true)
-TakesIn (Asks test) old wanted new wants =
+abbrev pub TakesInPart : Part → List Joined → Bool → List Joined → Bool → Type 0
+TakesInPart Bar old wanted new wants = (new ≡ old) × (wants ≡ true)
+TakesInPart (Asks test) old wanted new wants =
     (new ≡ old ++ record { joint = joint_of wanted; test = test } ∷ []) × (wants ≡ false)

@@ -68,9 +68,9 @@ answer_number Pass = pos 2
 answer_number Beaver = pos 3
 
 -- 0 where there is no double
-abbrev pub of_double : Option DoubleOf → (DoubleOf → ℤ) → ℤ
-of_double None number = pos 0
-of_double (Some double) number = number double
+abbrev pub number_of_double : Option DoubleOf → (DoubleOf → ℤ) → ℤ
+number_of_double None number = pos 0
+number_of_double (Some double) number = number double
 
 -- the action of advice that was found
 abbrev pub action_in : Result CubeAdvice LookStop → Option CubeAction
@@ -101,11 +101,11 @@ number_of words p k OtherOff = pos (slice_index p.other 0)
 number_of words p k OnBar = pos (slice_index p.mover 25)
 number_of words p k OtherOnBar = pos (slice_index p.other 25)
 number_of words p k Offered =
-    of_double (kind_at words.game.stakes k).double
+    number_of_double (kind_at words.game.stakes k).double
     (λ double. offer_number
     (best_offer (rolling words p k) (least_pair double.pass (taken words p double))))
 number_of words p k Answered =
-    of_double (kind_at words.game.stakes k).double
+    number_of_double (kind_at words.game.stakes k).double
     (λ double. answer_number (best_answer double.pass (taken words p double)))
 
 abbrev pub compares : Comparison → ℤ → ℤ → Bool

@@ -19,17 +19,17 @@ pub record IsSideOf (counts : List ℕ) (side : Side) : Type 0 where
   pub on_bar : side.on_bar ≡ slice_index counts 25
 
 -- a layout of so many checkers, its points and what tests ask of it
-pub record IsListed (checkers : ℕ) (one : Listed) : Type 0 where
+pub record IsLayoutListed (checkers : ℕ) (one : Listed) : Type 0 where
   pub valid : IsLayout one.layout
   pub many : sum one.layout ≡ checkers
   pub points : AreOtherPoints one.points one.layout
   pub side : IsSideOf one.layout one.side
 
 -- all layouts of so many checkers, by rising rank
-pub record AreListed (checkers : ℕ) (all : List Listed) : Type 0 where
+pub record AreLayoutsListed (checkers : ℕ) (all : List Listed) : Type 0 where
   pub many : length all ≡ layouts checkers
   pub each : (rank : ℕ) (none : Listed) → rank < length all
-      → IsListed checkers (slice_index_or all rank none)
+      → IsLayoutListed checkers (slice_index_or all rank none)
   pub ranked : (rank : ℕ) (none : Listed) → rank < length all
       → rank_of (slice_index_or all rank none).layout ≡ rank
 

@@ -1,8 +1,8 @@
 ghost use Rattle.std.specs.Prelude.{◌≡◌, ◌<◌, length, IfErr, IfOk, MatchOption};
 ghost use Rattle.position_rank.specs.Text.{words};
 ghost use Rattle.base_scan.specs.declared.condition.Part.{Part};
-ghost use Rattle.base_scan.specs.Groups.{TakesIn, joint_of};
-ghost use Rattle.base_scan.specs.Conditions.{AreWordsOf, IsFirstBad, IsWordOf, MayCome};
+ghost use Rattle.base_scan.specs.Groups.{TakesInPart, joint_of};
+ghost use Rattle.base_scan.specs.Conditions.{AreConditionWords, IsFirstBad, IsWordOf, MayComeInCondition};
 
 use crate::condition::{BadCondition, Condition, Joined, Joint, MOST_TESTS, Part};
 use crate::words::read_test;
@@ -19,8 +19,8 @@ fn joint_of(wanted: bool) -> Joint
 /// full, it can be nothing.
 fn next_part(word: &str, wanted: bool, full: bool) -> Option<Part>
     ensures { MatchOption result
-        ((part : Part) → MayCome wanted full part → IsWordOf part word.now → ⊥)
-        (λ part. MayCome wanted full part × IsWordOf part word.now) }
+        ((part : Part) → MayComeInCondition wanted full part → IsWordOf part word.now → ⊥)
+        (λ part. MayComeInCondition wanted full part × IsWordOf part word.now) }
 {
     if full {
         return None;
@@ -34,7 +34,7 @@ fn next_part(word: &str, wanted: bool, full: bool) -> Option<Part>
 /// Takes one more part in, and tells whether a test has to come after it.
 fn take_in(tests: &mut ArrayVec<Joined, MOST_TESTS>, wanted: bool, part: Part) -> bool
     requires { length tests.old.items < MOST_TESTS }
-    ensures { TakesIn part tests.old.items wanted tests.new.items result }
+    ensures { TakesInPart part tests.old.items wanted tests.new.items result }
 {
     match part {
         Part::Bar => true,
@@ -53,7 +53,7 @@ fn take_in(tests: &mut ArrayVec<Joined, MOST_TESTS>, wanted: bool, part: Part) -
 /// `BadCondition` comes exactly where it is no such text, and tells the first word with which no
 /// such text can go on.
 pub fn read_condition(text: &str) -> Result<Condition, BadCondition>
-    ensures condition { IfOk result (λ groups. AreWordsOf groups (words text.now)) }
+    ensures condition { IfOk result (λ groups. AreConditionWords groups (words text.now)) }
     ensures bad { IfErr result (λ bad. IsFirstBad (words text.now) bad.word) }
 {
     let mut tests: ArrayVec<Joined, MOST_TESTS> = ArrayVec::new();

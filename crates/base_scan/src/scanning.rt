@@ -4,8 +4,8 @@ ghost use Rattle.base_scan.specs.declared.condition.Test.{Test};
 ghost use Rattle.position_rank.specs.Placement.{IsLive};
 ghost use Rattle.position_rank.specs.Ranks.{layouts, square_rank_of};
 ghost use Rattle.turn_rule.specs.Games.{kinds_of};
-ghost use Rattle.base_scan.specs.Sides.{AreListed, IsListed, position_of};
-ghost use Rattle.base_scan.specs.Found.{AreFound, AreScanned, IsScanned, IsStateIn, first_row, meeting, meeting_among, states_of_row, with_kinds};
+ghost use Rattle.base_scan.specs.Sides.{AreLayoutsListed, IsLayoutListed, position_of};
+ghost use Rattle.base_scan.specs.Found.{AreFound, AreScanned, IsScanned, IsFoundState, first_row, meeting, meeting_among, states_of_row, with_kinds};
 
 use crate::condition::Condition;
 use crate::found::{Found, State};
@@ -72,15 +72,15 @@ fn scan_position(
     square: u64,
     asks_checkers: bool,
 ) -> Result<(), AllocError>
-    requires mover { IsListed words.now.game.checkers mover.now }
-    requires other { IsListed words.now.game.checkers other.now }
+    requires mover { IsLayoutListed words.now.game.checkers mover.now }
+    requires other { IsLayoutListed words.now.game.checkers other.now }
     requires square { square ≡ square_rank_of (position_of mover.now other.now) }
     requires live { IsLive (position_of mover.now other.now) }
     ensures found { OnOk result (found.new.items ≡ found.old.items
         ++ meeting_among words.now condition.now
         (with_kinds (kinds_of words.now.game) (position_of mover.now other.now))) }
-    ensures right { OnOk result (All (IsStateIn words.now.game) found.old.items
-        → All (IsStateIn words.now.game) found.new.items) }
+    ensures right { OnOk result (All (IsFoundState words.now.game) found.old.items
+        → All (IsFoundState words.now.game) found.new.items) }
 {
     states_are_numbered();
     let position = Position::new(mover.layout, other.layout).unwrap();
@@ -118,12 +118,12 @@ fn scan_row(
     row: u32,
     asks_checkers: bool,
 ) -> Result<(), AllocError>
-    requires all { AreListed words.now.game.checkers all.now }
+    requires all { AreLayoutsListed words.now.game.checkers all.now }
     requires row { row < layouts words.now.game.checkers }
     ensures found { OnOk result (found.new.items ≡ found.old.items
         ++ meeting_among words.now condition.now (states_of_row words.now.game row)) }
-    ensures right { OnOk result (All (IsStateIn words.now.game) found.old.items
-        → All (IsStateIn words.now.game) found.new.items) }
+    ensures right { OnOk result (All (IsFoundState words.now.game) found.old.items
+        → All (IsFoundState words.now.game) found.new.items) }
 {
     let mover = &all[row as usize];
     let points = MoverPoints::of(&mover.layout);
@@ -146,7 +146,7 @@ fn scan_part(
     parts: usize,
     number: usize,
 ) -> Result<Vec<State>, NoMemory>
-    requires all { AreListed words.now.game.checkers all.now }
+    requires all { AreLayoutsListed words.now.game.checkers all.now }
     requires few { parts ≤ 64 }
     requires number { number < parts }
     ensures { IfOk result (λ states.
@@ -170,7 +170,7 @@ fn scan_parts<R: Threads + Sync>(
     condition: &Condition,
     all: &[Listed],
 ) -> Result<Vec<Result<Vec<State>, NoMemory>>, AllocError>
-    requires { AreListed words.now.game.checkers all.now }
+    requires { AreLayoutsListed words.now.game.checkers all.now }
     ensures { IfOk result (λ told. AreScanned words.now condition.now team.now told.items) }
 {
     let parts = team.workers() as usize;
@@ -206,7 +206,7 @@ pub fn scan<R: Threads + Sync>(
     condition: &Condition,
 ) -> Result<Found, NoMemory>
     ensures found { IfOk result (λ found. found ≡ meeting words.now condition.now) }
-    ensures right { IfOk result (All (IsStateIn words.now.game)) }
+    ensures right { IfOk result (All (IsFoundState words.now.game)) }
 {
     let all = all_listed(alloc, words.checkers())?;
     // What `workers` ensures says that there is one.

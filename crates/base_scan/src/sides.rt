@@ -1,7 +1,7 @@
 ghost use Rattle.std.specs.Prelude.{◌≡◌, ◌<◌, ◌≤◌, IfOk};
 ghost use Rattle.position_rank.specs.Ranks.{layouts, rank_of};
 ghost use Rattle.base_scan.specs.Meets.{pips};
-ghost use Rattle.base_scan.specs.Sides.{AreListed, IsListed, IsSideOf};
+ghost use Rattle.base_scan.specs.Sides.{AreLayoutsListed, IsLayoutListed, IsSideOf};
 
 use hyper_outside::NoMemory;
 use position_rank::{Layout, OtherPoints, layout_count};
@@ -57,7 +57,7 @@ impl Listed {
         requires low { 1 ≤ checkers }
         requires high { checkers ≤ 3 }
         requires rank { rank < layouts checkers }
-        ensures listed { IsListed checkers result }
+        ensures listed { IsLayoutListed checkers result }
         ensures rank { rank_of result.layout ≡ rank }
     {
         let layout = Layout::unrank(checkers, rank);
@@ -74,7 +74,7 @@ impl Listed {
 pub(crate) fn all_listed(alloc: Global, checkers: u8) -> Result<Vec<Listed>, NoMemory>
     requires low { 1 ≤ checkers }
     requires high { checkers ≤ 3 }
-    ensures { IfOk result (λ all. AreListed checkers all.items) }
+    ensures { IfOk result (λ all. AreLayoutsListed checkers all.items) }
 {
     let mut all = Vec::new(alloc);
     for rank in 0..layout_count(checkers) {

@@ -3,7 +3,7 @@ ghost use Rattle.base_scan.specs.declared.condition.Comparison.{Comparison};
 ghost use Rattle.base_scan.specs.declared.condition.Field.{Field};
 ghost use Rattle.base_scan.specs.declared.condition.Test.{Test};
 ghost use Rattle.base_scan.specs.Conditions.{IsNumberText, IsTestText, comparison_text, field_text, minus_text, not_text};
-ghost use Rattle.base_scan.specs.Cuts.{AreParts, IsCutAt};
+ghost use Rattle.base_scan.specs.Cuts.{MakeUp, IsCutAt};
 
 use crate::condition::{Comparison, Field, Test};
 
@@ -81,7 +81,7 @@ fn cut_not(text: &str) -> (bool, &str)
 fn cut_comparison(text: &str) -> Option<(&str, Comparison, &str)>
     ensures { MatchOption result ((name : List ℕ) (comparison : Comparison) (number : List ℕ)
         → IsCutAt text.now name comparison number → ⊥)
-        (λ parts. AreParts text.now parts.0.now parts.1 parts.2.now) }
+        (λ parts. MakeUp text.now parts.0.now parts.1 parts.2.now) }
 {
     if let Some((name, number)) = text.split_once('<') {
         return Some((name, Comparison::Below, number));

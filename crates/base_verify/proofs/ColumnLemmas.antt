@@ -15,8 +15,8 @@ use Rattle.column_sums.specs.Leaps.{layout_at}
 use Rattle.column_turns.specs.Columns.{ColumnPairs}
 use Rattle.column_turns.specs.Turns.{AreLiveMovers, AreTurnsOf}
 use Rattle.interval_words.specs.WordLists.{WordList, words_in_list, source_of}
-use Rattle.base_verify.specs.Findings.{Holds}
-use Rattle.base_verify.specs.Columns.{ColumnsHold, HasRoomFor, IsTurned, PositionHolds, position_in}
+use Rattle.base_verify.specs.Findings.{WordHolds}
+use Rattle.base_verify.specs.Columns.{ColumnsHold, HasRoomFor, IsPositionTurned, PositionHolds, position_in}
 
 module _ (words : WordList) (column : ColumnPairs) (rank : ℕ) (room : HasRoomFor words column) (inside : rank < layouts words.game.checkers) (other_is : column.other ≡ layout_at column.layouts rank) (movers : AreLiveMovers column.layouts column.other column.movers) where
   here : rank < length column.layouts
@@ -34,7 +34,7 @@ module _ (words : WordList) (column : ColumnPairs) (rank : ℕ) (room : HasRoomF
       }
 
   -- over the words alone, a column's pairs are the turns
-  pub column-turned : (noted : Words) → noted ≡ words_in_list words → AreTurnsOf (source_of words) (all_told noted) words.game.stakes (position_in column) (length column.movers) column.pairs → (i : ℕ) → i < length column.movers → IsTurned words column i
+  pub column-turned : (noted : Words) → noted ≡ words_in_list words → AreTurnsOf (source_of words) (all_told noted) words.game.stakes (position_in column) (length column.movers) column.pairs → (i : ℕ) → i < length column.movers → IsPositionTurned words column i
   column-turned noted same found i below = record {
     states = λ k kind. column-state i k below kind;
     turns = λ k kind.
@@ -58,7 +58,7 @@ module _ (words : WordList) (column : ColumnPairs) (rank : ℕ) (room : HasRoomF
       let place : (r : ℕ) → r ≡ rank_of p.mover → record { mover = layout_at column.layouts r; other = column.other } ≡ p =
       λ r e. ap (λ (m : List ℕ). record { mover = m; other = column.other }) (ap (λ (n : ℕ). layout_at column.layouts n) e ∙ mover) ∙ ap (λ (o : List ℕ). record { mover = p.mover; other = o }) other in
       let found = movers.all (rank_of p.mover) below (subst IsLive (sym (place (rank_of p.mover) refl)) state.live) in
-      subst (λ (q : Placement). Holds words side q k) (place _ found.2) (held found.0 found.1 side k state.kind)
+      subst (λ (q : Placement). WordHolds words side q k) (place _ found.2) (held found.0 found.1 side k state.kind)
 
 module _ (words : WordList) where
   pub no-columns : (a : ℕ) → ColumnsHold words a a

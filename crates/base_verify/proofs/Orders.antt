@@ -7,7 +7,7 @@ use Rattle.position_rank.specs.LiveRanks.{live_rank_of}
 use Rattle.directed_fixed.specs.declared.bounds.End.{End}
 use Rattle.directed_fixed.specs.declared.bounds.End.TheVariants.{Lower, Upper}
 use Rattle.interval_words.specs.Numbers.{state_of, word_of}
-use Rattle.base_verify.specs.Findings.{ComesBefore}
+use Rattle.base_verify.specs.Findings.{WordComesBefore}
 
 word-less : (side other : End) (n m : ℕ) → n < m → word_of side n < word_of other m
 word-less Lower Lower n m less = omega (arith, less)
@@ -36,7 +36,7 @@ same-rank : (kinds r s k j : ℕ) → r ≡ s → k < j → r * kinds + k < s * 
 same-rank kinds r s k j same less = rw same (omega (arith, less))
 
 module _ (kinds : ℕ) (side other : End) (p q : Placement) (k j : ℕ) (kind : k < kinds) (other_kind : j < kinds) where
-  pub places-tell : word_of side (state_of kinds p k) < word_of other (state_of kinds q j) → ComesBefore side p k other q j
+  pub places-tell : word_of side (state_of kinds p k) < word_of other (state_of kinds q j) → WordComesBefore side p k other q j
   unfolding state_of
   places-tell before = elim (cases_order (live_rank_of p) (live_rank_of q)) [
     | inl same ↦ inr (
@@ -62,7 +62,7 @@ module _ (kinds : ℕ) (side other : End) (p q : Placement) (k j : ℕ) (kind : 
     ]
   ]
 
-  pub told-by-places : ComesBefore side p k other q j → word_of side (state_of kinds p k) < word_of other (state_of kinds q j)
+  pub told-by-places : WordComesBefore side p k other q j → word_of side (state_of kinds p k) < word_of other (state_of kinds q j)
   unfolding state_of
   told-by-places before = elim before [
     | inl less ↦ word-less side other _ _ (rank-less kinds (live_rank_of p) (live_rank_of q) k j kind less)

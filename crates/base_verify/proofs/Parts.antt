@@ -12,7 +12,7 @@ use Rattle.interval_words.specs.Numbers.{state_of, word_of}
 use Rattle.interval_words.specs.WordLists.{WordList}
 use Rattle.interval_words.proofs.Places.{state-same}
 use Rattle.base_verify.specs.declared.finding.Finding.{Finding}
-use Rattle.base_verify.specs.Findings.{Holds, HoldBetween, place_of, place_of_finding}
+use Rattle.base_verify.specs.Findings.{WordHolds, HoldBetween, told_at, place_of_finding}
 use Rattle.base_verify.specs.Checks.{IsFindingOf, TellsBetween, IsFirstBetween, place_at}
 
 add-mul-one : (n k : ℕ) → (n + 1) * k ≡ n * k + k
@@ -23,7 +23,7 @@ module _ (words : WordList) where
   hold-none a side p k state from to = absurd (omega (arith, from, to))
 
   pub hold-more : (a b c : ℕ) → HoldBetween words a b → HoldBetween words b c → HoldBetween words a c
-  hold-more a b c first rest side p k state from to = elim (cases_lt (place_of words side p k) b) [
+  hold-more a b c first rest side p k state from to = elim (cases_lt (told_at words side p k) b) [
     | inl before ↦ first side p k state from before
     | inr after ↦ rest side p k state after to
   ]
@@ -53,12 +53,12 @@ module _ (words : WordList) where
         let is = state-same words.game.checkers (kinds_of words.game) p q k j state other same in
         subst (λ (r : Placement). P r j) is.0 (subst (λ (n : ℕ). P p n) is.1 holds)
 
-    both-hold : ((side : End) → Holds words side p k) → HoldBetween words (word_of Lower (state_of (kinds_of words.game) p k)) (word_of Lower (state_of (kinds_of words.game) p k + 1))
-    both-hold holds side q j other from to = same-state (Holds words side) q j other (sym (word_is side _ _ from to)) (holds side)
+    both-hold : ((side : End) → WordHolds words side p k) → HoldBetween words (word_of Lower (state_of (kinds_of words.game) p k)) (word_of Lower (state_of (kinds_of words.game) p k + 1))
+    both-hold holds side q j other from to = same-state (WordHolds words side) q j other (sym (word_is side _ _ from to)) (holds side)
 
-    lower-holds : Holds words Lower p k → HoldBetween words (word_of Lower (state_of (kinds_of words.game) p k)) (word_of Upper (state_of (kinds_of words.game) p k))
+    lower-holds : WordHolds words Lower p k → HoldBetween words (word_of Lower (state_of (kinds_of words.game) p k)) (word_of Upper (state_of (kinds_of words.game) p k))
     lower-holds holds Upper q j other from to = absurd (omega (arith, from, to))
-    lower-holds holds Lower q j other from to = same-state (Holds words Lower) q j other (omega (arith, from, to)) holds
+    lower-holds holds Lower q j other from to = same-state (WordHolds words Lower) q j other (omega (arith, from, to)) holds
 
     finding-at : (f : Finding) (side : End) → IsFindingOf words p k f → f.side ≡ side → place_of_finding words f ≡ word_of side (state_of (kinds_of words.game) p k)
     finding-at f side is e = rw (e, is.position, is.kind) refl
@@ -82,7 +82,7 @@ module _ (words : WordList) where
         }
 
     -- one kind more of the position
-    pub kind-more : HoldBetween words (place_at words (live_rank_of p)) (word_of Lower (state_of (kinds_of words.game) p k)) → ((side : End) → Holds words side p k) → HoldBetween words (place_at words (live_rank_of p)) (word_of Lower (state_of (kinds_of words.game) p (k + 1)))
+    pub kind-more : HoldBetween words (place_at words (live_rank_of p)) (word_of Lower (state_of (kinds_of words.game) p k)) → ((side : End) → WordHolds words side p k) → HoldBetween words (place_at words (live_rank_of p)) (word_of Lower (state_of (kinds_of words.game) p (k + 1)))
     unfolding state_of
     kind-more held holds =
         let next : word_of Lower (state_of (kinds_of words.game) p k + 1) ≡ word_of Lower (state_of (kinds_of words.game) p (k + 1)) = omega arith in

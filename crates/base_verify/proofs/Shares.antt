@@ -6,7 +6,7 @@ use Rattle.position_rank.specs.LiveRanks.{live_positions}
 use Rattle.interval_words.specs.WordLists.{WordList}
 use Rattle.base_verify.specs.declared.finding.Finding.{Finding}
 use Rattle.base_verify.specs.Findings.{HoldBetween}
-use Rattle.base_verify.specs.Checks.{AreParts, IsFirstBetween, TellsBetween, place_at, start_of}
+use Rattle.base_verify.specs.Checks.{ArePartsTold, IsFirstBetween, TellsBetween, place_at, start_of}
 use Rattle.base_verify.proofs.Parts.{found-before, hold-none, places-rise, tells-after}
 
 pub share-rise : (count parts a b : ℕ) → 0 < parts → a ≤ b → count * a / parts ≤ count * b / parts
@@ -25,7 +25,7 @@ module _ (words : WordList) (parts : ℕ) (some : 0 < parts) where
   none-yet =
       subst (λ (n : ℕ). HoldBetween words (place_at words 0) (place_at words n)) (sym (no-share (live_positions words.game.checkers) parts)) (hold-none words (place_at words 0))
 
-  module _ (told : List (Option Finding)) (are : AreParts words parts told) (i : ℕ) (held : HoldBetween words (place_at words 0) (place_at words (start_of words parts i))) where
+  module _ (told : List (Option Finding)) (are : ArePartsTold words parts told) (i : ℕ) (held : HoldBetween words (place_at words 0) (place_at words (start_of words parts i))) where
     tells-more : (found : Option Finding) → i < length told → get_or told i None ≡ found → TellsBetween words (place_at words 0) (place_at words (start_of words parts (i + 1))) found
     tells-more found below is =
         let here : i < parts = omega (arith, are.many, below) in

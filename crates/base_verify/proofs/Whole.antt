@@ -14,11 +14,11 @@ use Rattle.interval_words.specs.Numbers.{state_of, states_in, word_of}
 use Rattle.interval_words.specs.WordLists.{WordList, words_in_list}
 use Rattle.interval_words.proofs.Places.{state-in, state-same, word-same}
 use Rattle.base_verify.specs.declared.finding.Finding.{Finding}
-use Rattle.base_verify.specs.Findings.{Holds, HoldBetween, IsFinding, IsFirstFinding, IsLooser, place_of, place_of_finding, turn_over}
+use Rattle.base_verify.specs.Findings.{WordHolds, HoldBetween, IsFinding, IsFirstFinding, IsLooser, told_at, place_of_finding, turn_over}
 use Rattle.base_verify.specs.Checks.{IsFirstBetween, place_at}
 
 module _ (words : WordList) where
-  word-inside : (side : End) (p : Placement) (k n : ℕ) → state_of (kinds_of words.game) p k < n → place_of words side p k < word_of Lower n
+  word-inside : (side : End) (p : Placement) (k n : ℕ) → state_of (kinds_of words.game) p k < n → told_at words side p k < word_of Lower n
   word-inside Lower p k n below = omega (arith, below)
   word-inside Upper p k n below = omega (arith, below)
 
@@ -37,7 +37,7 @@ module _ (words : WordList) where
   clash Lower a b looser not = absurd (omega (arith, ints, looser, not))
   clash Upper a b looser not = absurd (omega (arith, ints, looser, not))
 
-  pub never-holds : (f : Finding) → IsFinding words f → Holds words f.side f.position f.kind → ⊥
+  pub never-holds : (f : Finding) → IsFinding words f → WordHolds words f.side f.position f.kind → ⊥
   never-holds f is holds =
       clash f.side (turn_over words f.side f.position f.kind) (words_in_list words f.side f.position f.kind)
       (subst (λ (z : ℤ). IsLooser f.side (turn_over words f.side f.position f.kind) z) is.stored (subst (λ (z : ℤ). IsLooser f.side z f.stored) is.computed is.looser)) holds

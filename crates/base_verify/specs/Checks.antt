@@ -8,18 +8,18 @@ use Rattle.turn_rule.specs.Games.{kinds_of}
 use Rattle.interval_words.specs.Numbers.{word_of}
 use Rattle.interval_words.specs.WordLists.{WordList}
 use Rattle.base_verify.specs.declared.finding.Finding.{Finding}
-use Rattle.base_verify.specs.Findings.{Holds, IsFinding, HoldBetween, place_of_finding}
+use Rattle.base_verify.specs.Findings.{WordHolds, IsFinding, HoldBetween, place_of_finding}
 
 -- a finding in a state, of its upper word only where the lower one holds
 pub record IsFindingOf (words : WordList) (p : Placement) (k : ℕ) (finding : Finding) : Type 0 where
   pub found : IsFinding words finding
   pub position : finding.position ≡ p
   pub kind : finding.kind ≡ k
-  pub lower : finding.side ≡ Upper → Holds words Lower p k
+  pub lower : finding.side ≡ Upper → WordHolds words Lower p k
 
 -- nothing, where both words of a state hold, else a finding of the first that doesn't
 abbrev pub TellsState : WordList → Placement → ℕ → Option Finding → Type 0
-TellsState words p k None = (side : End) → Holds words side p k
+TellsState words p k None = (side : End) → WordHolds words side p k
 TellsState words p k (Some finding) = IsFindingOf words p k finding
 
 -- a finding between two places, before whose word each word from the first place on holds
@@ -43,7 +43,7 @@ abbrev pub start_of : WordList → ℕ → ℕ → ℕ
 start_of words parts number = live_positions words.game.checkers * number / parts
 
 -- each of so many parts tells of the words of its positions
-pub record AreParts (words : WordList) (parts : ℕ) (told : List (Option Finding)) : Type 0 where
+pub record ArePartsTold (words : WordList) (parts : ℕ) (told : List (Option Finding)) : Type 0 where
   pub many : length told ≡ parts
   pub each :
       (number : ℕ) → number < parts

@@ -13,13 +13,13 @@ use Rattle.turn_rule.specs.States.{IsState, pair_of}
 use Rattle.column_turns.specs.Columns.{ColumnPairs}
 use Rattle.column_turns.specs.Turns.{mover_at, place_in}
 use Rattle.interval_words.specs.WordLists.{WordList}
-use Rattle.base_verify.specs.Findings.{Holds, turn_over}
+use Rattle.base_verify.specs.Findings.{WordHolds, turn_over}
 
 -- the words of all positions hold whose other side's layout has a rank from one to before another
 abbrev pub ColumnsHold : WordList → ℕ → ℕ → Type 0
 ColumnsHold words from to =
     (side : End) (p : Placement) (k : ℕ) → IsState words.game p k
-    → from ≤ rank_of p.other → rank_of p.other < to → Holds words side p k
+    → from ≤ rank_of p.other → rank_of p.other < to → WordHolds words side p k
 
 -- room for the columns of a list's game: all its layouts are at hand, and it has the game's kinds
 pub record HasRoomFor (words : WordList) (column : ColumnPairs) : Type 0 where
@@ -35,14 +35,14 @@ abbrev pub pair_in : ColumnPairs → ℕ → ℕ → Bounds
 pair_in column i k = slice_index_or column.pairs (place_in column.kinds i k) nothing
 
 -- a column's position is a state in each kind, and its pairs are the turns over the words
-pub record IsTurned (words : WordList) (column : ColumnPairs) (i : ℕ) : Type 0 where
+pub record IsPositionTurned (words : WordList) (column : ColumnPairs) (i : ℕ) : Type 0 where
   pub states : (k : ℕ) → k < kinds_of words.game → IsState words.game (position_in column i) k
   pub turns : (k : ℕ) → k < kinds_of words.game
       → pair_in column i k ≡ pair_of (turn_over words) (position_in column i) k
 
 -- both words of a position hold in each kind
 abbrev pub PositionHolds : WordList → Placement → Type 0
-PositionHolds words p = (side : End) (k : ℕ) → k < kinds_of words.game → Holds words side p k
+PositionHolds words p = (side : End) (k : ℕ) → k < kinds_of words.game → WordHolds words side p k
 
 -- each column holds whose mark is set
 pub record AreHeld (words : WordList) (marks : List Bool) : Type 0 where

@@ -21,8 +21,8 @@ abbrev pub turn_over : WordList → Words
 turn_over words = turn words.game.stakes (words_in_list words)
 
 -- A word holds where the turn over the words is no looser: a lower word is then at most the turn's, an upper one at least.
-abbrev pub Holds : WordList → End → Placement → ℕ → Type 0
-Holds words side p k = IsNoLooser side (turn_over words side p k) (words_in_list words side p k)
+abbrev pub WordHolds : WordList → End → Placement → ℕ → Type 0
+WordHolds words side p k = IsNoLooser side (turn_over words side p k) (words_in_list words side p k)
 
 -- as this end of a pair, the first value is looser than the second
 abbrev pub IsLooser : End → ℤ → ℤ → Type 0
@@ -37,17 +37,17 @@ pub record IsFinding (words : WordList) (finding : Finding) : Type 0 where
   pub looser : IsLooser finding.side finding.computed finding.stored
 
 -- where a word stands among all words: by rising live rank of its position, then by its kind, the lower word before the upper one
-abbrev pub place_of : WordList → End → Placement → ℕ → ℕ
-place_of words side p k = word_of side (state_of (kinds_of words.game) p k)
+abbrev pub told_at : WordList → End → Placement → ℕ → ℕ
+told_at words side p k = word_of side (state_of (kinds_of words.game) p k)
 
 -- where the word of a finding stands
 abbrev pub place_of_finding : WordList → Finding → ℕ
-place_of_finding words finding = place_of words finding.side finding.position finding.kind
+place_of_finding words finding = told_at words finding.side finding.position finding.kind
 
 -- one word comes before another: its position has the smaller live rank; or the same, and it is of the smaller kind; or it is the lower word
 -- of the same state, and the other the upper one
-abbrev pub ComesBefore : End → Placement → ℕ → End → Placement → ℕ → Type 0
-ComesBefore side p k other q j =
+abbrev pub WordComesBefore : End → Placement → ℕ → End → Placement → ℕ → Type 0
+WordComesBefore side p k other q j =
     (live_rank_of p < live_rank_of q)
     ⊎ ((live_rank_of p ≡ live_rank_of q) × ((k < j) ⊎ ((k ≡ j) × (side ≡ Lower) × (other ≡ Upper))))
 
@@ -55,7 +55,7 @@ ComesBefore side p k other q j =
 abbrev pub HoldBetween : WordList → ℕ → ℕ → Type 0
 HoldBetween words from to =
     (side : End) (p : Placement) (k : ℕ) → IsState words.game p k
-    → from ≤ place_of words side p k → place_of words side p k < to → Holds words side p k
+    → from ≤ told_at words side p k → told_at words side p k < to → WordHolds words side p k
 
 -- a finding before whose word each word holds
 pub record IsFirstFinding (words : WordList) (finding : Finding) : Type 0 where

@@ -1,7 +1,7 @@
 ghost use Rattle.std.specs.Prelude.{◌≡◌, ◌<◌, ◌+◌, ◌≤ℤ◌, IsTrue, length};
 ghost use Rattle.position_rank.specs.Ranks.{layouts};
 ghost use Rattle.turn_rule.specs.Games.{kinds_of};
-ghost use Rattle.base_verify.specs.Columns.{ColumnsHold, HasRoomFor, IsTurned, PositionHolds, position_in};
+ghost use Rattle.base_verify.specs.Columns.{ColumnsHold, HasRoomFor, IsPositionTurned, PositionHolds, position_in};
 
 use column_turns::ColumnTurns;
 use directed_fixed::Pair;
@@ -19,7 +19,7 @@ fn is_no_tighter(stored: Pair, turn: Pair) -> bool
 fn position_holds(words: &Words, turns: &ColumnTurns, i: usize) -> bool
     requires inside { i < length turns.now.movers }
     requires kinds { turns.now.kinds ≡ kinds_of words.now.game }
-    requires turned { IsTurned words.now turns.now i }
+    requires turned { IsPositionTurned words.now turns.now i }
     ensures { IsTrue result → PositionHolds words.now (position_in turns.now i) }
 {
     let position = turns.position(i);

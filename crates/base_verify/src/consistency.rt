@@ -2,7 +2,7 @@ ghost use Rattle.std.specs.Prelude.{◌≡◌, ◌<◌, ◌≤◌, ◌+◌, ◌*
 ghost use Rattle.interval_words.specs.WordLists.{WordList};
 ghost use Rattle.base_verify.specs.Findings.{AlwaysEnclose, TellsConsistency};
 ghost use Rattle.position_rank.specs.Ranks.{layouts};
-ghost use Rattle.base_verify.specs.Checks.{AreParts, TellsAll};
+ghost use Rattle.base_verify.specs.Checks.{ArePartsTold, TellsAll};
 ghost use Rattle.base_verify.specs.Columns.{AreToldHeld, ColumnsHold};
 
 use crate::finding::{Finding, VerifyStop};
@@ -70,7 +70,7 @@ fn find_in_parts<R: Threads + Sync>(
     alloc: Global,
     words: &Words,
 ) -> Result<Vec<Option<Finding>>, AllocError>
-    ensures { IfOk result (λ told. AreParts words.now team.now told.items) }
+    ensures { IfOk result (λ told. ArePartsTold words.now team.now told.items) }
 {
     let count = words.index().count();
     let parts = team.workers() as usize;
@@ -86,7 +86,7 @@ fn find_in_parts<R: Threads + Sync>(
 
 /// The finding of the first part that has one.
 fn first_of(told: &[Option<Finding>]) -> Option<Finding>
-    ensures { (words : WordList) (parts : ℕ) → 0 < parts → AreParts words parts told.now
+    ensures { (words : WordList) (parts : ℕ) → 0 < parts → ArePartsTold words parts told.now
         → TellsAll words result }
 {
     for part in told {

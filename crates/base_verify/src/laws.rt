@@ -7,7 +7,7 @@ ghost use Rattle.interval_words.specs.WordLists.{WordList, words_in_list};
 ghost use Rattle.base_verify.specs.declared.finding.Finding.{Finding};
 ghost use Rattle.base_verify.specs.declared.finding.VerifyStop.{VerifyStop};
 ghost use Rattle.base_verify.specs.declared.finding.VerifyStop.TheVariants.{NoMemory};
-ghost use Rattle.base_verify.specs.Findings.{IsFinding, IsFirstFinding, TellsConsistency, place_of, ComesBefore};
+ghost use Rattle.base_verify.specs.Findings.{IsFinding, IsFirstFinding, TellsConsistency, told_at, WordComesBefore};
 
 /// Words with a finding aren't consistent.
 pub fn findings_tell_inconsistency()
@@ -27,7 +27,7 @@ pub fn first_findings_are_one()
 pub fn words_are_ordered()
     ensures { (words : WordList) (side other : End) (p q : Placement) (k j : ℕ)
         → IsState words.game p k → IsState words.game q j
-        → (place_of words side p k < place_of words other q j) ↔ ComesBefore side p k other q j }
+        → (told_at words side p k < told_at words other q j) ↔ WordComesBefore side p k other q j }
 {}
 
 /// Whatever is answered of the same words is the same, but for a lack of memory; of consistent words

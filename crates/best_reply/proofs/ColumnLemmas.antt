@@ -17,7 +17,7 @@ use Rattle.column_sums.specs.Leaps.{layout_at}
 use Rattle.column_turns.specs.Columns.{ColumnPairs}
 use Rattle.column_turns.specs.Turns.{AreLiveMovers, AreTurnsOf}
 use Rattle.best_reply.specs.Columns.{AreColumnsFilled, HasRoomFor, pair_in, position_in, source_by}
-use Rattle.best_reply.specs.Tables.{IsBankOf, IsFilledTo, IsPut, StatePairs, words_by}
+use Rattle.best_reply.specs.Tables.{IsBankOf, IsFilledTo, ArePairsPut, StatePairs, words_by}
 use Rattle.best_reply.proofs.Filling.{put-full, put-here, put-keeps}
 
 -- the columns before this one, and the first so many positions of it, have got these words
@@ -54,7 +54,7 @@ module _ (game : Game) (column : ColumnPairs) (other : ℕ) (room : HasRoomFor g
 
   module _ (target : Words) (turned : (i k : ℕ) → i < length column.movers → k < kinds_of game → pair_in column i k ≡ pair_of target (position_in column i) k) where
     -- one more position
-    pub put-step : (i rank : ℕ) (old new : StatePairs) → i < length column.movers → rank ≡ live_rank_of (position_in column i) → IsColumnPut game target column other i old → IsPut rank (pair_in column i) old new → IsColumnPut game target column other (i + 1) new
+    pub put-step : (i rank : ℕ) (old new : StatePairs) → i < length column.movers → rank ≡ live_rank_of (position_in column i) → IsColumnPut game target column other i old → ArePairsPut rank (pair_in column i) old new → IsColumnPut game target column other (i + 1) new
     put-step i rank old new below is so_far put =
         let q = position_in column i in
         let mover_has = room.layouts.each _ _ (movers.within i 0 below) in

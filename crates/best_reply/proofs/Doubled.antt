@@ -1,5 +1,5 @@
 -- The least of a pass and of the first few answers to a double, and turns from sums.
-use Rattle.std.proofs.Common.{◌≡◌, ◌<◌, ◌≤◌, ◌+◌, ◌∙◌, ◌++◌, ℕ, ℤ, List, [], ◌∷◌, Option, Some, None, length, map, take, get_or, All, IfSome, ◌⊎◌, inl, inr, refl, ap, sym, arith}
+use Rattle.std.proofs.Common.{◌≡◌, ◌<◌, ◌≤◌, ◌+◌, ◌∙◌, ◌++◌, ℕ, ℤ, List, [], ◌∷◌, Option, Some, None, length, map, take, get_or, IfSome, ◌⊎◌, inl, inr, refl, ap, sym}
 use Rattle.std.specs.Int.{int_max, int_min}
 use Rattle.std.proofs.lemmas.List.{map-append, take_all, take_more}
 use Rattle.position_rank.specs.Placement.{Placement}
@@ -14,7 +14,7 @@ use Rattle.move_rules.specs.Listing.{Among}
 use Rattle.turn_rule.proofs.Within.{at_member}
 use Rattle.best_reply.specs.Policies.{Policy}
 use Rattle.best_reply.specs.ReplyPairs.{or_double_by, roll_value_by, turn_by}
-use Rattle.best_reply.specs.Tables.{IsAnswerIn, doubled_from, follow_sum, mean_pair, or_double_from, turn_from}
+use Rattle.best_reply.specs.Tables.{doubled_from, follow_sum, mean_pair, or_double_from, turn_from}
 
 abbrev value_of : End → (ℕ → Bounds) → Taken → ℤ
 value_of end sums taken = at end (mean_pair taken.factor (sums taken.kind))
@@ -37,16 +37,6 @@ least-more end sums double n taken inside is =
 
 pub least-all : (end : End) (sums : ℕ → Bounds) (double : Double) (n : ℕ) → length double.answers.items ≤ n → least_to end sums double n ≡ doubled_from end sums double
 least-all end sums double n past = ap (λ (xs : List Taken). least (at end double.pass) (map (value_of end sums) xs)) (take_all n double.answers.items past)
-
--- the answers of a right double count at most four times
-pub answers-in : (stakes : Terms) (double : Double) → IsRightDouble stakes double → All (IsAnswerIn (length stakes.kinds)) double.answers.items
-answers-in stakes double right i none inside =
-    let answer = right.answers i none inside in
-    record { kind = answer.kind; factor = few (get_or double.answers.items i none).factor answer.factor } where
-      few : (n : ℕ) → (n ≡ 1) ⊎ (n ≡ 2) ⊎ (n ≡ 4) → n ≤ 4
-      few n (inl is) = omega (arith, is)
-      few n (inr (inl is)) = omega (arith, is)
-      few n (inr (inr is)) = omega (arith, is)
 
 -- ---- turns from sums
 

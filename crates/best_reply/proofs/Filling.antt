@@ -22,8 +22,8 @@ use Rattle.interval_words.proofs.Places.{state-in}
 use Rattle.best_reply.specs.declared.sweep.Banks.{Banks}
 use Rattle.best_reply.specs.Policies.{IsLegalPolicy}
 use Rattle.best_reply.specs.ReplyPairs.{AgreeReplies, reply_rounds, turn_by}
-use Rattle.best_reply.specs.Sides.{AreBanksOf, AreRightBanks, AreSwept, HasRounds, both_words, turned_words}
-use Rattle.best_reply.specs.Tables.{IsBankOf, IsFilledTo, IsPut, IsRightBank, StatePairs, follow_sum, policy_of, sums_in, turn_from, words_by}
+use Rattle.best_reply.specs.Sides.{AreBanksOf, AreRightBanks, AreSwept, AreReplyRounds, both_words, turned_words}
+use Rattle.best_reply.specs.Tables.{IsBankOf, IsFilledTo, ArePairsPut, IsRightBank, StatePairs, follow_sum, policy_of, sums_in, turn_from, words_by}
 use Rattle.best_reply.proofs.Doubled.{from-same, turn-followed}
 use Rattle.best_reply.proofs.Lines.{legal-advised}
 use Rattle.best_reply.proofs.Rounds.{round-agrees, turn_by-stays}
@@ -63,7 +63,7 @@ put-more rank pair old n mid new value so_far kind inside is made =
           ∙ (get_or-set_other mid.pairs (rank * old.kinds + n) (other * old.kinds + k) value nothing (λ e. apart (places-same old.kinds other rank k n below kind e).0) ∙ so_far.rest other k apart below);
     }
 
-pub put-all : (rank : ℕ) (pair : ℕ → Bounds) (old : StatePairs) (n : ℕ) (new : StatePairs) → old.kinds ≤ n → IsPutTo rank pair old n new → IsPut rank pair old new
+pub put-all : (rank : ℕ) (pair : ℕ → Bounds) (old : StatePairs) (n : ℕ) (new : StatePairs) → old.kinds ≤ n → IsPutTo rank pair old n new → ArePairsPut rank pair old new
 put-all rank pair old n new past so_far = record { kinds = so_far.kinds; many = so_far.many; put = λ k below. so_far.put k (omega (arith, past, below)); rest = so_far.rest }
 
 -- there is a place for each kind of each live rank
@@ -81,7 +81,7 @@ module _ (game : Game) (target : Words) (rank : ℕ) (q : Placement) (position :
   state-at k inside = record { position = position; many = many; live = live; kind = inside }
 
   -- once this position has got the words, all that had them still have them
-  module _ (pair : ℕ → Bounds) (old new : StatePairs) (turned : (k : ℕ) → k < kinds_of game → pair k ≡ pair_of target q k) (full : IsBankOf game old) (put : IsPut rank pair old new) where
+  module _ (pair : ℕ → Bounds) (old new : StatePairs) (turned : (k : ℕ) → k < kinds_of game → pair k ≡ pair_of target q k) (full : IsBankOf game old) (put : ArePairsPut rank pair old new) where
     pub put-full : IsBankOf game new
     put-full = record { kinds = put.kinds ∙ full.kinds; many = put.many ∙ full.many }
 
@@ -105,7 +105,7 @@ module _ (game : Game) (target : Words) (rank : ℕ) (q : Placement) (position :
           old-kinds (live_rank_of p) k ∙ (put.rest (live_rank_of p) k apart kind ∙ had))
     ]
 
-  pub fill-step : (pair : ℕ → Bounds) (old new : StatePairs) → ((k : ℕ) → k < kinds_of game → pair k ≡ pair_of target q k) → IsFilledTo game target rank old → IsPut rank pair old new → IsFilledTo game target (rank + 1) new
+  pub fill-step : (pair : ℕ → Bounds) (old new : StatePairs) → ((k : ℕ) → k < kinds_of game → pair k ≡ pair_of target q k) → IsFilledTo game target rank old → ArePairsPut rank pair old new → IsFilledTo game target (rank + 1) new
   fill-step pair old new turned filled put = record {
     full = put-full pair old new turned filled.full put;
     so_far = λ p k state below. elim (cases_lt (live_rank_of p) rank) [
@@ -121,9 +121,6 @@ module _ (game : Game) (target : Words) (rank : ℕ) (q : Placement) (position :
   module _ (valid : IsValid game.stakes) (sums : List Bounds) where
     pub followed-turn : (policy : _) (u : Words) → ((k : ℕ) → k < kinds_of game → sums_in sums k ≡ follow_sum policy game.stakes u q k) → (k : ℕ) → k < kinds_of game → turn_from game.stakes (sums_in sums) k ≡ pair_of (turn_by policy game.stakes u) q k
     followed-turn policy u same k inside = from-same game.stakes valid (sums_in sums) (follow_sum policy game.stakes u q) same k inside ∙ turn-followed game.stakes u q policy k
-
-pub filled-none : (game : Game) (target : Words) (bank : StatePairs) → IsBankOf game bank → IsFilledTo game target 0 bank
-filled-none game target bank full = record { full = full; so_far = λ p k state below. absurd (omega arith) }
 
 -- ---- every position
 
@@ -166,7 +163,7 @@ module _ (words : WordList) (game_is : IsGame words.game) where
   agree-trans u v w h k end p j state = h end p j state ∙ k end p j state
 
   -- one round more
-  pub round-more : (old new : Banks) (r : ℕ) → AreSwept words old new → HasRounds (record { words = words; both = old }) r → HasRounds (record { words = words; both = new }) (suc r)
+  pub round-more : (old new : Banks) (r : ℕ) → AreSwept words old new → AreReplyRounds (record { words = words; both = old }) r → AreReplyRounds (record { words = words; both = new }) (suc r)
   round-more old new r swept has =
       let turned = all-swept old new swept in
       let next = round-agrees (policy_of words) legal game game_is.stakes r (both_words old) has in
@@ -202,12 +199,12 @@ module _ (words : WordList) (game_is : IsGame words.game) where
     pub opening-right : IsRightBank game bank
     opening-right = record { full = opening-full; within = agree-within game (words_by bank) (bound_words game.stakes) opening-agrees (opening-within game game_is.stakes) }
 
-  pub opening-rounds : (both : Banks) → Agree game (words_by both.follow) (bound_words game.stakes) → Agree game (words_by both.reply) (bound_words game.stakes) → HasRounds (record { words = words; both = both }) 0
+  pub opening-rounds : (both : Banks) → Agree game (words_by both.follow) (bound_words game.stakes) → Agree game (words_by both.reply) (bound_words game.stakes) → AreReplyRounds (record { words = words; both = both }) 0
   unfolding reply_rounds
   opening-rounds both follow reply = record { follow = follow; reply = reply }
 
   -- so they are right
-  pub opening-ready : (both : Banks) → AreBanksOf game both → HasRounds (record { words = words; both = both }) 0 → AreRightBanks game both
+  pub opening-ready : (both : Banks) → AreBanksOf game both → AreReplyRounds (record { words = words; both = both }) 0 → AreRightBanks game both
   unfolding reply_rounds
   opening-ready both full has = record {
     follow = record { full = full.follow; within = agree-within game (words_by both.follow) (bound_words game.stakes) has.follow (opening-within game game_is.stakes) };

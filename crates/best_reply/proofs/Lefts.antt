@@ -27,7 +27,7 @@ use Rattle.play_analyser.specs.Regrets.{play_pair}
 use Rattle.best_reply.specs.declared.left.Left.{Left}
 use Rattle.best_reply.specs.Advised.{IsAdvised}
 use Rattle.best_reply.proofs.Lines.{before-trans, better-then, better-trans, never-better}
-use Rattle.best_reply.specs.Tables.{AreListed, IsBankOf, IsFirstBest, LeavesPair, LeavesState, RollAt, StatePairs, ends_in}
+use Rattle.best_reply.specs.Tables.{AreEndsOfPlays, IsBankOf, IsFirstBest, LeavesPair, LeavesStateOfGame, RollAt, StatePairs, ends_in}
 
 -- ---- one play
 
@@ -61,7 +61,7 @@ over-inside kind words left kinds all rank state =
 pub small-place : (rank kinds next : ℕ) → rank < 2 ^ 24 → kinds ≤ 14 → next < kinds → rank * kinds + next < 2 ^ 36
 small-place rank kinds next small few inside = omega (arith, mul-add-lt rank kinds next (2 ^ 24) small inside)
 
-pub bank-inside : (game : Game) (bank : StatePairs) → IsBankOf game bank → (next : ℕ) (end : Placement) → LeavesState game next end → LeavesPair bank next end
+pub bank-inside : (game : Game) (bank : StatePairs) → IsBankOf game bank → (next : ℕ) (end : Placement) → LeavesStateOfGame game next end → LeavesPair bank next end
 bank-inside game bank full next end leaves on =
     subst (λ (n : ℕ). live_rank_of (swap end) * bank.kinds + next < n) (sym full.many)
     (subst (λ (n : ℕ). n < states_of game) (sym (ap (λ (k : ℕ). live_rank_of (swap end) * k + next) full.kinds ∙ place-is (kinds_of game) (live_rank_of (swap end)) next (swap end) refl))
@@ -146,7 +146,7 @@ nth [] i h = absurd (omega arith)
 nth (x ∷ xs) zero h = (x, λ none. refl)
 nth (x ∷ xs) (suc i) h = nth xs i (omega arith)
 
-module _ (stakes : Terms) (u : Words) (at : RollAt) (k : ℕ) (lefts : List Left) (right : AreListed at (ends_in lefts)) (place : ℕ) (first : IsFirstBest (play_pair (kind_at stakes k) u) lefts place) (left : Left) (here : left ≡ get_or lefts place left) where
+module _ (stakes : Terms) (u : Words) (at : RollAt) (k : ℕ) (lefts : List Left) (right : AreEndsOfPlays at (ends_in lefts)) (place : ℕ) (first : IsFirstBest (play_pair (kind_at stakes k) u) lefts place) (left : Left) (here : left ≡ get_or lefts place left) where
   abbrev p : Placement
   p = at.position
 

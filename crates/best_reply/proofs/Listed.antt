@@ -22,7 +22,7 @@ use Rattle.turn_rule.proofs.Integers.{neg_le}
 use Rattle.turn_rule.proofs.Within.{bound-positive, bound-small, follow-state, in_play, win-within}
 use Rattle.play_analyser.specs.Regrets.{play_pair}
 use Rattle.best_reply.specs.declared.left.Left.{Left}
-use Rattle.best_reply.specs.Tables.{AreListed, LeavesLive, LeavesState, ends_in}
+use Rattle.best_reply.specs.Tables.{AreEndsOfPlays, LeavesLive, LeavesStateOfGame, ends_in}
 
 -- what a legal play leaves
 pub legal-live : (checkers : ℕ) (p : Placement) (roll : Dice) (q : Placement) → IsRoll roll → IsPosition p → IsLive p → sum p.mover ≡ checkers → IsLegalEnd p roll q → LeavesLive checkers q
@@ -36,7 +36,7 @@ listed-live checkers p roll ends right position live many legal i none inside =
 
 -- the listed plays of a roll, with what they leave
 pub are-listed : (p : Placement) (roll : Dice) (times : ℕ) (entries : List Entry) (ends : List Placement) → IsRoll roll → ends ≡ ends_of entries → 0 < length entries → ((q : Placement) → Contains (ends_of entries) q ↔ IsLegalEnd p roll q)
-    → All (λ (entry : Entry). IsFirst p roll entry.play.items entry.end) entries → AllPairs PlayComesBefore (plays_of entries) → AreListed (record { position = p; roll = roll; times = times }) ends
+    → All (λ (entry : Entry). IsFirst p roll entry.play.items entry.end) entries → AllPairs PlayComesBefore (plays_of entries) → AreEndsOfPlays (record { position = p; roll = roll; times = times }) ends
 are-listed p roll times entries ends right is some legal first in_order = record {
   right = right;
   entries = entries;
@@ -51,7 +51,7 @@ module _ (game : Game) (valid : IsValid game.stakes) (p : Placement) (k : ℕ) (
   abbrev kind : Kind
   kind = kind_at game.stakes k
 
-  pub legal-state : (q : Placement) → IsLegalEnd p roll q → LeavesState game kind.next q
+  pub legal-state : (q : Placement) → IsLegalEnd p roll q → LeavesStateOfGame game kind.next q
   legal-state q legal on = follow-state game valid p k state (swap q) kind.next (record {
     roll = roll;
     right = right;
@@ -60,7 +60,7 @@ module _ (game : Game) (valid : IsValid game.stakes) (p : Placement) (k : ℕ) (
     left = record { goes_on = on; sides = refl; kind = refl };
   })
 
-  pub listed-states : (ends : List Placement) → ((q : Placement) → Contains ends q ↔ IsLegalEnd p roll q) → All (LeavesState game kind.next) ends
+  pub listed-states : (ends : List Placement) → ((q : Placement) → Contains ends q ↔ IsLegalEnd p roll q) → All (LeavesStateOfGame game kind.next) ends
   listed-states ends legal i none inside = legal-state (get_or ends i none) ((legal (get_or ends i none)).0 (Contains-get_or ends i none inside))
 
   pub legal-within : (u : Words) → AreWithin game u → (q : Placement) → IsLegalEnd p roll q → IsWithin game.stakes.bound (play_pair kind u q)

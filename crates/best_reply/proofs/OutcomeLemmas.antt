@@ -28,7 +28,7 @@ use Rattle.interval_words.proofs.EachNumber.{each-number}
 use Rattle.play_analyser.specs.Regrets.{play_pair}
 use Rattle.best_reply.specs.declared.outcome.Outcome.{Outcome}
 use Rattle.best_reply.specs.Outcomes.{AreAdvised, IsAdvisedTo, IsOutcomeOf, outcome_place, rank_in, win_of_number, won_in}
-use Rattle.best_reply.specs.Tables.{IsRightBank, IsSmall, LeavesPair, StatePairs, follow_sum, policy_of, words_by}
+use Rattle.best_reply.specs.Tables.{IsRightBank, IsSmallSum, LeavesPair, StatePairs, follow_sum, policy_of, words_by}
 use Rattle.best_reply.proofs.Lefts.{bank-inside, goes-on, place-is}
 use Rattle.best_reply.proofs.Lines.{legal-advised}
 use Rattle.best_reply.proofs.Listed.{legal-state, legal-within, small-pair}
@@ -117,7 +117,7 @@ module _ (words : WordList) (bank : StatePairs) (rank number : ℕ) where
       → AreSums (followed words.game.stakes (words_by bank) p number (policy_of words)) i sum
 
   module _ (game : IsGame words.game) (below : rank < live_positions words.game.checkers) (kind : number < kinds_of words.game) where
-    pub sums-small : (i : ℕ) (sum : Bounds) → i ≤ length all_rolls → AreSumsAt i sum → IsSmall sum
+    pub sums-small : (i : ℕ) (sum : Bounds) → i ≤ length all_rolls → AreSumsAt i sum → IsSmallSum sum
     sums-small i sum few are =
         let at = some-at words.game game rank number below kind in
         small-sums (followed words.game.stakes (words_by bank) at.position number (policy_of words)) i sum (omega (arith, few, length-all_rolls)) (are at.position at.state at.ranked)

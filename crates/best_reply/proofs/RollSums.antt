@@ -11,7 +11,7 @@ use Rattle.turn_rule.specs.Turn.{Words, worth}
 use Rattle.turn_rule.proofs.Greatest.{AreRolls, all_rolls-right, all_rolls-small, at_roll, length-all_rolls}
 use Rattle.best_reply.specs.Policies.{Policy}
 use Rattle.best_reply.specs.Replies.{sum_by}
-use Rattle.best_reply.specs.Tables.{AreRolled, IsSmall, RollAt, follow_sum, weighted}
+use Rattle.best_reply.specs.Tables.{AreRollsKept, IsSmallSum, RollAt, follow_sum, weighted_kept}
 
 -- over some rolls, the sum of a value of each, as often as it comes
 abbrev weighted_sum : List (Dice × ℕ) → (Dice → ℤ) → ℤ
@@ -35,23 +35,23 @@ sum-next f (first ∷ rest) (suc i) roll h e = regroup _ _ _ _ (sum-next f rest 
 
 -- ---- the rolls of a position
 
-kept-weight : (kept : List RollAt) (i : ℕ) (one : RollAt) → i < length kept → one ≡ get_or kept i one → weighted one ≡ get_or (map weighted kept) i (weighted one)
+kept-weight : (kept : List RollAt) (i : ℕ) (one : RollAt) → i < length kept → one ≡ get_or kept i one → weighted_kept one ≡ get_or (map weighted_kept kept) i (weighted_kept one)
 kept-weight [] i one h e = absurd (omega arith)
-kept-weight (k ∷ kept) zero one h e = ap weighted e
+kept-weight (k ∷ kept) zero one h e = ap weighted_kept e
 kept-weight (k ∷ kept) (suc i) one h e = kept-weight kept i one (omega arith) e
 
-pub kept-many : (p : Placement) (kept : List RollAt) → AreRolled p kept → length kept ≡ 21
-kept-many p kept rolled = sym (length-map kept weighted) ∙ (ap length rolled.rolls ∙ length-all_rolls)
+pub kept-many : (p : Placement) (kept : List RollAt) → AreRollsKept p kept → length kept ≡ 21
+kept-many p kept rolled = sym (length-map kept weighted_kept) ∙ (ap length rolled.rolls ∙ length-all_rolls)
 
 pub record IsKept (p : Placement) (i : ℕ) (one : RollAt) : Type 0 where
   pub here : i < length all_rolls
-  pub weight : weighted one ≡ get_or all_rolls i (weighted one)
+  pub weight : weighted_kept one ≡ get_or all_rolls i (weighted_kept one)
   pub position : one.position ≡ p
 
-pub kept-at : (p : Placement) (kept : List RollAt) (i : ℕ) (one : RollAt) → AreRolled p kept → i < length kept → one ≡ get_or kept i one → IsKept p i one
+pub kept-at : (p : Placement) (kept : List RollAt) (i : ℕ) (one : RollAt) → AreRollsKept p kept → i < length kept → one ≡ get_or kept i one → IsKept p i one
 kept-at p kept i one rolled h e = record {
   here = omega (arith, h, kept-many p kept rolled, length-all_rolls);
-  weight = subst (λ (xs : List (Dice × ℕ)). weighted one ≡ get_or xs i (weighted one)) rolled.rolls (kept-weight kept i one h e);
+  weight = subst (λ (xs : List (Dice × ℕ)). weighted_kept one ≡ get_or xs i (weighted_kept one)) rolled.rolls (kept-weight kept i one h e);
   position = ap (λ (at : RollAt). at.position) e ∙ rolled.position i one h;
 }
 
@@ -92,7 +92,7 @@ no-sums value zero_is is = rw is (record {
   high_small = record { from = omega (arith, ints); to = omega (arith, ints) };
 })
 
-pub small-sums : (value : Dice → Bounds) (i : ℕ) (sum : Bounds) → i ≤ 21 → AreSums value i sum → IsSmall sum
+pub small-sums : (value : Dice → Bounds) (i : ℕ) (sum : Bounds) → i ≤ 21 → AreSums value i sum → IsSmallSum sum
 small-sums value i sum few are = record {
   lower = record { from = omega (arith, ints, are.low_small.from); to = omega (arith, ints, are.low_small.to) };
   upper = record { from = omega (arith, ints, are.high_small.from); to = omega (arith, ints, are.high_small.to) };

@@ -46,18 +46,18 @@ pub record ReplyState : Type 0 where
   pub both : Banks
 
 -- both sides' words are those after so many rounds
-abbrev pub HasRounds : ReplyState → ℕ → Type 0
-HasRounds state r =
+abbrev pub AreReplyRounds : ReplyState → ℕ → Type 0
+AreReplyRounds state r =
     AgreeReplies state.words.game (both_words state.both)
     (reply_rounds (policy_of state.words) state.words.game.stakes r)
 
 -- each state has taken its turn over the other side's words
-abbrev pub IsTurned : ReplyState → ReplyState → Type 0
-IsTurned old new =
+abbrev pub IsReplyTurned : ReplyState → ReplyState → Type 0
+IsReplyTurned old new =
     AgreeReplies old.words.game (both_words new.both) (turned_words old.words (both_words old.both))
 
 -- a table whose next round may be made: the advised plays, right pairs, and room for a column and for the next pairs
-pub record IsReady (words : WordList) (advice : List Outcome) (column : ColumnPairs)
+pub record IsReplyReady (words : WordList) (advice : List Outcome) (column : ColumnPairs)
     (now next : Banks) : Type 0 where
   pub game : IsGame words.game
   pub advised : IsAdvisedTo words (live_positions words.game.checkers) advice

@@ -42,16 +42,16 @@ pub record RollAt : Type 0 where
   pub roll : Dice
   pub times : ℕ
 
-abbrev pub weighted : RollAt → Dice × ℕ
-weighted at = (at.roll, at.times)
+abbrev pub weighted_kept : RollAt → Dice × ℕ
+weighted_kept at = (at.roll, at.times)
 
 -- every roll of a position
-pub record AreRolled (p : Placement) (kept : List RollAt) : Type 0 where
-  pub rolls : map weighted kept ≡ all_rolls
+pub record AreRollsKept (p : Placement) (kept : List RollAt) : Type 0 where
+  pub rolls : map weighted_kept kept ≡ all_rolls
   pub position : All (λ at. at.position ≡ p) kept
 
 -- what the legal plays of the roll leave, in the order in which plays are listed
-pub record AreListed (at : RollAt) (ends : List Placement) : Type 0 where
+pub record AreEndsOfPlays (at : RollAt) (ends : List Placement) : Type 0 where
   pub right : IsRoll at.roll
   pub entries : List Entry
   pub is : ends_of entries ≡ ends
@@ -61,8 +61,8 @@ pub record AreListed (at : RollAt) (ends : List Placement) : Type 0 where
   pub in_order : AllPairs PlayComesBefore (plays_of entries)
 
 -- the same, each with how it won, or else with the rank of what comes
-pub record AreRight (at : RollAt) (lefts : List Left) : Type 0 where
-  pub listed : AreListed at (ends_in lefts)
+pub record AreRightLefts (at : RollAt) (lefts : List Left) : Type 0 where
+  pub listed : AreEndsOfPlays at (ends_in lefts)
   pub right : All IsRight lefts
 
 -- a pair for each state of a game of so many kinds, by its number
@@ -78,8 +78,8 @@ abbrev pub LeavesLive : ℕ → Placement → Type 0
 LeavesLive checkers end = points end ≡ None → IsLive (swap end) × (sum (swap end).mover ≡ checkers)
 
 -- unless this ended the game, the other side has a state of the game in this kind
-abbrev pub LeavesState : Game → ℕ → Placement → Type 0
-LeavesState game next end = points end ≡ None → IsState game (swap end) next
+abbrev pub LeavesStateOfGame : Game → ℕ → Placement → Type 0
+LeavesStateOfGame game next end = points end ≡ None → IsState game (swap end) next
 
 -- and these pairs have one for that
 abbrev pub LeavesPair : StatePairs → ℕ → Placement → Type 0
@@ -115,7 +115,7 @@ policy_of words = advised words.game.stakes (words_in_list words)
 -- ---- sums over the 36 ways of two dice
 
 -- both ends lie within 2 ^ 42 units
-pub record IsSmall (sum : Bounds) : Type 0 where
+pub record IsSmallSum (sum : Bounds) : Type 0 where
   pub lower : IsWithinUnits (pos (2 ^ 42)) sum.lower
   pub upper : IsWithinUnits (pos (2 ^ 42)) sum.upper
 
@@ -162,7 +162,7 @@ abbrev pub sums_in : List Bounds → ℕ → Bounds
 sums_in sums k = slice_index_or sums k nothing
 
 -- the kinds of a position have got these pairs, and no pair of another position has changed
-pub record IsPut (rank : ℕ) (pair : ℕ → Bounds) (old new : StatePairs) : Type 0 where
+pub record ArePairsPut (rank : ℕ) (pair : ℕ → Bounds) (old new : StatePairs) : Type 0 where
   pub kinds : new.kinds ≡ old.kinds
   pub many : length new.pairs ≡ length old.pairs
   pub put : (k : ℕ) → k < old.kinds

@@ -6,7 +6,7 @@ ghost use Rattle.directed_fixed.specs.Bounds.{IsWithin};
 ghost use Rattle.turn_rule.specs.Games.{IsGame, kinds_of};
 ghost use Rattle.turn_rule.specs.States.{IsState};
 ghost use Rattle.play_analyser.specs.Regrets.{play_pair};
-ghost use Rattle.best_reply.specs.Tables.{IsRightBank, IsSmall, follow_sum, policy_of, words_by};
+ghost use Rattle.best_reply.specs.Tables.{IsRightBank, IsSmallSum, follow_sum, policy_of, words_by};
 ghost use Rattle.best_reply.specs.Outcomes.{IsAdvisedTo, IsOutcomeOf, rank_in, won_in};
 
 use crate::bank::Bank;
@@ -42,7 +42,7 @@ fn pair_after(outcome: Outcome, kind: &Kind, bank: &Bank) -> Pair
 /// One more pair, so many times.
 #[inline]
 fn add_times(sum: Pair, times: u64, pair: Pair) -> Pair
-    requires sum { IsSmall sum }
+    requires sum { IsSmallSum sum }
     requires times { times ≤ 2 }
     requires pair { IsWithin (pos (2 ^ 36)) pair }
     ensures lower { result.lower ≡ (sum.lower +ℤ pos times *ℤ pair.lower) }
@@ -127,7 +127,7 @@ impl Advice {
         ensures sum { (p : Placement) → IsState words.now.game p number → live_rank_of p ≡ rank
             → result ≡ follow_sum (policy_of words.now) words.now.game.stakes
             (words_by bank.now) p number }
-        ensures small { IsSmall result }
+        ensures small { IsSmallSum result }
     {
         let kind = words.stakes().kind(number);
         let first = (rank as usize * words.stakes().kinds() + number) * ROLLS;

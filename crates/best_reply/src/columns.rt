@@ -2,7 +2,7 @@ ghost use Rattle.std.specs.Prelude.{◌≡◌, ◌<◌, ◌+◌, ◌*◌, ℕ, l
 ghost use Rattle.position_rank.specs.Ranks.{layouts};
 ghost use Rattle.position_rank.specs.LiveRanks.{live_positions};
 ghost use Rattle.turn_rule.specs.Turn.{turn};
-ghost use Rattle.best_reply.specs.Tables.{IsBankOf, IsFilledTo, IsPut, IsRightBank, words_by};
+ghost use Rattle.best_reply.specs.Tables.{IsBankOf, IsFilledTo, ArePairsPut, IsRightBank, words_by};
 ghost use Rattle.best_reply.specs.Columns.{AreColumnsFilled, HasRoomFor, pair_in};
 
 use crate::bank::Bank;
@@ -16,7 +16,7 @@ fn put_pairs(rank: u64, turns: &ColumnTurns, i: usize, bank: &mut Bank)
     requires kinds { turns.now.kinds ≡ bank.old.kinds }
     requires inside { (k : ℕ) → k < bank.old.kinds
         → rank * bank.old.kinds + k < length bank.old.pairs }
-    ensures { IsPut rank (pair_in turns.now i) bank.old bank.new }
+    ensures { ArePairsPut rank (pair_in turns.now i) bank.old bank.new }
 {
     for number in 0..turns.kinds() {
         bank.set(rank, number, turns.pair(i, number));

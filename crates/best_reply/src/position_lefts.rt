@@ -3,7 +3,7 @@ ghost use Rattle.position_rank.specs.Placement.{IsPosition, IsLive};
 ghost use Rattle.turn_rule.specs.Games.{kinds_of};
 ghost use Rattle.turn_rule.specs.States.{IsState};
 ghost use Rattle.interval_words.specs.Numbers.{state_of};
-ghost use Rattle.best_reply.specs.Tables.{weighted};
+ghost use Rattle.best_reply.specs.Tables.{weighted_kept};
 ghost use Rattle.best_reply.specs.Outcomes.{AreAdvised};
 
 use crate::outcome::Outcome;
@@ -21,7 +21,7 @@ fn fill_all(position: &Position, index: &LiveIndex, list: &mut PlayList, kept: &
     requires valid { IsPosition position.now }
     requires live { IsLive position.now }
     requires checkers { sum position.now.mover ≡ index.now }
-    ensures rolls { map weighted kept.new ≡ map weighted kept.old }
+    ensures rolls { map weighted_kept kept.new ≡ map weighted_kept kept.old }
     ensures position { All (λ one. one.position ≡ position.now) kept.new }
 {
     for one in kept.iter_mut() {
@@ -39,13 +39,13 @@ pub(crate) struct PositionLefts {
 
 impl Model for PositionLefts {
     ghost use Rattle.position_rank.specs.Placement.{Placement};
-    ghost use Rattle.best_reply.specs.Tables.{AreRolled};
+    ghost use Rattle.best_reply.specs.Tables.{AreRollsKept};
 
     ghost Value = { Placement };
 
     ghost view = { λ a. a.position };
 
-    ghost invariant = { λ a. AreRolled a.position a.kept.items };
+    ghost invariant = { λ a. AreRollsKept a.position a.kept.items };
 }
 
 impl PositionLefts {

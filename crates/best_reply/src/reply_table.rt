@@ -3,7 +3,7 @@ ghost use Rattle.turn_rule.specs.Games.{IsGame};
 ghost use Rattle.turn_rule.specs.States.{IsState, pair_of};
 ghost use Rattle.best_reply.specs.ReplyPairs.{reply_rounds};
 ghost use Rattle.best_reply.specs.Tables.{policy_of, words_by};
-ghost use Rattle.best_reply.specs.Sides.{AreBanksOf, HasRounds, IsTurned};
+ghost use Rattle.best_reply.specs.Sides.{AreBanksOf, AreReplyRounds, IsReplyTurned};
 
 use crate::advice::Advice;
 use crate::bank::Bank;
@@ -30,13 +30,13 @@ pub struct ReplyTable<'a> {
 }
 
 impl<'a> Model for ReplyTable<'a> {
-    ghost use Rattle.best_reply.specs.Sides.{ReplyState, IsReady};
+    ghost use Rattle.best_reply.specs.Sides.{ReplyState, IsReplyReady};
 
     ghost Value = { ReplyState };
 
     ghost view = { λ a. record { words = a.words.now; both = a.current } };
 
-    ghost invariant = { λ a. IsReady a.words.now a.advice a.turns a.current a.next };
+    ghost invariant = { λ a. IsReplyReady a.words.now a.advice a.turns a.current a.next };
 }
 
 /// A pair of which only the bound is known, for every state and either side to move.
@@ -44,7 +44,7 @@ fn opening(alloc: Global, words: &Words) -> Result<Banks, NoMemory>
     ensures game { IsGame words.now.game }
     ensures banks { IfOk result (AreBanksOf words.now.game) }
     ensures rounds { IfOk result (λ banks.
-        HasRounds (record { words = words.now; both = banks }) 0) }
+        AreReplyRounds (record { words = words.now; both = banks }) 0) }
 {
     // Right words are those of a game.
     words.right();
@@ -64,7 +64,7 @@ impl<'a> ReplyTable<'a> {
     /// checkers a side by the Jacoby rule and 2 GB for three. There may be none.
     pub fn new(alloc: Global, words: &'a Words) -> Result<ReplyTable<'a>, NoMemory>
         ensures words { IfOk result (λ table. table.words ≡ words.now) }
-        ensures rounds { IfOk result (λ table. HasRounds table 0) }
+        ensures rounds { IfOk result (λ table. AreReplyRounds table 0) }
     {
         Ok(ReplyTable {
             words,
@@ -79,8 +79,8 @@ impl<'a> ReplyTable<'a> {
     /// pairs that stood before. It takes no memory.
     pub fn sweep_all(&mut self)
         ensures words { self.new.words ≡ self.old.words }
-        ensures turned { IsTurned self.old self.new }
-        ensures rounds { (r : ℕ) → HasRounds self.old r → HasRounds self.new (r + 1) }
+        ensures turned { IsReplyTurned self.old self.new }
+        ensures rounds { (r : ℕ) → AreReplyRounds self.old r → AreReplyRounds self.new (r + 1) }
     {
         sweep(
             self.words,
@@ -96,7 +96,7 @@ impl<'a> ReplyTable<'a> {
     pub fn follow(&self, position: &Position, kind: usize) -> Pair
         requires { IsState self.now.words.game position.now kind }
         ensures pair { result ≡ pair_of (words_by self.now.both.follow) position.now kind }
-        ensures rounds { (r : ℕ) → HasRounds self.now r
+        ensures rounds { (r : ℕ) → AreReplyRounds self.now r
             → let words = self.now.words in
             result ≡ pair_of
             (reply_rounds (policy_of words) words.game.stakes r).follow position.now kind }
@@ -109,7 +109,7 @@ impl<'a> ReplyTable<'a> {
     pub fn reply(&self, position: &Position, kind: usize) -> Pair
         requires { IsState self.now.words.game position.now kind }
         ensures pair { result ≡ pair_of (words_by self.now.both.reply) position.now kind }
-        ensures rounds { (r : ℕ) → HasRounds self.now r
+        ensures rounds { (r : ℕ) → AreReplyRounds self.now r
             → let words = self.now.words in
             result ≡ pair_of
             (reply_rounds (policy_of words) words.game.stakes r).reply position.now kind }

@@ -6,7 +6,7 @@ ghost use Rattle.cube_actions.specs.Stakes.{IsValid};
 ghost use Rattle.turn_rule.specs.Games.{IsGame, kinds_of};
 ghost use Rattle.turn_rule.specs.States.{IsState};
 ghost use Rattle.best_reply.specs.ReplyPairs.{turn_by};
-ghost use Rattle.best_reply.specs.Tables.{IsBankOf, IsFilledTo, IsPut, IsRightBank, IsSmall, follow_sum, policy_of, sums_in, turn_from, words_by};
+ghost use Rattle.best_reply.specs.Tables.{IsBankOf, IsFilledTo, ArePairsPut, IsRightBank, IsSmallSum, follow_sum, policy_of, sums_in, turn_from, words_by};
 ghost use Rattle.best_reply.specs.Outcomes.{IsAdvisedTo};
 ghost use Rattle.best_reply.specs.Columns.{HasRoomFor};
 ghost use Rattle.best_reply.specs.Sides.{AreBanksOf, AreRightBanks, AreSwept};
@@ -44,7 +44,7 @@ fn follow_sums(
     requires advice { IsAdvisedTo words.now (live_positions words.now.game.checkers) advice.now }
     requires bank { IsRightBank words.now.game bank.now }
     ensures many { length result.items ≡ kinds_of words.now.game }
-    ensures small { All IsSmall result.items }
+    ensures small { All IsSmallSum result.items }
     ensures sums { (p : Placement) (k : ℕ) → IsState words.now.game p k → live_rank_of p ≡ rank
         → sums_in result.items k ≡ follow_sum (policy_of words.now) words.now.game.stakes
         (words_by bank.now) p k }
@@ -59,11 +59,11 @@ fn follow_sums(
 /// Puts the turns of a position with this live rank, from the sums of all kinds.
 fn put_turns(rank: u64, stakes: &Stakes, sums: &[Pair], bank: &mut Bank)
     requires many { length sums.now ≡ length stakes.now.kinds }
-    requires small { All IsSmall sums.now }
+    requires small { All IsSmallSum sums.now }
     requires kinds { bank.old.kinds ≡ length stakes.now.kinds }
     requires inside { (k : ℕ) → k < bank.old.kinds
         → rank * bank.old.kinds + k < length bank.old.pairs }
-    ensures put { IsPut rank (turn_from stakes.now (sums_in sums.now)) bank.old bank.new }
+    ensures put { ArePairsPut rank (turn_from stakes.now (sums_in sums.now)) bank.old bank.new }
     ensures valid { IsValid stakes.now }
 {
     for number in 0..stakes.kinds() {

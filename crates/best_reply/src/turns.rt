@@ -2,14 +2,7 @@ ghost use Rattle.std.specs.Prelude.{◌≡◌, ◌<◌, ◌≤◌, ◌^◌, pos,
 ghost use Rattle.std.specs.Int.{int_max, int_min};
 ghost use Rattle.directed_fixed.specs.declared.bounds.End.TheVariants.{Lower, Upper};
 ghost use Rattle.directed_fixed.specs.Bounds.{IsWithinUnits};
-ghost use Rattle.best_reply.specs.Tables.{
-  IsAnswerIn,
-  IsSmall,
-  doubled_from,
-  mean_pair,
-  sums_in,
-  turn_from,
-};
+ghost use Rattle.best_reply.specs.Tables.{IsAnswerIn, IsSmallSum, doubled_from, mean_pair, sums_in, turn_from};
 
 use cube_actions::{Double, Stakes};
 use directed_fixed::{Fixed, Pair, ceil_div, floor_div};
@@ -26,7 +19,7 @@ fn product(factor: u8, sum: Fixed) -> i64
 /// A 36th of a sum that counts so many times, rounded outwards.
 fn mean(factor: u8, sum: Pair) -> Pair
     requires factor { factor ≤ 4 }
-    requires sum { IsSmall sum }
+    requires sum { IsSmallSum sum }
     ensures { result ≡ mean_pair factor sum }
 {
     let lower = floor_div(product(factor, sum.lower()), 36);
@@ -61,7 +54,7 @@ fn worse(one: Pair, another: Pair) -> Pair
 /// What a double is worth: at each end the least of a pass and of the other answers.
 fn doubled(double: &Double, sums: &[Pair]) -> Pair
     requires answers { All (IsAnswerIn (length sums.now)) double.now.answers.items }
-    requires small { All IsSmall sums.now }
+    requires small { All IsSmallSum sums.now }
     ensures lower { result.lower ≡ doubled_from Lower (sums_in sums.now) double.now }
     ensures upper { result.upper ≡ doubled_from Upper (sums_in sums.now) double.now }
 {
@@ -77,7 +70,7 @@ fn doubled(double: &Double, sums: &[Pair]) -> Pair
 pub(crate) fn turn(stakes: &Stakes, number: usize, sums: &[Pair]) -> Pair
     requires number { number < length stakes.now.kinds }
     requires many { length sums.now ≡ length stakes.now.kinds }
-    requires small { All IsSmall sums.now }
+    requires small { All IsSmallSum sums.now }
     ensures { result ≡ turn_from stakes.now (sums_in sums.now) number }
 {
     let plain = mean(1, sums[number]);

@@ -1,8 +1,7 @@
 -- The steps of a layout, place by place and die by die.
-use Rattle.std.proofs.Common.{◌≡◌, ◌≤◌, ◌<◌, ◌+◌, ◌-◌, ◌*◌, ◌∙◌, ◌++◌, ◌⊎◌, inl, inr, ℕ, zero, suc, true, ◌&&◌, ltb, get_or, List, [], ◌∷◌, length, length-append, sum, Option, Some, None, refl, ap, subst, sym, arith, append_assoc}
-use Rattle.std.proofs.lemmas.Bool.{cases_eq}
+use Rattle.std.proofs.Common.{◌≡◌, ◌≤◌, ◌<◌, ◌+◌, ◌-◌, ◌*◌, ◌∙◌, ◌++◌, ◌⊎◌, ℕ, zero, suc, true, ◌&&◌, ltb, get_or, List, [], ◌∷◌, length, length-append, sum, Option, Some, None, refl, ap, subst, sym, arith, append_assoc}
 use Rattle.std.proofs.lemmas.Bool.Decides.{nat_tests}
-use Rattle.std.proofs.lemmas.List.{append-nil, get_or_append_left, get_or-append-add}
+use Rattle.std.proofs.lemmas.List.{append-nil}
 use Rattle.position_rank.specs.Placement.{IsLayout, moved}
 use Rattle.position_rank.specs.Ranks.{layouts, rank_of}
 use Rattle.position_rank.proofs.RankLaws.{layouts-same}
@@ -10,9 +9,7 @@ use Rattle.move_rules.specs.Ends.{down_from, places}
 use Rattle.turn_rule.specs.Layouts.{AreLayouts}
 use Rattle.column_sums.specs.Columns.{Step, step_from, steps_from, with_step, may_leave_alone}
 use Rattle.column_sums.specs.declared.leaps.Leap.{Leap}
-use Rattle.column_sums.specs.declared.steps.Fan.{Fan}
 use Rattle.column_sums.specs.Leaps.{lands_of, layout_at, AreLeaps, IsLeapIf, IsStepIf}
-use Rattle.column_sums.specs.Grids.{AreFans, AreFansTo}
 use Rattle.column_sums.proofs.StepLemmas.{step-stays, places-few}
 
 lands-suc : (n : ℕ) → 1 ≤ n → lands_of n ≡ Some n
@@ -85,33 +82,3 @@ module _ (all : List (List ℕ)) (mover : List ℕ) (die : ℕ) (leaps : List Le
     }
 
 -- ---- die by die
-
-pub no-fans : (all : List (List ℕ)) → AreFansTo all [] 0
-no-fans all = record { many = refl; each = λ r d none a b c below. absurd (omega (arith, below)) }
-
-pub all-fans : (all : List (List ℕ)) (fans : List Fan) (count : ℕ) → length all ≤ 3276 → length all ≤ count → AreFansTo all fans (count * 6) → count ≤ length all → AreFans all fans
-all-fans all fans count few h are k = record {
-  few = few;
-  many = omega (arith, are.many, h, k);
-  each = λ r d none a b c. are.each r d none a b c (omega (arith, a, b, c, h));
-}
-
-pub fans-push : (all : List (List ℕ)) (fans : List Fan) (rank sides : ℕ) (fan : Fan) → sides < 6 → AreFansTo all fans (rank * 6 + sides) → AreLeaps all fan.leaps.items (steps_from (layout_at all rank) (sides + 1) places)
-    → AreFansTo all (fans ++ fan ∷ []) (rank * 6 + (sides + 1))
-fans-push all fans rank sides fan low are is = record {
-  many = omega (arith, length-append fans (fan ∷ []), are.many);
-  each = λ r d none a b c below. elim (cases_eq (r * 6 + (d - 1)) (rank * 6 + sides)) [
-    | inl same ↦ (
-        let r-is : rank ≡ r = omega (arith, same, low, b, c) in
-        let d-is : sides + 1 ≡ d = omega (arith, same, low, b, c) in
-        let at : length fans + 0 ≡ r * 6 + (d - 1) = omega (arith, same, are.many) in
-        let there = subst (λ (i : ℕ). get_or (fans ++ fan ∷ []) i none ≡ fan) at (get_or-append-add fans (fan ∷ []) 0 none) in
-        subst (λ (x : Fan). AreLeaps all x.leaps.items (steps_from (layout_at all r) d places)) (sym there)
-        (subst (λ (i : ℕ). AreLeaps all fan.leaps.items (steps_from (layout_at all i) d places)) r-is
-        (subst (λ (i : ℕ). AreLeaps all fan.leaps.items (steps_from (layout_at all rank) i places)) d-is is)))
-    | inr apart ↦ (
-        let before : r * 6 + (d - 1) < rank * 6 + sides = omega (arith, below, apart) in
-        let within : r * 6 + (d - 1) < length fans = omega (arith, before, are.many) in
-        subst (λ (x : Fan). AreLeaps all x.leaps.items (steps_from (layout_at all r) d places)) (sym (get_or_append_left fans (fan ∷ []) none (r * 6 + (d - 1)) within)) (are.each r d none a b c before))
-  ];
-}

@@ -165,15 +165,6 @@ room-all other old p before three =
 
 -- ---- one layer after another
 
-pub hit-start : (point : ℕ) (old : List (List ℕ)) → AreDistinct old → AreHitOn point 0 old old
-hit-start point old distinct = record {
-  more = record { longer = omega arith; same = λ layer h. refl };
-  few = omega arith;
-  distinct = distinct;
-  there = λ layer h. absurd (omega (arith, h));
-  only = λ layer a b. absurd (omega (arith, a, b));
-}
-
 pub hit-more : (point count : ℕ) (old now new : List (List ℕ)) (x : List ℕ) → AreHitOn point count old now → AreMore now new → length new ≤ length now + 1 → AreDistinct new → IsLayer new x
     → ((layer : ℕ) → length now ≤ layer → layer < length new → layout_at new layer ≡ x) → count < length old → x ≡ moved (layout_at old count) point 25 → AreHitOn point (count + 1) old new
 hit-more point count old now new x on more few distinct there only here is = record {

@@ -109,28 +109,6 @@ listing-none places room = record {
   apart = λ i j h k. absurd (omega (arith, k));
 }
 
--- the first few cells stay
-pub listing-take : (cells : List ℕ) (places count : ℕ) (old new : List Bool) → IsListing cells places old → AreUnmarked cells count (length cells) old new → IsListing (take count cells) places new
-listing-take cells places count old new listing un =
-    let long : length (take count cells) ≤ length cells = omega (arith, length-take count cells) in
-    let short : length (take count cells) ≤ count = omega (arith, length-take count cells) in
-    record {
-      room = listing.room;
-      many = un.many ∙ listing.many;
-      within = λ i h. subst (λ (c : ℕ). c < 32768) (sym (get_or-take count cells i 0 (omega (arith, h, short)))) (listing.within i (omega (arith, h, long)));
-      marked = λ i h. (
-          let here : i < length cells = omega (arith, h, long) in
-          let kept = un.kept (get_or cells i 0) (λ j a b same. listing.apart i j (omega (arith, a, h, short)) b (sym same)) in
-          subst (λ (c : ℕ). get_or new c false ≡ true) (sym (get_or-take count cells i 0 (omega (arith, h, short)))) (kept ∙ listing.marked i here));
-      listed = λ c h m. (
-          let was = listing.listed c h (un.only c m) in
-          elim (cases_lt was.0 count) [
-            | inl first ↦ (was.0, omega (arith, length-take count cells, first, was.1), get_or-take count cells was.0 0 first ∙ was.2)
-            | inr gone ↦ absurd (let g : get_or new c false ≡ false = subst (λ (x : ℕ). get_or new x false ≡ false) was.2 (un.gone was.0 gone was.1) in grind arith)
-          ]);
-      apart = λ i j h k same. listing.apart i j h (omega (arith, k, long)) (sym (get_or-take count cells i 0 (omega (arith, h, k, short))) ∙ (same ∙ get_or-take count cells j 0 (omega (arith, k, short))));
-    }
-
 -- one mark less
 pub unmark-more : (cells : List ℕ) (from i : ℕ) (old now : List Bool) → AreUnmarked cells from i old now → get_or cells i 0 < length now → from ≤ i → AreUnmarked cells from (i + 1) old (set now (get_or cells i 0) false)
 unmark-more cells from i old now un h low = record {
@@ -148,14 +126,6 @@ unmark-more cells from i old now un h low = record {
     | inl same ↦ absurd (let g : get_or (set now (get_or cells i 0) false) c false ≡ false = subst (λ (x : ℕ). get_or (set now (get_or cells i 0) false) x false ≡ false) (sym same) (get_or-set_same now (get_or cells i 0) false false h) in grind arith)
     | inr other ↦ un.only c (sym (get_or-set_other now (get_or cells i 0) c false false other) ∙ m)
   ];
-}
-
-pub unmark-none : (cells : List ℕ) (from : ℕ) (marks : List Bool) → AreUnmarked cells from from marks marks
-unmark-none cells from marks = record {
-  many = refl;
-  gone = λ i a b. absurd (omega (arith, a, b));
-  kept = λ c none. refl;
-  only = λ c m. m;
 }
 
 pub kept-same : (cells : List ℕ) → AreKept cells cells
@@ -222,7 +192,3 @@ only-more cells cell i h = elim (cases_lt i (length cells)) [
   | inl before ↦ inl (i, before, sym (get_or_append_left cells (cell ∷ []) 0 i before))
   | inr from ↦ (let last : length cells ≡ i = omega (arith, h, from, longer-by cells cell) in inr (subst (λ (n : ℕ). get_or (cells ++ cell ∷ []) n 0 ≡ cell) last (at-last cells cell)))
 ]
-
--- each cell of a list is listed in it
-pub only-same : (cells : List ℕ) (cell i : ℕ) → i < length cells → IsListed cells (get_or cells i 0) ⊎ (get_or cells i 0 ≡ cell)
-only-same cells cell i h = inl (i, h, refl)

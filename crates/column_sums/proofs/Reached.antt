@@ -37,13 +37,6 @@ reaches-kept layouts others die old new reaches kept are = record {
   at = λ i none h. are.at i none h ∙ sym (kept.same i (omega (arith, h, are.few)));
 }
 
-pub no-reaches : (layouts others : List (List ℕ)) (die : ℕ) (cells : List ℕ) → AreReaches layouts others die cells []
-no-reaches layouts others die cells = record {
-  few = omega arith;
-  each = λ i none h. absurd (omega (arith, h));
-  at = λ i none h. absurd (omega (arith, h));
-}
-
 pub leads-cells : (layouts others : List (List ℕ)) (die : ℕ) (cells : List ℕ) (reaches : List Reach) → AreReaches layouts others die cells reaches → All (LeadsToCells (length layouts) (length others)) reaches
 leads-cells layouts others die cells reaches are i none h = let is = are.each i none h in record { first = is.first; second = is.second; third = is.third }
 

@@ -3,7 +3,7 @@ use Rattle.std.proofs.Common.{◌≡◌, ◌≤◌, ◌<◌, ◌-◌, ◌/◌, �
 use Rattle.std.proofs.lemmas.List.{get_or-take, length-take}
 use Rattle.position_rank.specs.Placement.{Placement}
 use Rattle.column_sums.specs.Cells.{no_cell, cell_of, IsCell, IsCellOrNone, IsReach}
-use Rattle.column_sums.specs.Tables.{IsTable, IsRow, IsRightAt, IsRightAfter, IsWithin, AreRight}
+use Rattle.column_sums.specs.Tables.{IsTable, IsRow, IsRightAt, IsRightAfter, AreRight}
 use Rattle.column_sums.specs.Rolls.{IsPairReady, IsDoubleReady}
 use Rattle.column_sums.specs.MoveLists.{IsAmongOrNone, LeadsAmong, AreReady}
 use Rattle.column_sums.specs.Leaps.{layout_at}
@@ -13,7 +13,6 @@ use Rattle.column_sums.specs.declared.cells.Reach.{Reach}
 use Rattle.column_sums.specs.declared.moves.DieList.{DieList}
 use Rattle.column_sums.specs.declared.moves.Moves.{Moves}
 use Rattle.column_sums.proofs.CellLemmas.{best-none, best-cell}
-use Rattle.column_sums.proofs.TableLemmas.{reach-within}
 use Rattle.column_sums.proofs.Places.{any-default}
 
 abbrev no_reach : Reach
@@ -104,10 +103,6 @@ module _ (value : Placement → ℤ) (moves : Moves) (ready : AreReady moves) wh
         high_first = after-among (low ∷ []) after_low miss_low highs (length moves.listing) lower (get_or highs i none) (by_high.one_die i none h);
         low_first = after-among (high ∷ []) after_high miss_high lows (length moves.listing) higher (get_or lows i none) (by_low.one_die i none h);
       }
-
--- all that a die leads to is within the tables
-pub list-within : (moves : Moves) (die : ℕ) (list : DieList) → AreReady moves → 1 ≤ die → die ≤ 6 → All IsWithin (list_of moves die list).reaches.items
-list-within moves die list ready a b i none h = reach-within moves.steps moves.layers die _ ready.few ready.eight ((ready.each die list a b).each i none h)
 
 module _ (value : Placement → ℤ) (moves : Moves) (ready : AreReady moves) (die : ℕ) (list : DieList) where
   abbrev all : List Reach

@@ -110,11 +110,6 @@ front-stopped oldest file stop (Err given) told same = subst (λ (stop : LoadSto
     by_stop (Some file) (Bad bad) told = or_first _ _ bad told
     by_stop (Some file) NoMemory told = absurd told
 
-pub memory-stopped : (oldest : Version) (file : Option Read) (front : Front) (result : Result FileBase LoadStop) → AnswersFront oldest file (Ok front) → IsErrAnd result (λ given. given ≡ NoMemory) → AnswersFrom oldest file result
-memory-stopped oldest file front (Ok base) told wrong = absurd wrong
-memory-stopped oldest None front (Err given) told same = absurd told
-memory-stopped oldest (Some file) front (Err given) told same = subst (λ (stop : LoadStop). AnswersFrom oldest (Some file) (Err stop)) (sym same) tt
-
 -- where nothing tells the file, there are bytes of which all is true
 pub pages-read : (oldest : Version) (file : Option Read) (front : Front) (bytes : List ℕ) (stop : PagesStop) (result : Result FileBase LoadStop) → AnswersFront oldest file (Ok front)
     → AnswersPages (pages_behind front.header front.digest) bytes (Err stop) → IsErrAnd result (λ given. given ≡ loading_stopped stop) → (file : Option Read) × AnswersFrom oldest file result

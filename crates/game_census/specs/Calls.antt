@@ -16,19 +16,19 @@ call_of action = record {
   sure_answer = int_le action.answer_bound (pos 0);
 }
 
-abbrev pub offer_number : Offer → ℕ
-offer_number NoDouble = 0
-offer_number Double = 12
+abbrev pub number_of_offer_told : Offer → ℕ
+number_of_offer_told NoDouble = 0
+number_of_offer_told Double = 12
 
-abbrev pub answer_number : Answer → ℕ
-answer_number Take = 0
-answer_number Beaver = 4
-answer_number Pass = 8
+abbrev pub number_of_answer_told : Answer → ℕ
+number_of_answer_told Take = 0
+number_of_answer_told Beaver = 4
+number_of_answer_told Pass = 8
 
 -- by the offer, then the answer, then whether the offer is sure, then whether the answer is
 abbrev pub call_number : Call → ℕ
 call_number call =
-    offer_number call.offer + answer_number call.answer
+    number_of_offer_told call.offer + number_of_answer_told call.answer
     + (if call.sure_offer then 0 else 2) + (if call.sure_answer then 0 else 1)
 
 -- one more, or the greatest number that is kept
@@ -36,20 +36,20 @@ abbrev pub one_more : ℕ → ℕ
 one_more count = min (count + 1) (2 ^ 64 - 1)
 
 -- the counts of all calls, by their numbers, after one call more
-abbrev pub counted : List ℕ → Call → List ℕ
-counted counts call =
+abbrev pub counted_call : List ℕ → Call → List ℕ
+counted_call counts call =
     slice_set counts (call_number call) (one_more (slice_index counts (call_number call)))
 
 -- what is told of an offer
-abbrev pub offer_text : Offer → List ℕ
-offer_text NoDouble = codes "no-double"
-offer_text Double = codes "double"
+abbrev pub told_offer : Offer → List ℕ
+told_offer NoDouble = codes "no-double"
+told_offer Double = codes "double"
 
 -- what is told of an answer
-abbrev pub answer_text : Answer → List ℕ
-answer_text Take = codes "take"
-answer_text Beaver = codes "beaver"
-answer_text Pass = codes "pass"
+abbrev pub told_answer : Answer → List ℕ
+told_answer Take = codes "take"
+told_answer Beaver = codes "beaver"
+told_answer Pass = codes "pass"
 
 -- what is told of a choice that loses at most nothing, or of one that may lose
 abbrev pub certainty_text : Bool → List ℕ

@@ -13,7 +13,7 @@ use Rattle.game_census.specs.declared.gap.Border.{Border}
 use Rattle.game_census.specs.declared.kind_census.KindCensus.{KindCensus}
 use Rattle.game_census.specs.declared.cube.PartCensus.{PartCensus}
 use Rattle.game_census.specs.declared.task.Part.{Part}
-use Rattle.game_census.specs.Calls.{call_of, counted}
+use Rattle.game_census.specs.Calls.{call_of, counted_call}
 use Rattle.game_census.specs.Gaps.{answer_gap, offer_gap, with_near}
 
 -- this is the live position of so many checkers with that live rank
@@ -34,12 +34,12 @@ no_census = record { tally = record { counts = replicate 24 0 }; answer = nowher
 -- after one more position in which the mover may double
 abbrev pub with_action : KindCensus → Placement → Bounds → CubeAction → KindCensus
 with_action census p rolling action = record {
-  tally = record { counts = counted census.tally.counts (call_of action) };
+  tally = record { counts = counted_call census.tally.counts (call_of action) };
   answer = with_near census.answer (record { position = p; gap = answer_gap action });
   offer = with_near census.offer (record { position = p; gap = offer_gap rolling action });
 }
 
--- after advice on one more position: nothing is counted where the mover may not double
+-- after advice on one more position: nothing is counted_call where the mover may not double
 abbrev pub with_advice : KindCensus → Placement → Bounds → Option CubeAction → KindCensus
 with_advice census p rolling None = census
 with_advice census p rolling (Some action) = with_action census p rolling action
@@ -60,12 +60,12 @@ IsCensus words k from (suc many) census =
     × AddsState words k (from + many) before census
 
 -- whether the mover may double in states of this kind
-abbrev pub may_double : Terms → ℕ → Bool
-may_double stakes kind = is_some (kind_at stakes kind).double
+abbrev pub may_double_in : Terms → ℕ → Bool
+may_double_in stakes kind = is_some (kind_at stakes kind).double
 
 -- the kinds in which the mover may double, each once, in their order
 abbrev pub doubling_kinds : Terms → List ℕ
-doubling_kinds stakes = filter (may_double stakes) (range_with_len 0 (length stakes.kinds))
+doubling_kinds stakes = filter (may_double_in stakes) (range_with_len 0 (length stakes.kinds))
 
 -- the census with this number
 abbrev pub census_at : List KindCensus → ℕ → KindCensus

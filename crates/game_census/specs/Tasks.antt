@@ -17,25 +17,25 @@ word_count (Races task) = 2
 word_count (Widths task) = 4 + one_for task.file
 
 -- the number that a word says by its digits; a plus may stand before them
-abbrev pub number_of : List ℕ → ℕ
-number_of word = digits_value 10 (without_leading_plus word)
+abbrev pub number_said : List ℕ → ℕ
+number_said word = digits_value 10 (without_leading_plus word)
 
 -- the word says a number from 1 to the greatest that is taken
 pub record SaysUpto (greatest : ℕ) (word : List ℕ) : Type 0 where
   pub numeral : IsNumeral 10 (without_leading_plus word)
-  pub least : 1 ≤ number_of word
-  pub most : number_of word ≤ greatest
+  pub least : 1 ≤ number_said word
+  pub most : number_said word ≤ greatest
 
 -- two words say a part, its number and of how many: there are at most a million
 pub record SayPart (number many : List ℕ) : Type 0 where
   pub many_said : SaysUpto 1000000 many
-  pub number_said : SaysUpto (number_of many) number
+  pub number_said : SaysUpto (number_said many) number
 
 -- this is the part that they say
 pub record IsPartOf (number many : List ℕ) (part : Part) : Type 0 where
   pub said : SayPart number many
-  pub number_is : part.number ≡ number_of number
-  pub of_is : part.of ≡ number_of many
+  pub number_is : part.number ≡ number_said number
+  pub of_is : part.of ≡ number_said many
 
 -- the task asks for the calls over the part of a file that the words say
 abbrev pub AsksCalls : List ℕ → List ℕ → List ℕ → Task → Type 0
@@ -46,7 +46,7 @@ AsksCalls file number many (Widths task) = ⊥
 -- the task asks for the races of as many checkers as the word says
 abbrev pub AsksRaces : List ℕ → Task → Type 0
 AsksRaces word (Cube task) = ⊥
-AsksRaces word (Races task) = SaysUpto 3 word × (task.checkers ≡ number_of word)
+AsksRaces word (Races task) = SaysUpto 3 word × (task.checkers ≡ number_said word)
 AsksRaces word (Widths task) = ⊥
 
 -- the task asks for the widths of as many checkers after as many rounds as the words say
@@ -54,4 +54,4 @@ abbrev pub AsksWidths : List ℕ → List ℕ → Task → Type 0
 AsksWidths checkers rounds (Cube task) = ⊥
 AsksWidths checkers rounds (Races task) = ⊥
 AsksWidths checkers rounds (Widths task) =
-    (task.checkers ≡ number_of checkers) × (task.rounds ≡ number_of rounds)
+    (task.checkers ≡ number_said checkers) × (task.rounds ≡ number_said rounds)

@@ -1,5 +1,5 @@
 ghost use Rattle.std.specs.Prelude.{◌≡◌, ◌<◌};
-ghost use Rattle.game_census.specs.Calls.{answer_text, call_number, call_of, certainty_text, offer_text};
+ghost use Rattle.game_census.specs.Calls.{told_answer, call_number, call_of, certainty_text, told_offer};
 
 use game_record::{Answer, Offer};
 use play_analyser::CubeAction;
@@ -59,7 +59,7 @@ impl Call {
 
 /// The name of an offer.
 pub(crate) fn offer_name(offer: Offer) -> &'static str
-    ensures { result.now ≡ offer_text offer }
+    ensures { result.now ≡ told_offer offer }
 {
     match offer {
         Offer::NoDouble => "no-double",
@@ -69,7 +69,7 @@ pub(crate) fn offer_name(offer: Offer) -> &'static str
 
 /// The name of an answer.
 pub(crate) fn answer_name(answer: Answer) -> &'static str
-    ensures { result.now ≡ answer_text answer }
+    ensures { result.now ≡ told_answer answer }
 {
     match answer {
         Answer::Take => "take",

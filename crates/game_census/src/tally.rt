@@ -1,5 +1,5 @@
 ghost use Rattle.std.specs.Prelude.{◌≡◌, replicate, slice_index};
-ghost use Rattle.game_census.specs.Calls.{call_number, counted};
+ghost use Rattle.game_census.specs.Calls.{call_number, counted_call};
 
 use crate::call::{CALLS, Call};
 
@@ -19,7 +19,7 @@ impl Tally {
 
     /// One more call came.
     pub(crate) fn add(&mut self, call: Call)
-        ensures { self.new.counts ≡ counted self.old.counts call }
+        ensures { self.new.counts ≡ counted_call self.old.counts call }
     {
         let number = call.number();
         self.counts[number] = self.counts[number].saturating_add(1);

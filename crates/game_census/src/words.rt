@@ -1,13 +1,13 @@
 ghost use Rattle.std.specs.Prelude.{◌≡◌, ◌+◌, IfSome, MatchOption, SomeIff, false, length};
 ghost use Rattle.base_head.specs.Heads.{is_match};
-ghost use Rattle.game_census.specs.Tasks.{AsksCalls, AsksRaces, AsksWidths, IsPartOf, SayPart, SaysUpto, number_of, one_for, word_count};
+ghost use Rattle.game_census.specs.Tasks.{AsksCalls, AsksRaces, AsksWidths, IsPartOf, SayPart, SaysUpto, number_said, one_for, word_count};
 
 use crate::task::{CubeTask, Part, RaceTask, Task, WidthsTask};
 use cube_actions::StakesName;
 
 /// A number from 1 to the greatest that is taken.
 fn number_upto(word: &str, greatest: u32) -> Option<u32>
-    ensures { SomeIff result (SaysUpto greatest word.now) (number_of word.now) }
+    ensures { SomeIff result (SaysUpto greatest word.now) (number_said word.now) }
 {
     let number = word.parse().ok()?;
     if number < 1 || number > greatest {

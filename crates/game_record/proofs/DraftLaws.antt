@@ -16,49 +16,49 @@ use Rattle.game_record.specs.declared.line.Line.TheVariants.{Title as TitleLine,
 use Rattle.game_record.specs.declared.stage.Next.{Next}
 use Rattle.game_record.specs.declared.stage.Next.TheVariants.{Title, Checkers, Stakes, FirstGame, FirstRoll, Turn, Answer, Roll, End, NextGame, Close, Nothing}
 use Rattle.game_record.specs.declared.stage.Stage.{Stage}
-use Rattle.game_record.specs.Turns.{after, IsWithin, kind_of, kind_of_deed, same_player, other_player, stage_after}
-use Rattle.game_record.specs.Lines.{game_lines, games_lines, ending_line, Fits, Follow}
+use Rattle.game_record.specs.Turns.{after, IsInGame, kind_of, kind_of_deed, same_player, other_player, stage_after}
+use Rattle.game_record.specs.Lines.{game_lines, games_lines, ending_line, FitsStage, Follow}
 use Rattle.game_record.specs.Drafts.{added, ended_game, lines_between, lines_within, lines_read, Counts}
 use Rattle.game_record.proofs.FormLaws.{some-one, some-none, passed}
 
 -- lines that follow each other, and one more
-pub follow-more : (stage : Stage) (lines : List Line) (mid : Stage) (line : Line) (next : Next) → Follow stage lines mid → after mid.in_match mid.next (kind_of line) ≡ Some next → Fits mid line → Follow stage (lines ++ line ∷ []) (stage_after mid line next)
-follow-more stage [] mid line next f comes fits = (next, subst (λ (s : Stage). after s.in_match s.next (kind_of line) ≡ Some next) f comes, subst (λ (s : Stage). Fits s line) f fits, ap (λ (s : Stage). stage_after s line next) f)
+pub follow-more : (stage : Stage) (lines : List Line) (mid : Stage) (line : Line) (next : Next) → Follow stage lines mid → after mid.in_match mid.next (kind_of line) ≡ Some next → FitsStage mid line → Follow stage (lines ++ line ∷ []) (stage_after mid line next)
+follow-more stage [] mid line next f comes fits = (next, subst (λ (s : Stage). after s.in_match s.next (kind_of line) ≡ Some next) f comes, subst (λ (s : Stage). FitsStage s line) f fits, ap (λ (s : Stage). stage_after s line next) f)
 follow-more stage (first ∷ lines) mid line next f comes fits = (f.0, f.1, f.2, follow-more (stage_after stage first f.0) lines mid line next f.3 comes fits)
 
 -- ---- where each line may come
 
-roll-within : (m : Bool) (next : Next) (player : Player) (new : Next) → after m next (OfRoll player) ≡ Some new → IsWithin next × IsWithin new
-roll-within m FirstRoll player new e = (tt, subst IsWithin (some-one (Turn (other_player player)) new e) tt)
-roll-within m (Turn other) player new e = (tt, subst IsWithin (passed (same_player other player) (Turn (other_player player)) new e).1 tt)
-roll-within m (Roll other) player new e = (tt, subst IsWithin (passed (same_player other player) (Turn (other_player player)) new e).1 tt)
+roll-within : (m : Bool) (next : Next) (player : Player) (new : Next) → after m next (OfRoll player) ≡ Some new → IsInGame next × IsInGame new
+roll-within m FirstRoll player new e = (tt, subst IsInGame (some-one (Turn (other_player player)) new e) tt)
+roll-within m (Turn other) player new e = (tt, subst IsInGame (passed (same_player other player) (Turn (other_player player)) new e).1 tt)
+roll-within m (Roll other) player new e = (tt, subst IsInGame (passed (same_player other player) (Turn (other_player player)) new e).1 tt)
 roll-within m next player new e = absurd (some-none new e)
 
-double-within : (m : Bool) (next : Next) (player : Player) (new : Next) → after m next (OfDouble player) ≡ Some new → IsWithin next × IsWithin new
-double-within m (Turn other) player new e = (tt, subst IsWithin (passed (same_player other player) (Answer (other_player player)) new e).1 tt)
+double-within : (m : Bool) (next : Next) (player : Player) (new : Next) → after m next (OfDouble player) ≡ Some new → IsInGame next × IsInGame new
+double-within m (Turn other) player new e = (tt, subst IsInGame (passed (same_player other player) (Answer (other_player player)) new e).1 tt)
 double-within m next player new e = absurd (some-none new e)
 
-take-within : (m : Bool) (next : Next) (player : Player) (new : Next) → after m next (OfTake player) ≡ Some new → IsWithin next × IsWithin new
-take-within m (Answer other) player new e = (tt, subst IsWithin (passed (same_player other player) (Roll (other_player player)) new e).1 tt)
+take-within : (m : Bool) (next : Next) (player : Player) (new : Next) → after m next (OfTake player) ≡ Some new → IsInGame next × IsInGame new
+take-within m (Answer other) player new e = (tt, subst IsInGame (passed (same_player other player) (Roll (other_player player)) new e).1 tt)
 take-within m next player new e = absurd (some-none new e)
 
-pass-within : (m : Bool) (next : Next) (player : Player) (new : Next) → after m next (OfPass player) ≡ Some new → IsWithin next × IsWithin new
-pass-within m (Answer other) player new e = (tt, subst IsWithin (passed (same_player other player) End new e).1 tt)
+pass-within : (m : Bool) (next : Next) (player : Player) (new : Next) → after m next (OfPass player) ≡ Some new → IsInGame next × IsInGame new
+pass-within m (Answer other) player new e = (tt, subst IsInGame (passed (same_player other player) End new e).1 tt)
 pass-within m next player new e = absurd (some-none new e)
 
-acted-within : (m : Bool) (next : Next) (player : Player) (what : What) (new : Next) → after m next (kind_of_deed player what) ≡ Some new → IsWithin next × IsWithin new
+acted-within : (m : Bool) (next : Next) (player : Player) (what : What) (new : Next) → after m next (kind_of_deed player what) ≡ Some new → IsInGame next × IsInGame new
 acted-within m next player (Rolled roll written) new e = roll-within m next player new e
 acted-within m next player Doubled new e = double-within m next player new e
 acted-within m next player Took new e = take-within m next player new e
 acted-within m next player Passed new e = pass-within m next player new e
 acted-within m next player Beavered new e = take-within m next player new e
 
-ended-within : (m : Bool) (next new : Next) → after m next OfEnd ≡ Some new → IsWithin next × (NextGame ≡ new)
+ended-within : (m : Bool) (next new : Next) → after m next OfEnd ≡ Some new → IsInGame next × (NextGame ≡ new)
 ended-within m (Turn player) new e = (tt, some-one NextGame new e)
 ended-within m End new e = (tt, some-one NextGame new e)
 ended-within m next new e = absurd (some-none new e)
 
-stopped-within : (m : Bool) (next new : Next) → after m next OfStop ≡ Some new → IsWithin next × (Close ≡ new)
+stopped-within : (m : Bool) (next new : Next) → after m next OfStop ≡ Some new → IsInGame next × (Close ≡ new)
 stopped-within m (Turn player) new e = (tt, some-one Close new e)
 stopped-within m (Roll player) new e = (tt, some-one Close new e)
 stopped-within m next new e = absurd (some-none new e)
@@ -76,7 +76,7 @@ game-between m next away new e = absurd (some-none new e)
 
 -- ---- the lines that were read there
 
-within-lines : (next : Next) (games : ℕ) (draft : Draft) → IsWithin next → lines_read next games draft ≡ lines_within games draft
+within-lines : (next : Next) (games : ℕ) (draft : Draft) → IsInGame next → lines_read next games draft ≡ lines_within games draft
 within-lines FirstRoll games draft w = refl
 within-lines (Turn player) games draft w = refl
 within-lines (Answer player) games draft w = refl
@@ -84,7 +84,7 @@ within-lines (Roll player) games draft w = refl
 within-lines End games draft w = refl
 within-lines next games draft w = absurd w
 
-within-count : (next : Next) (games : ℕ) (draft : Draft) → IsWithin next → Counts next games draft → games ≡ length draft.games + 1
+within-count : (next : Next) (games : ℕ) (draft : Draft) → IsInGame next → Counts next games draft → games ≡ length draft.games + 1
 within-count FirstRoll games draft w c = c
 within-count (Turn player) games draft w c = c
 within-count (Answer player) games draft w c = c
@@ -92,7 +92,7 @@ within-count (Roll player) games draft w c = c
 within-count End games draft w c = c
 within-count next games draft w c = absurd w
 
-count-within : (next : Next) (games : ℕ) (draft : Draft) → IsWithin next → games ≡ length draft.games + 1 → Counts next games draft
+count-within : (next : Next) (games : ℕ) (draft : Draft) → IsInGame next → games ≡ length draft.games + 1 → Counts next games draft
 count-within FirstRoll games draft w c = c
 count-within (Turn player) games draft w c = c
 count-within (Answer player) games draft w c = c
@@ -139,7 +139,7 @@ action-more number draft action =
 abbrev pub IsAdded : Next → ℕ → Draft → Line → Next → ℕ → Type 0
 IsAdded next games draft line new more = (lines_read new more (added draft line) ≡ lines_read next games draft ++ line ∷ []) × Counts new more (added draft line)
 
-end-added : (next new : Next) (games : ℕ) (draft : Draft) (line : Line) (ending : Ending) → IsWithin next → Counts next games draft → ending_line ending ≡ line → added draft line ≡ record draft { games = draft.games ++ ended_game draft ending ∷ []; actions = [] } → lines_between (added draft line) ≡ lines_read next games draft ++ line ∷ []
+end-added : (next new : Next) (games : ℕ) (draft : Draft) (line : Line) (ending : Ending) → IsInGame next → Counts next games draft → ending_line ending ≡ line → added draft line ≡ record draft { games = draft.games ++ ended_game draft ending ∷ []; actions = [] } → lines_between (added draft line) ≡ lines_read next games draft ++ line ∷ []
 end-added next new games draft line ending within counts is same =
     ap lines_between same ∙ game-ends games draft ending (within-count next games draft within counts)
     ∙ ap (λ l. lines_within games draft ++ l ∷ []) is
@@ -206,7 +206,7 @@ abbrev pub games_with : ℕ → Line → ℕ
 games_with games (GameLine number away) = games + 1
 games_with games _ = games
 
-line-added : (m : Bool) (next new : Next) (games : ℕ) (draft : Draft) (line : Line) → Counts next games draft → after m next (kind_of line) ≡ Some new → Fits (record { next = next; in_match = m; games = games }) line → IsAdded next games draft line new (games_with games line)
+line-added : (m : Bool) (next new : Next) (games : ℕ) (draft : Draft) (line : Line) → Counts next games draft → after m next (kind_of line) ≡ Some new → FitsStage (record { next = next; in_match = m; games = games }) line → IsAdded next games draft line new (games_with games line)
 line-added m next new games draft TitleLine c e f = title-added m next new games draft c e
 line-added m next new games draft (CheckersLine checkers) c e f = checkers-added m next new games draft checkers c e
 line-added m next new games draft (StakesLine stakes) c e f = stakes-added m next new games draft stakes c e
@@ -247,7 +247,7 @@ few-more games Stopped = omega arith
 few-more games Closed = omega arith
 
 -- the lines that are read with one more
-pub stage-added : (stage : Stage) (draft : Draft) (line : Line) (new : Next) → Counts stage.next stage.games draft → after stage.in_match stage.next (kind_of line) ≡ Some new → Fits stage line → let after_it = stage_after stage line new in IsAdded stage.next stage.games draft line after_it.next after_it.games × (after_it.games ≤ stage.games + 1)
+pub stage-added : (stage : Stage) (draft : Draft) (line : Line) (new : Next) → Counts stage.next stage.games draft → after stage.in_match stage.next (kind_of line) ≡ Some new → FitsStage stage line → let after_it = stage_after stage line new in IsAdded stage.next stage.games draft line after_it.next after_it.games × (after_it.games ≤ stage.games + 1)
 stage-added stage draft line new c e f =
     rw (next-with stage line new, games-with stage line new) (line-added stage.in_match stage.next new stage.games draft line c e f, few-more stage.games line)
 

@@ -5,7 +5,7 @@ use Rattle.position_rank.proofs.PlaceTexts.{both-true}
 use Rattle.game_record.specs.declared.player.Player.{Player}
 use Rattle.game_record.specs.declared.player.Player.TheVariants.{A, B}
 use Rattle.game_record.specs.Lines.{player_text}
-use Rattle.game_record.specs.Forms.{Form, TitleForm, CheckersForm, StakesForm, MatchForm, GameForm, AwayForm, RollForm, DoubleForm, TakeForm, PassForm, BeaverForm, EndForm, StopForm, CloseForm, form_text, form_of, words_form, stakes_form, game_form, away_form, needs_form, end_form, winner_form, deed_form, roll_form, player_of, same_text, is_word, are_words, begins_with_digit, cut_at, cut, with_front}
+use Rattle.game_record.specs.Forms.{LineForm, TitleForm, CheckersForm, StakesForm, MatchForm, GameForm, AwayForm, RollForm, DoubleForm, TakeForm, PassForm, BeaverForm, EndForm, StopForm, CloseForm, form_text, form_of, words_form, stakes_form, game_form, away_form, needs_form, end_form, winner_form, deed_form, roll_form, player_of, same_text, is_word, are_words, begins_with_digit, cut_at, cut, with_front}
 
 pub chosen : {X : Type 0} (b : Bool) (x y z : X) → cond b x y ≡ z → ((b ≡ true) × (x ≡ z)) ⊎ ((b ≡ false) × (y ≡ z))
 chosen true x y z e = inl (refl, e)
@@ -51,20 +51,20 @@ player-says word player e = elim (chosen (same_text word (codes "A")) (Some A) (
   | inr other ↦ (let b = passed (same_text word (codes "B")) B player other.1 in same-text word (codes "B") b.0 ∙ ap player_text b.1)
 ]
 
-stakes-say : (rest : List ℕ) (o : Option (List ℕ × List ℕ)) (f : Form) → cut rest ≡ o → stakes_form rest o ≡ Some f → codes "stakes " ++ rest ≡ form_text f
+stakes-say : (rest : List ℕ) (o : Option (List ℕ × List ℕ)) (f : LineForm) → cut rest ≡ o → stakes_form rest o ≡ Some f → codes "stakes " ++ rest ≡ form_text f
 stakes-say rest None f c e = ap form_text (passed (is_word rest) (StakesForm rest) f e).1
 stakes-say rest (Some parts) f c e =
     let p = passed (same_text parts.0 (codes "match") && is_word parts.1) (MatchForm parts.1) f e in
     let name = same-text parts.0 (codes "match") (both-true (same_text parts.0 (codes "match")) (is_word parts.1) p.0).0 in
     ap (λ t. codes "stakes " ++ t) (cut-text 32 rest parts.0 parts.1 c) ∙ ap (λ w. codes "stakes " ++ w ++ 32 ∷ parts.1) name ∙ ap form_text p.1
 
-needs-say : (number rest : List ℕ) (o : Option (List ℕ × List ℕ)) (f : Form) → cut rest ≡ o → needs_form number o ≡ Some f → codes "game " ++ number ++ codes " away " ++ rest ≡ form_text f
+needs-say : (number rest : List ℕ) (o : Option (List ℕ × List ℕ)) (f : LineForm) → cut rest ≡ o → needs_form number o ≡ Some f → codes "game " ++ number ++ codes " away " ++ rest ≡ form_text f
 needs-say number rest None f c e = absurd (some-none f e)
 needs-say number rest (Some needs) f c e =
     let p = passed (is_word needs.0 && is_word needs.1) (AwayForm number needs.0 needs.1) f e in
     ap (λ t. codes "game " ++ number ++ codes " away " ++ t) (cut-text 32 rest needs.0 needs.1 c) ∙ sym (append_assoc (codes "game " ++ number ++ codes " away " ++ needs.0) (codes " ") needs.1 ∙ append_assoc (codes "game " ++ number ++ codes " away ") needs.0 (32 ∷ needs.1)) ∙ ap form_text p.1
 
-away-say : (number rest : List ℕ) (o : Option (List ℕ × List ℕ)) (f : Form) → cut rest ≡ o → away_form number o ≡ Some f → codes "game " ++ number ++ codes " " ++ rest ≡ form_text f
+away-say : (number rest : List ℕ) (o : Option (List ℕ × List ℕ)) (f : LineForm) → cut rest ≡ o → away_form number o ≡ Some f → codes "game " ++ number ++ codes " " ++ rest ≡ form_text f
 away-say number rest None f c e = absurd (some-none f e)
 away-say number rest (Some parts) f c e = elim (chosen (same_text parts.0 (codes "away") && is_word number) (needs_form number (cut parts.1)) None (Some f) e) [
   | inl named ↦ (let name = same-text parts.0 (codes "away") (both-true (same_text parts.0 (codes "away")) (is_word number) named.0).0 in
@@ -72,26 +72,26 @@ away-say number rest (Some parts) f c e = elim (chosen (same_text parts.0 (codes
   | inr unnamed ↦ absurd (some-none f unnamed.1)
 ]
 
-game-say : (rest : List ℕ) (o : Option (List ℕ × List ℕ)) (f : Form) → cut rest ≡ o → game_form rest o ≡ Some f → codes "game " ++ rest ≡ form_text f
+game-say : (rest : List ℕ) (o : Option (List ℕ × List ℕ)) (f : LineForm) → cut rest ≡ o → game_form rest o ≡ Some f → codes "game " ++ rest ≡ form_text f
 game-say rest None f c e = ap form_text (passed (is_word rest) (GameForm rest) f e).1
 game-say rest (Some parts) f c e = ap (λ t. codes "game " ++ t) (cut-text 32 rest parts.0 parts.1 c) ∙ ap (λ t. codes "game " ++ t) (sym (append_assoc parts.0 (codes " ") parts.1)) ∙ away-say parts.0 parts.1 (cut parts.1) f refl e
 
-winner-say : (word points : List ℕ) (o : Option Player) (f : Form) → player_of word ≡ o → winner_form points o ≡ Some f → codes "end " ++ word ++ codes " " ++ points ≡ form_text f
+winner-say : (word points : List ℕ) (o : Option Player) (f : LineForm) → player_of word ≡ o → winner_form points o ≡ Some f → codes "end " ++ word ++ codes " " ++ points ≡ form_text f
 winner-say word points None f c e = absurd (some-none f e)
 winner-say word points (Some winner) f c e = ap (λ w. codes "end " ++ w ++ codes " " ++ points) (player-says word winner c) ∙ ap form_text (passed (is_word points) (EndForm winner points) f e).1
 
-end-say : (rest : List ℕ) (o : Option (List ℕ × List ℕ)) (f : Form) → cut rest ≡ o → end_form o ≡ Some f → codes "end " ++ rest ≡ form_text f
+end-say : (rest : List ℕ) (o : Option (List ℕ × List ℕ)) (f : LineForm) → cut rest ≡ o → end_form o ≡ Some f → codes "end " ++ rest ≡ form_text f
 end-say rest None f c e = absurd (some-none f e)
 end-say rest (Some parts) f c e = ap (λ t. codes "end " ++ t) (cut-text 32 rest parts.0 parts.1 c) ∙ ap (λ t. codes "end " ++ t) (sym (append_assoc parts.0 (codes " ") parts.1)) ∙ winner-say parts.0 parts.1 (player_of parts.0) f refl e
 
-roll-say : (player : Player) (rest : List ℕ) (o : Option (List ℕ × List ℕ)) (f : Form) → cut rest ≡ o → roll_form player o ≡ Some f → player_text player ++ codes " " ++ rest ≡ form_text f
+roll-say : (player : Player) (rest : List ℕ) (o : Option (List ℕ × List ℕ)) (f : LineForm) → cut rest ≡ o → roll_form player o ≡ Some f → player_text player ++ codes " " ++ rest ≡ form_text f
 roll-say player rest None f c e = absurd (some-none f e)
 roll-say player rest (Some parts) f c e = ap (λ t. player_text player ++ codes " " ++ t) (cut-text 32 rest parts.0 parts.1 c) ∙ sym (append_assoc (player_text player ++ codes " " ++ parts.0) (codes " ") parts.1 ∙ append_assoc (player_text player ++ codes " ") parts.0 (32 ∷ parts.1)) ∙ ap form_text (passed (begins_with_digit parts.0 && are_words parts.1) (RollForm player parts.0 parts.1) f e).1
 
-said : (player : Player) (rest word : List ℕ) (form f : Form) → same_text rest word ≡ true → Some form ≡ Some f → player_text player ++ codes " " ++ word ≡ form_text form → player_text player ++ codes " " ++ rest ≡ form_text f
+said : (player : Player) (rest word : List ℕ) (form f : LineForm) → same_text rest word ≡ true → Some form ≡ Some f → player_text player ++ codes " " ++ word ≡ form_text form → player_text player ++ codes " " ++ rest ≡ form_text f
 said player rest word form f t e same = ap (λ w. player_text player ++ codes " " ++ w) (same-text rest word t) ∙ same ∙ ap form_text (some-one form f e)
 
-deed-say : (word rest : List ℕ) (o : Option Player) (f : Form) → player_of word ≡ o → deed_form rest o ≡ Some f → word ++ codes " " ++ rest ≡ form_text f
+deed-say : (word rest : List ℕ) (o : Option Player) (f : LineForm) → player_of word ≡ o → deed_form rest o ≡ Some f → word ++ codes " " ++ rest ≡ form_text f
 deed-say word rest None f c e = absurd (some-none f e)
 deed-say word rest (Some player) f c e = ap (λ w. w ++ codes " " ++ rest) (player-says word player c) ∙ (elim (chosen (same_text rest (codes "double")) (Some (DoubleForm player)) _ (Some f) e) [
   | inl a ↦ said player rest (codes "double") (DoubleForm player) f a.0 a.1 (append_assoc (player_text player) (codes " ") (codes "double"))
@@ -107,7 +107,7 @@ deed-say word rest (Some player) f c e = ap (λ w. w ++ codes " " ++ rest) (play
   ])
 ])
 
-words-say : (line : List ℕ) (o : Option (List ℕ × List ℕ)) (f : Form) → cut line ≡ o → words_form o ≡ Some f → line ≡ form_text f
+words-say : (line : List ℕ) (o : Option (List ℕ × List ℕ)) (f : LineForm) → cut line ≡ o → words_form o ≡ Some f → line ≡ form_text f
 words-say line None f c e = absurd (some-none f e)
 words-say line (Some parts) f c e = cut-text 32 line parts.0 parts.1 c ∙ (elim (chosen (same_text parts.0 (codes "checkers")) (cond (is_word parts.1) (Some (CheckersForm parts.1)) None) _ (Some f) e) [
   | inl a ↦ ap (λ w. w ++ 32 ∷ parts.1) (same-text parts.0 (codes "checkers") a.0) ∙ ap form_text (passed (is_word parts.1) (CheckersForm parts.1) f a.1).1
@@ -124,7 +124,7 @@ words-say line (Some parts) f c e = cut-text 32 line parts.0 parts.1 c ∙ (elim
 ])
 
 -- a line is the text of its form
-pub form-says : (line : List ℕ) (f : Form) → form_of line ≡ Some f → line ≡ form_text f
+pub form-says : (line : List ℕ) (f : LineForm) → form_of line ≡ Some f → line ≡ form_text f
 form-says line f e = elim (chosen (same_text line (codes "hypergammon record 1")) (Some TitleForm) _ (Some f) e) [
   | inl a ↦ same-text line (codes "hypergammon record 1") a.0 ∙ ap form_text (some-one TitleForm f a.1)
   | inr no_title ↦ (elim (chosen (same_text line (codes "stop")) (Some StopForm) _ (Some f) no_title.1) [

@@ -21,8 +21,8 @@ use Rattle.std.specs.List.{Contains}
 use Rattle.game_record.specs.Drafts.{StopsBy}
 use Rattle.game_record.specs.Kinds.{game_stakes, kind_of_turn}
 use Rattle.game_record.specs.Lines.{ending_line, game_lines}
-use Rattle.game_record.specs.Ready.{AreReady, CanTell, HasScore, IsReady}
-use Rattle.game_record.specs.Replay.{Acts, Adds, AllTell, BreaksAt, IsWrongLine, Tells}
+use Rattle.game_record.specs.Ready.{AreLinesReady, CanTell, HasStanding, IsSetFor}
+use Rattle.game_record.specs.Replay.{Acts, AddsDecisions, AllTell, BreaksAt, IsWrongLine, Reports}
 
 -- ---- lines behind one another
 
@@ -36,11 +36,11 @@ tell-append [] ys now a b mid end x y =
 tell-append (line ∷ xs) ys now a b mid end (here, next, tells, later, rest, e) y =
     (here, next, tells, later ++ b, tell-append xs ys next later b mid end rest y, ap (λ ds. ds ++ b) e ∙ append_assoc here later b)
 
-pub ready-after : (xs ys : List Line) (now : Moment) (a : List Decision) (mid : Moment) → AreReady now (xs ++ ys) → AllTell now xs a mid → AreReady mid ys
-ready-after [] ys now a mid ready x = subst (λ (m : Moment). AreReady m ys) (sym x.1) ready
+pub ready-after : (xs ys : List Line) (now : Moment) (a : List Decision) (mid : Moment) → AreLinesReady now (xs ++ ys) → AllTell now xs a mid → AreLinesReady mid ys
+ready-after [] ys now a mid ready x = subst (λ (m : Moment). AreLinesReady m ys) (sym x.1) ready
 ready-after (line ∷ xs) ys now a mid ready (here, next, tells, later, rest, e) = ready-after xs ys next later mid (ready.1 here next tells) rest
 
-pub ready-front : (xs ys : List Line) (now : Moment) → AreReady now (xs ++ ys) → AreReady now xs
+pub ready-front : (xs ys : List Line) (now : Moment) → AreLinesReady now (xs ++ ys) → AreLinesReady now xs
 ready-front [] ys now ready = tt
 ready-front (line ∷ xs) ys now ready = (ready.0, λ here next tells. ready-front xs ys next (ready.1 here next tells))
 
@@ -56,11 +56,11 @@ breaks-front (line ∷ xs) ys now bad (inr (here, next, tells, b)) = inr (here, 
 -- ---- what is left of some lines from here on decides on all of them
 
 pub record GoesOn (start : Moment) (lines : List Line) (old : List Decision) (now : Moment) (rest : List Line) (decisions : List Decision) : Type 0 where
-  pub ready : AreReady now rest
-  pub tells : (later : List Decision) (end : Moment) → AllTell now rest later end → Adds old (decisions ++ later) (λ told. AllTell start lines told end)
+  pub ready : AreLinesReady now rest
+  pub tells : (later : List Decision) (end : Moment) → AllTell now rest later end → AddsDecisions old (decisions ++ later) (λ told. AllTell start lines told end)
   pub breaks : (bad : BadRecord) → BreaksAt now rest bad → BreaksAt start lines bad
 
-pub on-begins : (start : Moment) (lines : List Line) (old : List Decision) → AreReady start lines → GoesOn start lines old start lines old
+pub on-begins : (start : Moment) (lines : List Line) (old : List Decision) → AreLinesReady start lines → GoesOn start lines old start lines old
 on-begins start lines old ready = record {
   ready = ready;
   tells = λ later end all. (later, refl, all);
@@ -71,23 +71,23 @@ pub on-lines : (start : Moment) (lines : List Line) (old : List Decision) (now :
     → GoesOn start lines old now (xs ++ rest) decisions → AllTell now xs here next → new ≡ decisions ++ here → GoesOn start lines old next rest new
 on-lines start lines old now xs rest decisions here new next was all e = record {
   ready = ready-after xs rest now here next was.ready all;
-  tells = λ later end more. subst (λ (ds : List Decision). Adds old ds (λ told. AllTell start lines told end))
+  tells = λ later end more. subst (λ (ds : List Decision). AddsDecisions old ds (λ told. AllTell start lines told end))
       (sym (append_assoc decisions here later) ∙ ap (λ ds. ds ++ later) (sym e))
       (was.tells (here ++ later) end (tell-append xs rest now here later next end all more));
   breaks = λ bad b. was.breaks bad (breaks-behind xs rest now here next bad all b);
 }
 
-pub all-one : (now : Moment) (line : Line) (here : List Decision) (next : Moment) → Tells now line here next → AllTell now (line ∷ []) here next
+pub all-one : (now : Moment) (line : Line) (here : List Decision) (next : Moment) → Reports now line here next → AllTell now (line ∷ []) here next
 all-one now line here next tells = (here, next, tells, [], (refl, refl), sym (append-nil here))
 
 pub on-line : (start : Moment) (lines : List Line) (old : List Decision) (now : Moment) (line : Line) (rest : List Line) (decisions here new : List Decision) (next : Moment)
-    → GoesOn start lines old now (line ∷ rest) decisions → Tells now line here next → new ≡ decisions ++ here → GoesOn start lines old next rest new
+    → GoesOn start lines old now (line ∷ rest) decisions → Reports now line here next → new ≡ decisions ++ here → GoesOn start lines old next rest new
 on-line start lines old now line rest decisions here new next was tells e =
     on-lines start lines old now (line ∷ []) rest decisions here new next was (all-one now line here next tells) e
 
-pub on-ends : (start : Moment) (lines : List Line) (old : List Decision) (now : Moment) (decisions : List Decision) → GoesOn start lines old now [] decisions → Adds old decisions (λ told. AllTell start lines told now)
+pub on-ends : (start : Moment) (lines : List Line) (old : List Decision) (now : Moment) (decisions : List Decision) → GoesOn start lines old now [] decisions → AddsDecisions old decisions (λ told. AllTell start lines told now)
 on-ends start lines old now decisions was =
-    subst (λ (ds : List Decision). Adds old ds (λ told. AllTell start lines told now)) (append-nil decisions) (was.tells [] now (refl, refl))
+    subst (λ (ds : List Decision). AddsDecisions old ds (λ told. AllTell start lines told now)) (append-nil decisions) (was.tells [] now (refl, refl))
 
 -- what comes next, told otherwise
 pub on-same : (start : Moment) (lines : List Line) (old : List Decision) (now : Moment) (rest again : List Line) (decisions : List Decision) → GoesOn start lines old now rest decisions → rest ≡ again → GoesOn start lines old now again decisions
@@ -109,7 +109,7 @@ pub stops-among : (start : Moment) (lines : List Line) (old : List Decision) (no
 stops-among start lines old now xs rest decisions (Bad bad) was h = was.breaks bad (breaks-front xs rest now bad h)
 stops-among start lines old now xs rest decisions NoMemory was h = tt
 
-pub can-tell : (now : Moment) (line : Line) (name : StakesName) → IsReady now line → name ≡ game_stakes now.stakes now.standing → HasScore now.stakes now.standing → CanTell now name
+pub can-tell : (now : Moment) (line : Line) (name : StakesName) → IsSetFor now line → name ≡ game_stakes now.stakes now.standing → HasStanding now.stakes now.standing → CanTell now name
 can-tell now line name ready named score = record {
   named = named;
   score = score;

@@ -35,11 +35,11 @@ use Rattle.game_record.specs.declared.standing.Standing.{Standing}
 use Rattle.game_record.specs.Cube.{shows}
 use Rattle.game_record.specs.Games.{after_answer, after_double, after_play, has_beavers, has_right, is_over, opening}
 use Rattle.game_record.specs.Kinds.{game_needs, game_stakes, kind_of_turn, money_kind}
-use Rattle.game_record.specs.Lines.{games_lines, record_lines, AreStakes, Fits, Follow, IsRecord, IsWrittenPlay, UpTo}
-use Rattle.game_record.specs.Ready.{AreReady, FitsMoment, HasScore, IfMatch, IsReady}
-use Rattle.game_record.specs.Replay.{Acts, Tells, after_game, first_moment, goes_on, standing_after}
-use Rattle.game_record.specs.Standings.{first_standing, score_of, IsInRange}
-use Rattle.game_record.specs.Turns.{after, first_stage, is_match, kind_of, kind_of_deed, other_player, same_player, stage_after, IsWithin}
+use Rattle.game_record.specs.Lines.{games_lines, record_lines, AreRecordStakes, FitsStage, Follow, IsRecord, IsWrittenPlay, UpTo}
+use Rattle.game_record.specs.Ready.{AreLinesReady, FitsMoment, HasStanding, IfMatch, IsSetFor}
+use Rattle.game_record.specs.Replay.{Acts, Reports, after_game, first_moment, goes_on, standing_after}
+use Rattle.game_record.specs.Standings.{first_standing, at_score, IsInRange}
+use Rattle.game_record.specs.Turns.{after, first_stage, is_match, kind_of, kind_of_deed, other_player, same_player, stage_after, IsInGame}
 use Rattle.game_record.proofs.Coming.{acts-within, coming, end-within, take-asked, what-comes}
 use Rattle.game_record.proofs.GoOn.{ready-front}
 use Rattle.game_record.proofs.MatchPlaces.{both, few-turns, first-stands, kinds-known, other-other, taken-place, won-in-range, won-stands, IsPlace, Stands}
@@ -74,7 +74,7 @@ pub record Keeps (next : Next) (games left : ℕ) (now : Moment) : Type 0 where
   pub lines : now.line + left ≤ 65537
   pub games_low : now.game ≤ now.line
   pub asked : Asked next now
-  pub needed : IsWithin next → IfMatch now.stakes (λ length. NeedPoints now.standing)
+  pub needed : IsInGame next → IfMatch now.stakes (λ length. NeedPoints now.standing)
   pub board : IsBoard now.checkers now.progress
 
 -- ---- where the stakes are a match
@@ -122,9 +122,9 @@ needs-told MoneyBeavers standing away e fits = tt
 needs-told JacobyBeavers standing away e fits = tt
 
 -- in a game of a match the score is one of it
-pub has-score : (stakes : RecordStakes) (standing : Standing) → IfMatch stakes (λ length. (1 ≤ length) × (length ≤ 5) × Stands length standing) → IfMatch stakes (λ length. NeedPoints standing) → HasScore stakes standing
+pub has-score : (stakes : RecordStakes) (standing : Standing) → IfMatch stakes (λ length. (1 ≤ length) × (length ≤ 5) × Stands length standing) → IfMatch stakes (λ length. NeedPoints standing) → HasStanding stakes standing
 has-score stakes standing stands needed =
-    if-match stakes (λ length. ((1 ≤ length) × (length ≤ 5) × Stands length standing) × NeedPoints standing) (λ length. (1 ≤ length) × (length ≤ 5) × IsOfMatch length (score_of standing))
+    if-match stakes (λ length. ((1 ≤ length) × (length ≤ 5) × Stands length standing) × NeedPoints standing) (λ length. (1 ≤ length) × (length ≤ 5) × IsOfMatch length (at_score standing))
     (λ length h. (h.0.0, h.0.1, h.0.2 h.1.0 h.1.1)) (if-both stakes (λ length. (1 ≤ length) × (length ≤ 5) × Stands length standing) (λ length. NeedPoints standing) stands needed)
 
 -- ---- what is ready
@@ -144,7 +144,7 @@ kinds-ready Jacoby standing player cube place = money-known player cube.owner
 kinds-ready MoneyBeavers standing player cube place = money-known player cube.owner
 kinds-ready JacobyBeavers standing player cube place = money-known player cube.owner
 
-fits-moment : (stage : Stage) (line : Line) (x : Next) (left : ℕ) (now : Moment) → Keeps stage.next stage.games left now → after stage.in_match stage.next (kind_of line) ≡ Some x → Fits stage line → FitsMoment now line
+fits-moment : (stage : Stage) (line : Line) (x : Next) (left : ℕ) (now : Moment) → Keeps stage.next stage.games left now → after stage.in_match stage.next (kind_of line) ≡ Some x → FitsStage stage line → FitsMoment now line
 fits-moment stage TitleLine x left now keep comes fits = tt
 fits-moment stage (CheckersLine checkers) x left now keep comes fits = tt
 fits-moment stage (StakesLine stakes) x left now keep comes fits = tt
@@ -156,7 +156,7 @@ fits-moment stage (Ended winner points) x left now keep comes fits = fits.1
 fits-moment stage Stopped x left now keep comes fits = tt
 fits-moment stage Closed x left now keep comes fits = tt
 
-ready-here : (stage : Stage) (line : Line) (x : Next) (left : ℕ) (now : Moment) → Keeps stage.next stage.games (left + 1) now → after stage.in_match stage.next (kind_of line) ≡ Some x → Fits stage line → IsReady now line
+ready-here : (stage : Stage) (line : Line) (x : Next) (left : ℕ) (now : Moment) → Keeps stage.next stage.games (left + 1) now → after stage.in_match stage.next (kind_of line) ≡ Some x → FitsStage stage line → IsSetFor now line
 ready-here stage line x left now keep comes fits = record {
   checkers_from = keep.checkers_from;
   checkers_to = keep.checkers_to;
@@ -200,7 +200,7 @@ board-opens checkers from to = record {
 -- ---- from line to line
 
 -- a line that changes the game alone
-moved : (next x : Next) (games left : ℕ) (now : Moment) (game : Progress) → Keeps next games (left + 1) now → (IsWithin x → IfMatch now.stakes (λ length. NeedPoints now.standing))
+moved : (next x : Next) (games left : ℕ) (now : Moment) (game : Progress) → Keeps next games (left + 1) now → (IsInGame x → IfMatch now.stakes (λ length. NeedPoints now.standing))
     → IfMatch now.stakes (λ length. IsPlace now.standing game.cube.turns game.cube.owner) → game.cube.turns ≤ now.progress.cube.turns + 2 → Asked x (goes_on now game) → IsBoard now.checkers game → Keeps x games left (goes_on now game)
 moved next x games left now game keep needed place turns asked board = record {
   checkers_from = keep.checkers_from;
@@ -283,17 +283,17 @@ ended-in-range now winner points Jacoby h = h
 ended-in-range now winner points MoneyBeavers h = h
 ended-in-range now winner points JacobyBeavers h = h
 
-not-within : (x : Next) (kind : LineKind) (P : Type 0) → x ≡ coming kind → (IsWithin (coming kind) → ⊥) → IsWithin x → P
-not-within x kind P e none within = absurd (none (subst (λ (n : Next). IsWithin n) e within))
+not-within : (x : Next) (kind : LineKind) (P : Type 0) → x ≡ coming kind → (IsInGame (coming kind) → ⊥) → IsInGame x → P
+not-within x kind P e none within = absurd (none (subst (λ (n : Next). IsInGame n) e within))
 
 -- a line that changes nothing, and behind which no game goes on
-passed-by : (next x : Next) (kind : LineKind) (games left : ℕ) (now new : Moment) → Keeps next games (left + 1) now → x ≡ coming kind → (IsWithin (coming kind) → ⊥) → Asked (coming kind) (goes_on now now.progress) → new ≡ goes_on now now.progress → Keeps x games left new
+passed-by : (next x : Next) (kind : LineKind) (games left : ℕ) (now new : Moment) → Keeps next games (left + 1) now → x ≡ coming kind → (IsInGame (coming kind) → ⊥) → Asked (coming kind) (goes_on now now.progress) → new ≡ goes_on now now.progress → Keeps x games left new
 passed-by next x kind games left now new keep to none asked e =
     subst (λ (m : Moment). Keeps x games left m) (sym e)
     (moved next x games left now now.progress keep (not-within x kind _ to none) keep.place (omega arith) (asked-there x kind (goes_on now now.progress) to asked) keep.board)
 
 pub keep-line : (stage : Stage) (line : Line) (x : Next) (left : ℕ) (now : Moment) (told : List Decision) (new : Moment)
-    → Keeps stage.next stage.games (left + 1) now → after stage.in_match stage.next (kind_of line) ≡ Some x → Fits stage line → Tells now line told new → Keeps (stage_after stage line x).next (stage_after stage line x).games left new
+    → Keeps stage.next stage.games (left + 1) now → after stage.in_match stage.next (kind_of line) ≡ Some x → FitsStage stage line → Reports now line told new → Keeps (stage_after stage line x).next (stage_after stage line x).games left new
 keep-line stage TitleLine x left now told new keep comes fits tells = passed-by stage.next x OfTitle stage.games left now new keep (what-comes stage.in_match stage.next OfTitle x comes) (λ w. w) tt tells.1
 keep-line stage (CheckersLine checkers) x left now told new keep comes fits tells = passed-by stage.next x OfCheckers stage.games left now new keep (what-comes stage.in_match stage.next OfCheckers x comes) (λ w. w) tt tells.1
 keep-line stage (StakesLine stakes) x left now told new keep comes fits tells = passed-by stage.next x OfStakes stage.games left now new keep (what-comes stage.in_match stage.next OfStakes x comes) (λ w. w) tt tells.1
@@ -338,7 +338,7 @@ keep-line stage Closed x left now told new keep comes fits tells = passed-by sta
 
 -- ---- from the first game on
 
-all-ready : (lines : List Line) (stage end : Stage) (now : Moment) → Follow stage lines end → Keeps stage.next stage.games (length lines) now → AreReady now lines
+all-ready : (lines : List Line) (stage end : Stage) (now : Moment) → Follow stage lines end → Keeps stage.next stage.games (length lines) now → AreLinesReady now lines
 all-ready [] stage end now follow keep = tt
 all-ready (line ∷ lines) stage end now (next, comes, fits, more) keep =
     let here = subst (λ (n : ℕ). Keeps stage.next stage.games n now) (sym (add-one (length lines))) keep in (
@@ -346,7 +346,7 @@ all-ready (line ∷ lines) stage end now (next, comes, fits, more) keep =
       λ told new tells. all-ready lines (stage_after stage line next) end new more (keep-line stage line next (length lines) now told new here comes fits tells),
     )
 
-first-in-range : (stakes : RecordStakes) → AreStakes stakes → IsInRange (first_standing stakes)
+first-in-range : (stakes : RecordStakes) → AreRecordStakes stakes → IsInRange (first_standing stakes)
 first-in-range (Match length) h = (h.1, h.1)
 first-in-range Cubeless h = (omega arith, omega arith)
 first-in-range Money h = (omega arith, omega arith)
@@ -354,7 +354,7 @@ first-in-range Jacoby h = (omega arith, omega arith)
 first-in-range MoneyBeavers h = (omega arith, omega arith)
 first-in-range JacobyBeavers h = (omega arith, omega arith)
 
-first-score : (stakes : RecordStakes) → AreStakes stakes → IfMatch stakes (λ length. (1 ≤ length) × (length ≤ 5) × Stands length (first_standing stakes))
+first-score : (stakes : RecordStakes) → AreRecordStakes stakes → IfMatch stakes (λ length. (1 ≤ length) × (length ≤ 5) × Stands length (first_standing stakes))
 first-score (Match length) h = (h.0, h.1, first-stands length h.0 h.1)
 first-score Cubeless h = tt
 first-score Money h = tt
@@ -371,7 +371,7 @@ centred-place MoneyBeavers standing = tt
 centred-place JacobyBeavers standing = tt
 
 -- before the first game's line
-pub first-keeps : (rec : Record) (next : Next) (left : ℕ) → UpTo 3 rec.checkers → AreStakes rec.stakes → next ≡ FirstGame → 4 + left ≤ 65537 → Keeps next 0 left (first_moment rec)
+pub first-keeps : (rec : Record) (next : Next) (left : ℕ) → UpTo 3 rec.checkers → AreRecordStakes rec.stakes → next ≡ FirstGame → 4 + left ≤ 65537 → Keeps next 0 left (first_moment rec)
 first-keeps rec next left checkers stakes first few = record {
   checkers_from = checkers.0;
   checkers_to = checkers.1;
@@ -383,7 +383,7 @@ first-keeps rec next left checkers stakes first few = record {
   lines = few;
   games_low = omega arith;
   asked = subst (λ (n : Next). Asked n (first_moment rec)) (sym first) tt;
-  needed = λ within. absurd (subst (λ (n : Next). IsWithin n) first within);
+  needed = λ within. absurd (subst (λ (n : Next). IsInGame n) first within);
   board = board-opens rec.checkers checkers.0 checkers.1;
 }
 
@@ -404,7 +404,7 @@ record-begins rec valid = go valid.end valid.follow (most-lines (record_lines re
     keep = first-keeps rec c (length (games_lines 1 rec.games ++ Closed ∷ [])) checkers stakes (what-comes false b OfStakes c comes_c) (omega arith);
   }
 
-pub ready-record : (rec : Record) → IsRecord rec → AreReady (first_moment rec) (games_lines 1 rec.games)
+pub ready-record : (rec : Record) → IsRecord rec → AreLinesReady (first_moment rec) (games_lines 1 rec.games)
 ready-record rec valid =
     let begins = record-begins rec valid in
     ready-front (games_lines 1 rec.games) (Closed ∷ []) (first_moment rec) (all-ready (games_lines 1 rec.games ++ Closed ∷ []) begins.stage begins.end (first_moment rec) begins.follow begins.keep)

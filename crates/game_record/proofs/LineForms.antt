@@ -14,19 +14,19 @@ use Rattle.game_record.specs.declared.record.What.TheVariants.{Rolled, Doubled, 
 use Rattle.game_record.specs.declared.line.Line.{Line}
 use Rattle.game_record.specs.declared.line.Line.TheVariants.{Title, Checkers, Stakes, Game as GameLine, Acted, Ended, Stopped, Closed}
 use Rattle.game_record.specs.declared.stage.Stage.{Stage}
-use Rattle.game_record.specs.Lines.{player_text, stakes_text, steps_text, deed_text, line_text, UpTo, AreStakes, IsWrittenPlay, Fits}
-use Rattle.game_record.specs.Forms.{Form, TitleForm, CheckersForm, StakesForm, MatchForm, GameForm, AwayForm, RollForm, DoubleForm, TakeForm, PassForm, BeaverForm, EndForm, StopForm, CloseForm, form_of, deed_form, roll_form, game_form, needs_form, cut, same_text, are_words, begins_with_digit}
+use Rattle.game_record.specs.Lines.{player_text, stakes_word, steps_text, deed_text, line_text, UpTo, AreRecordStakes, IsWrittenPlay, FitsStage}
+use Rattle.game_record.specs.Forms.{LineForm, TitleForm, CheckersForm, StakesForm, MatchForm, GameForm, AwayForm, RollForm, DoubleForm, TakeForm, PassForm, BeaverForm, EndForm, StopForm, CloseForm, form_of, deed_form, roll_form, game_form, needs_form, cut, same_text, are_words, begins_with_digit}
 use Rattle.game_record.proofs.LineWords.{cut-none, cut-some, other-word, lacks-decimal, word-decimal, steps-words, steps-no-end}
 
-abbrev pub form_of_stakes : RecordStakes → Form
+abbrev pub form_of_stakes : RecordStakes → LineForm
 form_of_stakes (Match length) = MatchForm (decimal length)
-form_of_stakes stakes = StakesForm (stakes_text stakes)
+form_of_stakes stakes = StakesForm (stakes_word stakes)
 
-abbrev pub form_of_game : ℕ → Option (ℕ × ℕ) → Form
+abbrev pub form_of_game : ℕ → Option (ℕ × ℕ) → LineForm
 form_of_game number None = GameForm (decimal number)
 form_of_game number (Some needs) = AwayForm (decimal number) (decimal needs.0) (decimal needs.1)
 
-abbrev pub form_of_deed : Player → What → Form
+abbrev pub form_of_deed : Player → What → LineForm
 form_of_deed player (Rolled roll written) = RollForm player (roll_text roll) (steps_text written.items)
 form_of_deed player Doubled = DoubleForm player
 form_of_deed player Took = TakeForm player
@@ -34,7 +34,7 @@ form_of_deed player Passed = PassForm player
 form_of_deed player Beavered = BeaverForm player
 
 -- the form of what a line says
-abbrev pub form_of_line : Line → Form
+abbrev pub form_of_line : Line → LineForm
 form_of_line Title = TitleForm
 form_of_line (Checkers checkers) = CheckersForm (decimal checkers)
 form_of_line (Stakes stakes) = form_of_stakes stakes
@@ -48,7 +48,7 @@ form_of_line Closed = CloseForm
 small : (most n : ℕ) → most < 100 → UpTo most n → n < 2 ^ 64
 small most n low h = omega (arith, h.1, low)
 
-stakes-read : (stakes : RecordStakes) → (is_small : (length : ℕ) → stakes ≡ Match length → length < 2 ^ 64) → form_of (codes "stakes " ++ stakes_text stakes) ≡ Some (form_of_stakes stakes)
+stakes-read : (stakes : RecordStakes) → (is_small : (length : ℕ) → stakes ≡ Match length → length < 2 ^ 64) → form_of (codes "stakes " ++ stakes_word stakes) ≡ Some (form_of_stakes stakes)
 stakes-read Cubeless h = refl
 stakes-read Money h = refl
 stakes-read Jacoby h = refl
@@ -114,11 +114,11 @@ deed-read B Took valid = refl
 deed-read B Passed valid = refl
 deed-read B Beavered valid = refl
 
-match-small : (stakes : RecordStakes) → AreStakes stakes → (length : ℕ) → stakes ≡ Match length → length < 2 ^ 64
-match-small stakes h length e = small 5 length (omega arith) (subst AreStakes e h)
+match-small : (stakes : RecordStakes) → AreRecordStakes stakes → (length : ℕ) → stakes ≡ Match length → length < 2 ^ 64
+match-small stakes h length e = small 5 length (omega arith) (subst AreRecordStakes e h)
 
 -- a right line has the form of what it says
-pub line-read : (stage : Stage) (line : Line) → stage.games < 2 ^ 32 → Fits stage line → form_of (line_text line) ≡ Some (form_of_line line)
+pub line-read : (stage : Stage) (line : Line) → stage.games < 2 ^ 32 → FitsStage stage line → form_of (line_text line) ≡ Some (form_of_line line)
 line-read stage Title low h = refl
 line-read stage (Checkers checkers) low h = ap (λ b. cond b (Some (CheckersForm (decimal checkers))) None) (word-decimal checkers (small 3 checkers (omega arith) h))
 line-read stage (Stakes stakes) low h = stakes-read stakes (match-small stakes h)
@@ -138,7 +138,7 @@ player-no-end B = refl
 number-no-end : (n : ℕ) → n < 2 ^ 64 → lacks 10 (decimal n) ≡ true
 number-no-end n h = lacks-decimal 10 n (omega arith) h
 
-stakes-no-end : (stakes : RecordStakes) → AreStakes stakes → lacks 10 (stakes_text stakes) ≡ true
+stakes-no-end : (stakes : RecordStakes) → AreRecordStakes stakes → lacks 10 (stakes_word stakes) ≡ true
 stakes-no-end Cubeless h = refl
 stakes-no-end Money h = refl
 stakes-no-end Jacoby h = refl
@@ -153,7 +153,7 @@ deed-no-end Took = refl
 deed-no-end Passed = refl
 deed-no-end Beavered = refl
 
-pub line-no-end : (stage : Stage) (line : Line) → stage.games < 2 ^ 32 → Fits stage line → lacks 10 (line_text line) ≡ true
+pub line-no-end : (stage : Stage) (line : Line) → stage.games < 2 ^ 32 → FitsStage stage line → lacks 10 (line_text line) ≡ true
 line-no-end stage Title low h = refl
 line-no-end stage (Checkers checkers) low h = number-no-end checkers (small 3 checkers (omega arith) h)
 line-no-end stage (Stakes stakes) low h = stakes-no-end stakes h

@@ -20,15 +20,15 @@ use Rattle.game_record.specs.declared.line.Line.TheVariants.{Title, Checkers, St
 use Rattle.game_record.specs.declared.stage.Next.{Next}
 use Rattle.game_record.specs.declared.stage.Stage.{Stage}
 use Rattle.game_record.specs.Turns.{after, kind_of, kind_of_deed}
-use Rattle.game_record.specs.Lines.{steps_text, line_text, UpTo, AreStakes, IsWrittenPlay, Fits}
-use Rattle.game_record.specs.Forms.{Form, TitleForm, CheckersForm, StakesForm, MatchForm, GameForm, AwayForm, RollForm, DoubleForm, TakeForm, PassForm, BeaverForm, EndForm, StopForm, CloseForm, form_of, kind_of_form, same_text}
+use Rattle.game_record.specs.Lines.{steps_text, line_text, UpTo, AreRecordStakes, IsWrittenPlay, FitsStage}
+use Rattle.game_record.specs.Forms.{LineForm, TitleForm, CheckersForm, StakesForm, MatchForm, GameForm, AwayForm, RollForm, DoubleForm, TakeForm, PassForm, BeaverForm, EndForm, StopForm, CloseForm, form_of, kind_of_form, same_text}
 use Rattle.game_record.specs.Faults.{IsWrong, IsFormFault, IsLineFault}
 use Rattle.game_record.proofs.FormLaws.{some-one}
 use Rattle.game_record.proofs.LineForms.{form_of_line, form_of_stakes, form_of_game, form_of_deed, line-read}
 
 -- ---- a right line has no fault
 
-stakes-right : (stage : Stage) (stakes : RecordStakes) (fault : RecordFault) → AreStakes stakes → IsWrong stage (form_of_stakes stakes) fault → ⊥
+stakes-right : (stage : Stage) (stakes : RecordStakes) (fault : RecordFault) → AreRecordStakes stakes → IsWrong stage (form_of_stakes stakes) fault → ⊥
 stakes-right stage Cubeless fault h wrong = wrong.1 Cubeless refl refl
 stakes-right stage Money fault h wrong = wrong.1 Money refl refl
 stakes-right stage Jacoby fault h wrong = wrong.1 Jacoby refl refl
@@ -36,7 +36,7 @@ stakes-right stage MoneyBeavers fault h wrong = wrong.1 MoneyBeavers refl refl
 stakes-right stage JacobyBeavers fault h wrong = wrong.1 JacobyBeavers refl refl
 stakes-right stage (Match length) fault h wrong = wrong.1 length h refl
 
-line-right : (stage : Stage) (line : Line) (fault : RecordFault) → Fits stage line → IsWrong stage (form_of_line line) fault → ⊥
+line-right : (stage : Stage) (line : Line) (fault : RecordFault) → FitsStage stage line → IsWrong stage (form_of_line line) fault → ⊥
 line-right stage Title fault h wrong = wrong
 line-right stage (Checkers checkers) fault h wrong = wrong.1 checkers h refl
 line-right stage (Stakes stakes) fault h wrong = stakes-right stage stakes fault h wrong
@@ -46,7 +46,7 @@ line-right stage (GameLine number (Some needs)) fault h wrong = elim wrong.1 [
   | inr unfit ↦ elim unfit [ inl a ↦ a needs.0 h.1.0 refl | inr b ↦ b needs.1 h.1.1 refl ]
 ]
 line-right stage (Acted action) fault h wrong = deed-right action.what h wrong where
-  deed-right : (what : What) → Fits stage (Acted (record { player = action.player; what = what })) → IsWrong stage (form_of_deed action.player what) fault → ⊥
+  deed-right : (what : What) → FitsStage stage (Acted (record { player = action.player; what = what })) → IsWrong stage (form_of_deed action.player what) fault → ⊥
   deed-right (Rolled roll written) h wrong = elim wrong [
     | inl none ↦ none.1 roll (h.1.2, h.0, refl)
     | inr none ↦ none.2 written.items (record { words = refl; hits = h.1.0; few = h.1.1 })
@@ -86,9 +86,9 @@ line-kind Stopped = refl
 line-kind Closed = refl
 
 -- the text of a right line has no fault
-pub no-fault : (stage : Stage) (line : Line) (next : Next) (fault : RecordFault) → stage.games < 2 ^ 32 → after stage.in_match stage.next (kind_of line) ≡ Some next → Fits stage line → IsLineFault stage (line_text line) fault → ⊥
+pub no-fault : (stage : Stage) (line : Line) (next : Next) (fault : RecordFault) → stage.games < 2 ^ 32 → after stage.in_match stage.next (kind_of line) ≡ Some next → FitsStage stage line → IsLineFault stage (line_text line) fault → ⊥
 no-fault stage line next fault low comes fits wrong =
-    let formed = subst (λ (o : Option Form). MatchOption o (fault ≡ Shape) (λ form. IsFormFault stage form fault)) (line-read stage line low fits) wrong in
+    let formed = subst (λ (o : Option LineForm). MatchOption o (fault ≡ Shape) (λ form. IsFormFault stage form fault)) (line-read stage line low fits) wrong in
     let placed = subst (λ (o : Option Next). MatchOption o (fault ≡ Order) (λ next. IsWrong stage (form_of_line line) fault)) (ap (after stage.in_match stage.next) (line-kind line) ∙ comes) formed in
     line-right stage line fault fits placed
 
@@ -100,7 +100,7 @@ number-back n h = (decimal_is_IsNumeral n h).1
 up-back : (most n : ℕ) → most < 100 → UpTo most n → digits_value 10 (decimal n) ≡ n
 up-back most n low h = number-back n (omega (arith, h.1, low))
 
-abbrev tag : Form → ℕ
+abbrev tag : LineForm → ℕ
 tag TitleForm = 0
 tag (CheckersForm checkers) = 1
 tag (StakesForm stakes) = 2
@@ -116,18 +116,18 @@ tag (EndForm winner points) = 5
 tag StopForm = 6
 tag CloseForm = 7
 
-abbrev number_in : Form → ℕ
+abbrev number_in : LineForm → ℕ
 number_in (CheckersForm checkers) = digits_value 10 checkers
 number_in (GameForm number) = digits_value 10 number
 number_in (AwayForm number a b) = digits_value 10 number
 number_in (EndForm winner points) = digits_value 10 points
 number_in form = 0
 
-abbrev away_in : Form → Option (ℕ × ℕ)
+abbrev away_in : LineForm → Option (ℕ × ℕ)
 away_in (AwayForm number a b) = Some (digits_value 10 a, digits_value 10 b)
 away_in form = None
 
-abbrev player_in : Form → Player
+abbrev player_in : LineForm → Player
 player_in (RollForm player roll play) = player
 player_in (DoubleForm player) = player
 player_in (TakeForm player) = player
@@ -136,15 +136,15 @@ player_in (BeaverForm player) = player
 player_in (EndForm winner points) = winner
 player_in form = A
 
-abbrev roll_in : Form → List ℕ
+abbrev roll_in : LineForm → List ℕ
 roll_in (RollForm player roll play) = roll
 roll_in form = []
 
-abbrev play_in : Form → List ℕ
+abbrev play_in : LineForm → List ℕ
 play_in (RollForm player roll play) = play
 play_in form = []
 
-abbrev stakes_in : Form → RecordStakes
+abbrev stakes_in : LineForm → RecordStakes
 stakes_in (MatchForm length) = Match (digits_value 10 length)
 stakes_in (StakesForm stakes) =
     if same_text stakes (codes "cubeless") then Cubeless
@@ -171,7 +171,7 @@ deed_tag Took = 2
 deed_tag Passed = 3
 deed_tag Beavered = 4
 
-abbrev deed_in : Form → ℕ
+abbrev deed_in : LineForm → ℕ
 deed_in (DoubleForm player) = 1
 deed_in (TakeForm player) = 2
 deed_in (PassForm player) = 3
@@ -202,7 +202,7 @@ tag-is (Ended winner points) = refl
 tag-is Stopped = refl
 tag-is Closed = refl
 
-stakes-back : (stakes : RecordStakes) → AreStakes stakes → stakes_in (form_of_stakes stakes) ≡ stakes
+stakes-back : (stakes : RecordStakes) → AreRecordStakes stakes → stakes_in (form_of_stakes stakes) ≡ stakes
 stakes-back Cubeless h = refl
 stakes-back Money h = refl
 stakes-back Jacoby h = refl
@@ -255,7 +255,7 @@ same-deed tells player other Passed Passed h k e = refl
 same-deed tells player other Beavered Beavered h k e = refl
 same-deed tells player other a b h k e = let tags : deed_tag a ≡ deed_tag b = sym (deed-back player a) ∙ ap deed_in e ∙ deed-back other b in absurd (cc)
 
-same-form : TellsPlays → (stage : Stage) (a b : Line) → stage.games < 2 ^ 32 → Fits stage a → Fits stage b → form_of_line a ≡ form_of_line b → a ≡ b
+same-form : TellsPlays → (stage : Stage) (a b : Line) → stage.games < 2 ^ 32 → FitsStage stage a → FitsStage stage b → form_of_line a ≡ form_of_line b → a ≡ b
 same-form tells stage Title Title low h k e = refl
 same-form tells stage (Checkers n) (Checkers m) low h k e = ap Checkers (sym (up-back 3 n (omega arith) h) ∙ ap number_in e ∙ up-back 3 m (omega arith) k)
 same-form tells stage (Stakes a) (Stakes b) low h k e = ap Stakes (sym (stakes-back a h) ∙ ap stakes_in e ∙ stakes-back b k)
@@ -276,5 +276,5 @@ same-form tells stage Closed Closed low h k e = refl
 same-form tells stage a b low h k e = let tags : line_tag a ≡ line_tag b = sym (tag-is a) ∙ ap tag e ∙ tag-is b in absurd (cc)
 
 -- no text is that of two lines
-pub same-line : TellsPlays → (stage : Stage) (a b : Line) → stage.games < 2 ^ 32 → Fits stage a → Fits stage b → line_text a ≡ line_text b → a ≡ b
+pub same-line : TellsPlays → (stage : Stage) (a b : Line) → stage.games < 2 ^ 32 → FitsStage stage a → FitsStage stage b → line_text a ≡ line_text b → a ≡ b
 same-line tells stage a b low h k e = same-form tells stage a b low h k (some-one _ _ (sym (line-read stage a low h) ∙ ap form_of e ∙ line-read stage b low k))

@@ -2,8 +2,7 @@
 use Rattle.std.proofs.Common.{◌≡◌, ℕ, zero, suc, ◌+◌, ◌<◌, ◌≤◌, ◌%◌, ◌^◌, Bool, true, false, not, ◌&&◌, eqb, ltb, nat_eq, List, [], ◌∷◌, ◌++◌, length, map, codes, decimal, Some, None, inl, inr, refl, sym, ◌∙◌, ap, subst, arith}
 use Rattle.std.proofs.lemmas.Bool.{cases_lt}
 use Rattle.std.proofs.lemmas.Bool.Decides.{nat_tests}
-use Rattle.std.proofs.lemmas.Fmt.{decimal_by_steps, decimal_nonempty, decimal_is_IsNumeral}
-use Rattle.std.specs.Str.Parse.{digits_value}
+use Rattle.std.proofs.lemmas.Fmt.{decimal_by_steps, decimal_nonempty}
 use Rattle.std.proofs.lemmas.List.{append-nil}
 use Rattle.std.specs.Fmt.{digits}
 use Rattle.std.specs.List.{list_all, list_any, range_with_len, join_with_byte}
@@ -51,9 +50,6 @@ lacks-decimal byte n low = decimal_by_steps (λ n ds. lacks byte ds ≡ true) (�
 
 pub word-decimal : (n : ℕ) → n < 2 ^ 64 → is_word (decimal n) ≡ true
 word-decimal n h = word-is (decimal n) (lacks-decimal 32 n (omega arith) h) (decimal_nonempty n h)
-
-pub same-decimal : (a b : ℕ) → a < 2 ^ 64 → b < 2 ^ 64 → decimal a ≡ decimal b → a ≡ b
-same-decimal a b h k e = sym (decimal_is_IsNumeral a h).1 ∙ ap (digits_value 10) e ∙ (decimal_is_IsNumeral b k).1
 
 -- ---- plays
 

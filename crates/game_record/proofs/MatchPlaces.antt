@@ -25,7 +25,7 @@ use Rattle.game_record.specs.declared.record.RecordStakes.TheVariants.{Match}
 use Rattle.game_record.specs.declared.standing.Standing.{Standing}
 use Rattle.game_record.specs.Cube.{is_free_to, shows}
 use Rattle.game_record.specs.Games.{has_right}
-use Rattle.game_record.specs.Standings.{after_win, first_standing, needs, score_of, side_of, IsInRange}
+use Rattle.game_record.specs.Standings.{after_win, first_standing, needs, at_score, side_of, IsInRange}
 use Rattle.game_record.specs.Turns.{other_player, same_player}
 
 -- ---- tests
@@ -51,16 +51,16 @@ other-other B = refl
 
 -- ---- sides
 
-pub side-needs : (standing : Standing) (player : Player) → side_needs (score_of standing) (side_of standing player) ≡ needs standing player
+pub side-needs : (standing : Standing) (player : Player) → side_needs (at_score standing) (side_of standing player) ≡ needs standing player
 side-needs standing player = elim (cases_lt standing.b standing.a) [
   | inl less ↦ far player less
   | inr more ↦ near player more
 ] where
-  far : (player : Player) → standing.b < standing.a → side_needs (score_of standing) (side_of standing player) ≡ needs standing player
+  far : (player : Player) → standing.b < standing.a → side_needs (at_score standing) (side_of standing player) ≡ needs standing player
   far A less = let test : nat_le standing.a standing.b ≡ false = grind (arith, nat_tests) in rw test (omega arith)
   far B less = let test : nat_le standing.a standing.b ≡ false = grind (arith, nat_tests) in rw test (omega arith)
 
-  near : (player : Player) → standing.a ≤ standing.b → side_needs (score_of standing) (side_of standing player) ≡ needs standing player
+  near : (player : Player) → standing.a ≤ standing.b → side_needs (at_score standing) (side_of standing player) ≡ needs standing player
   near A more = let test : nat_le standing.a standing.b ≡ true = grind (arith, nat_tests) in rw test (omega arith)
   near B more = let test : nat_le standing.a standing.b ≡ true = grind (arith, nat_tests) in rw test (omega arith)
 
@@ -76,7 +76,7 @@ other-side standing player = go player (nat_le standing.a standing.b) where
 
 -- unless the match is over, the score is one of it
 abbrev pub Stands : ℕ → Standing → Type 0
-Stands length standing = 1 ≤ standing.a → 1 ≤ standing.b → IsOfMatch length (score_of standing)
+Stands length standing = 1 ≤ standing.a → 1 ≤ standing.b → IsOfMatch length (at_score standing)
 
 -- the score of two needs
 abbrev score : ℕ → ℕ → Phase → MatchScore
@@ -173,7 +173,7 @@ won-in-range standing B won h = (h.0, omega (arith, h.1))
 abbrev pub IsPlace : Standing → ℕ → Option Player → Type 0
 IsPlace standing turns None = turns ≡ 0
 IsPlace standing turns (Some owner) =
-    (1 ≤ turns) × (turns ≤ 3) × (is_crawford standing.phase ≡ false) × (can_own (score_of standing) (2 ^ turns) (side_of standing owner) ≡ true)
+    (1 ≤ turns) × (turns ≤ 3) × (is_crawford standing.phase ≡ false) × (can_own (at_score standing) (2 ^ turns) (side_of standing owner) ≡ true)
 
 pub few-turns : (standing : Standing) (turns : ℕ) (owner : Option Player) → IsPlace standing turns owner → turns ≤ 3
 few-turns standing turns None h = omega (arith, h)
@@ -234,16 +234,16 @@ place-known mover (suc (suc (suc (suc n)))) (Some owner) h = absurd (omega (arit
 
 -- the place of the cube has a kind for either player
 pub kinds-known : (standing : Standing) (player : Player) (turns : ℕ) (owner : Option Player) → IsPlace standing turns owner
-    → Contains (names_of (OfMatch (score_of standing))) (InMatch (side_of standing player) (2 ^ turns) (option_map (side_of standing) owner))
+    → Contains (names_of (OfMatch (at_score standing))) (InMatch (side_of standing player) (2 ^ turns) (option_map (side_of standing) owner))
 unfolding match_kinds
 kinds-known standing player turns None h =
-    let kinds = filter (can_come (score_of standing)) every_kind in
-    Among-Contains _ (map name_of kinds) (map-among name_of (record { mover = side_of standing player; cube = 2 ^ turns; owner = None }) kinds (filter-among (can_come (score_of standing)) (record { mover = side_of standing player; cube = 2 ^ turns; owner = None }) every_kind refl
+    let kinds = filter (can_come (at_score standing)) every_kind in
+    Among-Contains _ (map name_of kinds) (map-among name_of (record { mover = side_of standing player; cube = 2 ^ turns; owner = None }) kinds (filter-among (can_come (at_score standing)) (record { mover = side_of standing player; cube = 2 ^ turns; owner = None }) every_kind refl
     (place-known (side_of standing player) turns None h)))
 kinds-known standing player turns (Some owner) h =
-    let kinds = filter (can_come (score_of standing)) every_kind in
+    let kinds = filter (can_come (at_score standing)) every_kind in
     let side = side_of standing owner in
-    Among-Contains _ (map name_of kinds) (map-among name_of (record { mover = side_of standing player; cube = 2 ^ turns; owner = Some side }) kinds (filter-among (can_come (score_of standing)) (record { mover = side_of standing player; cube = 2 ^ turns; owner = Some side }) every_kind (rw (h.2, h.3) refl)
+    Among-Contains _ (map name_of kinds) (map-among name_of (record { mover = side_of standing player; cube = 2 ^ turns; owner = Some side }) kinds (filter-among (can_come (at_score standing)) (record { mover = side_of standing player; cube = 2 ^ turns; owner = Some side }) every_kind (rw (h.2, h.3) refl)
     (place-known (side_of standing player) turns (Some side) (h.0, h.1))))
 
 -- ---- a take
@@ -259,10 +259,10 @@ few-needed : (standing : Standing) (player : Player) → IsInRange standing → 
 few-needed standing A h = h.0
 few-needed standing B h = h.1
 
-owned-already : (standing : Standing) (doubler : Player) (turns : ℕ) (owner : Option Player) → IsPlace standing turns owner → is_free_to doubler owner ≡ true → (turns ≡ 0) ⊎ (can_own (score_of standing) (2 ^ turns) (side_of standing doubler) ≡ true)
+owned-already : (standing : Standing) (doubler : Player) (turns : ℕ) (owner : Option Player) → IsPlace standing turns owner → is_free_to doubler owner ≡ true → (turns ≡ 0) ⊎ (can_own (at_score standing) (2 ^ turns) (side_of standing doubler) ≡ true)
 owned-already standing doubler turns None place free = inl place
 owned-already standing doubler turns (Some owner) place free =
-    inr (subst (λ (p : Player). can_own (score_of standing) (2 ^ turns) (side_of standing p) ≡ true) (same-players owner doubler free) place.3)
+    inr (subst (λ (p : Player). can_own (at_score standing) (2 ^ turns) (side_of standing p) ≡ true) (same-players owner doubler free) place.3)
 
 -- where a player has the right to double, the other may come to own the cube
 pub taken-place : (length : ℕ) (standing : Standing) (player : Player) (cube : Cube) → IsInRange standing → IsPlace standing cube.turns cube.owner → has_right (Match length) standing (other_player player) cube ≡ true → IsPlace standing (cube.turns + 1) (Some player)
@@ -273,7 +273,7 @@ taken-place length standing player cube range place right =
     let normal : is_crawford standing.phase ≡ false = not-true (is_crawford standing.phase) second.0 in
     let more : nat_lt (shows cube) (needs standing doubler) ≡ true = first.1 in
     let few : cube.turns ≤ 2 = small-turns cube.turns (needs standing doubler) (few-turns standing cube.turns cube.owner place) (few-needed standing doubler range) more in
-    let by_side : nat_lt (2 ^ cube.turns) (side_needs (score_of standing) (side_of standing doubler)) ≡ true = rw (side-needs standing doubler) more in
-    let own = own-next (score_of standing) (side_of standing doubler) cube.turns few by_side (owned-already standing doubler cube.turns cube.owner place second.1) in
+    let by_side : nat_lt (2 ^ cube.turns) (side_needs (at_score standing) (side_of standing doubler)) ≡ true = rw (side-needs standing doubler) more in
+    let own = own-next (at_score standing) (side_of standing doubler) cube.turns few by_side (owned-already standing doubler cube.turns cube.owner place second.1) in
     let to : other_side (side_of standing doubler) ≡ side_of standing player = other-side standing doubler ∙ ap (side_of standing) (other-other player) in
-    (omega arith, omega (arith, few), normal, subst (λ (s : Side). can_own (score_of standing) (2 ^ (cube.turns + 1)) s ≡ true) to own)
+    (omega arith, omega (arith, few), normal, subst (λ (s : Side). can_own (at_score standing) (2 ^ (cube.turns + 1)) s ≡ true) to own)

@@ -24,7 +24,7 @@ use Rattle.game_record.specs.declared.record.What.TheVariants.{Rolled, Doubled, 
 use Rattle.game_record.specs.Drafts.{StopsBy}
 use Rattle.game_record.specs.Games.{after_play}
 use Rattle.game_record.specs.Lines.{games_lines}
-use Rattle.game_record.specs.Replay.{Acts, AllTell, BreaksAt, IsBroken, IsReplay, IsWrongAct, IsWrongLine, Tells, decided, first_moment, goes_on, may_double_now, undoubled}
+use Rattle.game_record.specs.Replay.{Acts, AllTell, BreaksAt, IsBroken, IsReplay, IsWrongAct, IsWrongLine, Reports, decided, first_moment, goes_on, may_double_now, undoubled}
 use Rattle.game_record.proofs.OneEnd.{one-end}
 
 -- steps that are written for a legal play have no fault
@@ -44,7 +44,7 @@ act-one now player Took a b x y h k = (h.0 ∙ sym k.0, h.1 ∙ sym k.1)
 act-one now player Passed a b x y h k = (h.0 ∙ sym k.0, h.1 ∙ sym k.1)
 act-one now player Beavered a b x y h k = (h.1.0 ∙ sym k.1.0, h.1.1 ∙ sym k.1.1)
 
-tells-one : (now : Moment) (line : Line) (a b : List Decision) (x y : Moment) → Tells now line a x → Tells now line b y → (a ≡ b) × (x ≡ y)
+tells-one : (now : Moment) (line : Line) (a b : List Decision) (x y : Moment) → Reports now line a x → Reports now line b y → (a ≡ b) × (x ≡ y)
 tells-one now TitleLine a b x y h k = (h.0 ∙ sym k.0, h.1 ∙ sym k.1)
 tells-one now (CheckersLine checkers) a b x y h k = (h.0 ∙ sym k.0, h.1 ∙ sym k.1)
 tells-one now (StakesLine stakes) a b x y h k = (h.0 ∙ sym k.0, h.1 ∙ sym k.1)
@@ -75,7 +75,7 @@ act-right legal now player Took told next fault h wrong = wrong
 act-right legal now player Passed told next fault h wrong = wrong
 act-right legal now player Beavered told next fault h wrong = let clash : true ≡ false = sym h.0 ∙ wrong.0 in cc
 
-tells-right : LegalPlaysAreRight → (now : Moment) (line : Line) (told : List Decision) (next : Moment) (fault : RecordFault) → Tells now line told next → IsWrongLine now line fault → ⊥
+tells-right : LegalPlaysAreRight → (now : Moment) (line : Line) (told : List Decision) (next : Moment) (fault : RecordFault) → Reports now line told next → IsWrongLine now line fault → ⊥
 tells-right legal now TitleLine told next fault h wrong = wrong
 tells-right legal now (CheckersLine checkers) told next fault h wrong = wrong
 tells-right legal now (StakesLine stakes) told next fault h wrong = wrong
@@ -117,7 +117,7 @@ few-acts now player Took told next h = omega (arith, ap (λ ds. length ds) h.0)
 few-acts now player Passed told next h = omega (arith, ap (λ ds. length ds) h.0)
 few-acts now player Beavered told next h = omega (arith, ap (λ ds. length ds) h.1.0)
 
-few-here : (now : Moment) (line : Line) (told : List Decision) (next : Moment) → Tells now line told next → length told ≤ 2
+few-here : (now : Moment) (line : Line) (told : List Decision) (next : Moment) → Reports now line told next → length told ≤ 2
 few-here now TitleLine told next h = omega (arith, ap (λ ds. length ds) h.0)
 few-here now (CheckersLine checkers) told next h = omega (arith, ap (λ ds. length ds) h.0)
 few-here now (StakesLine stakes) told next h = omega (arith, ap (λ ds. length ds) h.0)

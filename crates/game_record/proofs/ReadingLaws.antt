@@ -10,7 +10,7 @@ use Rattle.game_record.specs.Turns.{stage_after, first_stage}
 use Rattle.game_record.specs.Lines.{line_text, lines_text, is_too_long, Follow}
 use Rattle.game_record.specs.Forms.{cut_at}
 use Rattle.game_record.specs.Faults.{IsBad}
-use Rattle.game_record.specs.Drafts.{added, lines_read, Takes, Reading}
+use Rattle.game_record.specs.Drafts.{added, lines_read, TakesLine, ReadsLines}
 use Rattle.game_record.proofs.Printing.{lines_text_append}
 use Rattle.game_record.proofs.FormLaws.{cut-text}
 use Rattle.game_record.proofs.DraftLaws.{follow-more, stage-added}
@@ -30,19 +30,8 @@ text-more lines line more =
     ∙ sym (append_assoc (lines_text lines) (lines_text (line ∷ [])) more)
     ∙ ap (λ t. t ++ more) (sym (lines_text_append lines (line ∷ [])))
 
--- before the first line
-pub reading-first : (text : List ℕ) (draft : Draft) → draft.games ≡ [] → draft.actions ≡ [] → Reading text first_stage draft 1 text
-reading-first text draft games actions = record {
-  follow = refl;
-  counts = (refl, games, actions);
-  parts = refl;
-  count = omega arith;
-  room = omega arith;
-  games = omega arith;
-}
-
 -- with one more line
-pub reading-more : (text : List ℕ) (stage : Stage) (draft : Draft) (number : ℕ) (rest line more : List ℕ) (new_stage : Stage) (new_draft : Draft) → Reading text stage draft number rest → cut_at 10 rest ≡ Some (line, more) → Takes stage draft line new_stage new_draft → Reading text new_stage new_draft (number + 1) more
+pub reading-more : (text : List ℕ) (stage : Stage) (draft : Draft) (number : ℕ) (rest line more : List ℕ) (new_stage : Stage) (new_draft : Draft) → ReadsLines text stage draft number rest → cut_at 10 rest ≡ Some (line, more) → TakesLine stage draft line new_stage new_draft → ReadsLines text new_stage new_draft (number + 1) more
 reading-more text stage draft number rest line more new_stage new_draft r cut t =
     let lines = lines_read stage.next stage.games draft in
     let new = stage_after stage t.line t.next in
@@ -50,7 +39,7 @@ reading-more text stage draft number rest line more new_stage new_draft r cut t 
     let long = cut-length rest line more cut in
     let longer = ap length a.0.0 ∙ length-append lines (t.line ∷ []) in
     let one : length (t.line ∷ []) ≡ 1 = omega arith in
-    let moved : Reading text new (added draft t.line) (number + 1) more = record {
+    let moved : ReadsLines text new (added draft t.line) (number + 1) more = record {
       follow = subst (λ ls. Follow first_stage ls new) (sym a.0.0) (follow-more first_stage lines stage t.line t.next r.follow t.comes t.fits);
       counts = a.0.1;
       parts = r.parts ∙ ap (λ x. lines_text lines ++ x) (cut-text 10 rest line more cut ∙ ap (λ l. l ++ 10 ∷ more) t.says) ∙ text-more lines t.line more ∙ ap (λ ls. lines_text ls ++ more) (sym a.0.0);
@@ -61,7 +50,7 @@ reading-more text stage draft number rest line more new_stage new_draft r cut t 
     rw (t.stage_is, t.draft_is) moved
 
 -- the end isn't that of a close
-pub bad-end : (text : List ℕ) (stage : Stage) (draft : Draft) (number : ℕ) (rest : List ℕ) → Reading text stage draft number rest → is_too_long text ≡ false → cut_at 10 rest ≡ None → ((rest ≡ []) × (stage.next ≡ Nothing) → ⊥) → IsBad text (record { line = number; fault = Unended })
+pub bad-end : (text : List ℕ) (stage : Stage) (draft : Draft) (number : ℕ) (rest : List ℕ) → ReadsLines text stage draft number rest → is_too_long text ≡ false → cut_at 10 rest ≡ None → ((rest ≡ []) × (stage.next ≡ Nothing) → ⊥) → IsBad text (record { line = number; fault = Unended })
 bad-end text stage draft number rest r size cut open_end = inr (
   size,
   record {

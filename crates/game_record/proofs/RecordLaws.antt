@@ -13,9 +13,9 @@ use Rattle.game_record.specs.declared.line.Line.{Line}
 use Rattle.game_record.specs.declared.line.Line.TheVariants.{Acted, Closed}
 use Rattle.game_record.specs.declared.stage.Stage.{Stage}
 use Rattle.game_record.specs.Turns.{after, first_stage}
-use Rattle.game_record.specs.Lines.{lines_text, record_lines, is_too_long, ending_line, game_lines, games_lines, Follow, IsTextOf}
-use Rattle.game_record.specs.Forms.{Form, TitleForm, CheckersForm, StakesForm, MatchForm, GameForm, AwayForm, RollForm, DoubleForm, TakeForm, PassForm, BeaverForm, EndForm, StopForm, CloseForm, form_of, kind_of_form}
-use Rattle.game_record.specs.Faults.{IsWrong, IsFormFault, IsLineFault, IsWrongRest, IsFirstWrong, IsBad}
+use Rattle.game_record.specs.Lines.{lines_text, record_lines, is_too_long, ending_line, game_lines, games_lines, Follow, IsRecordText}
+use Rattle.game_record.specs.Forms.{LineForm, TitleForm, CheckersForm, StakesForm, MatchForm, GameForm, AwayForm, RollForm, DoubleForm, TakeForm, PassForm, BeaverForm, EndForm, StopForm, CloseForm, form_of, kind_of_form}
+use Rattle.game_record.specs.Faults.{IsWrong, IsFormFault, IsLineFault, IsWrongRest, IsFirstWrongLine, IsBad}
 use Rattle.game_record.proofs.FormLaws.{some-one, some-none}
 use Rattle.game_record.proofs.LineLaws.{TellsPlays}
 use Rattle.game_record.proofs.TextLaws.{same-front, GoesOn, none-behind, few-lines, follow-games, right-line-there}
@@ -78,7 +78,7 @@ no-text : (lines : List Line) (rest : List ℕ) → [] ≡ lines_text lines ++ r
 no-text lines rest e none = sym (e ∙ ap (λ ls. lines_text ls ++ rest) none)
 
 -- they are one, and nothing is behind
-pub one-record : TellsPlays → (text more : List ℕ) (a b : Record) → IsTextOf text a → IsTextOf (text ++ more) b → (a ≡ b) × (more ≡ [])
+pub one-record : TellsPlays → (text more : List ℕ) (a b : Record) → IsRecordText text a → IsRecordText (text ++ more) b → (a ≡ b) × (more ≡ [])
 one-record tells text more a b x y =
     let whole : lines_text (record_lines a) ++ more ≡ lines_text (record_lines b) ++ [] = ap (λ t. t ++ more) (sym x.printed) ∙ y.printed ∙ sym (append-nil (lines_text (record_lines b))) in
     let few = few-lines text (record_lines a) [] (ap is_too_long x.printed ∙ x.valid.size) (x.printed ∙ sym (append-nil (lines_text (record_lines a)))) in
@@ -94,7 +94,7 @@ one-record tells text more a b x y =
 
 -- ---- one first fault
 
-wrong-same : (stage : Stage) (form : Form) (f g : RecordFault) → IsWrong stage form f → IsWrong stage form g → f ≡ g
+wrong-same : (stage : Stage) (form : LineForm) (f g : RecordFault) → IsWrong stage form f → IsWrong stage form g → f ≡ g
 wrong-same stage TitleForm f g x y = absurd x
 wrong-same stage (CheckersForm checkers) f g x y = x.0 ∙ sym y.0
 wrong-same stage (StakesForm stakes) f g x y = x.0 ∙ sym y.0
@@ -136,7 +136,7 @@ rest-same stage rest f g x y = elim x [
 ]
 
 -- of two readings that stop at a fault, neither goes on behind the other
-same-stop : (text : List ℕ) (a b : BadRecord) (x : IsFirstWrong text a) (y : IsFirstWrong text b) → is_too_long text ≡ false → GoesOn x.lines x.stage x.rest y.lines y.stage y.rest → a ≡ b
+same-stop : (text : List ℕ) (a b : BadRecord) (x : IsFirstWrongLine text a) (y : IsFirstWrongLine text b) → is_too_long text ≡ false → GoesOn x.lines x.stage x.rest y.lines y.stage y.rest → a ≡ b
 same-stop text a b x y size on = go on.0 on.1 on.2 on.3 where
   go : (more : List Line) → y.lines ≡ x.lines ++ more → Follow x.stage more y.stage → x.rest ≡ lines_text more ++ y.rest → a ≡ b
   go [] all f e =

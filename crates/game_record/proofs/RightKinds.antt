@@ -30,7 +30,7 @@ use Rattle.game_record.specs.Cube.{is_free_to}
 use Rattle.game_record.specs.Games.{has_beavers, has_right}
 use Rattle.game_record.specs.Kinds.{game_stakes, kind_number, kind_of_turn, money_kind}
 use Rattle.game_record.specs.RightDecisions.{terms_for}
-use Rattle.game_record.specs.Standings.{score_of, side_of}
+use Rattle.game_record.specs.Standings.{at_score, side_of}
 use Rattle.game_record.specs.Turns.{same_player}
 use Rattle.game_record.proofs.MatchPlaces.{side-needs}
 use Rattle.game_record.proofs.Numbers.{found-below, same_name-refl, same_name-true}
@@ -81,7 +81,7 @@ free-turn : (standing : Standing) (player : Player) (owner : Option Player) → 
 free-turn standing player None = refl
 free-turn standing player (Some owner) = same-sides standing player owner
 
-named-right : (length : ℕ) (standing : Standing) (player : Player) (cube : Cube) → has_right (Match length) standing player cube ≡ true → right_by_name (score_of standing) (kind_of_turn (Match length) standing player cube) ≡ true
+named-right : (length : ℕ) (standing : Standing) (player : Player) (cube : Cube) → has_right (Match length) standing player cube ≡ true → right_by_name (at_score standing) (kind_of_turn (Match length) standing player cube) ≡ true
 named-right length standing player cube right = rw (free-turn standing player cube.owner, side-needs standing player) right
 
 some-double : (test : Bool) (double : Double) → test ≡ true → IsSome (cond test (Some double) None)
@@ -112,7 +112,7 @@ kind-right Jacoby standing player cube starts there right = money-right _ _ play
 kind-right MoneyBeavers standing player cube starts there right = money-right _ _ player cube.owner right
 kind-right JacobyBeavers standing player cube starts there right = money-right _ _ player cube.owner right
 kind-right (Match length) standing player cube starts there right =
-    match-right (score_of standing) starts (kind_of_turn (Match length) standing player cube) there (named-right length standing player cube right)
+    match-right (at_score standing) starts (kind_of_turn (Match length) standing player cube) there (named-right length standing player cube right)
 
 -- and with beavers his double has two answers
 pub kind-beavers : (stakes : RecordStakes) (standing : Standing) (player : Player) (cube : Cube) (starts : StartPairs) → has_beavers stakes ≡ true → has_right stakes standing player cube ≡ true

@@ -24,10 +24,10 @@ use Rattle.cube_actions.specs.Stakes.{kind_at}
 use Rattle.cube_actions.specs.Starts.{StartPairs}
 use Rattle.game_record.specs.Games.{has_right, is_over}
 use Rattle.game_record.specs.Kinds.{game_score, game_stakes, kind_number, kind_of_turn, stakes_at}
-use Rattle.game_record.specs.Lines.{games_lines, Fits, Follow, IsRecord, IsWrittenPlay}
-use Rattle.game_record.specs.Ready.{HasScore}
-use Rattle.game_record.specs.Replay.{Acts, AllTell, IsReplay, Tells, decided, first_moment, may_double_now, undoubled}
-use Rattle.game_record.specs.RightDecisions.{terms_for, IsRightAnswer, IsRightChoice, IsRightDecision, IsScoreIn}
+use Rattle.game_record.specs.Lines.{games_lines, FitsStage, Follow, IsRecord, IsWrittenPlay}
+use Rattle.game_record.specs.Ready.{HasStanding}
+use Rattle.game_record.specs.Replay.{Acts, AllTell, IsReplay, Reports, decided, first_moment, may_double_now, undoubled}
+use Rattle.game_record.specs.RightDecisions.{terms_for, IsAnswerTo, IsRightChoice, IsRightDecision, IsScoreIn}
 use Rattle.game_record.specs.Turns.{after, kind_of, kind_of_deed, other_player, stage_after}
 use Rattle.game_record.proofs.Coming.{acts-within, pass-asked, take-asked}
 use Rattle.game_record.proofs.Keeps.{Asked, Keeps, has-score, keep-line, kinds-ready, record-begins}
@@ -38,7 +38,7 @@ use Rattle.game_record.proofs.RightKinds.{kind-beavers, kind-right, number-below
 abbrev IsOf : Record → Moment → Type 0
 IsOf rec now = (now.checkers ≡ rec.checkers) × (now.stakes ≡ rec.stakes)
 
-score-in : (stakes : RecordStakes) (standing : Standing) → HasScore stakes standing → IsScoreIn stakes (game_score stakes standing)
+score-in : (stakes : RecordStakes) (standing : Standing) → HasStanding stakes standing → IsScoreIn stakes (game_score stakes standing)
 score-in (Match length) standing h = h.2
 score-in Cubeless standing h = refl
 score-in Money standing h = refl
@@ -50,7 +50,7 @@ score-in JacobyBeavers standing h = refl
 abbrev kind_now : Moment → Player → ℕ
 kind_now now player = kind_number (game_stakes now.stakes now.standing) (kind_of_turn now.stakes now.standing player now.progress.cube)
 
-right-here : (rec : Record) (next : Next) (games left : ℕ) (now : Moment) (on_turn player : Player) (choice : Choice) → Keeps next games left now → IsOf rec now → HasScore now.stakes now.standing → is_over now.progress ≡ false
+right-here : (rec : Record) (next : Next) (games left : ℕ) (now : Moment) (on_turn player : Player) (choice : Choice) → Keeps next games left now → IsOf rec now → HasStanding now.stakes now.standing → is_over now.progress ≡ false
     → ((starts : StartPairs) → IsRightChoice now.progress.position (kind_at (terms_for (game_stakes now.stakes now.standing) starts) (kind_now now on_turn)) choice) → IsRightDecision rec (decided now on_turn player choice)
 right-here rec next games left now on_turn player choice keep of score going right = record {
   position = keep.board.position;
@@ -71,14 +71,14 @@ has-right now player may = (both (now.progress.opened && not now.progress.double
 one : (rec : Record) (d : Decision) (told : List Decision) → told ≡ d ∷ [] → IsRightDecision rec d → All (IsRightDecision rec) told
 one rec d told e right = subst (λ (ds : List Decision). All (IsRightDecision rec) ds) (sym e) (All-cons (IsRightDecision rec) d [] right (All-nil (IsRightDecision rec)))
 
-right-undoubled : (rec : Record) (next : Next) (games left : ℕ) (now : Moment) (player : Player) → Keeps next games left now → IsOf rec now → HasScore now.stakes now.standing → is_over now.progress ≡ false → All (IsRightDecision rec) (undoubled now player)
+right-undoubled : (rec : Record) (next : Next) (games left : ℕ) (now : Moment) (player : Player) → Keeps next games left now → IsOf rec now → HasStanding now.stakes now.standing → is_over now.progress ≡ false → All (IsRightDecision rec) (undoubled now player)
 right-undoubled rec next games left now player keep of score going = by (may_double_now now player) refl where
   by : (b : Bool) → may_double_now now player ≡ b → All (IsRightDecision rec) (cond b (decided now player player (Offered NoDouble) ∷ []) [])
   by true may = one rec _ _ refl (right-here rec next games left now player player (Offered NoDouble) keep of score going (λ starts. double-here next games left now player starts keep (has-right now player may)))
   by false may = All-nil (IsRightDecision rec)
 
-right-answer : (rec : Record) (next : Next) (games left : ℕ) (now : Moment) (player : Player) (answer : Answer) (told : List Decision) → Keeps next games left now → IsOf rec now → HasScore now.stakes now.standing → next ≡ AnswerNext player
-    → (has_right now.stakes now.standing (other_player player) now.progress.cube ≡ true → (starts : StartPairs) → IsRightAnswer (kind_at (terms_for (game_stakes now.stakes now.standing) starts) (kind_now now (other_player player))).double answer)
+right-answer : (rec : Record) (next : Next) (games left : ℕ) (now : Moment) (player : Player) (answer : Answer) (told : List Decision) → Keeps next games left now → IsOf rec now → HasStanding now.stakes now.standing → next ≡ AnswerNext player
+    → (has_right now.stakes now.standing (other_player player) now.progress.cube ≡ true → (starts : StartPairs) → IsAnswerTo (kind_at (terms_for (game_stakes now.stakes now.standing) starts) (kind_now now (other_player player))).double answer)
     → told ≡ decided now (other_player player) player (Answered answer) ∷ [] → All (IsRightDecision rec) told
 right-answer rec next games left now player answer told keep of score at right e =
     let asked : Asked (AnswerNext player) now = subst (λ (n : Next). Asked n now) at keep.asked in
@@ -114,7 +114,7 @@ none : (rec : Record) (told : List Decision) → told ≡ [] → All (IsRightDec
 none rec told e = subst (λ (ds : List Decision). All (IsRightDecision rec) ds) (sym e) (All-nil (IsRightDecision rec))
 
 right-line : (rec : Record) (stage : Stage) (line : Line) (x : Next) (left : ℕ) (now : Moment) (told : List Decision) (new : Moment)
-    → Keeps stage.next stage.games left now → IsOf rec now → after stage.in_match stage.next (kind_of line) ≡ Some x → Fits stage line → Tells now line told new → All (IsRightDecision rec) told
+    → Keeps stage.next stage.games left now → IsOf rec now → after stage.in_match stage.next (kind_of line) ≡ Some x → FitsStage stage line → Reports now line told new → All (IsRightDecision rec) told
 right-line rec stage TitleLine x left now told new keep of comes fits h = none rec told h.0
 right-line rec stage (CheckersLine checkers) x left now told new keep of comes fits h = none rec told h.0
 right-line rec stage (StakesLine stakes) x left now told new keep of comes fits h = none rec told h.0
@@ -135,7 +135,7 @@ act-of rec now player Took told new of h = same-rest rec now new _ of refl refl 
 act-of rec now player Passed told new of h = same-rest rec now new _ of refl refl h.1
 act-of rec now player Beavered told new of h = same-rest rec now new _ of refl refl h.1.1
 
-line-of : (rec : Record) (now : Moment) (line : Line) (told : List Decision) (new : Moment) → IsOf rec now → Tells now line told new → IsOf rec new
+line-of : (rec : Record) (now : Moment) (line : Line) (told : List Decision) (new : Moment) → IsOf rec now → Reports now line told new → IsOf rec new
 line-of rec now TitleLine told new of h = same-rest rec now new _ of refl refl h.1
 line-of rec now (CheckersLine checkers) told new of h = same-rest rec now new _ of refl refl h.1
 line-of rec now (StakesLine stakes) told new of h = same-rest rec now new _ of refl refl h.1

@@ -13,9 +13,9 @@ use Rattle.game_record.specs.declared.stage.Next.{Next}
 use Rattle.game_record.specs.declared.stage.Next.TheVariants.{Nothing}
 use Rattle.game_record.specs.declared.stage.Stage.{Stage}
 use Rattle.game_record.specs.Turns.{after, kind_of, stage_after, first_stage}
-use Rattle.game_record.specs.Lines.{line_text, lines_text, record_lines, is_line_end, is_too_long, Fits, Follow, IsTextOf}
+use Rattle.game_record.specs.Lines.{line_text, lines_text, record_lines, is_line_end, is_too_long, FitsStage, Follow, IsRecordText}
 use Rattle.game_record.specs.Forms.{cut_at}
-use Rattle.game_record.specs.Faults.{IsLineFault, IsWrongRest, IsFirstWrong, IsBad}
+use Rattle.game_record.specs.Faults.{IsLineFault, IsWrongRest, IsFirstWrongLine, IsBad}
 use Rattle.game_record.proofs.FormLaws.{some-one, some-none}
 use Rattle.game_record.proofs.DraftLaws.{stage-games}
 use Rattle.game_record.proofs.LineWords.{cut-some}
@@ -28,7 +28,7 @@ first-apart : (line : Line) (lines : List Line) (rest : List ℕ) → lines_text
 first-apart line lines rest =
     append_assoc (line_text line ++ 10 ∷ []) (lines_text lines) rest ∙ append_assoc (line_text line) (10 ∷ []) (lines_text lines ++ rest)
 
-first-cut : (stage : Stage) (line : Line) (lines : List Line) (rest : List ℕ) → stage.games < 2 ^ 32 → Fits stage line → cut_at 10 (lines_text (line ∷ lines) ++ rest) ≡ Some (line_text line, lines_text lines ++ rest)
+first-cut : (stage : Stage) (line : Line) (lines : List Line) (rest : List ℕ) → stage.games < 2 ^ 32 → FitsStage stage line → cut_at 10 (lines_text (line ∷ lines) ++ rest) ≡ Some (line_text line, lines_text lines ++ rest)
 first-cut stage line lines rest low fits = ap (cut_at 10) (first-apart line lines rest) ∙ cut-some 10 (line_text line) (lines_text lines ++ rest) (line-no-end stage line low fits)
 
 -- ---- two ways to read a text: one goes on where the other stops
@@ -103,12 +103,12 @@ end-there stage rest fault closed e wrong = elim wrong [
 ]
 
 -- a record's text has no fault
-pub text-right : TellsPlays → (text : List ℕ) (rec : Record) (bad : BadRecord) → IsTextOf text rec → IsBad text bad → ⊥
+pub text-right : TellsPlays → (text : List ℕ) (rec : Record) (bad : BadRecord) → IsRecordText text rec → IsBad text bad → ⊥
 text-right tells text rec bad is wrong = elim wrong [
   | inl long ↦ long.0 (ap is_too_long is.printed ∙ is.valid.size)
   | inr w ↦ first-right w.0 w.1
 ] where
-  first-right : is_too_long text ≡ false → IsFirstWrong text bad → ⊥
+  first-right : is_too_long text ≡ false → IsFirstWrongLine text bad → ⊥
   first-right size w =
       let lines = record_lines rec in
       let whole : lines_text lines ++ [] ≡ lines_text w.lines ++ w.rest = append-nil (lines_text lines) ∙ sym is.printed ∙ w.parts in
@@ -121,7 +121,7 @@ text-right tells text rec bad is wrong = elim wrong [
             end-there w.stage w.rest bad.fault (ap (λ (s : Stage). s.next) stage ∙ is.valid.closed) rest w.wrong)
         | inr on ↦ behind on.0 w on.1 on.2 on.3 few
       ] where
-        behind : (more : List Line) (w : IsFirstWrong text bad) → record_lines rec ≡ w.lines ++ more → Follow w.stage more is.valid.end → w.rest ≡ lines_text more ++ [] → length (record_lines rec) ≤ 1048576 → ⊥
+        behind : (more : List Line) (w : IsFirstWrongLine text bad) → record_lines rec ≡ w.lines ++ more → Follow w.stage more is.valid.end → w.rest ≡ lines_text more ++ [] → length (record_lines rec) ≤ 1048576 → ⊥
         behind [] w all f e few = end-there w.stage w.rest bad.fault (ap (λ (s : Stage). s.next) (sym f) ∙ is.valid.closed) e w.wrong
         behind (line ∷ more) w all f e few =
             let long = ap length all ∙ length-append w.lines (line ∷ more) in

@@ -14,7 +14,7 @@ use Rattle.game_record.specs.declared.stage.Next.{Next}
 use Rattle.game_record.specs.declared.stage.Next.TheVariants.{Title, Checkers, Stakes, FirstGame, NextGame, Close, Nothing}
 use Rattle.game_record.specs.declared.stage.Stage.{Stage}
 use Rattle.game_record.specs.Turns.{after, kind_of, stage_after, first_stage}
-use Rattle.game_record.specs.Lines.{line_text, lines_text, games_lines, Fits, Follow}
+use Rattle.game_record.specs.Lines.{line_text, lines_text, games_lines, FitsStage, Follow}
 
 -- the game that is being read, with this ending
 abbrev pub ended_game : Draft → Ending → Game
@@ -70,12 +70,12 @@ Counts Nothing games draft = Unit {0}
 Counts _ games draft = games ≡ length draft.games + 1
 
 -- a line was read and added
-pub record Takes (stage : Stage) (draft : Draft) (text : List ℕ) (new_stage : Stage)
+pub record TakesLine (stage : Stage) (draft : Draft) (text : List ℕ) (new_stage : Stage)
     (new_draft : Draft) : Type 0 where
   pub line : Line
   pub next : Next
   pub comes : after stage.in_match stage.next (kind_of line) ≡ Some next
-  pub fits : Fits stage line
+  pub fits : FitsStage stage line
   pub says : text ≡ line_text line
   pub stage_is : new_stage ≡ stage_after stage line next
   pub draft_is : new_draft ≡ added draft line
@@ -89,7 +89,7 @@ abbrev pub record_of : Draft → Record
 record_of draft = record { checkers = draft.checkers; stakes = draft.stakes; games = draft.games }
 
 -- what has been read of a text, up to this line number and what is left
-pub record Reading (text : List ℕ) (stage : Stage) (draft : Draft) (number : ℕ)
+pub record ReadsLines (text : List ℕ) (stage : Stage) (draft : Draft) (number : ℕ)
     (rest : List ℕ) : Type 0 where
   pub follow : Follow first_stage (lines_read stage.next stage.games draft) stage
   pub counts : Counts stage.next stage.games draft

@@ -13,8 +13,8 @@ use Rattle.game_record.specs.declared.stage.Next.{Next}
 use Rattle.game_record.specs.declared.stage.Next.TheVariants.{Nothing}
 use Rattle.game_record.specs.declared.stage.Stage.{Stage}
 use Rattle.game_record.specs.Turns.{after, kind_of, is_match, first_stage}
-use Rattle.game_record.specs.Lines.{UpTo, MayCome, Fits, line_text, stakes_text, lines_text, is_too_long, Follow}
-use Rattle.game_record.specs.Forms.{Form, form_text, TitleForm, CheckersForm, StakesForm, MatchForm, GameForm, AwayForm, RollForm, DoubleForm, TakeForm, PassForm, BeaverForm, EndForm, StopForm, CloseForm, form_of, kind_of_form, cut_at}
+use Rattle.game_record.specs.Lines.{UpTo, MayCome, FitsStage, line_text, stakes_word, lines_text, is_too_long, Follow}
+use Rattle.game_record.specs.Forms.{LineForm, form_text, TitleForm, CheckersForm, StakesForm, MatchForm, GameForm, AwayForm, RollForm, DoubleForm, TakeForm, PassForm, BeaverForm, EndForm, StopForm, CloseForm, form_of, kind_of_form, cut_at}
 
 -- the word is no number from 1 to this one
 abbrev pub IsNoNumber : ℕ → List ℕ → Type 0
@@ -22,7 +22,7 @@ IsNoNumber most word = (n : ℕ) → UpTo most n → word ≡ decimal n → ⊥
 
 -- the word names no stakes but perhaps a match
 abbrev pub IsNoStakes : List ℕ → Type 0
-IsNoStakes word = (stakes : RecordStakes) → is_match stakes ≡ false → word ≡ stakes_text stakes → ⊥
+IsNoStakes word = (stakes : RecordStakes) → is_match stakes ≡ false → word ≡ stakes_word stakes → ⊥
 
 -- the word is that of a roll which may come
 abbrev pub IsRollText : Next → List ℕ → Dice → Type 0
@@ -35,12 +35,12 @@ abbrev pub IsNoPlay : List ℕ → Type 0
 IsNoPlay text = (steps : List Step) → IsPlayText text steps → ⊥
 
 -- a line that is read from its form
-abbrev pub Says : Stage → Form → Line → Type 0
+abbrev pub Says : Stage → LineForm → Line → Type 0
 Says stage form line =
-    (form_text form ≡ line_text line) × (kind_of line ≡ kind_of_form form) × Fits stage line
+    (form_text form ≡ line_text line) × (kind_of line ≡ kind_of_form form) × FitsStage stage line
 
 -- a line of this form may come here, and its words are wrong
-abbrev pub IsWrong : Stage → Form → RecordFault → Type 0
+abbrev pub IsWrong : Stage → LineForm → RecordFault → Type 0
 IsWrong stage TitleForm fault = ⊥
 IsWrong stage (CheckersForm checkers) fault = (fault ≡ Rules) × IsNoNumber 3 checkers
 IsWrong stage (StakesForm stakes) fault = (fault ≡ Rules) × IsNoStakes stakes
@@ -60,7 +60,7 @@ IsWrong stage StopForm fault = ⊥
 IsWrong stage CloseForm fault = ⊥
 
 -- a line of this form can't come here, or its words are wrong
-abbrev pub IsFormFault : Stage → Form → RecordFault → Type 0
+abbrev pub IsFormFault : Stage → LineForm → RecordFault → Type 0
 IsFormFault stage form fault = MatchOption (after stage.in_match stage.next (kind_of_form form))
     (fault ≡ Order) (λ next. IsWrong stage form fault)
 
@@ -77,7 +77,7 @@ IsWrongRest stage rest fault =
     ⊎ ((fault ≡ Unended) × (cut_at 10 rest ≡ None) × ((rest ≡ []) × (stage.next ≡ Nothing) → ⊥))
 
 -- the first thing that is wrong with a text
-pub record IsFirstWrong (text : List ℕ) (bad : BadRecord) : Type 0 where
+pub record IsFirstWrongLine (text : List ℕ) (bad : BadRecord) : Type 0 where
   pub lines : List Line
   pub stage : Stage
   pub rest : List ℕ
@@ -89,4 +89,4 @@ pub record IsFirstWrong (text : List ℕ) (bad : BadRecord) : Type 0 where
 -- what is wrong with a text that is no record's
 abbrev pub IsBad : List ℕ → BadRecord → Type 0
 IsBad text bad = ((is_too_long text ≢ false) × (bad ≡ record { line = 0; fault = TooLong }))
-    ⊎ ((is_too_long text ≡ false) × IsFirstWrong text bad)
+    ⊎ ((is_too_long text ≡ false) × IsFirstWrongLine text bad)

@@ -2,9 +2,9 @@
 use Rattle.std.specs.Prelude.{Option, Some, None}
 use Rattle.game_record.specs.declared.form.Form.{Form as Kept}
 use Rattle.game_record.specs.declared.form.Form.TheVariants.{Title, Checkers, Stakes, MatchOf, Game, AwayGame, Roll, Double, Take, Pass, Beaver, End, Stop, Close}
-use Rattle.game_record.specs.Forms.{Form, TitleForm, CheckersForm, StakesForm, MatchForm, GameForm, AwayForm, RollForm, DoubleForm, TakeForm, PassForm, BeaverForm, EndForm, StopForm, CloseForm}
+use Rattle.game_record.specs.Forms.{LineForm, TitleForm, CheckersForm, StakesForm, MatchForm, GameForm, AwayForm, RollForm, DoubleForm, TakeForm, PassForm, BeaverForm, EndForm, StopForm, CloseForm}
 
-abbrev pub form : Kept → Form
+abbrev pub form : Kept → LineForm
 form Title = TitleForm
 form (Checkers checkers) = CheckersForm checkers.now
 form (Stakes stakes) = StakesForm stakes.now
@@ -20,6 +20,6 @@ form (End winner points) = EndForm winner points.now
 form Stop = StopForm
 form Close = CloseForm
 
-abbrev pub form_if_any : Option Kept → Option Form
+abbrev pub form_if_any : Option Kept → Option LineForm
 form_if_any None = None
 form_if_any (Some kept) = Some (form kept)

@@ -21,24 +21,24 @@ abbrev pub cut : List ℕ → Option (List ℕ × List ℕ)
 cut text = cut_at 32 text
 
 -- a line with the words that are to be read: all but a roll's play are single words
-pub data Form : Type 0 where
-  TitleForm : Form
-  CheckersForm : (checkers : List ℕ) → Form
-  StakesForm : (stakes : List ℕ) → Form
-  MatchForm : (length : List ℕ) → Form
-  GameForm : (number : List ℕ) → Form
-  AwayForm : (number : List ℕ) → (a : List ℕ) → (b : List ℕ) → Form
-  RollForm : (player : Player) → (roll : List ℕ) → (play : List ℕ) → Form
-  DoubleForm : (player : Player) → Form
-  TakeForm : (player : Player) → Form
-  PassForm : (player : Player) → Form
-  BeaverForm : (player : Player) → Form
-  EndForm : (winner : Player) → (points : List ℕ) → Form
-  StopForm : Form
-  CloseForm : Form
+pub data LineForm : Type 0 where
+  TitleForm : LineForm
+  CheckersForm : (checkers : List ℕ) → LineForm
+  StakesForm : (stakes : List ℕ) → LineForm
+  MatchForm : (length : List ℕ) → LineForm
+  GameForm : (number : List ℕ) → LineForm
+  AwayForm : (number : List ℕ) → (a : List ℕ) → (b : List ℕ) → LineForm
+  RollForm : (player : Player) → (roll : List ℕ) → (play : List ℕ) → LineForm
+  DoubleForm : (player : Player) → LineForm
+  TakeForm : (player : Player) → LineForm
+  PassForm : (player : Player) → LineForm
+  BeaverForm : (player : Player) → LineForm
+  EndForm : (winner : Player) → (points : List ℕ) → LineForm
+  StopForm : LineForm
+  CloseForm : LineForm
 
 -- the line of each form
-abbrev pub form_text : Form → List ℕ
+abbrev pub form_text : LineForm → List ℕ
 form_text TitleForm = codes "hypergammon record 1"
 form_text (CheckersForm checkers) = codes "checkers " ++ checkers
 form_text (StakesForm stakes) = codes "stakes " ++ stakes
@@ -80,43 +80,43 @@ player_of word = if same_text word (codes "A")
     then Some A
     else if same_text word (codes "B") then Some B else None
 
-abbrev pub stakes_form : List ℕ → Option (List ℕ × List ℕ) → Option Form
+abbrev pub stakes_form : List ℕ → Option (List ℕ × List ℕ) → Option LineForm
 stakes_form rest None = if is_word rest then Some (StakesForm rest) else None
 stakes_form rest (Some parts) = if same_text parts.0 (codes "match") && is_word parts.1
     then Some (MatchForm parts.1)
     else None
 
-abbrev pub needs_form : List ℕ → Option (List ℕ × List ℕ) → Option Form
+abbrev pub needs_form : List ℕ → Option (List ℕ × List ℕ) → Option LineForm
 needs_form number None = None
 needs_form number (Some needs) = if is_word needs.0 && is_word needs.1
     then Some (AwayForm number needs.0 needs.1)
     else None
 
-abbrev pub away_form : List ℕ → Option (List ℕ × List ℕ) → Option Form
+abbrev pub away_form : List ℕ → Option (List ℕ × List ℕ) → Option LineForm
 away_form number None = None
 away_form number (Some parts) = if same_text parts.0 (codes "away") && is_word number
     then needs_form number (cut parts.1)
     else None
 
-abbrev pub game_form : List ℕ → Option (List ℕ × List ℕ) → Option Form
+abbrev pub game_form : List ℕ → Option (List ℕ × List ℕ) → Option LineForm
 game_form rest None = if is_word rest then Some (GameForm rest) else None
 game_form rest (Some parts) = away_form parts.0 (cut parts.1)
 
-abbrev pub winner_form : List ℕ → Option Player → Option Form
+abbrev pub winner_form : List ℕ → Option Player → Option LineForm
 winner_form points None = None
 winner_form points (Some winner) = if is_word points then Some (EndForm winner points) else None
 
-abbrev pub end_form : Option (List ℕ × List ℕ) → Option Form
+abbrev pub end_form : Option (List ℕ × List ℕ) → Option LineForm
 end_form None = None
 end_form (Some parts) = winner_form parts.1 (player_of parts.0)
 
-abbrev pub roll_form : Player → Option (List ℕ × List ℕ) → Option Form
+abbrev pub roll_form : Player → Option (List ℕ × List ℕ) → Option LineForm
 roll_form player None = None
 roll_form player (Some parts) = if begins_with_digit parts.0 && are_words parts.1
     then Some (RollForm player parts.0 parts.1)
     else None
 
-abbrev pub deed_form : List ℕ → Option Player → Option Form
+abbrev pub deed_form : List ℕ → Option Player → Option LineForm
 deed_form rest None = None
 deed_form rest (Some player) =
     if same_text rest (codes "double") then Some (DoubleForm player)
@@ -125,7 +125,7 @@ deed_form rest (Some player) =
     else if same_text rest (codes "beaver") then Some (BeaverForm player)
     else roll_form player (cut rest)
 
-abbrev pub words_form : Option (List ℕ × List ℕ) → Option Form
+abbrev pub words_form : Option (List ℕ × List ℕ) → Option LineForm
 words_form None = None
 words_form (Some parts) =
     if same_text parts.0 (codes "checkers")
@@ -136,14 +136,14 @@ words_form (Some parts) =
     else deed_form parts.1 (player_of parts.0)
 
 -- the form that a line has
-abbrev pub form_of : List ℕ → Option Form
+abbrev pub form_of : List ℕ → Option LineForm
 form_of line =
     if same_text line (codes "hypergammon record 1") then Some TitleForm
     else if same_text line (codes "stop") then Some StopForm
     else if same_text line (codes "close") then Some CloseForm
     else words_form (cut line)
 
-abbrev pub kind_of_form : Form → LineKind
+abbrev pub kind_of_form : LineForm → LineKind
 kind_of_form TitleForm = OfTitle
 kind_of_form (CheckersForm checkers) = OfCheckers
 kind_of_form (StakesForm stakes) = OfStakes

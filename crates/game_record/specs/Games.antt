@@ -43,14 +43,14 @@ has_beavers MoneyBeavers = true
 has_beavers JacobyBeavers = true
 has_beavers _ = false
 
-abbrev pub worth : Won → ℕ
-worth Single = 1
-worth Gammon = 2
-worth Backgammon = 3
+abbrev pub won_worth : Won → ℕ
+won_worth Single = 1
+won_worth Gammon = 2
+won_worth Backgammon = 3
 
 -- by the Jacoby rule a gammon and a backgammon count once while the cube is centred
 abbrev pub counted : RecordStakes → Cube → Won → ℕ
-counted stakes cube won = if has_jacoby_rule stakes && is_none cube.owner then 1 else worth won
+counted stakes cube won = if has_jacoby_rule stakes && is_none cube.owner then 1 else won_worth won
 
 -- A player's play leaves this. If he has borne off his last checker, he has won. Else it is the other's turn.
 abbrev pub after_play : RecordStakes → Player → Placement → Progress → Progress

@@ -14,12 +14,12 @@ use Rattle.game_record.specs.declared.record.RecordStakes.{RecordStakes}
 use Rattle.game_record.specs.declared.record.RecordStakes.TheVariants.{Cubeless, Money, Jacoby, MoneyBeavers, JacobyBeavers, Match}
 use Rattle.game_record.specs.declared.standing.Standing.{Standing}
 use Rattle.game_record.specs.Cube.{shows}
-use Rattle.game_record.specs.Standings.{score_of, side_of}
+use Rattle.game_record.specs.Standings.{at_score, side_of}
 use Rattle.game_record.specs.Turns.{same_player}
 
 -- the score of a game, which only a match has
 abbrev pub game_score : RecordStakes → Standing → Option MatchScore
-game_score (Match length) standing = Some (score_of standing)
+game_score (Match length) standing = Some (at_score standing)
 game_score _ standing = None
 
 -- the points that A and B still need, as a game's line has them

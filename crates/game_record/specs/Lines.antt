@@ -26,13 +26,13 @@ abbrev pub player_text : Player → List ℕ
 player_text A = codes "A"
 player_text B = codes "B"
 
-abbrev pub stakes_text : RecordStakes → List ℕ
-stakes_text Cubeless = codes "cubeless"
-stakes_text Money = codes "money"
-stakes_text Jacoby = codes "jacoby"
-stakes_text MoneyBeavers = codes "money-beavers"
-stakes_text JacobyBeavers = codes "jacoby-beavers"
-stakes_text (Match length) = codes "match " ++ decimal length
+abbrev pub stakes_word : RecordStakes → List ℕ
+stakes_word Cubeless = codes "cubeless"
+stakes_word Money = codes "money"
+stakes_word Jacoby = codes "jacoby"
+stakes_word MoneyBeavers = codes "money-beavers"
+stakes_word JacobyBeavers = codes "jacoby-beavers"
+stakes_word (Match length) = codes "match " ++ decimal length
 
 -- the points that A and B still need
 abbrev pub away_text : Option (ℕ × ℕ) → List ℕ
@@ -58,7 +58,7 @@ deed_text Beavered = codes "beaver"
 abbrev pub line_text : Line → List ℕ
 line_text Title = codes "hypergammon record 1"
 line_text (Checkers checkers) = codes "checkers " ++ decimal checkers
-line_text (Stakes stakes) = codes "stakes " ++ stakes_text stakes
+line_text (Stakes stakes) = codes "stakes " ++ stakes_word stakes
 line_text (GameLine number away) = codes "game " ++ decimal number ++ away_text away
 line_text (Acted action) = player_text action.player ++ codes " " ++ deed_text action.what
 line_text (Ended winner points) = codes "end " ++ player_text winner ++ codes " " ++ decimal points
@@ -94,9 +94,9 @@ record_text rec = lines_text (record_lines rec)
 abbrev pub UpTo : ℕ → ℕ → Type 0
 UpTo most n = (1 ≤ n) × (n ≤ most)
 
-abbrev pub AreStakes : RecordStakes → Type 0
-AreStakes (Match length) = UpTo 5 length
-AreStakes _ = Unit {0}
+abbrev pub AreRecordStakes : RecordStakes → Type 0
+AreRecordStakes (Match length) = UpTo 5 length
+AreRecordStakes _ = Unit {0}
 
 -- a roll that may come: the first of a game is no double
 abbrev pub MayCome : Next → Dice → Type 0
@@ -114,20 +114,20 @@ FitsNext next (Rolled roll written) = MayCome next roll
 FitsNext next _ = Unit {0}
 
 -- the numbers of a line are in range, and a game's is the next
-abbrev pub Fits : Stage → Line → Type 0
-Fits stage (Checkers checkers) = UpTo 3 checkers
-Fits stage (Stakes stakes) = AreStakes stakes
-Fits stage (GameLine number away) = (number ≡ stage.games + 1)
+abbrev pub FitsStage : Stage → Line → Type 0
+FitsStage stage (Checkers checkers) = UpTo 3 checkers
+FitsStage stage (Stakes stakes) = AreRecordStakes stakes
+FitsStage stage (GameLine number away) = (number ≡ stage.games + 1)
     × MatchOption away (Unit {0}) (λ needs. UpTo 5 needs.0 × UpTo 5 needs.1)
-Fits stage (Acted action) = FitsNext stage.next action.what × IsWrittenPlay action.what
-Fits stage (Ended winner points) = UpTo 3 points
-Fits stage _ = Unit {0}
+FitsStage stage (Acted action) = FitsNext stage.next action.what × IsWrittenPlay action.what
+FitsStage stage (Ended winner points) = UpTo 3 points
+FitsStage stage _ = Unit {0}
 
 -- each of these lines may come where it stands, and they lead from one stage to another
 abbrev pub Follow : Stage → List Line → Stage → Type 0
 Follow stage [] end = end ≡ stage
 Follow stage (line ∷ lines) end = (next : Next)
-    × (after stage.in_match stage.next (kind_of line) ≡ Some next) × Fits stage line
+    × (after stage.in_match stage.next (kind_of line) ≡ Some next) × FitsStage stage line
     × Follow (stage_after stage line next) lines end
 
 abbrev pub is_line_end : ℕ → Bool
@@ -144,6 +144,6 @@ pub record IsRecord (rec : Record) : Type 0 where
   pub size : is_too_long (record_text rec) ≡ false
 
 -- this is the text of a record
-pub record IsTextOf (text : List ℕ) (rec : Record) : Type 0 where
+pub record IsRecordText (text : List ℕ) (rec : Record) : Type 0 where
   pub valid : IsRecord rec
   pub printed : text ≡ record_text rec

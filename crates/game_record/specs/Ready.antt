@@ -12,8 +12,8 @@ use Rattle.game_record.specs.declared.record.RecordStakes.{RecordStakes}
 use Rattle.game_record.specs.declared.record.RecordStakes.TheVariants.{Match}
 use Rattle.game_record.specs.declared.standing.Standing.{Standing}
 use Rattle.game_record.specs.Kinds.{game_needs, game_stakes, kind_of_turn}
-use Rattle.game_record.specs.Replay.{Tells}
-use Rattle.game_record.specs.Standings.{score_of, IsInRange}
+use Rattle.game_record.specs.Replay.{Reports}
+use Rattle.game_record.specs.Standings.{at_score, IsInRange}
 
 -- this holds of a match's length, where the stakes are one
 abbrev pub IfMatch : RecordStakes → (ℕ → Type 0) → Type 0
@@ -21,20 +21,20 @@ IfMatch (Match length) fact = fact length
 IfMatch _ fact = Unit {0}
 
 -- in a match, of one to five points, the score is one of it
-abbrev pub HasScore : RecordStakes → Standing → Type 0
-HasScore stakes standing =
-    IfMatch stakes (λ length. (1 ≤ length) × (length ≤ 5) × IsOfMatch length (score_of standing))
+abbrev pub HasStanding : RecordStakes → Standing → Type 0
+HasStanding stakes standing =
+    IfMatch stakes (λ length. (1 ≤ length) × (length ≤ 5) × IsOfMatch length (at_score standing))
 
 -- what some lines say fits where they stand
 abbrev pub FitsMoment : Moment → Line → Type 0
 FitsMoment now (GameLine number away) = (number ≡ now.game + 1)
-    × (away ≡ game_needs now.stakes now.standing → HasScore now.stakes now.standing)
-FitsMoment now (Acted action) = HasScore now.stakes now.standing
+    × (away ≡ game_needs now.stakes now.standing → HasStanding now.stakes now.standing)
+FitsMoment now (Acted action) = HasStanding now.stakes now.standing
 FitsMoment now (Ended winner points) = points ≤ 3
 FitsMoment now _ = Unit {0}
 
 -- the number of checkers and the needs are in range, the place of the cube has a kind for either player, and no count is large
-pub record IsReady (now : Moment) (line : Line) : Type 0 where
+pub record IsSetFor (now : Moment) (line : Line) : Type 0 where
   pub checkers_from : 1 ≤ now.checkers
   pub checkers_to : now.checkers ≤ 3
   pub standing : IsInRange now.standing
@@ -50,13 +50,14 @@ pub record IsReady (now : Moment) (line : Line) : Type 0 where
 -- what is decided now can be told, where the game's stakes have this name
 pub record CanTell (now : Moment) (name : StakesName) : Type 0 where
   pub named : name ≡ game_stakes now.stakes now.standing
-  pub score : HasScore now.stakes now.standing
+  pub score : HasStanding now.stakes now.standing
   pub few_turns : IfMatch now.stakes (λ length. now.progress.cube.turns ≤ 3)
   pub kinds : (player : Player)
       → Contains (names_of name) (kind_of_turn now.stakes now.standing player now.progress.cube)
 
 -- each of these lines is ready where those before it are by the rules
-abbrev pub AreReady : Moment → List Line → Type 0
-AreReady now [] = Unit {0}
-AreReady now (line ∷ lines) = IsReady now line
-    × ((here : List Decision) (next : Moment) → Tells now line here next → AreReady next lines)
+abbrev pub AreLinesReady : Moment → List Line → Type 0
+AreLinesReady now [] = Unit {0}
+AreLinesReady now (line ∷ lines) = IsSetFor now line
+    × ((here : List Decision) (next : Moment) → Reports now line here next
+    → AreLinesReady next lines)

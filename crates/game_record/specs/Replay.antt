@@ -118,27 +118,27 @@ after_game now winner points = record now {
 
 -- A line is by the rules, tells these decisions and leads to this moment. A match that is over has no next game: no line says that a player
 -- needs 0.
-abbrev pub Tells : Moment → Line → List Decision → Moment → Type 0
-Tells now (GameLine number away) told next = (away ≡ game_needs now.stakes now.standing)
+abbrev pub Reports : Moment → Line → List Decision → Moment → Type 0
+Reports now (GameLine number away) told next = (away ≡ game_needs now.stakes now.standing)
     × (told ≡ []) × (next ≡ record now { game = number; line = now.line + 1 })
-Tells now (Acted action) told next = Acts now action.player action.what told next
-Tells now (Ended winner points) told next =
+Reports now (Acted action) told next = Acts now action.player action.what told next
+Reports now (Ended winner points) told next =
     (now.progress.won ≡ Some (record { winner = winner; points = points })) × (told ≡ [])
     × (next ≡ after_game now winner points)
-Tells now Stopped told next =
+Reports now Stopped told next =
     (is_over now.progress ≡ false) × (told ≡ []) × (next ≡ goes_on now now.progress)
-Tells now _ told next = (told ≡ []) × (next ≡ goes_on now now.progress)
+Reports now _ told next = (told ≡ []) × (next ≡ goes_on now now.progress)
 
 -- lines that are by the rules, one after another
 abbrev pub AllTell : Moment → List Line → List Decision → Moment → Type 0
 AllTell now [] told end = (told ≡ []) × (end ≡ now)
 AllTell now (line ∷ lines) told end =
-    (here : List Decision) × (next : Moment) × Tells now line here next
+    (here : List Decision) × (next : Moment) × Reports now line here next
     × (later : List Decision) × AllTell next lines later end × (told ≡ here ++ later)
 
 -- a list of decisions grew by some of which this holds
-abbrev pub Adds : List Decision → List Decision → (List Decision → Type 0) → Type 0
-Adds old new fact = (told : List Decision) × (new ≡ old ++ told) × fact told
+abbrev pub AddsDecisions : List Decision → List Decision → (List Decision → Type 0) → Type 0
+AddsDecisions old new fact = (told : List Decision) × (new ≡ old ++ told) × fact told
 
 -- these are the decisions of a record that is by the rules
 abbrev pub IsReplay : Record → List Decision → Type 0
@@ -174,7 +174,7 @@ abbrev pub BreaksAt : Moment → List Line → BadRecord → Type 0
 BreaksAt now [] bad = ⊥
 BreaksAt now (line ∷ lines) bad =
     ((bad.line ≡ now.line) × IsWrongLine now line bad.fault)
-    ⊎ ((here : List Decision) × (next : Moment) × Tells now line here next
+    ⊎ ((here : List Decision) × (next : Moment) × Reports now line here next
     × BreaksAt next lines bad)
 
 -- the first line of a record that breaks a rule

@@ -39,16 +39,16 @@ IsScoreIn (Match length) None = ⊥
 IsScoreIn stakes score = score ≡ None
 
 -- a beaver is an answer to a double that has two
-abbrev pub IsRightAnswer : Option Double → Answer → Type 0
-IsRightAnswer right Take = IsSome right
-IsRightAnswer right Pass = IsSome right
-IsRightAnswer right Beaver = IsSome right × IfSome right (λ double. 2 ≤ length double.answers.items)
+abbrev pub IsAnswerTo : Option Double → Answer → Type 0
+IsAnswerTo right Take = IsSome right
+IsAnswerTo right Pass = IsSome right
+IsAnswerTo right Beaver = IsSome right × IfSome right (λ double. 2 ≤ length double.answers.items)
 
 -- a play leaves a legal end, and who offers or answers is in a kind with a right to double
 abbrev pub IsRightChoice : Placement → Kind → Choice → Type 0
 IsRightChoice position kind (Played roll end) = IsRoll roll × IsLegalEnd position roll end
 IsRightChoice position kind (Offered offer) = IsSome kind.double
-IsRightChoice position kind (Answered answer) = IsRightAnswer kind.double answer
+IsRightChoice position kind (Answered answer) = IsAnswerTo kind.double answer
 
 -- The position is live and has the record's checkers, the score is one of the match, the kind is one of the stakes, and the choice could be
 -- made there.

@@ -32,8 +32,8 @@ abbrev pub needs : Standing → Player → ℕ
 needs standing A = standing.a
 needs standing B = standing.b
 
-abbrev pub score_of : Standing → MatchScore
-score_of standing = record {
+abbrev pub at_score : Standing → MatchScore
+at_score standing = record {
   near = min standing.a standing.b;
   far = max standing.a standing.b;
   phase = standing.phase;

@@ -54,13 +54,13 @@ after in_match Close OfClose = Some Nothing
 after _ _ _ = None
 
 -- a game has begun and isn't over
-abbrev pub IsWithin : Next → Type 0
-IsWithin FirstRoll = Unit {0}
-IsWithin (Turn player) = Unit {0}
-IsWithin (Answer player) = Unit {0}
-IsWithin (Roll player) = Unit {0}
-IsWithin End = Unit {0}
-IsWithin _ = ⊥
+abbrev pub IsInGame : Next → Type 0
+IsInGame FirstRoll = Unit {0}
+IsInGame (Turn player) = Unit {0}
+IsInGame (Answer player) = Unit {0}
+IsInGame (Roll player) = Unit {0}
+IsInGame End = Unit {0}
+IsInGame _ = ⊥
 
 abbrev pub kind_of_deed : Player → What → LineKind
 kind_of_deed player (Rolled roll written) = OfRoll player

@@ -1,7 +1,7 @@
 ghost use Rattle.std.specs.Prelude.{◌≡◌, ◌++◌, IfOk, IfErr, OnOk};
 ghost use Rattle.game_record.specs.Drafts.{StopsBy};
-ghost use Rattle.game_record.specs.Ready.{CanTell, IsReady};
-ghost use Rattle.game_record.specs.Replay.{decided, undoubled, Acts, Adds, Answers, IsWrongAct};
+ghost use Rattle.game_record.specs.Ready.{CanTell, IsSetFor};
+ghost use Rattle.game_record.specs.Replay.{decided, undoubled, Acts, AddsDecisions, Answers, IsWrongAct};
 ghost use Rattle.game_record.specs.Standings.{IsInRange};
 ghost use Rattle.game_record.specs.declared.line.Line.TheVariants.{Acted};
 ghost use Rattle.game_record.specs.declared.record.What.{What};
@@ -25,9 +25,9 @@ impl Moment {
         action: &Action,
         decisions: &mut Decisions,
     ) -> Result<Moment, RecordStop>
-        requires ready { IsReady self.now (Acted action.now) }
+        requires ready { IsSetFor self.now (Acted action.now) }
         requires can { CanTell self.now stakes.now.name }
-        ensures ok { IfOk result (λ next. Adds decisions.old decisions.new (λ told.
+        ensures ok { IfOk result (λ next. AddsDecisions decisions.old decisions.new (λ told.
             Acts self.now action.now.player action.now.what told next)) }
         ensures err { IfErr result (StopsBy (λ bad. (bad.line ≡ self.now.line)
             × IsWrongAct self.now action.now.player action.now.what bad.fault)) }
@@ -51,12 +51,12 @@ impl Moment {
         written: &Written,
         decisions: &mut Decisions,
     ) -> Result<Moment, RecordStop>
-        requires ready { IsReady self.now (Acted (record {
+        requires ready { IsSetFor self.now (Acted (record {
           player = player;
           what = Rolled roll written.now;
         })) }
         requires can { CanTell self.now stakes.now.name }
-        ensures ok { IfOk result (λ next. Adds decisions.old decisions.new (λ told.
+        ensures ok { IfOk result (λ next. AddsDecisions decisions.old decisions.new (λ told.
             Acts self.now player (Rolled roll written.now) told next)) }
         ensures err { IfErr result (StopsBy (λ bad. (bad.line ≡ self.now.line)
             × IsWrongAct self.now player (Rolled roll written.now) bad.fault)) }
@@ -101,9 +101,9 @@ impl Moment {
         player: Player,
         decisions: &mut Decisions,
     ) -> Result<Moment, RecordStop>
-        requires ready { IsReady self.now (Acted (record { player = player; what = Doubled })) }
+        requires ready { IsSetFor self.now (Acted (record { player = player; what = Doubled })) }
         requires can { CanTell self.now stakes.now.name }
-        ensures ok { IfOk result (λ next. Adds decisions.old decisions.new (λ told.
+        ensures ok { IfOk result (λ next. AddsDecisions decisions.old decisions.new (λ told.
             Acts self.now player Doubled told next)) }
         ensures err { IfErr result (StopsBy (λ bad. (bad.line ≡ self.now.line)
             × IsWrongAct self.now player Doubled bad.fault)) }
@@ -127,12 +127,12 @@ impl Moment {
         answer: Answer,
         decisions: &mut Decisions,
     ) -> Result<Moment, RecordStop>
-        requires ready { (what : What) × IsReady self.now (Acted (record {
+        requires ready { (what : What) × IsSetFor self.now (Acted (record {
           player = player;
           what = what;
         })) }
         requires can { CanTell self.now stakes.now.name }
-        ensures ok { IfOk result (λ next. Adds decisions.old decisions.new (λ told.
+        ensures ok { IfOk result (λ next. AddsDecisions decisions.old decisions.new (λ told.
             Answers self.now player answer told next)) }
         ensures err { IfErr result (λ stop. stop ≡ RecordStop.NoMemory) }
     {
@@ -148,9 +148,9 @@ impl Moment {
         player: Player,
         decisions: &mut Decisions,
     ) -> Result<Moment, RecordStop>
-        requires ready { IsReady self.now (Acted (record { player = player; what = Beavered })) }
+        requires ready { IsSetFor self.now (Acted (record { player = player; what = Beavered })) }
         requires can { CanTell self.now stakes.now.name }
-        ensures ok { IfOk result (λ next. Adds decisions.old decisions.new (λ told.
+        ensures ok { IfOk result (λ next. AddsDecisions decisions.old decisions.new (λ told.
             Acts self.now player Beavered told next)) }
         ensures err { IfErr result (StopsBy (λ bad. (bad.line ≡ self.now.line)
             × IsWrongAct self.now player Beavered bad.fault)) }

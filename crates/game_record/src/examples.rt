@@ -15,7 +15,7 @@ ghost use Rattle.game_record.specs.declared.record.RecordStakes.TheVariants.{Mon
 ghost use Rattle.game_record.specs.Cube.{centred, shows, turned};
 ghost use Rattle.game_record.specs.Games.{after_answer, counted, has_right, may_double, opening};
 ghost use Rattle.game_record.specs.Kinds.{kind_of_turn};
-ghost use Rattle.game_record.specs.Standings.{after_win, first_standing, score_of, side_of, needing};
+ghost use Rattle.game_record.specs.Standings.{after_win, first_standing, at_score, side_of, needing};
 
 /// The forms of lines.
 pub fn shape_examples()
@@ -70,7 +70,7 @@ pub fn standing_examples()
     ensures over { after_win (needing 2 2 Normal) A 4 ≡ needing 0 2 Normal }
     ensures equal { side_of (needing 2 2 Normal) A ≡ Near }
     ensures behind { side_of (needing 2 1 Crawford) A ≡ Far }
-    ensures score { score_of (needing 2 1 Crawford)
+    ensures score { at_score (needing 2 1 Crawford)
         ≡ record { near = 1; far = 2; phase = Crawford } }
 {}
 

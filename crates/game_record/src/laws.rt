@@ -3,7 +3,7 @@ ghost use Rattle.std.specs.Io.{StartsWith};
 ghost use Rattle.game_record.specs.declared.fault.BadRecord.{BadRecord};
 ghost use Rattle.game_record.specs.declared.record.Record.{Record};
 ghost use Rattle.game_record.specs.declared.line.Line.TheVariants.{Title};
-ghost use Rattle.game_record.specs.Lines.{lines_text, record_lines, IsRecord, IsTextOf};
+ghost use Rattle.game_record.specs.Lines.{lines_text, record_lines, IsRecord, IsRecordText};
 ghost use Rattle.game_record.specs.Faults.{IsBad};
 
 use move_rules::texts_tell_plays;
@@ -11,13 +11,13 @@ use move_rules::texts_tell_plays;
 /// Each text of a record begins with the line `hypergammon record 1`.
 pub fn record_texts_begin_so()
     ensures { (text : List ℕ) (rec : Record)
-        → IsTextOf text rec → StartsWith text (lines_text (Title ∷ [])) }
+        → IsRecordText text rec → StartsWith text (lines_text (Title ∷ [])) }
 {}
 
 /// A text of a record has no fault.
 pub fn record_texts_have_no_fault()
     ensures { (text : List ℕ) (rec : Record) (bad : BadRecord)
-        → IsTextOf text rec → IsBad text bad → ⊥ }
+        → IsRecordText text rec → IsBad text bad → ⊥ }
 {
     texts_tell_plays();
 }
@@ -25,7 +25,7 @@ pub fn record_texts_have_no_fault()
 /// No text is that of two records.
 pub fn texts_tell_records()
     ensures { (text : List ℕ) (rec other : Record)
-        → IsTextOf text rec → IsTextOf text other → rec ≡ other }
+        → IsRecordText text rec → IsRecordText text other → rec ≡ other }
 {
     texts_tell_plays();
 }
@@ -33,7 +33,7 @@ pub fn texts_tell_records()
 /// No text of a record begins that of another.
 pub fn no_record_text_begins_another()
     ensures { (text more : List ℕ) (rec other : Record)
-        → IsTextOf text rec → IsTextOf (text ++ more) other → more ≡ [] }
+        → IsRecordText text rec → IsRecordText (text ++ more) other → more ≡ [] }
 {
     texts_tell_plays();
 }

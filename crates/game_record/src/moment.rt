@@ -6,8 +6,8 @@ ghost use Rattle.cube_actions.specs.Starts.{Covers};
 ghost use Rattle.game_record.specs.Games.{is_over, opening};
 ghost use Rattle.game_record.specs.Kinds.{game_needs, game_score, game_stakes, kind_number, kind_of_turn};
 ghost use Rattle.game_record.specs.Lines.{ending_line};
-ghost use Rattle.game_record.specs.Ready.{CanTell, HasScore, IfMatch, IsReady};
-ghost use Rattle.game_record.specs.Replay.{decided, first_moment, goes_on, may_double_now, standing_after, IsWrongLine, Tells};
+ghost use Rattle.game_record.specs.Ready.{CanTell, HasStanding, IfMatch, IsSetFor};
+ghost use Rattle.game_record.specs.Replay.{decided, first_moment, goes_on, may_double_now, standing_after, IsWrongLine, Reports};
 ghost use Rattle.game_record.specs.Standings.{IsInRange};
 ghost use Rattle.game_record.specs.declared.line.Line.TheVariants.{Game as GameLine};
 
@@ -64,8 +64,8 @@ impl Moment {
 
     /// Takes the line of a game, which has to say what both still need.
     pub(crate) fn begin(&self, needs: Option<(u8, u8)>) -> Result<Moment, BadRecord>
-        requires { IsReady self.now (GameLine (self.now.game + 1) needs) }
-        ensures ok { IfOk result (Tells self.now (GameLine (self.now.game + 1) needs) []) }
+        requires { IsSetFor self.now (GameLine (self.now.game + 1) needs) }
+        ensures ok { IfOk result (Reports self.now (GameLine (self.now.game + 1) needs) []) }
         ensures err { IfErr result (λ bad. (bad.line ≡ self.now.line)
             × IsWrongLine self.now (GameLine (self.now.game + 1) needs) bad.fault) }
     {
@@ -84,8 +84,8 @@ impl Moment {
 
     /// Takes the line that ends a game, which has to say who has won it and what, or that it was left.
     pub(crate) fn end(&self, ending: Ending) -> Result<Moment, BadRecord>
-        requires { IsReady self.now (ending_line ending) }
-        ensures ok { IfOk result (Tells self.now (ending_line ending) []) }
+        requires { IsSetFor self.now (ending_line ending) }
+        ensures ok { IfOk result (Reports self.now (ending_line ending) []) }
         ensures err { IfErr result (λ bad. (bad.line ≡ self.now.line)
             × IsWrongLine self.now (ending_line ending) bad.fault) }
     {
@@ -151,7 +151,7 @@ impl Moment {
 
     /// What the game is played for.
     pub(crate) fn game_stakes(&self) -> Stakes
-        requires { HasScore self.now.stakes self.now.standing }
+        requires { HasStanding self.now.stakes self.now.standing }
         ensures { result.name ≡ game_stakes self.now.stakes self.now.standing }
     {
         match self.stakes {
@@ -209,7 +209,7 @@ impl Moment {
 
     /// In a match the score of the game.
     fn score(&self) -> Option<Score>
-        requires { HasScore self.now.stakes self.now.standing }
+        requires { HasStanding self.now.stakes self.now.standing }
         ensures { result ≡ game_score self.now.stakes self.now.standing }
     {
         match self.stakes {

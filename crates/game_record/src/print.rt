@@ -2,7 +2,7 @@ ghost use Rattle.std.specs.Prelude.{◌≡◌, ◌+◌, ◌++◌, ◌≤◌, ◌
 ghost use Rattle.std.specs.List.{flat_map};
 ghost use Rattle.move_rules.specs.Notation.{mark, step_text};
 ghost use Rattle.game_record.specs.declared.line.Line.TheVariants.{Checkers, Stakes, Game as GameLine, Acted};
-ghost use Rattle.game_record.specs.Lines.{player_text, stakes_text, away_text, steps_text, spaced_step, deed_text, line_text, lines_text, ending_line, game_lines, games_lines, record_text};
+ghost use Rattle.game_record.specs.Lines.{player_text, stakes_word, away_text, steps_text, spaced_step, deed_text, line_text, lines_text, ending_line, game_lines, games_lines, record_text};
 
 use crate::player::Player;
 use crate::record::{Action, Ending, Game, Record, RecordStakes, What};
@@ -60,7 +60,7 @@ fn add_stakes(text: &mut Vec<u8>, stakes: RecordStakes) -> Result<(), NoMemory>
 }
 
 fn add_stakes_name(text: &mut Vec<u8>, stakes: RecordStakes) -> Result<(), NoMemory>
-    ensures { OnOk result (text.new.items ≡ text.old.items ++ stakes_text stakes) }
+    ensures { OnOk result (text.new.items ≡ text.old.items ++ stakes_word stakes) }
 {
     match stakes {
         RecordStakes::Cubeless => add(text, "cubeless"),

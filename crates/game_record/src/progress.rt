@@ -1,5 +1,5 @@
 ghost use Rattle.std.specs.Prelude.{◌≡◌, ◌+◌, ◌≤◌, ◌<◌, ◌^◌, IsTrue};
-ghost use Rattle.game_record.specs.Games.{after_answer, after_double, after_play, counted, has_beavers, has_jacoby_rule, has_right, is_over, may_double, opening, worth};
+ghost use Rattle.game_record.specs.Games.{after_answer, after_double, after_play, counted, has_beavers, has_jacoby_rule, has_right, is_over, may_double, opening, won_worth};
 ghost use Rattle.game_record.specs.Standings.{IsInRange};
 ghost use Rattle.game_record.specs.Turns.{other_player};
 

@@ -1,8 +1,8 @@
 ghost use Rattle.std.specs.Prelude.{◌≡◌, ◌≤◌, ◌↔◌, IsTrue, [], count_by, IfOk, IfErr};
 ghost use Rattle.game_record.specs.declared.record.Record.{Record as RecordRead};
-ghost use Rattle.game_record.specs.Lines.{is_line_end, is_too_long, IsTextOf};
+ghost use Rattle.game_record.specs.Lines.{is_line_end, is_too_long, IsRecordText};
 ghost use Rattle.game_record.specs.Faults.{IsLineFault, IsBad};
-ghost use Rattle.game_record.specs.Drafts.{Takes, StopsBy};
+ghost use Rattle.game_record.specs.Drafts.{TakesLine, StopsBy};
 
 use crate::draft::Draft;
 use crate::fault::{BadRecord, RecordFault, RecordStop};
@@ -22,10 +22,10 @@ const MOST_LINES: usize = 65_536;
 /// The record of which this is the text, or the first wrong line and what is wrong with it. It asks for memory, and may answer
 /// `NoMemory`.
 pub fn read_record(alloc: Global, text: &[u8]) -> Result<Record, RecordStop>
-    ensures ok { IfOk result (IsTextOf text.now) }
+    ensures ok { IfOk result (IsRecordText text.now) }
     ensures err { IfErr result (StopsBy (IsBad text.now)) }
     ensures complete { (rec : RecordRead)
-        → IsTextOf text.now rec → IfErr result (λ stop. stop ≡ RecordStop.NoMemory) }
+        → IsRecordText text.now rec → IfErr result (λ stop. stop ≡ RecordStop.NoMemory) }
 {
     // So a record's text is refused for want of memory alone.
     record_texts_have_no_fault();
@@ -33,7 +33,7 @@ pub fn read_record(alloc: Global, text: &[u8]) -> Result<Record, RecordStop>
 }
 
 fn read_text(alloc: Global, text: &[u8]) -> Result<Record, RecordStop>
-    ensures ok { IfOk result (IsTextOf text.now) }
+    ensures ok { IfOk result (IsRecordText text.now) }
     ensures err { IfErr result (StopsBy (IsBad text.now)) }
 {
     if is_too_long(text) {
@@ -76,7 +76,7 @@ fn take_line(
     line: &[u8],
 ) -> Result<Stage, RecordStop>
     requires { stage.games ≤ 1048576 }
-    ensures ok { IfOk result (λ after. Takes stage draft.old line.now after draft.new) }
+    ensures ok { IfOk result (λ after. TakesLine stage draft.old line.now after draft.new) }
     ensures err { IfErr result (StopsBy (λ bad.
         (bad.line ≡ number) × IsLineFault stage line.now bad.fault)) }
 {

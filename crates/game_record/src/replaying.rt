@@ -1,8 +1,8 @@
 ghost use Rattle.std.specs.Prelude.{◌≡◌, ◌≤◌, ◌+◌, List, IfOk, IfErr, All, length};
 ghost use Rattle.game_record.specs.Drafts.{StopsBy};
 ghost use Rattle.game_record.specs.Lines.{game_lines, IsRecord};
-ghost use Rattle.game_record.specs.Ready.{AreReady};
-ghost use Rattle.game_record.specs.Replay.{Adds, AllTell, BreaksAt, IsBroken, IsReplay};
+ghost use Rattle.game_record.specs.Ready.{AreLinesReady};
+ghost use Rattle.game_record.specs.Replay.{AddsDecisions, AllTell, BreaksAt, IsBroken, IsReplay};
 ghost use Rattle.game_record.specs.RightDecisions.{IsRightDecision};
 ghost use Rattle.game_record.specs.declared.decision.Decision.{Decision};
 
@@ -48,8 +48,8 @@ fn replay_games(alloc: Global, rec: &Record) -> Result<Decisions, RecordStop>
 impl Moment {
     /// Takes the lines of a game.
     fn play(&self, game: &Game, decisions: &mut Decisions) -> Result<Moment, RecordStop>
-        requires { AreReady self.now (game_lines (self.now.game + 1) game.now) }
-        ensures ok { IfOk result (λ next. Adds decisions.old decisions.new (λ told.
+        requires { AreLinesReady self.now (game_lines (self.now.game + 1) game.now) }
+        ensures ok { IfOk result (λ next. AddsDecisions decisions.old decisions.new (λ told.
             AllTell self.now (game_lines (self.now.game + 1) game.now) told next)) }
         ensures err { IfErr result (StopsBy (
             BreaksAt self.now (game_lines (self.now.game + 1) game.now))) }

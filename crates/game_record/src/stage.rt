@@ -1,5 +1,5 @@
 ghost use Rattle.std.specs.Prelude.{◌≡◌, ◌≤◌, Bool};
-ghost use Rattle.game_record.specs.Turns.{IsWithin, after, first_stage, on_game, on_turn, stage_after};
+ghost use Rattle.game_record.specs.Turns.{IsInGame, after, first_stage, on_game, on_turn, stage_after};
 
 use crate::line::{Line, LineKind};
 use crate::player::Player;
@@ -76,7 +76,7 @@ pub(crate) fn after(in_match: bool, next: Next, kind: LineKind) -> Option<Next>
 
 /// The same within a game.
 fn after_within(next: Next, kind: LineKind) -> Option<Next>
-    requires { IsWithin next }
+    requires { IsInGame next }
     ensures { (in_match : Bool) → result ≡ after in_match next kind }
 {
     match next {

@@ -1,7 +1,7 @@
 ghost use Rattle.std.specs.Prelude.{◌≡◌, Some};
 ghost use Rattle.cube_actions.specs.Matches.{next_phase};
 ghost use Rattle.cube_actions.specs.Scores.{IsScore};
-ghost use Rattle.game_record.specs.Standings.{after_win, first_standing, needs, score_of, side_of};
+ghost use Rattle.game_record.specs.Standings.{after_win, first_standing, needs, at_score, side_of};
 
 use crate::player::Player;
 use crate::record::RecordStakes;
@@ -68,8 +68,8 @@ impl Standing {
 
     /// What both sides need, and the phase.
     pub(crate) fn score(self) -> Score
-        requires { IsScore (score_of self) }
-        ensures { result ≡ score_of self }
+        requires { IsScore (at_score self) }
+        ensures { result ≡ at_score self }
     {
         Score {
             near: self.a.min(self.b),

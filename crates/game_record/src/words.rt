@@ -4,7 +4,7 @@ ghost use Rattle.roll_table.specs.Rolls.{Dice, IsRoll};
 ghost use Rattle.roll_table.specs.Text.{roll_text};
 ghost use Rattle.move_rules.specs.Notation.{IsPlayText};
 ghost use Rattle.game_record.specs.Turns.{is_match};
-ghost use Rattle.game_record.specs.Lines.{UpTo, stakes_text};
+ghost use Rattle.game_record.specs.Lines.{UpTo, stakes_word};
 ghost use Rattle.game_record.specs.Forms.{same_text};
 ghost use Rattle.game_record.specs.Faults.{IsNoNumber, IsNoStakes, IsNoPlay};
 
@@ -37,7 +37,7 @@ pub(crate) fn is_number(word: &[u8], number: u32) -> bool
 pub(crate) fn stakes_named(word: &[u8]) -> Option<RecordStakes>
     ensures { MatchOption result
         (IsNoStakes word.now)
-        (λ stakes. (is_match stakes ≡ false) × (word.now ≡ stakes_text stakes)) }
+        (λ stakes. (is_match stakes ≡ false) × (word.now ≡ stakes_word stakes)) }
 {
     if is(word, "cubeless") {
         Some(RecordStakes::Cubeless)

@@ -6,12 +6,12 @@ use Rattle.outside_log.proofs.Logs.{leaves-both, leaves-one, one-more}
 use Rattle.outside_log.proofs.Readings.{faithful-more}
 use Rattle.memory_files.specs.Disks.{disk_in}
 use Rattle.memory_files.specs.MemFiles.{LeavesSome}
-use Rattle.memory_files.specs.Telling.{Tells}
+use Rattle.memory_files.specs.Telling.{IsTelling}
 use Rattle.memory_files.specs.declared.mem_files.MemFiles.TheInside.{Inside}
 
 -- files that did what an event says tell it
-pub tells-more : (old new : Inside) (event : Event) → Tells old → new.log.events ≡ old.log.events ++ event ∷ []
-    → disk_in new.disk ≡ after (disk_in old.disk) event → IsTrue (is_answer (standing old.log.events) event) → new.most ≡ old.most → Tells new
+pub tells-more : (old new : Inside) (event : Event) → IsTelling old → new.log.events ≡ old.log.events ++ event ∷ []
+    → disk_in new.disk ≡ after (disk_in old.disk) event → IsTrue (is_answer (standing old.log.events) event) → new.most ≡ old.most → IsTelling new
 tells-more old new event tells grown is answer same = record {
   disk = is ∙ ap (λ (disk : Disk). after disk event) tells.disk ∙ sym (one-more old.log.events event) ∙ sym (ap disk_of grown);
   faithful = faithful-more old.log.events new.log.events event grown tells.faithful answer;

@@ -1,25 +1,25 @@
--- Bytes in memory with room for more, and the sinks over them.
+-- Pile in memory with room for more, and the sinks over them.
 use Rattle.std.specs.Prelude.{ℕ, ◌+◌, ◌-◌, nat_lt, nat_le, Bool, ◌||◌, List, [], ◌++◌, length, Some, is_some, if◌then◌else◌}
 use Rattle.outside_log.specs.Sink.{Output}
 use Rattle.hyper_outside.specs.Causes.{counted}
 use Rattle.memory_files.specs.Calls.{CallList, no_calls, called, listed, front_of}
 
 -- the bytes, and how many more there is room for
-pub record Bytes : Type 0 where
+pub record Pile : Type 0 where
   pub bytes : List ℕ
   pub room : ℕ
 
 -- with room for so many bytes more
-abbrev pub with_room : Bytes → ℕ → Bytes
+abbrev pub with_room : Pile → ℕ → Pile
 with_room pile bytes = record pile { room = pile.room + bytes }
 
 -- with these bytes at the end
-abbrev pub more : Bytes → List ℕ → Bytes
+abbrev pub more : Pile → List ℕ → Pile
 more pile added = record { bytes = pile.bytes ++ added; room = pile.room - length added }
 
 -- a sink that fails for want of room alone, with how often it failed
 pub record Honest : Type 0 where
-  pub pile : Bytes
+  pub pile : Pile
   pub faults : ℕ
 
 -- no bytes, room for so many, no fault
@@ -38,7 +38,7 @@ after_honest sink added =
 
 -- a sink that fails on demand too
 pub record Demanding : Type 0 where
-  pub pile : Bytes
+  pub pile : Pile
   pub calls : CallList
   pub faults : ℕ
 

@@ -6,7 +6,7 @@ use Rattle.memory_files.specs.Disks.{disk_in}
 use Rattle.memory_files.specs.MemFiles.{LeavesSome}
 use Rattle.memory_files.specs.declared.mem_files.MemFiles.TheInside.{Inside}
 
-pub record Tells (files : Inside) : Type 0 where
+pub record IsTelling (files : Inside) : Type 0 where
   pub disk : disk_in files.disk ≡ disk_of files.log.events
   pub faithful : IsTrue (is_faithful files.log.events)
   pub limit : LeavesSome files.most

@@ -38,9 +38,9 @@ impl Model for MemFiles {
       calls = f.calls;
     } };
 
-    ghost use Rattle.memory_files.specs.Telling.{Tells};
+    ghost use Rattle.memory_files.specs.Telling.{IsTelling};
 
-    ghost invariant = { Tells };
+    ghost invariant = { IsTelling };
 }
 
 impl MemFiles {

@@ -1,5 +1,5 @@
 ghost use Rattle.std.specs.Prelude.{◌≡◌, ◌+◌, ◌≤◌, [], length, OnOk, OnErr};
-ghost use Rattle.memory_files.specs.Pile.{Bytes, more};
+ghost use Rattle.memory_files.specs.Pile.{Pile, more};
 
 use hyper_outside::NoMemory;
 use std::alloc::Global;
@@ -14,9 +14,9 @@ pub struct Pile {
 
 impl Model for Pile {
     ghost use Rattle.std.specs.Prelude.{◌+◌, ◌≤◌, vec_len, vec_capacity};
-    ghost use Rattle.memory_files.specs.Pile.{Bytes};
+    ghost use Rattle.memory_files.specs.Pile.{Pile};
 
-    ghost Value = { Bytes };
+    ghost Value = { Pile };
 
     ghost view = { λ p. record { bytes = p.bytes.items; room = p.room } };
 

@@ -33,10 +33,6 @@ pub Pairs-of_map : {X Y : Type 0} (R : Y → Y → Type 0) (f : X → Y) (xs : L
 Pairs-of_map R f [] a = tt
 Pairs-of_map R f (x ∷ xs) a = (λ y h. a.0 (f y) (Among-map f y xs h), Pairs-of_map R f xs a.1)
 
-pub Pairs-mono : {X : Type 0} (R S : X → X → Type 0) (xs : List X) → ((x y : X) → R x y → S x y) → Pairs R xs → Pairs S xs
-Pairs-mono R S [] f a = tt
-Pairs-mono R S (x ∷ xs) f a = (λ y h. f x y (a.0 y h), Pairs-mono R S xs f a.1)
-
 -- each element before this one
 pub Pairs-before : {X : Type 0} (R : X → X → Type 0) (xs : List X) (y : X) (ys : List X) (x : X) → Pairs R (xs ++ y ∷ ys) → Among x xs → R x y
 Pairs-before R [] y ys x a h = absurd h

@@ -118,11 +118,6 @@ adds-more dice moves p found from now after low then new was same less held empt
       then = λ all h. was.then all (rw e (Adds-append after here new (still dice moves p low) all adds h));
     }
 
-pub adds-all : (dice : List ℕ) (moves : List Move) (p : Placement) (found : List Line) (from : ℕ) (now : List Move) (after : List Line)
-    → AddsUpTo dice moves p found from now after → from ≤ 0 → AddsNewEnds found (full dice moves p) after
-adds-all dice moves p found zero now after was h = was.then after refl
-adds-all dice moves p found (suc from) now after was h = absurd (omega arith)
-
 -- at a place from which a move can be made there is room for what goes on from it
 pub room-here : (dice : List ℕ) (moves : List Move) (p : Placement) (found : List Line) (from : ℕ) (now : List Move) (after : List Line) (q : Placement) (pushed : List Move)
     → AddsUpTo dice moves p found from now after → 0 < from → after_move p (get_or dice 0 0) from ≡ Some q → pushed ≡ now ++ record { from = from; die = get_or dice 0 0 } ∷ []
@@ -209,10 +204,6 @@ or_else-four [] [] [] d = refl
 pub or_else-five : (a b c d e : List Line) → or_else (or_else (or_else (or_else a b) c) d) e ≡ or_else a (or_else b (or_else c (or_else d e)))
 or_else-five (x ∷ a) b c d e = refl
 or_else-five [] b c d e = or_else-four b c d e
-
-pub none-lines : (entries : List Entry) → length entries ≡ 0 → lines_of entries ≡ []
-none-lines [] h = refl
-none-lines (entry ∷ entries) h = absurd (omega arith)
 
 -- these lines were added, if there were none
 abbrev pub AddsIfNone : List Line → List Line → List Line → Type 0

@@ -143,6 +143,3 @@ print-one p moves text now left n move rest word text' next h e w low t b =
       later = rw b (begins-with now move rest before.later).later;
       short = omega (arith, ap length t, add_word-longer text word, h.short);
     }
-
-pub print-ends : (p : Placement) (moves : List Move) (text : List ℕ) (now : Placement) (left : List Move) (n : ℕ) → HasPrinted p moves text now left n → left ≡ [] → text ≡ play_text p moves
-print-ends p moves text now left n h e = let before = rw e at h in before.whole

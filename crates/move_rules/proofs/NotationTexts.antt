@@ -93,9 +93,6 @@ read-all text steps n read e = record {
   few = read.few;
 }
 
-pub read-dash : (text : List ℕ) → text ≡ codes "-" → IsPlayText text []
-read-dash text e = record { words = e; hits = All-nil HitsPoint; few = omega arith }
-
 -- ---- one text, one play
 
 step-same : (a b : Step) → a.from ≡ b.from → a.to ≡ b.to → a.hit ≡ b.hit → a ≡ b

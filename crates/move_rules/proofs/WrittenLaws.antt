@@ -7,13 +7,12 @@ use mathlib.Core.Bool.{beq}
 use Rattle.std.specs.List.{All, remove}
 use Rattle.std.specs.Option.{MatchOption}
 use Rattle.position_rank.specs.Placement.{Placement}
-use Rattle.roll_table.specs.Rolls.{Dice, IsRoll, dice_of}
 use Rattle.move_rules.specs.Sequences.{IsSequence}
 use Rattle.move_rules.specs.Written.{TakesLastOff, IsSmallest, IsStep, IsWritten, IsWrongStep, IsWrongWritten}
 use Rattle.move_rules.specs.declared.play.Move.{Move}
 use Rattle.move_rules.specs.declared.written.Step.{Step}
 use Rattle.move_rules.specs.declared.applied.BadPlay.{BadPlay}
-use Rattle.move_rules.proofs.FaultLaws.{All-remove, dice-from}
+use Rattle.move_rules.proofs.FaultLaws.{All-remove}
 
 -- the smallest so far of some dice
 abbrev pub SmallestSoFar : List ℕ → ℕ → Option ℕ → Type 0
@@ -46,12 +45,6 @@ mark-wrong P false false a apart b = cc apart
 mark-wrong P true false a apart b = let h : false ≡ true = b.1 (a.0 refl) in cc
 mark-wrong P false true a apart b = let h : false ≡ true = a.1 (b.0 refl) in cc
 
-pub mark-right : (P : Type 0) (hits mark : Bool) → IsTrue hits ↔ P → beq hits mark ≡ true → IsTrue mark ↔ P
-mark-right P true true a same = a
-mark-right P false false a same = a
-mark-right P true false a same = absurd (cc same)
-mark-right P false true a same = absurd (cc same)
-
 -- ---- step by step
 
 -- what is left of some steps from here on decides on all of them
@@ -60,15 +53,6 @@ pub record StepsGoOn (p : Placement) (dice : List ℕ) (steps : List Step) (now 
   pub count : length made + length rest ≡ length steps
   pub written : (moves : List Move) (end : Placement) → IsWritten now left rest moves end → IsWritten p dice steps (made ++ moves) end
   pub wrong : (fault : BadPlay) → IsWrongWritten now left rest fault → IsWrongWritten p dice steps fault
-
-pub steps-begin : (p : Placement) (roll : Dice) (left : List ℕ) (steps rest : List Step) (made : List Move) → IsRoll roll → left ≡ dice_of roll → rest ≡ steps → made ≡ [] → StepsGoOn p (dice_of roll) steps p left rest made
-steps-begin p roll left steps rest made right e f g = record {
-  dice_from = dice-from roll left right e;
-  count = omega (arith, ap (λ (x : List Step). length x) f, ap (λ (x : List Move). length x) g);
-  written = λ moves end w. subst (λ (x : List Move). IsWritten p (dice_of roll) steps (x ++ moves) end) (sym g)
-      (subst (λ (x : List ℕ). IsWritten p x steps moves end) e (subst (λ (x : List Step). IsWritten p left x moves end) f w));
-  wrong = λ fault w. subst (λ (x : List ℕ). IsWrongWritten p x steps fault) e (subst (λ (x : List Step). IsWrongWritten p left x fault) f w);
-}
 
 pub step-more : (p : Placement) (dice : List ℕ) (steps : List Step) (now : Placement) (left : List ℕ) (rest : List Step) (made : List Move) (step : Step) (more : List Step) (move : Move) (i : ℕ) (next : Placement) (fewer : List ℕ) (new : List Move)
     → StepsGoOn p dice steps now left rest made → rest ≡ step ∷ more → fewer ≡ remove left i → IsStep now left step move i next → new ≡ made ++ move ∷ [] → StepsGoOn p dice steps next fewer more new

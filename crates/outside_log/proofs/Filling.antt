@@ -58,10 +58,6 @@ read-end file at start old new done room same so_far more =
     at_most zero h = omega arith
     at_most (suc n) h = let bad = h (omega arith) in absurd (omega (arith, bad))
 
--- a full buffer
-pub read-full : (file : Option (List ℕ)) (at : ℕ) (start new : List ℕ) (done : ℕ) → done ≤ length start → length start ≤ done → IsRead (bytes_from at file) new done → Fills file at start new done
-read-full file at start new done most least so_far = record { count_is = omega (arith, most, least, so_far.enough); front = so_far.front }
-
 -- an empty buffer has no room behind its first part
 pub no_room : (buf : List ℕ) (done : ℕ) → buf ≡ [] → done < length buf → ⊥
 no_room buf done none room = omega (arith, ap length none, room)

@@ -1,5 +1,5 @@
 -- What stands under the names after a file was written, or wasn't.
-use Rattle.std.proofs.Common.{◌≡◌, ◌≢◌, ◌∙◌, ℕ, ◌+◌, ◌≤◌, arith, List, [], ◌∷◌, ◌++◌, map, Option, Some, Result, Ok, Err, IsErr, Bool, true, false, refl, sym, ap, ap₂, subst, append_assoc}
+use Rattle.std.proofs.Common.{◌≡◌, ◌≢◌, ◌∙◌, ℕ, ◌+◌, ◌≤◌, arith, List, [], ◌∷◌, ◌++◌, map, Option, Some, Result, Ok, Err, IsErr, Bool, true, false, refl, sym, ap, ap₂, append_assoc}
 use Rattle.std.specs.List.{concat}
 use Rattle.std.specs.Str.{bytes_eq}
 use Rattle.std.proofs.lemmas.List.{append-nil}
@@ -62,9 +62,6 @@ stay old new leaves name =
 pub leaves-none : (log : List Event) → LeavesPlaces log log
 leaves-none log = record { added = []; grown = sym (append-nil log); none = tt }
 
-pub leaves-same : (old new : List Event) → new ≡ old → LeavesPlaces old new
-leaves-same old new same = subst (LeavesPlaces old) (sym same) (leaves-none old)
-
 pub leaves-one : (old new : List Event) (event : Event) → LeavesPlace event → new ≡ old ++ event ∷ [] → LeavesPlaces old new
 leaves-one old new event leaves grown = record { added = event ∷ []; grown = grown; none = (leaves, tt) }
 
@@ -78,16 +75,6 @@ leaves-both old middle new first last = record {
   grown = last.grown ∙ ap (λ (log : List Event). log ++ last.added) first.grown ∙ append_assoc old first.added last.added;
   none = all-both first.added last.added first.none last.none;
 }
-
--- a call that was to have none take a place
-pub leaves-call : {T E : Type 0} (old new : List Event) (event : Event) (name : List ℕ) (result : Result T E) → LeavesPlace event → new ≡ old ++ event_of event name result ∷ [] → LeavesPlaces old new
-leaves-call old new event name (Ok x) leaves grown = leaves-one old new event leaves grown
-leaves-call old new event name (Err e) leaves fails = leaves-one old new (Failed name) tt fails
-
--- one that failed
-pub leaves-failed : {T E : Type 0} (old new : List Event) (event : Event) (name : List ℕ) (result : Result T E) → IsErr result → new ≡ old ++ event_of event name result ∷ [] → LeavesPlaces old new
-leaves-failed old new event name (Ok x) err grown = cc
-leaves-failed old new event name (Err e) err fails = leaves-one old new (Failed name) tt fails
 
 -- ---- calls that failed
 

@@ -141,10 +141,6 @@ faults-both (Put bytes ∷ one) two = faults-both one two
 pub grown-later : (old new added : List Event) → new ≡ old ++ added → read_faults old ≤ read_faults new
 grown-later old new added grown = let both = ap read_faults grown ∙ faults-both old added in omega (arith, both)
 
--- none comes to be undone
-pub reads-later : {old new : List Event} → ReadsOn old new → read_faults old ≤ read_faults new
-reads-later {old} {new} reads = grown-later old new (added old new) (grown reads)
-
 one-fails : (old new : List Event) (name : List ℕ) → new ≡ old ++ ReadFailed name ∷ [] → counted (read_faults old) ≤ read_faults new
 one-fails old new name grown = let both = ap read_faults grown ∙ faults-both old (ReadFailed name ∷ []) in rose (read_faults old) (read_faults new) (omega (arith, both))
   where

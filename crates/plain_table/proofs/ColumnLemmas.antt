@@ -14,27 +14,27 @@ use Rattle.turn_rule.proofs.Sure.{exact-pair}
 use Rattle.column_sums.specs.Leaps.{layout_at}
 use Rattle.column_turns.specs.Columns.{ColumnPairs}
 use Rattle.column_turns.specs.Turns.{at_rank, AreLiveMovers, AreTurnsOf}
-use Rattle.plain_table.specs.Tables.{PairTable, IsFull, words_of, read_from}
+use Rattle.plain_table.specs.Tables.{PairTable, IsFull, words_at, read_from}
 use Rattle.plain_table.specs.Columns.{position_at, turn_at, IsSameBut}
 use Rattle.plain_table.specs.Rounds.{AreAlike, IsTurnedBefore}
 
 -- over a table's words alone, a column's pairs are the turns
-pub turns-exact : (stakes : Terms) (old : PairTable) (bound : ℤ) (noted : Words) (column : ColumnPairs) → column.kinds ≡ length stakes.kinds → noted ≡ words_of old
+pub turns-exact : (stakes : Terms) (old : PairTable) (bound : ℤ) (noted : Words) (column : ColumnPairs) → column.kinds ≡ length stakes.kinds → noted ≡ words_at old
     → AreTurnsOf (read_from old bound) (all_told noted) stakes (position_at column) (length column.movers) column.pairs
-    → (i k : ℕ) → i < length column.movers → k < length stakes.kinds → turn_at column i k ≡ pair_of (turn stakes (words_of old)) (position_at column i) k
+    → (i k : ℕ) → i < length column.movers → k < length stakes.kinds → turn_at column i k ≡ pair_of (turn stakes (words_at old)) (position_at column i) k
 turns-exact stakes old bound noted column kinds same found i k here kind =
     let p = position_at column i in
     let value : End → Words → ℤ = λ end w. turn stakes w end p k in
     let is = subst (λ (w : Words). IsTurnPair stakes p k (read_from old bound) (all_told w) (get_or column.pairs (i * length stakes.kinds + k) nothing)) same (found i k here kind) in
     ap (λ (n : ℕ). get_or column.pairs (i * n + k) nothing) kinds
-    ∙ exact-pair (read_from old bound) (all_told (words_of old)) (MayFollowTurn stakes p k) bound value (get_or column.pairs (i * length stakes.kinds + k) nothing) refl (λ end. refl) is
+    ∙ exact-pair (read_from old bound) (all_told (words_at old)) (MayFollowTurn stakes p k) bound value (get_or column.pairs (i * length stakes.kinds + k) nothing) refl (λ end. refl) is
 
 -- the first few positions of a column have their turn over the old table, and those of other columns have the pairs of the start
 pub record IsFilled (stakes : Terms) (old start : PairTable) (column : ColumnPairs) (count : ℕ) (new : PairTable) : Type 0 where
   pub alike : AreAlike old new
   pub full : IsFull new
-  pub so_far : (i k : ℕ) → i < count → k < old.kinds → pair_of (words_of new) (position_at column i) k ≡ pair_of (turn stakes (words_of old)) (position_at column i) k
-  pub rest : (p : Placement) (k : ℕ) → IsPosition p → sum p.mover ≡ old.checkers → (p.other ≡ column.other → ⊥) → k < old.kinds → pair_of (words_of new) p k ≡ pair_of (words_of start) p k
+  pub so_far : (i k : ℕ) → i < count → k < old.kinds → pair_of (words_at new) (position_at column i) k ≡ pair_of (turn stakes (words_at old)) (position_at column i) k
+  pub rest : (p : Placement) (k : ℕ) → IsPosition p → sum p.mover ≡ old.checkers → (p.other ≡ column.other → ⊥) → k < old.kinds → pair_of (words_at new) p k ≡ pair_of (words_at start) p k
 
 -- the position of a column is one of the table's
 pub record IsOfTable (old : PairTable) (p : Placement) : Type 0 where
@@ -48,18 +48,18 @@ of-table old column rank all inside is live i below =
     let other : HasRank old.checkers rank column.other = subst (HasRank old.checkers rank) (sym is) (all.each rank [] inside) in
     record { position = record { mover = mover.valid; other = other.valid; same = mover.many ∙ sym other.many }; many = mover.many }
 
-same-pair : (mid next : PairTable) (p : Placement) (k : ℕ) → next.kinds ≡ mid.kinds → get_or next.pairs (square_rank_of p * mid.kinds + k) nothing ≡ get_or mid.pairs (square_rank_of p * mid.kinds + k) nothing → pair_of (words_of next) p k ≡ pair_of (words_of mid) p k
+same-pair : (mid next : PairTable) (p : Placement) (k : ℕ) → next.kinds ≡ mid.kinds → get_or next.pairs (square_rank_of p * mid.kinds + k) nothing ≡ get_or mid.pairs (square_rank_of p * mid.kinds + k) nothing → pair_of (words_at next) p k ≡ pair_of (words_at mid) p k
 same-pair mid next p k kinds same = ap (λ (n : ℕ). get_or next.pairs (square_rank_of p * n + k) nothing) kinds ∙ same
 
 module _ (stakes : Terms) (old start : PairTable) (column : ColumnPairs) where
   -- one more position of the column
   pub fill-step : (i : ℕ) (mid next : PairTable) → IsFilled stakes old start column i mid → i < length column.movers → ((j : ℕ) → j < length column.movers → IsOfTable old (position_at column j))
-      → ((k : ℕ) → k < old.kinds → turn_at column i k ≡ pair_of (turn stakes (words_of old)) (position_at column i) k)
-      → AreAlike mid next → IsFull next → ((k : ℕ) → k < mid.kinds → pair_of (words_of next) (position_at column i) k ≡ turn_at column i k) → IsSameBut (square_rank_of (position_at column i)) mid next
+      → ((k : ℕ) → k < old.kinds → turn_at column i k ≡ pair_of (turn stakes (words_at old)) (position_at column i) k)
+      → AreAlike mid next → IsFull next → ((k : ℕ) → k < mid.kinds → pair_of (words_at next) (position_at column i) k ≡ turn_at column i k) → IsSameBut (square_rank_of (position_at column i)) mid next
       → IsFilled stakes old start column (i + 1) next
   fill-step i mid next before here valid turned alike full put rest =
       let p = position_at column i in
-      let stays : (q : Placement) (k : ℕ) → (square_rank_of q ≡ square_rank_of p → ⊥) → k < old.kinds → pair_of (words_of next) q k ≡ pair_of (words_of mid) q k = λ q k apart kind.
+      let stays : (q : Placement) (k : ℕ) → (square_rank_of q ≡ square_rank_of p → ⊥) → k < old.kinds → pair_of (words_at next) q k ≡ pair_of (words_at mid) q k = λ q k apart kind.
       same-pair mid next q k alike.kinds (rest (square_rank_of q) k apart (rw before.alike.kinds kind)) in
       record {
         alike = record { checkers = alike.checkers ∙ before.alike.checkers; kinds = alike.kinds ∙ before.alike.kinds };
@@ -70,7 +70,7 @@ module _ (stakes : Terms) (old start : PairTable) (column : ColumnPairs) where
               | inl same ↦ (
                   let there : a < length column.movers = omega (arith, below, here) in
                   let is : p ≡ q = sym (positions-same q p (valid a there).position (valid i here).position ((valid a there).many ∙ sym (valid i here).many) same) in
-                  subst (λ (b : Placement). pair_of (words_of next) b k ≡ pair_of (turn stakes (words_of old)) b k) is (put k (rw before.alike.kinds kind) ∙ turned k kind))
+                  subst (λ (b : Placement). pair_of (words_at next) b k ≡ pair_of (turn stakes (words_at old)) b k) is (put k (rw before.alike.kinds kind) ∙ turned k kind))
               | inr apart ↦ elim (cases_lt a i) [
                 | inl less ↦ stays q k apart kind ∙ before.so_far a k less kind
                 | inr more ↦ (let last : a ≡ i = omega (arith, below, more) in absurd (apart (ap (λ (j : ℕ). square_rank_of (position_at column j)) last)))
@@ -103,5 +103,5 @@ module _ (stakes : Terms) (old start : PairTable) (column : ColumnPairs) where
             let q_is : at_rank column.layouts column.other r ≡ q = ap with_mover mover ∙ ap with_other other in
             let found = live.all r room (rw q_is state.live) in
             let p_is : position_at column found.0 ≡ q = ap (at_rank column.layouts column.other) found.2 ∙ q_is in
-            subst (λ (b : Placement). pair_of (words_of new) b k ≡ pair_of (turn stakes (words_of old)) b k) p_is (filled.so_far found.0 k found.1 kind))
+            subst (λ (b : Placement). pair_of (words_at new) b k ≡ pair_of (turn stakes (words_at old)) b k) p_is (filled.so_far found.0 k found.1 kind))
       ]

@@ -8,7 +8,7 @@ use Rattle.cube_actions.specs.Stakes.{nothing}
 use Rattle.turn_rule.specs.States.{pair_of}
 use Rattle.turn_rule.specs.Layouts.{squares_of}
 use Rattle.column_turns.proofs.Places.{places-same}
-use Rattle.plain_table.specs.Tables.{PairTable, IsFull, words_of, place_of}
+use Rattle.plain_table.specs.Tables.{PairTable, IsFull, words_at, table_place}
 use Rattle.plain_table.specs.Columns.{IsSameBut}
 use Rattle.plain_table.specs.Rounds.{AreAlike}
 
@@ -26,7 +26,7 @@ kept table place other pair h = rw get_or-set_other refl
 pub record IsPut (start : PairTable) (p : Placement) (turned : ℕ → Bounds) (number : ℕ) (new : PairTable) : Type 0 where
   pub alike : AreAlike start new
   pub full : IsFull new
-  pub so_far : (k : ℕ) → k < number → pair_of (words_of new) p k ≡ turned k
+  pub so_far : (k : ℕ) → k < number → pair_of (words_at new) p k ≡ turned k
   pub rest : IsSameBut (square_rank_of p) start new
 
 -- one more kind
@@ -35,8 +35,8 @@ pub put-step : (start : PairTable) (p : Placement) (turned : ℕ → Bounds) (nu
 put-step start p turned number new place pair before at kind here is = record {
   alike = record { checkers = before.alike.checkers; kinds = before.alike.kinds };
   full = length-set new.pairs place pair ∙ before.full;
-  so_far = below_more (λ k. pair_of (words_of (record new { pairs = set new.pairs place pair })) p k ≡ turned k) number
-      (λ k h. let apart : place_of new.kinds p k ≢ place = omega (arith, at) in kept new place (place_of new.kinds p k) pair apart ∙ before.so_far k h)
+  so_far = below_more (λ k. pair_of (words_at (record new { pairs = set new.pairs place pair })) p k ≡ turned k) number
+      (λ k h. let apart : table_place new.kinds p k ≢ place = omega (arith, at) in kept new place (table_place new.kinds p k) pair apart ∙ before.so_far k h)
       (subst (λ (i : ℕ). get_or (set new.pairs place pair) i nothing ≡ turned number) at (written new place pair here ∙ is));
   rest = λ s k other below.
       let there : k < new.kinds = rw before.alike.kinds below in

@@ -8,7 +8,7 @@ use Rattle.turn_rule.specs.States.{AreWithin}
 use Rattle.turn_rule.specs.Layouts.{AreLayouts}
 use Rattle.column_turns.specs.Columns.{ColumnPairs}
 use Rattle.column_turns.specs.Turns.{mover_at, place_in}
-use Rattle.plain_table.specs.Tables.{PairTable, words_of}
+use Rattle.plain_table.specs.Tables.{PairTable, words_at}
 
 -- the position with this number in a column
 abbrev pub position_at : ColumnPairs → ℕ → Placement
@@ -23,7 +23,7 @@ pub record IsColumnOver (stakes : Terms) (column : ColumnPairs) (table : PairTab
   pub layouts : AreLayouts table.checkers column.layouts
   pub kinds : column.kinds ≡ length stakes.kinds
   pub kinds_too : table.kinds ≡ length stakes.kinds
-  pub within : AreWithin (game_of table.checkers stakes) (words_of table)
+  pub within : AreWithin (game_of table.checkers stakes) (words_at table)
 
 -- the pairs of all squares but this one are as before
 abbrev pub IsSameBut : ℕ → PairTable → PairTable → Type 0

@@ -20,12 +20,12 @@ abbrev pub IsFull : PairTable → Type 0
 IsFull table = length table.pairs ≡ squares_of table.checkers * table.kinds
 
 -- where the pair of a position and a kind stands
-abbrev pub place_of : ℕ → Placement → ℕ → ℕ
-place_of kinds p k = square_rank_of p * kinds + k
+abbrev pub table_place : ℕ → Placement → ℕ → ℕ
+table_place kinds p k = square_rank_of p * kinds + k
 
 -- the words of a table
-abbrev pub words_of : PairTable → Words
-words_of table end p k = at end (slice_index_or table.pairs (place_of table.kinds p k) nothing)
+abbrev pub words_at : PairTable → Words
+words_at table end p k = at end (slice_index_or table.pairs (table_place table.kinds p k) nothing)
 
 -- where a table's words are looked up: each look-up is answered, by the table's word
 abbrev pub read_from : PairTable → ℤ → Source
@@ -34,6 +34,6 @@ read_from table bound = record {
   kinds = table.kinds;
   bound = bound;
   sure = true;
-  floor = words_of table;
+  floor = words_at table;
   damage = λ p k. None;
 }

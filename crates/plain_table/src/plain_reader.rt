@@ -3,7 +3,7 @@ ghost use Rattle.position_rank.specs.Placement.{Placement};
 ghost use Rattle.directed_fixed.specs.declared.bounds.End.TheVariants.{Lower, Upper};
 ghost use Rattle.turn_rule.specs.Turn.{Words};
 ghost use Rattle.turn_rule.specs.States.{IsStateOf, AreWithinOf};
-ghost use Rattle.plain_table.specs.Tables.{words_of, read_from};
+ghost use Rattle.plain_table.specs.Tables.{words_at, read_from};
 ghost use Rattle.turn_rule.specs.Looks.{Source, Looked, IsAnswer, all_told};
 
 use crate::table::Table;
@@ -17,14 +17,14 @@ use turn_rule::Pairs;
 pub struct PlainReader<'a> {
     table: &'a Table,
     bound: Fixed,
-    ghost within: { AreWithinOf table.now.checkers table.now.kinds bound (words_of table.now) },
+    ghost within: { AreWithinOf table.now.checkers table.now.kinds bound (words_at table.now) },
 }
 
 impl<'a> PlainReader<'a> {
     /// A reader of a table whose words are within this bound.
     #[inline]
     pub(crate) fn of(table: &'a Table, bound: Fixed) -> PlainReader<'a>
-        requires { AreWithinOf table.now.checkers table.now.kinds bound (words_of table.now) }
+        requires { AreWithinOf table.now.checkers table.now.kinds bound (words_at table.now) }
         ensures { (result.table.now ≡ table.now) × (result.bound ≡ bound) }
     {
         PlainReader { table, bound }
@@ -36,7 +36,7 @@ impl Pairs for PlainReader<'_> {
 
     ghost seen = { λ s. record {
       source = read_from s.table.now s.bound;
-      notes = all_told (words_of s.table.now);
+      notes = all_told (words_at s.table.now);
       faults = 0;
     } };
 

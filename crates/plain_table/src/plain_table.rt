@@ -1,9 +1,9 @@
 ghost use Rattle.std.specs.Prelude.{◌≡◌, ◌≤◌, ◌+◌, ℕ, IfOk};
 ghost use Rattle.turn_rule.specs.Games.{game_of};
-ghost use Rattle.plain_table.specs.Tables.{words_of, read_from};
+ghost use Rattle.plain_table.specs.Tables.{words_at, read_from};
 ghost use Rattle.turn_rule.specs.States.{IsState, pair_of};
 ghost use Rattle.turn_rule.specs.Looks.{AreStakesOf, all_told};
-ghost use Rattle.plain_table.specs.Rounds.{HasRounds, IsTurned};
+ghost use Rattle.plain_table.specs.Rounds.{HasTable, IsTableTurned};
 
 use crate::plain_reader::PlainReader;
 use crate::sweep::sweep_columns;
@@ -29,13 +29,13 @@ pub struct PlainTable {
 }
 
 impl Model for PlainTable {
-    ghost use Rattle.plain_table.specs.Rounds.{StakesAndTable, IsReady};
+    ghost use Rattle.plain_table.specs.Rounds.{StakesAndTable, IsTableSet};
 
     ghost Value = { StakesAndTable };
 
     ghost view = { λ a. record { stakes = a.stakes; table = a.current } };
 
-    ghost invariant = { λ a. IsReady a.stakes a.turns a.current a.next };
+    ghost invariant = { λ a. IsTableSet a.stakes a.turns a.current a.next };
 }
 
 impl PlainTable {
@@ -45,7 +45,7 @@ impl PlainTable {
         requires high { checkers ≤ 3 }
         ensures game { IfOk result
             (λ table. (table.table.checkers ≡ checkers) × (table.stakes ≡ stakes.now)) }
-        ensures rounds { IfOk result (λ table. HasRounds table 0) }
+        ensures rounds { IfOk result (λ table. HasTable table 0) }
     {
         let bound = stakes.bound();
         let bound_pair = Pair::new(bound.neg(), bound);
@@ -64,8 +64,8 @@ impl PlainTable {
     pub fn sweep_all(&mut self)
         ensures checkers { self.new.table.checkers ≡ self.old.table.checkers }
         ensures stakes { self.new.stakes ≡ self.old.stakes }
-        ensures turned { IsTurned self.old self.new }
-        ensures rounds { (r : ℕ) → HasRounds self.old r → HasRounds self.new (r + 1) }
+        ensures turned { IsTableTurned self.old self.new }
+        ensures rounds { (r : ℕ) → HasTable self.old r → HasTable self.new (r + 1) }
     {
         sweep_columns(&self.stakes, &mut self.turns, &self.current, &mut self.next);
         mem::swap(&mut self.current, &mut self.next);
@@ -77,7 +77,7 @@ impl PlainTable {
         ensures source { (⟦<PlainReader<'static> as Pairs>⟧.seen result).source
             ≡ read_from self.now.table self.now.stakes.bound }
         ensures notes { (⟦<PlainReader<'static> as Pairs>⟧.seen result).notes
-            ≡ all_told (words_of self.now.table) }
+            ≡ all_told (words_at self.now.table) }
         ensures stakes { AreStakesOf (⟦<PlainReader<'static> as Pairs>⟧.seen result).source
             self.now.stakes }
     {
@@ -87,7 +87,7 @@ impl PlainTable {
     /// The pair of a state.
     pub fn pair(&self, position: &Position, kind: usize) -> Pair
         requires { IsState (game_of self.now.table.checkers self.now.stakes) position.now kind }
-        ensures { result ≡ pair_of (words_of self.now.table) position.now kind }
+        ensures { result ≡ pair_of (words_at self.now.table) position.now kind }
     {
         self.current.pair(position, kind)
     }

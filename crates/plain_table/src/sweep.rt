@@ -1,7 +1,7 @@
 ghost use Rattle.std.specs.Prelude.{◌≡◌, ◌<◌, ◌+◌, ℕ, length, sum};
 ghost use Rattle.position_rank.specs.Ranks.{square_rank_of};
 ghost use Rattle.turn_rule.specs.States.{pair_of};
-ghost use Rattle.plain_table.specs.Tables.{IsFull, words_of};
+ghost use Rattle.plain_table.specs.Tables.{IsFull, words_at};
 ghost use Rattle.plain_table.specs.Columns.{position_at, turn_at, IsColumnOver, IsSameBut};
 ghost use Rattle.plain_table.specs.Rounds.{AreAlike, IsTurnedBefore};
 
@@ -19,7 +19,7 @@ fn put_position(turns: &ColumnTurns, i: usize, table: &mut Table)
     ensures alike { AreAlike table.old table.new }
     ensures full { IsFull table.new }
     ensures turned { (k : ℕ) → k < table.old.kinds
-        → pair_of (words_of table.new) (position_at turns.now i) k ≡ turn_at turns.now i k }
+        → pair_of (words_at table.new) (position_at turns.now i) k ≡ turn_at turns.now i k }
     ensures rest { IsSameBut (square_rank_of (position_at turns.now i)) table.old table.new }
 {
     let kinds = table.kinds();

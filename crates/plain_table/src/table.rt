@@ -3,7 +3,7 @@ ghost use Rattle.position_rank.specs.Placement.{Placement, IsPosition};
 ghost use Rattle.position_rank.specs.Ranks.{square_rank_of};
 ghost use Rattle.directed_fixed.specs.declared.bounds.End.TheVariants.{Lower, Upper};
 ghost use Rattle.turn_rule.specs.Layouts.{squares_of};
-ghost use Rattle.plain_table.specs.Tables.{PairTable, IsFull, words_of};
+ghost use Rattle.plain_table.specs.Tables.{PairTable, IsFull, words_at};
 ghost use Rattle.turn_rule.specs.States.{pair_of};
 
 use directed_fixed::Pair;
@@ -34,7 +34,7 @@ impl Table {
     pub(crate) fn pair(&self, position: &Position, kind: usize) -> Pair
         requires checkers { sum position.now.mover ≡ self.now.checkers }
         requires kind { kind < self.now.kinds }
-        ensures { result ≡ pair_of (words_of self.now) position.now kind }
+        ensures { result ≡ pair_of (words_at self.now) position.now kind }
     {
         self.pair_at(position, position.square_rank(), kind)
     }
@@ -46,7 +46,7 @@ impl Table {
         requires checkers { sum position.now.mover ≡ self.now.checkers }
         requires square { square ≡ square_rank_of position.now }
         requires kind { kind < self.now.kinds }
-        ensures { result ≡ pair_of (words_of self.now) position.now kind }
+        ensures { result ≡ pair_of (words_at self.now) position.now kind }
     {
         self.pairs[square as usize * self.kinds + kind]
     }

@@ -1,7 +1,7 @@
 -- Laws of the positions of one layout of the mover.
-use Rattle.std.proofs.Common.{◌≡◌, ℕ, zero, suc, ◌+◌, ◌*◌, ◌<◌, ◌≤◌, true, false, List, [], ◌∷◌, ◌++◌, length, get_or, take, sum, ap, sym, subst, ◌∙◌, inl, inr, arith}
+use Rattle.std.proofs.Common.{◌≡◌, ℕ, zero, suc, ◌+◌, ◌*◌, ◌<◌, ◌≤◌, true, false, List, [], ◌∷◌, ◌++◌, length, get_or, sum, ap, sym, subst, ◌∙◌, inl, inr, arith}
 use Rattle.std.proofs.Math.Seq.{get_or-append_seam}
-use Rattle.std.proofs.lemmas.List.{length-append, length-take, get_or-take, get_or_append_left}
+use Rattle.std.proofs.lemmas.List.{length-append, get_or_append_left}
 use Rattle.std.proofs.lemmas.Nat.{div-mul-add, mod-mul-add}
 use Rattle.std.proofs.lemmas.Bool.{cases_lt, false_from_ne_true}
 use Rattle.position_rank.specs.Placement.{Placement, IsLayout, IsLive}
@@ -57,12 +57,3 @@ layouts-in (suc zero) low high = (omega (arith, layouts-one), omega (arith, layo
 layouts-in (suc (suc zero)) low high = (omega (arith, layouts-two), omega (arith, layouts-two))
 layouts-in (suc (suc (suc zero))) low high = (omega (arith, layouts-three), omega (arith, layouts-three))
 layouts-in (suc (suc (suc (suc n)))) low high = absurd (omega arith)
-
--- the first of the first layouts
-pub first-take : (checkers many : ℕ) (all : List ℕ) → many ≤ length all → AreFirstPoints checkers all → AreFirstPoints checkers (take many all)
-first-take checkers many all inside first = record {
-  few = omega (arith, first.few, length-take many all);
-  each = λ rank below.
-      let low : rank < many = omega (arith, below, length-take many all) in
-      rw (get_or-take many all rank 0 low) (first.each rank (omega arith));
-}

@@ -8,7 +8,7 @@ use Rattle.turn_rule.specs.Turn.{worth}
 use Rattle.turn_rule.proofs.Greatest.{greatest-append}
 use Rattle.race_table.specs.declared.race.Race.{Race}
 use Rattle.race_table.specs.FreePlays.{against}
-use Rattle.race_table.specs.Tables.{after_play, best_of, better, turns_in, words_in}
+use Rattle.race_table.specs.Tables.{after_play, best_of, better, turns_in, race_bounds}
 use Rattle.race_table.specs.TurnsLeft.{left_after, most}
 
 -- a race by its parts
@@ -24,7 +24,7 @@ most-append f [] r = omega arith
 most-append f (q ∷ qs) r = omega (arith, most-append f qs r)
 
 best-append : (races : List Race) (q : Placement) (qs : List Placement) (r : Placement) → better (best_of races (q ∷ qs)) (after_play races r) ≡ best_of races ((q ∷ qs) ++ r ∷ [])
-best-append races q qs r = race-is _ _ _ _ _ _ (sym (greatest-append (worth Lower alone (words_in races)) q r qs)) (sym (greatest-append (worth Upper alone (words_in races)) q r qs)) (sym (most-append (left_after (turns_in races)) (q ∷ qs) r))
+best-append races q qs r = race-is _ _ _ _ _ _ (sym (greatest-append (worth Lower alone (race_bounds races)) q r qs)) (sym (greatest-append (worth Upper alone (race_bounds races)) q r qs)) (sym (most-append (left_after (turns_in races)) (q ∷ qs) r))
 
 -- one play more
 pub best-more : (races : List Race) (other : List ℕ) (ends : List (List ℕ)) (i : ℕ) (end : List ℕ) → 0 < i → i < length ends → end ≡ get_or ends i end → better (best_of races (map (against other) (take i ends))) (after_play races (against other end)) ≡ best_of races (map (against other) (take (i + 1) ends))

@@ -1,8 +1,8 @@
 -- A table in which each race is found after those that may follow it.
-use Rattle.std.proofs.Common.{◌≡◌, ◌≤◌, ◌<◌, ◌+◌, ◌-◌, ℕ, zero, suc, List, [], ◌∷◌, length, replicate, set, get_or, sum, Option, Some, None, inl, inr, refl, ap, sym, subst, ◌∙◌, length-set, get_or-set_same, get_or-set_other, arith}
+use Rattle.std.proofs.Common.{◌≡◌, ◌≤◌, ◌<◌, ◌+◌, ◌-◌, ℕ, zero, suc, List, [], ◌∷◌, length, set, get_or, sum, Option, Some, None, inl, inr, refl, ap, sym, subst, ◌∙◌, length-set, get_or-set_same, get_or-set_other, arith}
 use Rattle.std.proofs.lemmas.Bool.{cases_lt, cases_eq}
-use Rattle.std.proofs.lemmas.List.{get_or_default, length-replicate, length-map}
-use Rattle.std.proofs.lemmas.List.Elements.{All-replicate, All-set}
+use Rattle.std.proofs.lemmas.List.{get_or_default, length-map}
+use Rattle.std.proofs.lemmas.List.Elements.{All-set}
 use Rattle.position_rank.specs.Placement.{Placement, swap}
 use Rattle.position_rank.specs.Ranks.{rank_of, square_rank_of}
 use Rattle.position_rank.proofs.RankLaws.{layouts-same, positions-same, rank-below}
@@ -18,7 +18,6 @@ use Rattle.directed_fixed.specs.declared.bounds.End.TheVariants.{Lower, Upper}
 use Rattle.directed_fixed.specs.Bounds.{at, other}
 use Rattle.cube_actions.specs.Stakes.{cubeless}
 use Rattle.turn_rule.specs.Games.{game_of}
-use Rattle.turn_rule.specs.Layouts.{squares_of}
 use Rattle.turn_rule.specs.Looks.{MayFollowTurn}
 use Rattle.turn_rule.specs.Turn.{rounds, turn}
 use Rattle.turn_rule.proofs.Agreement.{turn-agree-at}
@@ -30,13 +29,12 @@ use Rattle.race_table.specs.declared.free_plays.FreeSide.{FreeSide}
 use Rattle.race_table.specs.declared.order.CountedRace.{CountedRace}
 use Rattle.race_table.specs.declared.race.Race.{Race}
 use Rattle.race_table.specs.FreePlays.{AreFreeRolls, AreFreeSides}
-use Rattle.race_table.specs.Orders.{AreRacesByPips, IsCounted, listed}
+use Rattle.race_table.specs.Orders.{AreRacesByPips, IsCounted, positions_of}
 use Rattle.race_table.specs.Races.{IsRace, IsRaceOf, pips}
 use Rattle.race_table.specs.RacePairs.{race_pair}
-use Rattle.race_table.specs.Tables.{HoldsRaces, IsSmall, IsTable, found, race_at, turn_of, turns_in, unknown, words_in}
+use Rattle.race_table.specs.Tables.{HoldsRaces, IsSmallRace, IsRaceTable, found, race_at, turn_of, turns_in, unknown_race, race_bounds}
 use Rattle.race_table.specs.TurnsLeft.{if_goes_on, left_after, most_over, turns_left}
 use Rattle.race_table.proofs.Bests.{race-is}
-use Rattle.race_table.proofs.Sums.{unknown-small}
 use Rattle.race_table.proofs.Left.{left-few, left-is, left-some, legal-of, over-agree}
 use Rattle.race_table.proofs.Lines.{legal-nearer, legal-race}
 use Rattle.race_table.proofs.RacePairs.{follows, rounds-same, state}
@@ -76,19 +74,19 @@ module _ (checkers : ℕ) (races : List Race) (p : Placement) (race : IsRaceOf c
     many = (follow-turn-state (game_of checkers cubeless) cubeless-valid p 0 (record { position = race.race.position; many = race.many; live = race.race.live; kind = omega arith }) q j may).many;
   }
 
-  follow-word : (n : ℕ) → turns_left p ≡ suc n → (q : Placement) (j : ℕ) → MayFollowTurn cubeless p 0 q j → (end : End) → words_in races end q j ≡ rounds cubeless n end q j
+  follow-word : (n : ℕ) → turns_left p ≡ suc n → (q : Placement) (j : ℕ) → MayFollowTurn cubeless p 0 q j → (end : End) → race_bounds races end q j ≡ rounds cubeless n end q j
   follow-word n is q j may end =
       let f = follows p race.race q j may in
       let here = known q (follow-race q j may) (follow-nearer q j may) in
-      subst (λ (k : ℕ). words_in races end q k ≡ rounds cubeless n end q k) (sym f.kind)
+      subst (λ (k : ℕ). race_bounds races end q k ≡ rounds cubeless n end q k) (sym f.kind)
       (ap (λ (r : Race). at end r.pair) here ∙ (at_end q end ∙ rounds-same (turns_left q) n q f.race (omega arith) (omega (arith, f.fewer, is)) end))
 
-  found-word : (end : End) → turn cubeless (words_in races) end p 0 ≡ rounds cubeless (turns_left p) end p 0
+  found-word : (end : End) → turn cubeless (race_bounds races) end p 0 ≡ rounds cubeless (turns_left p) end p 0
   unfolding rounds
   found-word end =
       let n = turns_left p - 1 in
       let is : turns_left p ≡ suc n = omega (arith, left-some p race.race) in
-      turn-agree-at cubeless (words_in races) (rounds cubeless n) end p 0 (λ q j may. follow-word n is q j may (other end)) ∙ ap (λ (r : ℕ). rounds cubeless r end p 0) (sym is)
+      turn-agree-at cubeless (race_bounds races) (rounds cubeless n) end p 0 (λ q j may. follow-word n is q j may (other end)) ∙ ap (λ (r : ℕ). rounds cubeless r end p 0) (sym is)
 
   pub turn-found : turn_of races p ≡ found p
   turn-found = race-is _ _ _ _ _ _ (found-word Lower) (found-word Upper) found-turns
@@ -97,19 +95,10 @@ module _ (checkers : ℕ) (races : List Race) (p : Placement) (race : IsRaceOf c
 
 -- the races of the first few of a list have been found
 pub record IsFilled (checkers : ℕ) (order : List CountedRace) (n : ℕ) (races : List Race) : Type 0 where
-  pub table : IsTable checkers races
+  pub table : IsRaceTable checkers races
   pub each : (i : ℕ) (none : CountedRace) → i < n → i < length order → race_at races (get_or order i none).position ≡ found (get_or order i none).position
 
-pub none-filled : (checkers : ℕ) (order : List CountedRace) (squares : ℕ) → squares ≡ squares_of checkers → IsFilled checkers order 0 (replicate squares unknown)
-none-filled checkers order squares is = record {
-  table = record {
-    full = length-replicate squares unknown ∙ is;
-    small = All-replicate IsSmall squares unknown unknown-small;
-  };
-  each = λ i none below. absurd (omega arith);
-}
-
-found-small : (p : Placement) → IsRace p → turns_left p ≤ 150 → IsSmall (found p)
+found-small : (p : Placement) → IsRace p → turns_left p ≤ 150 → IsSmallRace (found p)
 found-small p race few = record { within = rounds-within (game_of (sum p.mover) cubeless) cubeless-valid (turns_left p) p 0 (state p race); few = few }
 
 -- a race that is nearer than the one at some place of the list stands before it
@@ -127,7 +116,7 @@ before-it checkers order right n one inside is q race nearer =
       | inl before ↦ (i, before, here, at_i)
       | inr past ↦ absurd (omega (arith, right.rising n i one past here, one_pips, its_pips, nearer))
     ] where
-      listed-at : (xs : List CountedRace) (i : ℕ) (one : CountedRace) (q : Placement) → i < length xs → (get_or xs i one).position ≡ get_or (listed xs) i q
+      listed-at : (xs : List CountedRace) (i : ℕ) (one : CountedRace) (q : Placement) → i < length xs → (get_or xs i one).position ≡ get_or (positions_of xs) i q
       listed-at [] i one q h = absurd (omega arith)
       listed-at (x ∷ xs) zero one q h = refl
       listed-at (x ∷ xs) (suc i) one q h = listed-at xs i one q (omega arith)
@@ -136,7 +125,7 @@ module _ (checkers : ℕ) (order : List CountedRace) (right : AreRacesByPips che
   pub counted-at : IsCounted checkers one
   counted-at = subst (IsCounted checkers) (sym is) (right.right n one inside)
 
-  pub square-inside : (races : List Race) → IsTable checkers races → square_rank_of one.position < length races
+  pub square-inside : (races : List Race) → IsRaceTable checkers races → square_rank_of one.position < length races
   square-inside races table = rw table.full (square-below one.position checkers counted-at.right.race.position counted-at.right.many)
 
   -- one race more
@@ -152,10 +141,10 @@ module _ (checkers : ℕ) (order : List CountedRace) (right : AreRacesByPips che
       let earlier = before-it checkers order right n one inside is q later nearer in
       subst (λ (x : Placement). race_at races x ≡ found x) earlier.3 (before.each earlier.0 one earlier.1 earlier.2)) in
       let few : turns_left p ≤ 150 = omega (arith, left-few p, counted-at.pips, counted-at.few) in
-      let small : IsSmall race = subst IsSmall (sym this) (found-small p counted-at.right.race few) in
-      let now : race_at next p ≡ found p = get_or-set_same races square race unknown here ∙ this in
+      let small : IsSmallRace race = subst IsSmallRace (sym this) (found-small p counted-at.right.race few) in
+      let now : race_at next p ≡ found p = get_or-set_same races square race unknown_race here ∙ this in
       record {
-        table = record { full = length-set races square race ∙ before.table.full; small = All-set IsSmall races square race small before.table.small };
+        table = record { full = length-set races square race ∙ before.table.full; small = All-set IsSmallRace races square race small before.table.small };
         each = λ i none below within.
             let q = (get_or order i none).position in
             let theirs = right.right i none within in
@@ -164,7 +153,7 @@ module _ (checkers : ℕ) (order : List CountedRace) (right : AreRacesByPips che
                   let same_position : p ≡ q = sym (positions-same q p theirs.right.race.position counted-at.right.race.position (theirs.right.many ∙ sym counted-at.right.many) same) in
                   subst (λ (x : Placement). race_at next x ≡ found x) same_position now)
               | inr apart ↦ elim (cases_lt i n) [
-                | inl earlier ↦ get_or-set_other races square (square_rank_of q) race unknown apart ∙ before.each i none earlier within
+                | inl earlier ↦ get_or-set_other races square (square_rank_of q) race unknown_race apart ∙ before.each i none earlier within
                 | inr from ↦ (
                     let last : i ≡ n = omega (arith, below, from) in
                     let at_n : get_or order i none ≡ one = ap (λ (k : ℕ). get_or order k none) last ∙ (get_or_default order n none one inside ∙ sym is) in
@@ -183,7 +172,7 @@ all-filled checkers order right n races past filled = record {
       let here : i < length order = omega (arith, there.1, length-map order (λ (race : CountedRace). race.position)) in
       subst (λ (x : Placement). race_at races x ≡ found x) (listed-is order i none p here ∙ there.2) (filled.each i none (omega (arith, here, past)) here);
 } where
-  listed-is : (xs : List CountedRace) (i : ℕ) (none : CountedRace) (q : Placement) → i < length xs → (get_or xs i none).position ≡ get_or (listed xs) i q
+  listed-is : (xs : List CountedRace) (i : ℕ) (none : CountedRace) (q : Placement) → i < length xs → (get_or xs i none).position ≡ get_or (positions_of xs) i q
   listed-is [] i none q h = absurd (omega arith)
   listed-is (x ∷ xs) zero none q h = refl
   listed-is (x ∷ xs) (suc i) none q h = listed-is xs i none q (omega arith)

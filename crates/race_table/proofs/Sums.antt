@@ -27,9 +27,9 @@ use Rattle.turn_rule.proofs.Integers.{mul_mono}
 use Rattle.turn_rule.proofs.Within.{win-within}
 use Rattle.race_table.specs.declared.free_plays.FreeRoll.{FreeRoll}
 use Rattle.race_table.specs.declared.race.Race.{Race}
-use Rattle.race_table.specs.FreePlays.{AreFreeRolls, HasFreeEnds, against, weighted}
+use Rattle.race_table.specs.FreePlays.{AreFreeRolls, HasFreeEnds, against, weighted_turns}
 use Rattle.race_table.specs.Races.{IsRace}
-use Rattle.race_table.specs.Tables.{IsSmall, after_play, best_of, race_at, turn_of, turns_in, unknown, words_in}
+use Rattle.race_table.specs.Tables.{IsSmallRace, after_play, best_of, race_at, turn_of, turns_in, unknown_race, race_bounds}
 use Rattle.race_table.specs.TurnsLeft.{if_goes_on, left_after, most, most_over}
 use Rattle.race_table.proofs.Bests.{race-is}
 use Rattle.race_table.proofs.Left.{legal-of, most-same, most-upto}
@@ -39,44 +39,44 @@ use Rattle.race_table.proofs.Left.{legal-of, most-same, most-upto}
 three : pos 0 ≤ℤ point_units 3
 three = omega (arith, ints)
 
-pub unknown-small : IsSmall unknown
+pub unknown-small : IsSmallRace unknown_race
 unknown-small = record { within = record { from = omega (arith, ints); in_order = omega (arith, ints); to = omega (arith, ints) }; few = omega arith }
 
-at-small : (races : List Race) → All IsSmall races → (p : Placement) → IsSmall (race_at races p)
+at-small : (races : List Race) → All IsSmallRace races → (p : Placement) → IsSmallRace (race_at races p)
 at-small races small p = elim (cases_lt (square_rank_of p) (length races)) [
-  | inl inside ↦ small (square_rank_of p) unknown inside
-  | inr past ↦ rw (get_or_past races (square_rank_of p) unknown past) unknown-small
+  | inl inside ↦ small (square_rank_of p) unknown_race inside
+  | inr past ↦ rw (get_or_past races (square_rank_of p) unknown_race past) unknown-small
 ]
 
 negated-within : (bound : ℤ) (pair : Bounds) → IsWithin bound pair → IsWithin bound (negated pair)
 negated-within bound pair h = record { from = omega (arith, ints, h.to); in_order = omega (arith, ints, h.in_order); to = omega (arith, ints, h.from) }
 
-after-small : (races : List Race) → All IsSmall races → (q : Placement) → IsSmall (after_play races q)
+after-small : (races : List Race) → All IsSmallRace races → (q : Placement) → IsSmallRace (after_play races q)
 after-small races small q = by_points (points q) where
   later : Race
   later = race_at races (swap q)
 
-  by_points : (o : Option Won) → IsSmall (record { pair = record { lower = if_won o (λ won. (win alone won).lower) (neg_ℤ later.pair.upper); upper = if_won o (λ won. (win alone won).upper) (neg_ℤ later.pair.lower) }; turns = if_goes_on o later.turns })
+  by_points : (o : Option Won) → IsSmallRace (record { pair = record { lower = if_won o (λ won. (win alone won).lower) (neg_ℤ later.pair.upper); upper = if_won o (λ won. (win alone won).upper) (neg_ℤ later.pair.lower) }; turns = if_goes_on o later.turns })
   by_points None = let s = at-small races small (swap q) in record { within = negated-within (point_units 3) later.pair s.within; few = s.few }
   by_points (Some won) = record { within = win-within (point_units 3) alone three (cubeless-valid.kinds 0 no_kind (omega arith)).wins won; few = omega arith }
 
-pub best-small : (races : List Race) → All IsSmall races → (qs : List Placement) → IsSmall (best_of races qs)
+pub best-small : (races : List Race) → All IsSmallRace races → (qs : List Placement) → IsSmallRace (best_of races qs)
 best-small races small qs =
     let each = after-small races small in
     record {
       within = record {
-        from = greatest-from (worth Lower alone (words_in races)) (neg_ℤ (point_units 3)) (omega (arith, ints)) qs (λ q m. (each q).within.from);
-        in_order = greatest-mono (worth Lower alone (words_in races)) (worth Upper alone (words_in races)) qs (λ q m. (each q).within.in_order);
-        to = greatest-upto (worth Upper alone (words_in races)) (point_units 3) three qs (λ q m. (each q).within.to);
+        from = greatest-from (worth Lower alone (race_bounds races)) (neg_ℤ (point_units 3)) (omega (arith, ints)) qs (λ q m. (each q).within.from);
+        in_order = greatest-mono (worth Lower alone (race_bounds races)) (worth Upper alone (race_bounds races)) qs (λ q m. (each q).within.in_order);
+        to = greatest-upto (worth Upper alone (race_bounds races)) (point_units 3) three qs (λ q m. (each q).within.to);
       };
       few = most-upto (left_after (turns_in races)) 150 qs (λ q m. (each q).few);
     }
 
 -- ---- the rolls of a race
 
-kept-weight : (kept : List FreeRoll) (i : ℕ) (one : FreeRoll) → i < length kept → one ≡ get_or kept i one → weighted one ≡ get_or (map weighted kept) i (weighted one)
+kept-weight : (kept : List FreeRoll) (i : ℕ) (one : FreeRoll) → i < length kept → one ≡ get_or kept i one → weighted_turns one ≡ get_or (map weighted_turns kept) i (weighted_turns one)
 kept-weight [] i one h e = absurd (omega arith)
-kept-weight (k ∷ kept) zero one h e = ap weighted e
+kept-weight (k ∷ kept) zero one h e = ap weighted_turns e
 kept-weight (k ∷ kept) (suc i) one h e = kept-weight kept i one (omega arith) e
 
 right_among : (rolls : List (Dice × ℕ)) → AreRolls rolls → (roll : Dice × ℕ) → Among roll rolls → IsRoll roll.0
@@ -86,13 +86,13 @@ right_among (r ∷ rolls) right roll (inr m) = right_among rolls right.1 roll m
 
 pub record IsKept (mover : List ℕ) (i : ℕ) (one : FreeRoll) : Type 0 where
   pub here : i < length all_rolls
-  pub weight : weighted one ≡ get_or all_rolls i (weighted one)
+  pub weight : weighted_turns one ≡ get_or all_rolls i (weighted_turns one)
   pub right : IsRoll one.roll
   pub times : one.times ≤ 2
   pub ends : HasFreeEnds mover one
 
 kept-many : (mover : List ℕ) (kept : List FreeRoll) → AreFreeRolls mover kept → length kept ≡ 21
-kept-many mover kept free = sym (length-map kept weighted) ∙ (ap length free.rolls ∙ length-all_rolls)
+kept-many mover kept free = sym (length-map kept weighted_turns) ∙ (ap length free.rolls ∙ length-all_rolls)
 
 pub kept-end : (mover : List ℕ) (kept : List FreeRoll) (i : ℕ) → AreFreeRolls mover kept → length kept ≤ i → length all_rolls ≤ i
 kept-end mover kept i free h = omega (arith, h, kept-many mover kept free, length-all_rolls)
@@ -102,12 +102,12 @@ kept-few mover kept i free h = omega (arith, h, kept-many mover kept free)
 
 pub kept-at : (mover : List ℕ) (kept : List FreeRoll) (i : ℕ) (one : FreeRoll) → AreFreeRolls mover kept → i < length kept → one ≡ get_or kept i one → IsKept mover i one
 kept-at mover kept i one free h e =
-    let weight : weighted one ≡ get_or all_rolls i (weighted one) = subst (λ (xs : List (Dice × ℕ)). weighted one ≡ get_or xs i (weighted one)) free.rolls (kept-weight kept i one h e) in
-    let roll = roll_at all_rolls i (weighted one) refl (omega (arith, h, kept-many mover kept free)) weight in
+    let weight : weighted_turns one ≡ get_or all_rolls i (weighted_turns one) = subst (λ (xs : List (Dice × ℕ)). weighted_turns one ≡ get_or xs i (weighted_turns one)) free.rolls (kept-weight kept i one h e) in
+    let roll = roll_at all_rolls i (weighted_turns one) refl (omega (arith, h, kept-many mover kept free)) weight in
     record {
       here = roll.0;
       weight = weight;
-      right = right_among all_rolls all_rolls-right (weighted one) (at_roll all_rolls i (weighted one) roll.0 weight);
+      right = right_among all_rolls all_rolls-right (weighted_turns one) (at_roll all_rolls i (weighted_turns one) roll.0 weight);
       times = roll.2;
       ends = subst (HasFreeEnds mover) (sym e) (free.ends i one h);
     }
@@ -156,8 +156,8 @@ over-next f p (first ∷ rest) (suc i) roll h e = omega (arith, over-next f p re
 
 -- the sums and the most turns over the first few rolls
 pub record AreSums (races : List Race) (p : Placement) (i : ℕ) (lower upper : ℤ) (turns : ℕ) : Type 0 where
-  pub low : lower ≡ sum_over (take i all_rolls) (worth Lower alone (words_in races)) p
-  pub high : upper ≡ sum_over (take i all_rolls) (worth Upper alone (words_in races)) p
+  pub low : lower ≡ sum_over (take i all_rolls) (worth Lower alone (race_bounds races)) p
+  pub high : upper ≡ sum_over (take i all_rolls) (worth Upper alone (race_bounds races)) p
   pub low_small : IsWithinUnits (pos (i * 2 ^ 35)) lower
   pub high_small : IsWithinUnits (pos (i * 2 ^ 35)) upper
   pub in_order : lower ≤ℤ upper
@@ -194,26 +194,26 @@ added-small i x y z is h k = record { from = omega (arith, ints, h.from, k.from)
 added-order : (a b c d x y : ℤ) → a ≤ℤ b → c ≤ℤ d → x ≡ a +ℤ c → y ≡ b +ℤ d → x ≤ℤ y
 added-order a b c d x y h k is also = omega (arith, ints)
 
-module _ (races : List Race) (small : All IsSmall races) (p : Placement) (race : IsRace p) (i : ℕ) (one : FreeRoll) (kept : IsKept p.mover i one) where
+module _ (races : List Race) (small : All IsSmallRace races) (p : Placement) (race : IsRace p) (i : ℕ) (one : FreeRoll) (kept : IsKept p.mover i one) where
   -- one roll more
   pub sums-more : (lower upper lower' upper' : ℤ) (turns turns' : ℕ) (best : Race) → AreSums races p i lower upper turns → best ≡ best_of races (map (against p.other) one.ends.items)
       → lower' ≡ lower +ℤ pos one.times *ℤ best.pair.lower → upper' ≡ upper +ℤ pos one.times *ℤ best.pair.upper → turns' ≡ max turns best.turns → AreSums races p (i + 1) lower' upper' turns'
   sums-more lower upper lower' upper' turns turns' best before is low high most =
       let legal = is ∙ best-legal p race i one kept races in
-      let fits : IsSmall best = subst IsSmall (sym legal) (best-small races small (legal_ends p one.roll)) in
+      let fits : IsSmallRace best = subst IsSmallRace (sym legal) (best-small races small (legal_ends p one.roll)) in
       let low_is = ap (λ (r : Race). pos one.times *ℤ r.pair.lower) legal in
       let high_is = ap (λ (r : Race). pos one.times *ℤ r.pair.upper) legal in
       let turns_are = ap (λ (r : Race). r.turns) legal in
-      let f = worth Lower alone (words_in races) in
-      let g = worth Upper alone (words_in races) in
+      let f = worth Lower alone (race_bounds races) in
+      let g = worth Upper alone (race_bounds races) in
       let h = left_after (turns_in races) in
       record {
-        low = low ∙ (ap (λ (z : ℤ). z +ℤ pos one.times *ℤ best.pair.lower) before.low ∙ (ap (λ (z : ℤ). sum_over (take i all_rolls) f p +ℤ z) low_is ∙ (sym (sum-next f p all_rolls i (weighted one) kept.here kept.weight) ∙ ap (λ (n : ℕ). sum_over (take n all_rolls) f p) (sym (add-one i)))));
-        high = high ∙ (ap (λ (z : ℤ). z +ℤ pos one.times *ℤ best.pair.upper) before.high ∙ (ap (λ (z : ℤ). sum_over (take i all_rolls) g p +ℤ z) high_is ∙ (sym (sum-next g p all_rolls i (weighted one) kept.here kept.weight) ∙ ap (λ (n : ℕ). sum_over (take n all_rolls) g p) (sym (add-one i)))));
+        low = low ∙ (ap (λ (z : ℤ). z +ℤ pos one.times *ℤ best.pair.lower) before.low ∙ (ap (λ (z : ℤ). sum_over (take i all_rolls) f p +ℤ z) low_is ∙ (sym (sum-next f p all_rolls i (weighted_turns one) kept.here kept.weight) ∙ ap (λ (n : ℕ). sum_over (take n all_rolls) f p) (sym (add-one i)))));
+        high = high ∙ (ap (λ (z : ℤ). z +ℤ pos one.times *ℤ best.pair.upper) before.high ∙ (ap (λ (z : ℤ). sum_over (take i all_rolls) g p +ℤ z) high_is ∙ (sym (sum-next g p all_rolls i (weighted_turns one) kept.here kept.weight) ∙ ap (λ (n : ℕ). sum_over (take n all_rolls) g p) (sym (add-one i)))));
         low_small = added-small i lower _ lower' low before.low_small (twice one.times best.pair.lower kept.times fits.within.from (let h = fits.within.to in omega (arith, ints, fits.within.in_order, h)));
         high_small = added-small i upper _ upper' high before.high_small (twice one.times best.pair.upper kept.times (let h = fits.within.from in omega (arith, ints, fits.within.in_order, h)) fits.within.to);
         in_order = added-order lower upper _ _ lower' upper' before.in_order (mul_mono one.times _ _ fits.within.in_order) low high;
-        most = most ∙ (ap (λ (n : ℕ). max n best.turns) before.most ∙ (ap (λ (n : ℕ). max (most_over (take i all_rolls) h p) n) turns_are ∙ (sym (over-next h p all_rolls i (weighted one) kept.here kept.weight) ∙ ap (λ (n : ℕ). most_over (take n all_rolls) h p) (sym (add-one i)))));
+        most = most ∙ (ap (λ (n : ℕ). max n best.turns) before.most ∙ (ap (λ (n : ℕ). max (most_over (take i all_rolls) h p) n) turns_are ∙ (sym (over-next h p all_rolls i (weighted_turns one) kept.here kept.weight) ∙ ap (λ (n : ℕ). most_over (take n all_rolls) h p) (sym (add-one i)))));
         few = omega (arith, most, before.few, fits.few);
       }
 
@@ -225,8 +225,8 @@ pub all-sums : (races : List Race) (p : Placement) (i : ℕ) (lower upper : ℤ)
 unfolding turn
 all-sums races p i lower upper turns past sums =
     let all = take_all i all_rolls past in
-    let f = worth Lower alone (words_in races) in
-    let g = worth Upper alone (words_in races) in
+    let f = worth Lower alone (race_bounds races) in
+    let g = worth Upper alone (race_bounds races) in
     let low : lower ≡ pos 1 *ℤ sum_over all_rolls f p = sums.low ∙ (ap (λ (rolls : List (Dice × ℕ)). sum_over rolls f p) all ∙ sym (once (sum_over all_rolls f p))) in
     let high : upper ≡ pos 1 *ℤ sum_over all_rolls g p = sums.high ∙ (ap (λ (rolls : List (Dice × ℕ)). sum_over rolls g p) all ∙ sym (once (sum_over all_rolls g p))) in
     let most = sums.most ∙ ap (λ (rolls : List (Dice × ℕ)). most_over rolls (left_after (turns_in races)) p) all in

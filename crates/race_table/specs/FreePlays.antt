@@ -15,8 +15,8 @@ abbrev pub against : List ℕ → List ℕ → Placement
 against other mover = record { mover = mover; other = other }
 
 -- a roll, and in how many ways it comes
-abbrev pub weighted : FreeRoll → Dice × ℕ
-weighted one = (one.roll, one.times)
+abbrev pub weighted_turns : FreeRoll → Dice × ℕ
+weighted_turns one = (one.roll, one.times)
 
 -- in each race of these checkers of the mover, the legal plays of the roll leave these of his, and the other side as it stands
 abbrev pub AreFreeEnds : List ℕ → Dice → List (List ℕ) → Type 0
@@ -30,7 +30,7 @@ HasFreeEnds mover one = AreFreeEnds mover one.roll one.ends.items
 
 -- every roll, with what its plays leave in races
 pub record AreFreeRolls (mover : List ℕ) (kept : List FreeRoll) : Type 0 where
-  pub rolls : map weighted kept ≡ all_rolls
+  pub rolls : map weighted_turns kept ≡ all_rolls
   pub ends : All (HasFreeEnds mover) kept
 
 -- a side's checkers by their rank, with what its plays leave in races

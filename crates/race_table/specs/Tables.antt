@@ -16,15 +16,15 @@ use Rattle.race_table.specs.RacePairs.{race_pair}
 use Rattle.race_table.specs.TurnsLeft.{left_after, most, most_over, turns_left}
 
 -- what stands in the table before a race is found
-abbrev pub unknown : Race
-unknown = record { pair = at_zero; turns = 0 }
+abbrev pub unknown_race : Race
+unknown_race = record { pair = at_zero; turns = 0 }
 
 abbrev pub race_at : List Race → Placement → Race
-race_at races p = slice_index_or races (square_rank_of p) unknown
+race_at races p = slice_index_or races (square_rank_of p) unknown_race
 
 -- the words and the turns of a table
-abbrev pub words_in : List Race → Words
-words_in races end p k = at end (race_at races p).pair
+abbrev pub race_bounds : List Race → Words
+race_bounds races end p k = at end (race_at races p).pair
 
 abbrev pub turns_in : List Race → Placement → ℕ
 turns_in races p = (race_at races p).turns
@@ -33,8 +33,8 @@ turns_in races p = (race_at races p).turns
 abbrev pub after_play : List Race → Placement → Race
 after_play races q = record {
   pair = record {
-    lower = worth Lower alone (words_in races) q;
-    upper = worth Upper alone (words_in races) q;
+    lower = worth Lower alone (race_bounds races) q;
+    upper = worth Upper alone (race_bounds races) q;
   };
   turns = left_after (turns_in races) q;
 }
@@ -53,8 +53,8 @@ better one another = record {
 abbrev pub best_of : List Race → List Placement → Race
 best_of races ends = record {
   pair = record {
-    lower = greatest (worth Lower alone (words_in races)) ends;
-    upper = greatest (worth Upper alone (words_in races)) ends;
+    lower = greatest (worth Lower alone (race_bounds races)) ends;
+    upper = greatest (worth Upper alone (race_bounds races)) ends;
   };
   turns = most (left_after (turns_in races)) ends;
 }
@@ -62,19 +62,19 @@ best_of races ends = record {
 -- a race by its turn over the table
 abbrev pub turn_of : List Race → Placement → Race
 turn_of races p = record {
-  pair = pair_of (turn cubeless (words_in races)) p 0;
+  pair = pair_of (turn cubeless (race_bounds races)) p 0;
   turns = 1 + most_over all_rolls (left_after (turns_in races)) p;
 }
 
 -- the pair lies within three points, and there are few turns
-pub record IsSmall (race : Race) : Type 0 where
+pub record IsSmallRace (race : Race) : Type 0 where
   pub within : IsWithin (point_units 3) race.pair
   pub few : race.turns ≤ 150
 
 -- there is a square for each position of so many checkers a side, and each has a small race
-pub record IsTable (checkers : ℕ) (races : List Race) : Type 0 where
+pub record IsRaceTable (checkers : ℕ) (races : List Race) : Type 0 where
   pub full : length races ≡ squares_of checkers
-  pub small : All IsSmall races
+  pub small : All IsSmallRace races
 
 -- a race as it is found
 abbrev pub found : Placement → Race
@@ -82,5 +82,5 @@ found p = record { pair = race_pair p; turns = turns_left p }
 
 -- at each race of so many checkers a side, the table has its pair and its turns
 pub record HoldsRaces (checkers : ℕ) (races : List Race) : Type 0 where
-  pub table : IsTable checkers races
+  pub table : IsRaceTable checkers races
   pub each : (p : Placement) → IsRaceOf checkers p → race_at races p ≡ found p

@@ -6,7 +6,7 @@ ghost use Rattle.cube_actions.specs.Stakes.{alone};
 ghost use Rattle.race_table.specs.FreePlays.{AreFreeRolls, AreFreeSides, against};
 ghost use Rattle.race_table.specs.Orders.{AreRacesByPips};
 ghost use Rattle.race_table.specs.Races.{IsRaceOf};
-ghost use Rattle.race_table.specs.Tables.{HoldsRaces, IsTable, after_play, best_of, better, turn_of};
+ghost use Rattle.race_table.specs.Tables.{HoldsRaces, IsRaceTable, after_play, best_of, better, turn_of};
 
 use crate::free_plays::{FreeRoll, FreeSide};
 use crate::order::CountedRace;
@@ -23,7 +23,7 @@ use turn_rule::win_of;
 fn after_play(left: &Layout, other: &Layout, kind: &Kind, races: &[Race]) -> Race
     requires same { sum left.now ≡ sum other.now }
     requires kind { kind.now ≡ alone }
-    requires table { IsTable (sum other.now) races.now }
+    requires table { IsRaceTable (sum other.now) races.now }
     ensures { result ≡ after_play races.now (against other.now left.now) }
 {
     let end = Position::new(*left, *other).unwrap();
@@ -59,7 +59,7 @@ fn best_of(ends: &[Layout], other: &Layout, kind: &Kind, races: &[Race]) -> Race
     requires some { 0 < length ends.now }
     requires same { All (λ left. sum left ≡ sum other.now) ends.now }
     requires kind { kind.now ≡ alone }
-    requires table { IsTable (sum other.now) races.now }
+    requires table { IsRaceTable (sum other.now) races.now }
     ensures { result ≡ best_of races.now (map (against other.now) ends.now) }
 {
     let mut best = after_play(&ends[0], other, kind, races);
@@ -97,7 +97,7 @@ fn turn_of(race: &Position, rolls: &[FreeRoll], kind: &Kind, races: &[Race]) -> 
     requires race { IsRaceOf (sum race.now.mover) race.now }
     requires rolls { AreFreeRolls race.now.mover rolls.now }
     requires kind { kind.now ≡ alone }
-    requires table { IsTable (sum race.now.mover) races.now }
+    requires table { IsRaceTable (sum race.now.mover) races.now }
     ensures { result ≡ turn_of races.now race.now }
 {
     let other = race.other();

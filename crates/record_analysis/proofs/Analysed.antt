@@ -16,7 +16,7 @@ use Rattle.game_record.specs.declared.decision.Choice.TheVariants.{Played, Offer
 use Rattle.game_record.specs.declared.decision.Decision.{Decision}
 use Rattle.game_record.specs.declared.record.Record.{Record}
 use Rattle.game_record.specs.Kinds.{stakes_at}
-use Rattle.game_record.specs.RightDecisions.{IsRightAnswer, IsRightChoice, IsRightDecision, terms_for}
+use Rattle.game_record.specs.RightDecisions.{IsAnswerTo, IsRightChoice, IsRightDecision, terms_for}
 use Rattle.turn_rule.specs.declared.game.Game.{Game}
 use Rattle.turn_rule.specs.Following.{AgreeOn}
 use Rattle.turn_rule.specs.Games.{IsGame}
@@ -40,7 +40,7 @@ offered : (right : Option Double) → IsSome right → IfDouble right (λ double
 offered None some = absurd (cc)
 offered (Some double) some = tt
 
-answered : (stakes : Terms) (right : Option Double) → IfSome right (IsRightDouble stakes) → (answer : Answer) → IsRightAnswer right answer → IfDouble right (λ double. HasAnswer double answer)
+answered : (stakes : Terms) (right : Option Double) → IfSome right (IsRightDouble stakes) → (answer : Answer) → IsAnswerTo right answer → IfDouble right (λ double. HasAnswer double answer)
 answered stakes None valid Take is = absurd (cc)
 answered stakes None valid Pass is = absurd (cc)
 answered stakes None valid Beaver is = absurd (cc)

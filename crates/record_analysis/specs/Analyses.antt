@@ -26,10 +26,10 @@ pub record IsSmallLoss (pair : Bounds) : Type 0 where
   pub from : pos 0 ≤ℤ pair.lower
   pub to : pair.upper ≤ℤ point_units 24
 
-abbrev pub IsSmall : Judged → Type 0
-IsSmall judged = IfSome judged.loss IsSmallLoss
+abbrev pub IsSmallJudged : Judged → Type 0
+IsSmallJudged judged = IfSome judged.loss IsSmallLoss
 
 -- no more decisions than a record can have, and no loss that can't be
 pub record IsAnalysis (list : List Judged) : Type 0 where
   pub few : length list ≤ 131072
-  pub small : All IsSmall list
+  pub small : All IsSmallJudged list

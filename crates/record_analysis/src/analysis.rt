@@ -1,5 +1,5 @@
 ghost use Rattle.std.specs.Prelude.{◌≡◌, ◌<◌, ◌≤◌, All, IfOk, IfSome, OnErr, Some, length, map, slice_get};
-ghost use Rattle.record_analysis.specs.Analyses.{IsSmall, unjudged};
+ghost use Rattle.record_analysis.specs.Analyses.{IsSmallJudged, unjudged};
 
 use directed_fixed::Pair;
 use game_record::{Decision, Decisions};
@@ -70,7 +70,7 @@ impl Analysis {
     pub fn as_slice(&self) -> &[Judged]
         ensures all { result.now ≡ self.now }
         ensures few { length self.now ≤ 131072 }
-        ensures small { All IsSmall self.now }
+        ensures small { All IsSmallJudged self.now }
     {
         &self.list
     }
@@ -87,7 +87,7 @@ impl Analysis {
     pub fn loss(&self, i: usize) -> Option<Pair>
         requires { i < length self.now }
         ensures loss { IfSome (slice_get self.now i) (λ judged. result ≡ judged.loss) }
-        ensures small { All IsSmall self.now }
+        ensures small { All IsSmallJudged self.now }
     {
         self.list[i].loss
     }

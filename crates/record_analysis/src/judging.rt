@@ -1,7 +1,7 @@
 ghost use Rattle.std.specs.Prelude.{◌≡◌, ◌↔◌, All, IfOk, IsTrue, OnErr};
 ghost use Rattle.cube_actions.specs.Stakes.{IsValid};
 ghost use Rattle.turn_rule.specs.Looks.{AreStakesOf, LooksUp};
-ghost use Rattle.record_analysis.specs.Analyses.{IsSmall};
+ghost use Rattle.record_analysis.specs.Analyses.{IsSmallJudged};
 ghost use Rattle.record_analysis.specs.Judging.{
   CanBeJudged,
   IsAt,
@@ -37,12 +37,12 @@ fn judged_by<P: Pairs>(
     requires valid { IsValid stakes.now }
     requires can { IsAt score judged.now
         → CanBeJudged (P.seen pairs.old).source stakes.now judged.now.decision }
-    requires small { IsSmall judged.now }
+    requires small { IsSmallJudged judged.now }
     ensures looked { LooksUp (P.seen pairs.old) (P.seen pairs.new)
         (MeetsOnDecision score stakes.now judged.now (P.seen pairs.old).source)
         (Judges score stakes.now (P.seen pairs.old).source (P.seen pairs.new).notes judged.now)
         result }
-    ensures small { IfOk result IsSmall }
+    ensures small { IfOk result IsSmallJudged }
     ensures source { (P.seen pairs.new).source ≡ (P.seen pairs.old).source }
     ensures stays { P.stays pairs.new ≡ P.stays pairs.old }
 {
@@ -69,14 +69,14 @@ fn judge_list<P: Pairs>(
     requires valid { IsValid stakes.now }
     requires can { All (λ judged. IsAt score judged
         → CanBeJudged (P.seen pairs.old).source stakes.now judged.decision) list.old }
-    requires small { All IsSmall list.old }
+    requires small { All IsSmallJudged list.old }
     ensures looked { LooksUp (P.seen pairs.old) (P.seen pairs.new)
         (MeetsOnDecisions score stakes.now list.old (P.seen pairs.old).source)
         (λ _. JudgesAll score stakes.now (P.seen pairs.old).source (P.seen pairs.new).notes
         list.old list.new) result }
     ensures stopped { OnErr result (JudgesSome score stakes.now
         (P.seen pairs.old).source (P.seen pairs.new).notes list.old list.new) }
-    ensures small { All IsSmall list.new }
+    ensures small { All IsSmallJudged list.new }
     ensures source { (P.seen pairs.new).source ≡ (P.seen pairs.old).source }
     ensures stays { P.stays pairs.new ≡ P.stays pairs.old }
 {

@@ -1,5 +1,5 @@
 ghost use Rattle.std.specs.Prelude.{◌≡◌, ◌<◌, ◌≤◌, ◌+◌, ◌+ℤ◌, All, length};
-ghost use Rattle.record_analysis.specs.Analyses.{IsSmall, IsSmallLoss};
+ghost use Rattle.record_analysis.specs.Analyses.{IsSmallJudged, IsSmallLoss};
 ghost use Rattle.record_analysis.specs.Totals.{IsSmallTotal, loss_by, losses_by, total_of};
 
 use crate::analysis::{Analysis, Judged};
@@ -46,7 +46,7 @@ fn loss_by(judged: &Judged, player: Player) -> Option<Pair>
 
 fn total_by(list: &[Judged], player: Player) -> Total
     requires few { length list.now ≤ 131072 }
-    requires small { All IsSmall list.now }
+    requires small { All IsSmallJudged list.now }
     ensures total { result ≡ total_of (losses_by player list.now) }
     ensures small { IsSmallTotal result }
 {

@@ -41,26 +41,26 @@ use Rattle.equity_report.specs.declared.refusal.Wanted.TheVariants.{Fits}
 use Rattle.run_endings.specs.Loads.{game_told, look_refusal}
 use Rattle.run_endings.specs.Pages.{HavePairsOf, OfHeld}
 use Rattle.run_endings.proofs.Pages.{bad-page, flawless, noted_in, same-kinds, source_in, told-agrees, told_in}
-use Rattle.record_commands.specs.ByFile.{AnswersLooking, IsBaseOf, IsOpenedFor, JudgesAt, JudgesList, JudgesOne, MayFollowIn, RefusesFile, RefusesFront, head_of}
+use Rattle.record_commands.specs.ByFile.{AnswersLooking, IsFrontOf, IsOpenedFor, JudgesAt, JudgesList, JudgesOne, MayFollowIn, RefusesFile, RefusesFront, front_head}
 use Rattle.record_commands.proofs.Losses.{LossLaw, choice-state, same-loss}
 
 -- ---- a file that was opened
 
 module _ (wanted : GameName) (base : PagedFile) where
   abbrev pub Opened : Option (List ℕ) → Type 0
-  Opened held = OfHeld held (λ bytes. IsOpenedFor wanted bytes × IsBaseOf base bytes)
+  Opened held = OfHeld held (λ bytes. IsOpenedFor wanted bytes × IsFrontOf base bytes)
 
   pub another-game : (name : List ℕ) (held : Option (List ℕ)) (found : GameName) → AnswersPaged (option_map whole held) (Ok base) → IsHead base.head → found ≡ game_told base.head → (found ≡ wanted → ⊥) → RefusesFront wanted name (Base (Fits wanted) found) held
   another-game name None found a head told other = absurd a
   another-game name (Some bytes) found a head told other =
-      let of_file : found ≡ game_told (head_of bytes) = told ∙ ap (λ (h : FileHead). game_told h) a.head in
+      let of_file : found ≡ game_told (front_head bytes) = told ∙ ap (λ (h : FileHead). game_told h) a.head in
       inr (record { front = a.right; other = (subst IsHead a.head head, λ same. other (of_file ∙ same), ap (λ (g : GameName). Base (Fits wanted) g) of_file) })
 
   pub opened-for : (held : Option (List ℕ)) → AnswersPaged (option_map whole held) (Ok base)
       → IsHeader base.header → base.head.checkers ≡ base.header.checkers → base.head.name ≡ base.header.name → IsHead base.head → IsGame (game_in base.head) → game_told base.head ≡ wanted → Opened held
   opened-for None a valid many name head game is = absurd a
   opened-for (Some bytes) a valid many name head game is =
-      let same : base.head ≡ head_of bytes = a.head in (
+      let same : base.head ≡ front_head bytes = a.head in (
         record {
           file = record {
             front = a.right;
@@ -112,7 +112,7 @@ among-decisions list one m = (
 
 module _ (law : LossLaw) (wanted : GameName) (bytes : List ℕ) (opened : IsOpenedFor wanted bytes) where
   abbrev head : FileHead
-  head = head_of bytes
+  head = front_head bytes
 
   by-loss : (decision : Decision) → IsDecisionOf (game_in head) decision → (loss : Option Bounds) → IsSomeAnd loss (IsPairFor (of_decision (stakes_of head) decision) (source_in bytes) (noted_in bytes)) → JudgesOne wanted bytes (record { decision = decision; loss = loss })
   by-loss decision of None h = absurd h
@@ -161,7 +161,7 @@ module _ (law : LossLaw) (wanted : GameName) (name : List ℕ) (base : PagedFile
       let own = subst (λ (h : FileHead). All (λ (one : Judged). IsAt score one → IsDecisionOf (game_in h) one.decision) olds) is.head can in
       record {
         file = opened.file;
-        each = zip-with (Judges score (stakes_of (head_of bytes)) (source_in bytes) (noted_in bytes)) (JudgesAt wanted score bytes) (λ (one : Judged). IsAt score one → IsDecisionOf (game_in (head_of bytes)) one.decision)
+        each = zip-with (Judges score (stakes_of (front_head bytes)) (source_in bytes) (noted_in bytes)) (JudgesAt wanted score bytes) (λ (one : Judged). IsAt score one → IsDecisionOf (game_in (front_head bytes)) one.decision)
             (one-judged law wanted bytes opened score) olds news two own;
       }
 
@@ -173,12 +173,12 @@ module _ (law : LossLaw) (wanted : GameName) (name : List ℕ) (base : PagedFile
       let damage : Damage = record { fault = fault; at = at } in
       let one = subst (λ (h : Header). MeetsOnDecisions score (stakes_of base.head) olds (paged_source h (Some bytes)) damage) is.header told in
       let met = subst (λ (h : FileHead). MeetsOnDecisions score (stakes_of h) olds (source_in bytes) damage) is.head one in
-      let (judged, among, at_one) = met-one (source_in bytes) damage score (stakes_of (head_of bytes)) olds met in
-      let own = met-on_choice (source_in bytes) damage (stakes_of (head_of bytes)) judged.decision.position judged.decision.kind judged.decision.choice at_one.meets in
+      let (judged, among, at_one) = met-one (source_in bytes) damage score (stakes_of (front_head bytes)) olds met in
+      let own = met-on_choice (source_in bytes) damage (stakes_of (front_head bytes)) judged.decision.position judged.decision.kind judged.decision.choice at_one.meets in
       inr (record {
         decision = judged.decision;
         among = among-decisions olds judged among;
         at = at_one.at;
         cause = record { file = opened.file; page = bad-page bytes (MayFollowIn bytes judged.decision) damage own };
-        first = record { damage = damage; met = met-unjudged (source_in bytes) damage score (stakes_of (head_of bytes)) olds met; told = refl };
+        first = record { damage = damage; met = met-unjudged (source_in bytes) damage score (stakes_of (front_head bytes)) olds met; told = refl };
       })

@@ -33,7 +33,7 @@ use Rattle.equity_report.specs.declared.text.GameName.{GameName}
 use Rattle.run_endings.specs.Loads.{game_told}
 use Rattle.run_endings.specs.Pages.{OfHeld}
 use Rattle.run_endings.specs.Scores.{score_file}
-use Rattle.record_commands.specs.ByFile.{IsDecisionFor, JudgesOne, head_of}
+use Rattle.record_commands.specs.ByFile.{IsDecisionFor, JudgesOne, front_head}
 use Rattle.record_commands.specs.MatchAnalyses.{HasTrueFile, HoldsTruth, IsJudgedByFile, game_at}
 use Rattle.record_commands.specs.Records.{match_length}
 use Rattle.record_commands.proofs.Recorded.{each-decision}
@@ -106,7 +106,7 @@ module _ (payoffs : PayoffsLieWithin) (rec : RecordRead) (points : ℕ) where
 
   one-true : (score : MatchScore) (bytes : List ℕ) (one : Judged) → IsDecisionInMatch rec.checkers points one.decision → one.decision.score ≡ Some score → JudgesOne (game_at rec score) bytes one → HoldsTruth bytes → IsTrueOne rec.checkers one
   one-true score bytes one in_match at judges truth =
-      let head = head_of bytes in
+      let head = front_head bytes in
       let told = told-game rec score head judges.file.game in
       let checkers = told-checkers rec score head judges.file.game in
       let stakes = told-stakes rec score head judges.file.game in

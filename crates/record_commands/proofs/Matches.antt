@@ -20,7 +20,7 @@ use Rattle.database_file.specs.PagedFiles.{PagedFile}
 use Rattle.equity_report.specs.declared.refusal.Refusal.{Refusal}
 use Rattle.run_endings.specs.Pages.{AreOnRightPages, OfHeld}
 use Rattle.run_endings.specs.Scores.{score_file}
-use Rattle.record_commands.specs.ByFile.{IsBadFor, IsFileOf, JudgesAt, JudgesList, JudgesOne, MayFollowIn, RefusesFile, RefusesFront, TellsFirstJudging}
+use Rattle.record_commands.specs.ByFile.{IsBadPageFor, IsFileOf, JudgesAt, JudgesList, JudgesOne, MayFollowIn, RefusesFile, RefusesFront, TellsFirstJudging}
 use Rattle.record_commands.specs.MatchAnalyses.{HasFile, HasNoNewScore, RestsOnRightPages, IsJudgedByFile, RefusesMatch, game_at, score_there}
 use Rattle.record_commands.proofs.ByFile.{Opened}
 use Rattle.record_commands.proofs.Recorded.{each-decision}
@@ -175,7 +175,7 @@ module _ (prefix : List ℕ) (rec : RecordRead) (held : Contents) where
       fronts = fronts;
       decision = one.decision;
       among = one.among;
-      cause = some-given (λ (s : MatchScore). OfHeld (held (score_file prefix s)) (IsBadFor (game_at rec s) one.decision refusal)) one.decision.score score one.at one.cause;
+      cause = some-given (λ (s : MatchScore). OfHeld (held (score_file prefix s)) (IsBadPageFor (game_at rec s) one.decision refusal)) one.decision.score score one.at one.cause;
       place = place;
       before = before;
       first = some-given (λ (s : MatchScore). OfHeld (held (score_file prefix s)) (TellsFirstJudging (Some s) decisions refusal)) (score_there decisions place) score is one.first;

@@ -34,7 +34,7 @@ use Rattle.equity_report.specs.declared.text.GameName.{GameName}
 use Rattle.equity_report.specs.declared.refusal.Refusal.{Refusal}
 use Rattle.run_endings.specs.Pages.{OfHeld}
 use Rattle.record_commands.specs.Analyses.{AnswersJudging, AnswersPlain, IsAnalysed, JudgesBy, JudgesPlain, RefusesAnalysis, RefusesBy}
-use Rattle.record_commands.specs.ByFile.{IsDecisionFor, JudgesAt, JudgesList, JudgesOne, head_of}
+use Rattle.record_commands.specs.ByFile.{IsDecisionFor, JudgesAt, JudgesList, JudgesOne, front_head}
 use Rattle.record_commands.specs.MatchAnalyses.{AnswersMatch}
 use Rattle.record_commands.specs.Records.{HoldsRecord, game_recorded, stakes_recorded}
 use Rattle.record_commands.specs.declared.record.Replayed.{Replayed}
@@ -87,7 +87,7 @@ module _ (law : Law) (rec : Record) (plain : is_match rec.stakes ≡ false) wher
     pub plain-judged : TruthLaw → (news : List Judged) → decisions_in news ≡ decisions_in olds → (held : Option (List ℕ)) → OfHeld held (JudgesList (game_recorded rec) None olds news) → OfHeld held (JudgesPlain rec (decisions_in olds) news)
     plain-judged truth news same None judges = absurd judges
     plain-judged truth news same (Some bytes) judges =
-        let head = head_of bytes in
+        let head = front_head bytes in
         let none = each-decision (λ (decision : Decision). decision.score ≡ None) olds (plain-scores rec plain (decisions_in olds) right) in
         let judged : All (JudgesOne (game_recorded rec) bytes) news = zipped-all (JudgesAt (game_recorded rec) None bytes) (IsAt None) (JudgesOne (game_recorded rec) bytes) (λ old new is here. is.judged here) olds news judges.each none in
         let own : All (IsDecisionOf (game_in head)) (decisions_in olds) = λ i d below. plain-decision (get_or (decisions_in olds) i d) (right i d below) head judges.file.game judges.file.valid in

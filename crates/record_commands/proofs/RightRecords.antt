@@ -6,7 +6,7 @@ use Rattle.outside_log.specs.Files.{Contents}
 use Rattle.cube_actions.specs.Ladder.{IsOfMatch}
 use Rattle.cube_actions.specs.Scores.{MatchScore}
 use Rattle.game_record.specs.Faults.{IsBad}
-use Rattle.game_record.specs.Lines.{IsRecord, IsTextOf}
+use Rattle.game_record.specs.Lines.{IsRecord, IsRecordText}
 use Rattle.game_record.specs.Replay.{IsBroken, IsReplay}
 use Rattle.game_record.specs.RightDecisions.{IsRightDecision}
 use Rattle.game_record.specs.Turns.{is_match}
@@ -30,7 +30,7 @@ use Rattle.run_endings.specs.Endings.{IsOutside}
 use Rattle.run_endings.specs.Pages.{OfHeld, RefusesOpening}
 use Rattle.run_endings.specs.Scores.{score_file}
 use Rattle.record_commands.specs.Analyses.{MayRefuseAnalysis, RefusesAnalysis, RefusesBy}
-use Rattle.record_commands.specs.ByFile.{IsBadFor, IsDecisionFor, RefusesFile, RefusesFront, head_of}
+use Rattle.record_commands.specs.ByFile.{IsBadPageFor, IsDecisionFor, RefusesFile, RefusesFront, front_head}
 use Rattle.record_commands.specs.MatchAnalyses.{RefusesMatch, game_at, score_there}
 use Rattle.record_commands.specs.Records.{HoldsRecord, RefusesRecord, game_recorded}
 use Rattle.record_commands.specs.RightRecords.{CanJudge, CanJudgeAll, CanJudgeAtScore, CanJudgeBy, HasRightFront, HasRightPages, IsRightForAnalysing, IsRightForStudying}
@@ -45,10 +45,10 @@ use Rattle.record_commands.proofs.Recorded.{plain-decision}
 
 -- the laws on texts and replays of records
 abbrev NoFault : Type 0
-NoFault = (text : List ℕ) (rec : RecordRead) (bad : BadRecord) → IsTextOf text rec → IsBad text bad → ⊥
+NoFault = (text : List ℕ) (rec : RecordRead) (bad : BadRecord) → IsRecordText text rec → IsBad text bad → ⊥
 
 abbrev OneRecord : Type 0
-OneRecord = (text : List ℕ) (rec other : RecordRead) → IsTextOf text rec → IsTextOf text other → rec ≡ other
+OneRecord = (text : List ℕ) (rec other : RecordRead) → IsRecordText text rec → IsRecordText text other → rec ≡ other
 
 abbrev OneReplay : Type 0
 OneReplay = (rec : RecordRead) (told others : List Decision) → IsReplay rec told → IsReplay rec others → told ≡ others
@@ -92,7 +92,7 @@ right-front wanted name None refusal has r = absurd has
 right-front wanted name (Some bytes) refusal has (inl r) = right-opens name bytes has.front refusal r
 right-front wanted name (Some bytes) refusal has (inr other) = absurd (other.other.1 has.game)
 
-right-page : (wanted : GameName) (decision : Decision) (held : Option (List ℕ)) (refusal : Refusal) → OfHeld held (CanJudge wanted decision) → OfHeld held (IsBadFor wanted decision refusal) → ⊥
+right-page : (wanted : GameName) (decision : Decision) (held : Option (List ℕ)) (refusal : Refusal) → OfHeld held (CanJudge wanted decision) → OfHeld held (IsBadPageFor wanted decision refusal) → ⊥
 right-page wanted decision None refusal can bad = can
 right-page wanted decision (Some bytes) refusal can bad =
     none-some refusal (sym (ap (option_map (λ (flaw : Flaw). File (bad_of flaw))) (can.pages bad.page.position bad.page.kind bad.page.among)) ∙ bad.page.page)
@@ -125,7 +125,7 @@ module _ (prefix : List ℕ) (rec : RecordRead) (held : Contents) where
   right-score (Some score) refusal has r = right-front (game_at rec score) (score_file prefix score) (held (score_file prefix score)) refusal has r
 
   right-one : (decision : Decision) (score : Option MatchScore) (refusal : Refusal) → IfSome score (λ score. OfHeld (held (score_file prefix score)) (CanJudge (game_at rec score) decision))
-      → IsSomeAnd score (λ score. OfHeld (held (score_file prefix score)) (IsBadFor (game_at rec score) decision refusal)) → ⊥
+      → IsSomeAnd score (λ score. OfHeld (held (score_file prefix score)) (IsBadPageFor (game_at rec score) decision refusal)) → ⊥
   right-one decision None refusal can bad = bad
   right-one decision (Some score) refusal can bad = right-page (game_at rec score) decision (held (score_file prefix score)) refusal can bad
 
@@ -169,10 +169,10 @@ RightDecisions = (rec : RecordRead) (told : List Decision) → IsRecord rec → 
 -- a file of a decision's game can judge it
 can-judge : (wanted : GameName) (decision : Decision) (bytes : List ℕ) → HasRightPages wanted bytes → IsDecisionFor wanted decision → CanJudge wanted decision bytes
 can-judge wanted decision bytes has for_game =
-    let of = for_game (head_of bytes) has.front.game has.game in
+    let of = for_game (front_head bytes) has.front.game has.game in
     record {
       front = has.front;
-      pages = λ q j may. has.pages q j (choice-state (game_in (head_of bytes)) has.game decision.position decision.kind of.state decision.choice of.choice q j may);
+      pages = λ q j may. has.pages q j (choice-state (game_in (front_head bytes)) has.game decision.position decision.kind of.state decision.choice of.choice q j may);
     }
 
 pub plain-can-judge : Law → RightDecisions → (rec : RecordRead) (decisions : List Decision) (bytes : List ℕ) → IsRecord rec → IsReplay rec decisions → is_match rec.stakes ≡ false → HasRightPages (game_recorded rec) bytes

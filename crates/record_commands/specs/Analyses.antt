@@ -16,7 +16,7 @@ use Rattle.record_reports.specs.Analyses.{analysis_text}
 use Rattle.equity_report.specs.declared.refusal.Refusal.{Refusal}
 use Rattle.run_endings.specs.Endings.{Ending, IsOutside, Tells}
 use Rattle.run_endings.specs.Pages.{HavePairsOf, OfHeld}
-use Rattle.record_commands.specs.ByFile.{IsFileOf, JudgesOne, RefusesFile, head_of}
+use Rattle.record_commands.specs.ByFile.{IsFileOf, JudgesOne, RefusesFile, front_head}
 use Rattle.record_commands.specs.MatchAnalyses.{JudgesMatch, RefusesMatch}
 use Rattle.record_commands.specs.Records.{HoldsRecord, RefusesRecord, game_recorded}
 use Rattle.record_commands.specs.declared.record.Replayed.{Replayed}
@@ -30,8 +30,8 @@ pub record JudgesPlain (rec : RecordRead) (decisions : List Decision) (list : Li
   pub file : IsFileOf (game_recorded rec) bytes
   pub decisions_are : decisions_in list ≡ decisions
   pub judged : All (JudgesOne (game_recorded rec) bytes) list
-  pub true : (u : Words) → HavePairsOf bytes u → AreSound (game_in (head_of bytes)) u
-      → IsTrueAnalysis (game_in (head_of bytes)) list
+  pub true : (u : Words) → HavePairsOf bytes u → AreSound (game_in (front_head bytes)) u
+      → IsTrueAnalysis (game_in (front_head bytes)) list
 
 -- The decisions of a record are judged: in a match by the files of its scores, whose names begin so, and else by the file of this name.
 abbrev pub JudgesBy : Bool → List ℕ → Replayed → Contents → List Judged → Type 0

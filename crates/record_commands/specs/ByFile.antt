@@ -30,15 +30,15 @@ use Rattle.run_endings.specs.Pages.{AnswersSought, AreOnRightPages, HavePairsOf,
 -- ---- a file of a game
 
 -- what stands before the pages of a file
-abbrev pub head_of : List ℕ → FileHead
-head_of bytes = head_in (header_of_file bytes) bytes
+abbrev pub front_head : List ℕ → FileHead
+front_head bytes = head_in (header_of_file bytes) bytes
 
 -- a file of the game that is wanted, right as far as its pages
 pub record IsFileOf (wanted : GameName) (bytes : List ℕ) : Type 0 where
   pub front : fault_before_pages (whole bytes) ≡ None
-  pub game : game_told (head_of bytes) ≡ wanted
-  pub head : IsHead (head_of bytes)
-  pub valid : IsGame (game_in (head_of bytes))
+  pub game : game_told (front_head bytes) ≡ wanted
+  pub head : IsHead (front_head bytes)
+  pub valid : IsGame (game_in (front_head bytes))
 
 -- a right head, of another game than is wanted, as the refusal tells
 abbrev pub IsOther : GameName → FileHead → Refusal → Type 0
@@ -62,7 +62,7 @@ IsDecisionFor wanted decision =
 -- the states on which it rests what a decision loses by a file
 abbrev pub MayFollowIn : List ℕ → Decision → States
 MayFollowIn bytes decision =
-    MayFollowChoice (stakes_of (head_of bytes)) decision.position decision.kind decision.choice
+    MayFollowChoice (stakes_of (front_head bytes)) decision.position decision.kind decision.choice
 
 -- A file judges a decision: it is of the game that is wanted, the pages on which the loss rests are right, and this is the loss over any words that
 -- have the pairs of the file's right pages.
@@ -70,10 +70,10 @@ pub record JudgesOne (wanted : GameName) (bytes : List ℕ) (one : Judged) : Typ
   pub file : IsFileOf wanted bytes
   pub pages : AreOnRightPages bytes (MayFollowIn bytes one.decision)
   pub over : (u : Words) → HavePairsOf bytes u
-      → one.loss ≡ Some (lost (stakes_of (head_of bytes)) u one.decision)
+      → one.loss ≡ Some (lost (stakes_of (front_head bytes)) u one.decision)
 
 -- a file of the game that is wanted, and this is wrong with the page of a state on which it rests what a decision loses
-pub record IsBadFor (wanted : GameName) (decision : Decision) (refusal : Refusal)
+pub record IsBadPageFor (wanted : GameName) (decision : Decision) (refusal : Refusal)
     (bytes : List ℕ) : Type 0 where
   pub file : IsFileOf wanted bytes
   pub page : IsOnBadPage bytes (MayFollowIn bytes decision) refusal
@@ -81,7 +81,7 @@ pub record IsBadFor (wanted : GameName) (decision : Decision) (refusal : Refusal
 -- this tells the damage that is met first where a file judges the decisions that were made at a score
 abbrev pub TellsFirstJudging : Option MatchScore → List Decision → Refusal → List ℕ → Type 0
 TellsFirstJudging score decisions refusal bytes = TellsFirst bytes
-    (MeetsOnDecisions score (stakes_of (head_of bytes)) (map unjudged decisions)) refusal
+    (MeetsOnDecisions score (stakes_of (front_head bytes)) (map unjudged decisions)) refusal
 
 -- the file of this name can't judge one of these decisions, which was made at the score, and the damage that is met first is told
 pub record RefusesOne (wanted : GameName) (score : Option MatchScore) (decisions : List Decision)
@@ -89,7 +89,7 @@ pub record RefusesOne (wanted : GameName) (score : Option MatchScore) (decisions
   pub decision : Decision
   pub among : Contains decisions decision
   pub at : decision.score ≡ score
-  pub cause : OfHeld held (IsBadFor wanted decision refusal)
+  pub cause : OfHeld held (IsBadPageFor wanted decision refusal)
   pub first : OfHeld held (TellsFirstJudging score decisions refusal)
 
 -- the file of this name is refused before its pages are looked at, or can't judge one of the decisions that were made at the score
@@ -104,18 +104,18 @@ RefusesFile wanted name score decisions refusal held =
 pub record IsOpenedFor (wanted : GameName) (bytes : List ℕ) : Type 0 where
   pub file : IsFileOf wanted bytes
   pub valid : IsHeader (header_of_file bytes)
-  pub source : IsSourceOfHead (paged_source (header_of_file bytes) (Some bytes)) (head_of bytes)
+  pub source : IsSourceOfHead (paged_source (header_of_file bytes) (Some bytes)) (front_head bytes)
 
 -- what stands in these bytes before the pages
-pub record IsBaseOf (base : PagedFile) (bytes : List ℕ) : Type 0 where
+pub record IsFrontOf (base : PagedFile) (bytes : List ℕ) : Type 0 where
   pub header : base.header ≡ header_of_file bytes
-  pub head : base.head ≡ head_of bytes
+  pub head : base.head ≡ front_head bytes
 
 -- a file of the game that is wanted was opened, or this refuses it
-abbrev pub AnswersFront : GameName → List ℕ → Option (List ℕ) → Result PagedFile Refusal → Type 0
-AnswersFront wanted name held (Ok base) =
-    OfHeld held (λ bytes. IsOpenedFor wanted bytes × IsBaseOf base bytes)
-AnswersFront wanted name held (Err refusal) = RefusesFront wanted name refusal held
+abbrev pub AnswersFileOf : GameName → List ℕ → Option (List ℕ) → Result PagedFile Refusal → Type 0
+AnswersFileOf wanted name held (Ok base) =
+    OfHeld held (λ bytes. IsOpenedFor wanted bytes × IsFrontOf base bytes)
+AnswersFileOf wanted name held (Err refusal) = RefusesFront wanted name refusal held
 
 -- the decisions at a score were judged, as they are looked up in a file
 abbrev pub AnswersLooking : PagedFile → Option (List ℕ) → Option MatchScore → List Judged

@@ -4,7 +4,7 @@ use Rattle.outside_log.specs.Log.{Event}
 use Rattle.outside_log.specs.Readings.{WritesFile}
 use Rattle.outside_log.specs.Sink.{Output}
 use Rattle.game_record.specs.declared.line.Line.TheVariants.{Title}
-use Rattle.game_record.specs.Lines.{IsTextOf, is_line_end, lines_text}
+use Rattle.game_record.specs.Lines.{IsRecordText, is_line_end, lines_text}
 use Rattle.game_record.specs.Replay.{IsReplay}
 use Rattle.game_record.specs.declared.decision.Decision.{Decision}
 use Rattle.game_record.specs.declared.record.Record.{Record}
@@ -22,7 +22,7 @@ use Rattle.record_commands.specs.declared.make.MadeRecord.{MadeRecord}
 pub record IsMadeFor (task : Make) (made : MadeRecord) : Type 0 where
   pub rec : Record
   pub drawn : IsMade task.number task.games rec
-  pub text : IsTextOf made.text.items rec
+  pub text : IsRecordText made.text.items rec
   pub decisions : List Decision
   pub replay : IsReplay rec decisions
   pub studied : AreStudied (game_of_record rec) 8 decisions made.analysis

@@ -15,7 +15,7 @@ use Rattle.equity_report.specs.declared.text.GameName.{GameName}
 use Rattle.equity_report.specs.declared.refusal.Refusal.{Refusal}
 use Rattle.run_endings.specs.Pages.{AreOnRightPages, HavePairsOf, OfHeld}
 use Rattle.run_endings.specs.Scores.{score_file}
-use Rattle.record_commands.specs.ByFile.{IsBadFor, IsFileOf, JudgesOne, MayFollowIn, RefusesFile, RefusesFront, TellsFirstJudging, head_of}
+use Rattle.record_commands.specs.ByFile.{IsBadPageFor, IsFileOf, JudgesOne, MayFollowIn, RefusesFile, RefusesFront, TellsFirstJudging, front_head}
 use Rattle.record_commands.specs.Records.{match_length}
 
 -- ---- the files of scores
@@ -51,8 +51,8 @@ IsJudgedByFile prefix rec held one =
 pub record HoldsTruth (bytes : List ℕ) : Type 0 where
   pub words : Words
   pub pairs : HavePairsOf bytes words
-  pub sound : AreSound (game_in (head_of bytes)) words
-  pub starts : AreTrueStarts (head_of bytes).checkers (head_of bytes).starts
+  pub sound : AreSound (game_in (front_head bytes)) words
+  pub starts : AreTrueStarts (front_head bytes).checkers (front_head bytes).starts
 
 -- what the file of the score of its own game holds is true
 abbrev pub HasTrueFile : List ℕ → Contents → Judged → Type 0
@@ -94,7 +94,7 @@ pub record RefusesPage (prefix : List ℕ) (rec : RecordRead) (decisions : List 
   pub decision : Decision
   pub among : Contains decisions decision
   pub cause : IsSomeAnd decision.score (λ score.
-      OfHeld (held (score_file prefix score)) (IsBadFor (game_at rec score) decision refusal))
+      OfHeld (held (score_file prefix score)) (IsBadPageFor (game_at rec score) decision refusal))
   pub place : ℕ
   pub before : (earlier : ℕ) → earlier < place
       → RestsOnRightPages prefix held decisions (score_there decisions earlier)

@@ -3,7 +3,7 @@ use Rattle.std.specs.Prelude.{◌≡◌, ◌⊎◌, ◌≤◌, ℕ, List, length
 use Rattle.cube_actions.specs.declared.name.StakesName.{StakesName}
 use Rattle.game_record.specs.Faults.{IsBad}
 use Rattle.game_record.specs.Kinds.{game_stakes}
-use Rattle.game_record.specs.Lines.{IsRecord, IsTextOf}
+use Rattle.game_record.specs.Lines.{IsRecord, IsRecordText}
 use Rattle.game_record.specs.Replay.{IsBroken, IsReplay}
 use Rattle.game_record.specs.RightDecisions.{IsRightDecision}
 use Rattle.game_record.specs.Standings.{first_standing}
@@ -45,12 +45,13 @@ game_recorded rec = record {
 
 -- these bytes are the text of a record that breaks no rule, with these decisions
 pub record HoldsRecord (bytes : List ℕ) (replayed : Replayed) : Type 0 where
-  pub text : IsTextOf bytes replayed.rec
+  pub text : IsRecordText bytes replayed.rec
   pub replay : IsReplay replayed.rec replayed.decisions
 
 -- the first line that is wrong in these bytes: they are no record's text, or else that record breaks a rule
 abbrev pub IsWrongIn : List ℕ → BadRecord → Type 0
-IsWrongIn bytes bad = IsBad bytes bad ⊎ ((rec : RecordRead) × IsTextOf bytes rec × IsBroken rec bad)
+IsWrongIn bytes bad =
+    IsBad bytes bad ⊎ ((rec : RecordRead) × IsRecordText bytes rec × IsBroken rec bad)
 
 -- a right record, and no more decisions than one can have, each of which could be made
 pub record IsRightReplayed (replayed : Replayed) : Type 0 where

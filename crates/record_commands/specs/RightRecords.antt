@@ -14,7 +14,7 @@ use Rattle.command_line.specs.declared.command.Study.{Study}
 use Rattle.run_endings.specs.Loads.{game_told}
 use Rattle.run_endings.specs.Pages.{AreOnRightPages, OfHeld}
 use Rattle.run_endings.specs.Scores.{score_file}
-use Rattle.record_commands.specs.ByFile.{MayFollowIn, head_of}
+use Rattle.record_commands.specs.ByFile.{MayFollowIn, front_head}
 use Rattle.record_commands.specs.MatchAnalyses.{game_at}
 use Rattle.record_commands.specs.Records.{HoldsRecord, game_recorded}
 use Rattle.record_commands.specs.declared.record.Replayed.{Replayed}
@@ -22,7 +22,7 @@ use Rattle.record_commands.specs.declared.record.Replayed.{Replayed}
 -- the file is of the game that is wanted, and nothing is wrong with what stands before its pages
 pub record HasRightFront (wanted : GameName) (bytes : List ℕ) : Type 0 where
   pub front : fault_before_pages (whole bytes) ≡ None
-  pub game : game_told (head_of bytes) ≡ wanted
+  pub game : game_told (front_head bytes) ≡ wanted
 
 -- so it is, and the pages are right on which it rests what the decision loses
 pub record CanJudge (wanted : GameName) (decision : Decision) (bytes : List ℕ) : Type 0 where
@@ -32,8 +32,8 @@ pub record CanJudge (wanted : GameName) (decision : Decision) (bytes : List ℕ)
 -- the same, and each state of its game stands on a right page
 pub record HasRightPages (wanted : GameName) (bytes : List ℕ) : Type 0 where
   pub front : HasRightFront wanted bytes
-  pub game : IsGame (game_in (head_of bytes))
-  pub pages : AreOnRightPages bytes (IsState (game_in (head_of bytes)))
+  pub game : IsGame (game_in (front_head bytes))
+  pub pages : AreOnRightPages bytes (IsState (game_in (front_head bytes)))
 
 -- the file can judge each of these decisions of its game
 pub record CanJudgeAll (wanted : GameName) (decisions : List Decision)

@@ -8,7 +8,7 @@ ghost use Rattle.game_record.specs.Turns.{is_match};
 ghost use Rattle.record_study.specs.Keeping.{IsDecisionInMatch, decisions_in};
 ghost use Rattle.run_endings.specs.Endings.{IsOfShowing};
 ghost use Rattle.run_endings.specs.Scores.{score_file};
-ghost use Rattle.record_commands.specs.ByFile.{AnswersFile, AnswersFront};
+ghost use Rattle.record_commands.specs.ByFile.{AnswersFile, AnswersFileOf};
 ghost use Rattle.record_commands.specs.MatchAnalyses.{AnswersChecks, AnswersMatch, AnswersScores, HasNoNewScore, game_at, score_there};
 ghost use Rattle.record_commands.specs.Records.{match_length};
 
@@ -66,7 +66,7 @@ fn open_at<F: Files>(
 ) -> Result<PagedBase, Refusal>
     requires { length prefix.now ≤ 255 }
     ensures told { IsTrue (is_faithful (F.log files.new))
-        → AnswersFront (game_at rec.now score) (score_file prefix.now score)
+        → AnswersFileOf (game_at rec.now score) (score_file prefix.now score)
         (standing (F.log files.old) (score_file prefix.now score)) result }
     ensures reads { ReadsOn (F.log files.old) (F.log files.new) }
     ensures later { read_faults (F.log files.old) ≤ read_faults (F.log files.new) }

@@ -12,7 +12,7 @@ ghost use Rattle.record_study.specs.Keeping.{decisions_in};
 ghost use Rattle.equity_report.specs.declared.refusal.Refusal.TheVariants.{Read};
 ghost use Rattle.run_endings.specs.Loads.{game_told};
 ghost use Rattle.run_endings.specs.Endings.{IsOfShowing};
-ghost use Rattle.record_commands.specs.ByFile.{AnswersFile, AnswersFront, AnswersLooking, IsDecisionFor};
+ghost use Rattle.record_commands.specs.ByFile.{AnswersFile, AnswersFileOf, AnswersLooking, IsDecisionFor};
 
 use cube_actions::Score;
 use database_file::PagedBase;
@@ -40,7 +40,7 @@ pub(crate) fn open_for<F: Files>(
 ) -> Result<PagedBase, Refusal>
     requires { length name.now ≤ 272 }
     ensures told { IsTrue (is_faithful (F.log files.new))
-        → AnswersFront wanted name.now (standing (F.log files.old) name.now) result }
+        → AnswersFileOf wanted name.now (standing (F.log files.old) name.now) result }
     ensures game { IfOk result (λ base. game_told base.head ≡ wanted) }
     ensures right { IfOk result (λ base. IsGame (game_in base.head)) }
     ensures name { IfOk result (λ base. base.name ≡ name.now) }

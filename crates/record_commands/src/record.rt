@@ -2,7 +2,7 @@ ghost use Rattle.std.specs.Prelude.{◌≡◌, ◌≤◌, IfErr, IfOk, Err, leng
 ghost use Rattle.hyper_outside.specs.Causes.{Rose};
 ghost use Rattle.outside_log.specs.Log.{standing};
 ghost use Rattle.outside_log.specs.Readings.{ReadsOn, is_faithful, read_faults};
-ghost use Rattle.game_record.specs.Lines.{AreStakes, IsRecord};
+ghost use Rattle.game_record.specs.Lines.{AreRecordStakes, IsRecord};
 ghost use Rattle.game_record.specs.Turns.{is_match};
 ghost use Rattle.equity_report.specs.declared.refusal.Refusal.TheVariants.{Read};
 ghost use Rattle.record_commands.specs.Records.{AnswersRecord, AnswersText, IsRightReplayed, TellsUnread, game_recorded, match_length, record_refusal, stakes_recorded};
@@ -26,7 +26,7 @@ pub struct Replayed {
 
 /// What a record is played for, in a match at the score of its first game.
 fn stakes_recorded(stakes: RecordStakes) -> StakesName
-    requires { AreStakes stakes }
+    requires { AreRecordStakes stakes }
     ensures { result ≡ stakes_recorded stakes }
 {
     match stakes {

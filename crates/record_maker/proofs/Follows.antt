@@ -27,13 +27,13 @@ use Rattle.game_record.specs.declared.record.What.TheVariants.{Rolled, Doubled, 
 use Rattle.game_record.specs.declared.stage.Next.{Next}
 use Rattle.game_record.specs.declared.stage.Next.TheVariants.{FirstGame, FirstRoll, Turn as TurnNext, Answer as AnswerNext, Roll as RollNext, End, NextGame, Close, Nothing as NothingNext}
 use Rattle.game_record.specs.declared.stage.Stage.{Stage}
-use Rattle.game_record.specs.Games.{counted, is_over, worth}
+use Rattle.game_record.specs.Games.{counted, is_over, won_worth}
 use Rattle.game_record.specs.Lines.{FitsNext, Follow, IsWrittenPlay, UpTo, ending_line, game_lines, games_lines, record_lines}
 use Rattle.game_record.specs.Turns.{after, first_stage, kind_of, kind_of_deed, stage_after}
 use Rattle.record_maker.specs.declared.due.Due.{Due}
 use Rattle.record_maker.specs.declared.due.Due.TheVariants.{Start, Turn, Answer, Roll, Nothing}
-use Rattle.record_maker.specs.Draws.{start_of, two_dice}
-use Rattle.record_maker.specs.Making.{AllDo, AllMade, Ends, IsDone, IsMade, Makes, Moment, Plays, Sheet, begun, due_after, first_sheet, is_turn, undoubled_words}
+use Rattle.record_maker.specs.Draws.{start_drawn, two_dice}
+use Rattle.record_maker.specs.Making.{AllDo, AllMade, IsEnd, IsDone, IsMade, AddsGame, Moment, Plays, Sheet, begun, due_after, first_sheet, is_turn, undoubled_words}
 use Rattle.record_maker.specs.Sizes.{is_full}
 use Rattle.record_maker.proofs.Replays.{dice-roll, none-left, start-opens}
 
@@ -115,7 +115,7 @@ roll-fits player from roll words Beavered to plays = absurd plays
 
 done-comes : (due : Due) (from : Moment) (player : Player) (what : What) (to : Moment) → IsDone due from player what to → Comes due player what
 done-comes Start from player what to done =
-    let start = start_of from.words in
+    let start = start_drawn from.words in
     let opens = start-opens 32 from.words in
     (plays-first player from.game start.roll start.after what to done.1, plays-unequal from.game player start.roll start.after what to opens.1 done.1, plays-written from.game player start.roll start.after what to opens.0 done.1)
 done-comes (Turn asked) from player what to done =
@@ -149,7 +149,7 @@ none-over game due going over = absurd (both (is_over game) going over) where
 
 counted-few : (cube : Cube) (won : Won) → UpTo 3 (counted Jacoby cube won)
 counted-few cube won = by (is_none cube.owner) won where
-  by : (centred : Bool) (won : Won) → UpTo 3 (if true && centred then 1 else worth won)
+  by : (centred : Bool) (won : Won) → UpTo 3 (if true && centred then 1 else won_worth won)
   by true won = (omega arith, omega arith)
   by false Single = (omega arith, omega arith)
   by false Gammon = (omega arith, omega arith)
@@ -182,7 +182,7 @@ by-play : (from : Progress) (player : Player) (roll : Dice) (words : Lcg) (what 
 by-play from player roll words what to plays = (λ _. plays-turn from player roll words what to plays, plays-end from player roll words what to plays)
 
 done-ends : (due : Due) (from : Moment) (player : Player) (what : What) (to : Moment) → is_over from.game ≡ false → CanEnd from → IsDone due from player what to → EndsRight (due_after player what) to.game
-done-ends Start from player what to going can done = by-play from.game player (start_of from.words).roll (start_of from.words).after what to done.1
+done-ends Start from player what to going can done = by-play from.game player (start_drawn from.words).roll (start_drawn from.words).after what to done.1
 done-ends (Turn asked) from player Doubled to going can done = subst (EndsRight (due_after player Doubled)) (sym done.1.1) (none-over from.game (due_after player Doubled) going, can.won)
 done-ends (Turn asked) from player (Rolled roll written) to going can done = by-play from.game player (two_dice (undoubled_words from player)).0 (two_dice (undoubled_words from player)).1 (Rolled roll written) to done.1.1
 done-ends (Turn asked) from player Took to going can done = absurd done.1.1
@@ -214,7 +214,7 @@ abbrev pub next_after : Ending → Next
 next_after (Ended winner points) = NextGame
 next_after Stopped = Close
 
-end-follows : (games : ℕ) (now : Moment) (ending : Ending) → CanEnd now → Ends now ending → Follow (stage_at (next_of now.due) games) (ending_line ending ∷ []) (stage_at (next_after ending) games)
+end-follows : (games : ℕ) (now : Moment) (ending : Ending) → CanEnd now → IsEnd now ending → Follow (stage_at (next_of now.due) games) (ending_line ending ∷ []) (stage_at (next_after ending) games)
 end-follows games now (Ended winner points) can won = by now.due (can.over (ap is_some won)) where
   few : UpTo 3 points
   few = subst (λ (w : Option Win). IfSome w (λ win. UpTo 3 win.points)) won can.won
@@ -244,7 +244,7 @@ begin-comes FirstGame may = refl
 begin-comes NextGame may = refl
 begin-comes _ may = absurd may
 
-game-follows : (next : Next) (sheet : Sheet) (game : Game) (later : Sheet) → MayBegin next → Makes sheet game later → Follow (stage_at next sheet.games) (game_lines (sheet.games + 1) game) (stage_at (next_after game.ending) (sheet.games + 1))
+game-follows : (next : Next) (sheet : Sheet) (game : Game) (later : Sheet) → MayBegin next → AddsGame sheet game later → Follow (stage_at next sheet.games) (game_lines (sheet.games + 1) game) (stage_at (next_after game.ending) (sheet.games + 1))
 game-follows next sheet game later may makes =
     let number = sheet.games + 1 in
     let opens : CanEnd (begun sheet) = record { over = λ over. absurd (cc); won = tt } in
@@ -263,7 +263,7 @@ MayClose _ = ⊥
 abbrev pub FollowOn : Next → ℕ → List Line → Type 0
 FollowOn next games lines = (last : Next) × (count : ℕ) × MayClose last × Follow (stage_at next games) lines (stage_at last count)
 
-one-follows : (next : Next) (sheet : Sheet) (game : Game) (later : Sheet) (games : List Game) (end : Sheet) → MayBegin next → Makes sheet game later → AllMade later games end
+one-follows : (next : Next) (sheet : Sheet) (game : Game) (later : Sheet) (games : List Game) (end : Sheet) → MayBegin next → AddsGame sheet game later → AllMade later games end
     → ((winner : Player) (points : ℕ) → game.ending ≡ Ended winner points → FollowOn NextGame later.games (games_lines (later.games + 1) games))
     → FollowOn next sheet.games (games_lines (sheet.games + 1) (game ∷ games))
 one-follows next sheet game later games end may makes all on = by game.ending refl games all on where

@@ -4,18 +4,18 @@ use Rattle.std.proofs.lemmas.Bool.Decides.{nat_tests}
 use Rattle.game_record.specs.declared.record.Game.{Game}
 use Rattle.record_maker.specs.declared.size.Size.{Size}
 use Rattle.record_maker.specs.declared.state.Maker.{Maker}
-use Rattle.record_maker.specs.Makers.{HasRoom, makes_another, sheet_of}
-use Rattle.record_maker.specs.Making.{AllMade, Makes, Sheet, first_sheet}
+use Rattle.record_maker.specs.Makers.{HasLinesLeft, makes_another, sheet_of}
+use Rattle.record_maker.specs.Making.{AllMade, AddsGame, Sheet, first_sheet}
 use Rattle.record_maker.specs.Sizes.{is_full}
 
 -- so many games were made
 pub record HasMade (number most : ℕ) (games : List Game) (maker : Maker) (count : ℕ) : Type 0 where
   pub made : AllMade (first_sheet number) games (sheet_of maker count)
-  pub room : HasRoom 3 maker.size
+  pub room : HasLinesLeft 3 maker.size
   pub few : count ≤ most
 
-pub all-made-more : (start : Sheet) (games : List Game) (now : Sheet) (game : Game) (next : Sheet) → AllMade start games now → Makes now game next → AllMade start (games ++ game ∷ []) next
-all-made-more start [] now game next all one = (next, subst (λ (from : Sheet). Makes from game next) all one, refl)
+pub all-made-more : (start : Sheet) (games : List Game) (now : Sheet) (game : Game) (next : Sheet) → AllMade start games now → AddsGame now game next → AllMade start (games ++ game ∷ []) next
+all-made-more start [] now game next all one = (next, subst (λ (from : Sheet). AddsGame from game next) all one, refl)
 all-made-more start (first ∷ games) now game next (after, makes, all) one = (after, makes, all-made-more after games now game next all one)
 
 -- no more are made where there are as many as are wanted, or too much text

@@ -23,8 +23,8 @@ use Rattle.game_record.specs.Turns.{first_stage, stage_after}
 use Rattle.game_record.proofs.LineForms.{line-no-end}
 use Rattle.record_maker.specs.declared.size.Size.{Size}
 use Rattle.record_maker.specs.Makers.{IsDrawn}
-use Rattle.record_maker.specs.Making.{AllDo, AllMade, Makes, Moment, Sheet, begun, ending_text, first_sheet, game_text}
-use Rattle.record_maker.specs.Sizes.{no_text, with_line}
+use Rattle.record_maker.specs.Making.{AllDo, AllMade, AddsGame, Moment, Sheet, begun, ending_text, first_sheet, game_line_text}
+use Rattle.record_maker.specs.Sizes.{empty_size, with_line}
 use Rattle.record_maker.proofs.Follows.{made-follows}
 
 -- ---- sizes
@@ -61,15 +61,15 @@ ending-same : (ending : Ending) → ending_text ending ≡ line_text (ending_lin
 ending-same (Ended winner points) = refl
 ending-same Stopped = refl
 
-game-same : (number : ℕ) → game_text number ≡ line_text (GameLine number None)
+game-same : (number : ℕ) → game_line_text number ≡ line_text (GameLine number None)
 game-same number = ap (λ (digits : List ℕ). codes "game " ++ digits) (sym (append-nil (decimal number)))
 
-game-grows : (sheet : Sheet) (game : Game) (next : Sheet) → Makes sheet game next → Grows sheet.size (game_lines (sheet.games + 1) game) next.size
+game-grows : (sheet : Sheet) (game : Game) (next : Sheet) → AddsGame sheet game next → Grows sheet.size (game_lines (sheet.games + 1) game) next.size
 game-grows sheet game next makes =
     let ending = by-line makes.end.size (ending_line game.ending) (ending_text game.ending) next.size [] next.size makes.size (ap length (ending-same game.ending)) (none-grows next.size) in
     let acts = more-grow (begun sheet).size (map Acted game.actions) (ending_line game.ending ∷ []) makes.end.size next.size (all-grow (begun sheet) game.actions makes.end makes.acts) ending in
     subst (λ (away : Option (ℕ × ℕ)). Grows sheet.size (GameLine (sheet.games + 1) away ∷ map Acted game.actions ++ ending_line game.ending ∷ []) next.size) (sym makes.away)
-    (by-line sheet.size (GameLine (sheet.games + 1) None) (game_text (sheet.games + 1)) (begun sheet).size (map Acted game.actions ++ ending_line game.ending ∷ []) next.size refl (ap length (game-same (sheet.games + 1))) acts)
+    (by-line sheet.size (GameLine (sheet.games + 1) None) (game_line_text (sheet.games + 1)) (begun sheet).size (map Acted game.actions ++ ending_line game.ending ∷ []) next.size refl (ap length (game-same (sheet.games + 1))) acts)
 
 games-grow : (sheet : Sheet) (games : List Game) (end : Sheet) → AllMade sheet games end → Grows sheet.size (games_lines (sheet.games + 1) games) end.size
 games-grow sheet [] end all = subst (λ (s : Sheet). Grows sheet.size [] s.size) (sym all) (none-grows sheet.size)
@@ -129,18 +129,18 @@ drawn-record number count rec some drawn =
     let grown = games-grow (first_sheet number) rec.games made.end made.games in
     let closed = by-line made.end.size Closed (line_text Closed) (with_line made.end.size (line_text Closed)) [] (with_line made.end.size (line_text Closed)) refl refl (none-grows (with_line made.end.size (line_text Closed))) in
     let behind = more-grow (first_sheet number).size (games_lines 1 rec.games) (Closed ∷ []) made.end.size (with_line made.end.size (line_text Closed)) grown closed in
-    let title = with_line no_text (codes "hypergammon record 1") in
+    let title = with_line empty_size (codes "hypergammon record 1") in
     let checkers = with_line title (codes "checkers 1") in
     let end = with_line made.end.size (line_text Closed) in
     let digit = length_one 1 (omega arith) in
     let checkers_long : length (codes "checkers 1") ≡ length (line_text (CheckersLine 1)) = (let parts = length-append (codes "checkers ") (decimal 1) in let one : length (codes "checkers ") ≡ 9 = refl in let all : length (codes "checkers 1") ≡ 10 = refl in omega (arith, parts, one, all, digit)) in
     let games = games_lines 1 rec.games ++ Closed ∷ [] in
-    let plain : Grows no_text (TitleLine ∷ CheckersLine 1 ∷ StakesLine Jacoby ∷ games) end =
-    by-line no_text TitleLine (codes "hypergammon record 1") title (CheckersLine 1 ∷ StakesLine Jacoby ∷ games) end refl refl
+    let plain : Grows empty_size (TitleLine ∷ CheckersLine 1 ∷ StakesLine Jacoby ∷ games) end =
+    by-line empty_size TitleLine (codes "hypergammon record 1") title (CheckersLine 1 ∷ StakesLine Jacoby ∷ games) end refl refl
     (by-line title (CheckersLine 1) (codes "checkers 1") checkers (StakesLine Jacoby ∷ games) end refl checkers_long
     (by-line checkers (StakesLine Jacoby) (codes "stakes jacoby") (first_sheet number).size games end refl refl behind)) in
-    let whole = subst (λ (stakes : RecordStakes). Grows no_text (TitleLine ∷ CheckersLine rec.checkers ∷ StakesLine stakes ∷ games_lines 1 rec.games ++ Closed ∷ []) (with_line made.end.size (line_text Closed))) (sym made.stakes)
-    (subst (λ (checkers : ℕ). Grows no_text (TitleLine ∷ CheckersLine checkers ∷ StakesLine Jacoby ∷ games_lines 1 rec.games ++ Closed ∷ []) (with_line made.end.size (line_text Closed))) (sym made.checkers) plain) in
+    let whole = subst (λ (stakes : RecordStakes). Grows empty_size (TitleLine ∷ CheckersLine rec.checkers ∷ StakesLine stakes ∷ games_lines 1 rec.games ++ Closed ∷ []) (with_line made.end.size (line_text Closed))) (sym made.stakes)
+    (subst (λ (checkers : ℕ). Grows empty_size (TitleLine ∷ CheckersLine checkers ∷ StakesLine Jacoby ∷ games_lines 1 rec.games ++ Closed ∷ []) (with_line made.end.size (line_text Closed))) (sym made.checkers) plain) in
     let close : length (line_text Closed) ≡ 5 = refl in
     let room = drawn.room in
     let lines : length (record_lines rec) ≤ 60004 = omega (arith, whole.0, room.0) in

@@ -19,8 +19,8 @@ use Rattle.game_record.specs.declared.record.What.TheVariants.{Rolled, Doubled, 
 use Rattle.game_record.specs.Games.{after_play, is_over}
 use Rattle.record_maker.specs.declared.due.Due.{Due}
 use Rattle.record_maker.specs.declared.due.Due.TheVariants.{Start, Turn, Answer, Roll, Nothing}
-use Rattle.record_maker.specs.Draws.{start_of, two_dice, word}
-use Rattle.record_maker.specs.Making.{AllDo, AllMade, Does, Ends, IsAnswer, IsDone, IsLast, IsMade, Makes, Moment, Plays, Sheet, TakesTurn, action_text, begun, due_after, ending_text, first_sheet, undoubled_words}
+use Rattle.record_maker.specs.Draws.{start_drawn, two_dice, word}
+use Rattle.record_maker.specs.Making.{AllDo, AllMade, DoesAct, IsEnd, IsDrawnAnswer, IsDone, IsLast, IsMade, AddsGame, Moment, Plays, Sheet, TakesTurn, deed_line, begun, due_after, ending_text, first_sheet, undoubled_words}
 use Rattle.record_maker.specs.Sizes.{is_full, with_line}
 use Rattle.record_maker.proofs.OneList.{one-chosen}
 
@@ -71,7 +71,7 @@ one-turn tells now player Took to other end one two = absurd one.1
 one-turn tells now player Passed to other end one two = absurd one.1
 one-turn tells now player Beavered to other end one two = absurd one.1
 
-one-answer : (now : Moment) (player : Player) (what : What) (to : Moment) (other : What) (end : Moment) → IsAnswer now player what to → IsAnswer now player other end → SameDeed what to other end
+one-answer : (now : Moment) (player : Player) (what : What) (to : Moment) (other : What) (end : Moment) → IsDrawnAnswer now player what to → IsDrawnAnswer now player other end → SameDeed what to other end
 one-answer now player Took to Took end one two = (refl, one.1 ∙ sym two.1, one.2 ∙ sym two.2)
 one-answer now player Passed to Passed end one two = (refl, one.1 ∙ sym two.1, one.2 ∙ sym two.2)
 one-answer now player Took to Passed end one two = absurd (omega (arith, one.0, two.0))
@@ -88,7 +88,7 @@ one-answer now player Beavered to other end one two = absurd one
 
 one-done : TellsPlays → (due : Due) (now : Moment) (player : Player) (what : What) (to : Moment) (another : Player) (other : What) (end : Moment) → IsDone due now player what to → IsDone due now another other end → (player ≡ another) × SameDeed what to other end
 one-done tells Start now player what to another other end one two =
-    let start = start_of now.words in
+    let start = start_drawn now.words in
     let players = one.0 ∙ sym two.0 in
     (players, one-play tells now.game player start.roll start.after what to other end one.1 (subst (λ (p : Player). Plays now.game p start.roll start.after other end) (sym players) two.1))
 one-done tells (Turn asked) now player what to another other end one two =
@@ -96,29 +96,29 @@ one-done tells (Turn asked) now player what to another other end one two =
     (players, one-turn tells now player what to other end one.1 (subst (λ (p : Player). TakesTurn now p other end) (sym players) two.1))
 one-done tells (Answer asked) now player what to another other end one two =
     let players = one.0 ∙ sym two.0 in
-    (players, one-answer now player what to other end one.1 (subst (λ (p : Player). IsAnswer now p other end) (sym players) two.1))
+    (players, one-answer now player what to other end one.1 (subst (λ (p : Player). IsDrawnAnswer now p other end) (sym players) two.1))
 one-done tells (Roll asked) now player what to another other end one two =
     let players = one.0 ∙ sym two.0 in
     let dice = two_dice now.words in
     (players, one-play tells now.game player dice.0 dice.1 what to other end one.1 (subst (λ (p : Player). Plays now.game p dice.0 dice.1 other end) (sym players) two.1))
 one-done tells Nothing now player what to another other end one two = absurd one
 
-one-does : TellsPlays → (now : Moment) (action : Action) (to : Moment) (other : Action) (end : Moment) → Does now action to → Does now other end → (action ≡ other) × (to ≡ end)
+one-does : TellsPlays → (now : Moment) (action : Action) (to : Moment) (other : Action) (end : Moment) → DoesAct now action to → DoesAct now other end → (action ≡ other) × (to ≡ end)
 one-does tells now action to other end one two =
     let done = one-done tells now.due now action.player action.what to other.player other.what end one.done two.done in
     let actions : action ≡ other = λ i. record { player = done.0 i; what = done.1.0 i } in
-    let sizes = one.size ∙ ap (λ (a : Action). with_line now.size (action_text a)) actions ∙ sym two.size in
+    let sizes = one.size ∙ ap (λ (a : Action). with_line now.size (deed_line a)) actions ∙ sym two.size in
     let dues = one.due ∙ ap (λ (a : Action). due_after a.player a.what) actions ∙ sym two.due in
     (actions, λ i. record { size = sizes i; due = dues i; game = done.1.1 i; words = done.1.2 i })
 
 -- ---- games
 
 -- a game that has ended doesn't go on
-ended-rests : (now : Moment) (ending : Ending) (action : Action) (next : Moment) → Ends now ending → Does now action next → ⊥
+ended-rests : (now : Moment) (ending : Ending) (action : Action) (next : Moment) → IsEnd now ending → DoesAct now action next → ⊥
 ended-rests now (Ended winner points) action next won does = never (is_over now.game) (ap is_some won) does.going
 ended-rests now Stopped action next (going, turn, full) does = never (is_full now.size) full (does.room turn)
 
-one-ending : (now : Moment) (a b : Ending) → Ends now a → Ends now b → a ≡ b
+one-ending : (now : Moment) (a b : Ending) → IsEnd now a → IsEnd now b → a ≡ b
 one-ending now (Ended winner points) (Ended other count) one two =
     let none : Win = record { winner = winner; points = points } in
     let wins = ap (λ (won : Option Win). unwrap_or won none) (sym one ∙ two) in
@@ -130,17 +130,17 @@ one-ending now Stopped Stopped one two = refl
 abbrev pub SameGame : List Action → Moment → Ending → List Action → Moment → Ending → Type 0
 SameGame actions end ending others last other = (actions ≡ others) × (end ≡ last) × (ending ≡ other)
 
-one-game : TellsPlays → (now : Moment) (actions : List Action) (end : Moment) (ending : Ending) (others : List Action) (last : Moment) (other : Ending) → AllDo now actions end → Ends end ending → AllDo now others last → Ends last other → SameGame actions end ending others last other
+one-game : TellsPlays → (now : Moment) (actions : List Action) (end : Moment) (ending : Ending) (others : List Action) (last : Moment) (other : Ending) → AllDo now actions end → IsEnd end ending → AllDo now others last → IsEnd last other → SameGame actions end ending others last other
 one-game tells now [] end ending [] last other all ends more ends_too =
-    (refl, all ∙ sym more, one-ending now ending other (subst (λ (m : Moment). Ends m ending) all ends) (subst (λ (m : Moment). Ends m other) more ends_too))
-one-game tells now [] end ending (b ∷ others) last other all ends (next, does, more) ends_too = absurd (ended-rests now ending b next (subst (λ (m : Moment). Ends m ending) all ends) does)
-one-game tells now (a ∷ actions) end ending [] last other (next, does, all) ends more ends_too = absurd (ended-rests now other a next (subst (λ (m : Moment). Ends m other) more ends_too) does)
+    (refl, all ∙ sym more, one-ending now ending other (subst (λ (m : Moment). IsEnd m ending) all ends) (subst (λ (m : Moment). IsEnd m other) more ends_too))
+one-game tells now [] end ending (b ∷ others) last other all ends (next, does, more) ends_too = absurd (ended-rests now ending b next (subst (λ (m : Moment). IsEnd m ending) all ends) does)
+one-game tells now (a ∷ actions) end ending [] last other (next, does, all) ends more ends_too = absurd (ended-rests now other a next (subst (λ (m : Moment). IsEnd m other) more ends_too) does)
 one-game tells now (a ∷ actions) end ending (b ∷ others) last other (next, does, all) ends (after, does_too, more) ends_too =
     let first = one-does tells now a next b after does does_too in
     let later = one-game tells next actions end ending others last other all ends (subst (λ (m : Moment). AllDo m others last) (sym first.1) more) ends_too in
     ((λ i. first.0 i ∷ later.0 i), later.1, later.2)
 
-one-made : TellsPlays → (sheet : Sheet) (game : Game) (next : Sheet) (other : Game) (after : Sheet) → Makes sheet game next → Makes sheet other after → (game ≡ other) × (next ≡ after)
+one-made : TellsPlays → (sheet : Sheet) (game : Game) (next : Sheet) (other : Game) (after : Sheet) → AddsGame sheet game next → AddsGame sheet other after → (game ≡ other) × (next ≡ after)
 one-made tells sheet game next other after one two =
     let same = one-game tells (begun sheet) game.actions one.end game.ending other.actions two.end other.ending one.acts one.ends two.acts two.ends in
     let aways = one.away ∙ sym two.away in
@@ -154,7 +154,7 @@ more-games sheet [] end all = (let same = ap (λ (s : Sheet). s.games) all in om
 more-games sheet (game ∷ games) end (next, makes, all) = omega (arith, makes.games, more-games next games end all)
 
 -- where the last game was made, no other is
-none-more : (count : ℕ) (sheet : Sheet) (game : Game) (next : Sheet) (games : List Game) (end : Sheet) → IsLast count sheet → Makes sheet game next → AllMade next games end → IsLast count end → ⊥
+none-more : (count : ℕ) (sheet : Sheet) (game : Game) (next : Sheet) (games : List Game) (end : Sheet) → IsLast count sheet → AddsGame sheet game next → AllMade next games end → IsLast count end → ⊥
 none-more count sheet game next games end (inr (few, full)) makes all last = never (is_full sheet.size) full makes.room
 none-more count sheet game next games end (inl is) makes all last = (let more = more-games next games end all in let most = few last in omega (arith, is, makes.games, more, most)) where
   few : IsLast count end → end.games ≤ count

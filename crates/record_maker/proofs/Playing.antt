@@ -1,8 +1,7 @@
 -- How a game is played out.
-use Rattle.std.proofs.Common.{◌≡◌, ◌∙◌, ◌+◌, ◌-◌, ◌≤◌, ◌<◌, Bool, true, false, not, ◌&&◌, ◌||◌, List, [], ◌∷◌, ◌++◌, Option, Some, None, refl, sym, ap, subst, arith, nat_le, is_some}
+use Rattle.std.proofs.Common.{◌≡◌, ◌∙◌, ◌+◌, ◌-◌, ◌≤◌, ◌<◌, Bool, true, false, not, ◌&&◌, ◌||◌, List, [], ◌∷◌, ◌++◌, refl, ap, subst, arith, nat_le}
 use Rattle.std.proofs.lemmas.Bool.Decides.{nat_tests}
 use Rattle.game_record.specs.declared.player.Player.{Player}
-use Rattle.game_record.specs.declared.progress.Win.{Win}
 use Rattle.game_record.specs.declared.record.Action.{Action}
 use Rattle.game_record.specs.declared.record.What.{What}
 use Rattle.game_record.specs.declared.record.What.TheVariants.{Rolled, Doubled, Took, Passed, Beavered}
@@ -11,19 +10,19 @@ use Rattle.record_maker.specs.declared.due.Due.{Due}
 use Rattle.record_maker.specs.declared.due.Due.TheVariants.{Start, Turn, Answer, Roll, Nothing}
 use Rattle.record_maker.specs.declared.size.Size.{Size}
 use Rattle.record_maker.specs.declared.state.Maker.{Maker}
-use Rattle.record_maker.specs.Makers.{HasDone, HasRoom, at, behind, ending_of, goes_on}
-use Rattle.record_maker.specs.Making.{AllDo, Does, Ends, IsDone, Moment, due_after, is_turn}
+use Rattle.record_maker.specs.Makers.{HasDoneDue, HasLinesLeft, moment_at, behind, goes_on}
+use Rattle.record_maker.specs.Making.{AllDo, DoesAct, IsDone, Moment, due_after, is_turn}
 use Rattle.record_maker.specs.Sizes.{is_full}
 
 -- a game was played so far, and this is due
 pub record HasPlayed (start : Moment) (actions : List Action) (maker : Maker) (due : Due) : Type 0 where
-  pub done : AllDo start actions (at maker due)
-  pub room : HasRoom (behind due) maker.size
+  pub done : AllDo start actions (moment_at maker due)
+  pub room : HasLinesLeft (behind due) maker.size
   pub over : due ≡ Nothing → is_over maker.game ≡ true
 
 -- one more action
-pub all-do-more : (start : Moment) (actions : List Action) (now : Moment) (action : Action) (next : Moment) → AllDo start actions now → Does now action next → AllDo start (actions ++ action ∷ []) next
-all-do-more start [] now action next all one = (next, subst (λ (from : Moment). Does from action next) all one, refl)
+pub all-do-more : (start : Moment) (actions : List Action) (now : Moment) (action : Action) (next : Moment) → AllDo start actions now → DoesAct now action next → AllDo start (actions ++ action ∷ []) next
+all-do-more start [] now action next all one = (next, subst (λ (from : Moment). DoesAct from action next) all one, refl)
 all-do-more start (first ∷ actions) now action next (after, does, all) one = (after, does, all-do-more after actions now action next all one)
 
 -- a pass alone leaves nothing due, and it ends the game
@@ -66,18 +65,18 @@ not-full size free = (grind (arith, nat_tests, (neither (nat_le 60000 size.lines
   neither false b e = (refl, e)
 
 -- there is room behind each action
-pub room-after : (old : Maker) (due : Due) (action : Action) (new : Maker) → HasDone old due action new → HasRoom (behind due) old.size → (is_turn due ≡ true → is_full old.size ≡ false) → HasRoom (behind (due_after action.player action.what)) new.size
+pub room-after : (old : Maker) (due : Due) (action : Action) (new : Maker) → HasDoneDue old due action new → HasLinesLeft (behind due) old.size → (is_turn due ≡ true → is_full old.size ≡ false) → HasLinesLeft (behind (due_after action.player action.what)) new.size
 room-after old due action new has room free = by (is_turn due) refl where
   lines : new.size.lines ≡ old.size.lines + 1
   lines = ap (λ (size : Size). size.lines) has.size
 
-  by : (t : Bool) → is_turn due ≡ t → HasRoom (behind (due_after action.player action.what)) new.size
+  by : (t : Bool) → is_turn due ≡ t → HasLinesLeft (behind (due_after action.player action.what)) new.size
   by true turn =
       let low = not-full old.size (free turn) in
       let short = has.short in
       (omega (arith, lines, low.0), omega (arith, short, low.1))
   by false turn =
-      let more = further-behind due (at old due) action.player action.what (at new (due_after action.player action.what)) has.done turn in
+      let more = further-behind due (moment_at old due) action.player action.what (moment_at new (due_after action.player action.what)) has.done turn in
       let short = has.short in
       (omega (arith, lines, room.0, more), omega (arith, short, room.1, more))
 
@@ -90,51 +89,20 @@ going now on = split (is_over now.game) (is_turn now.due) (is_full now.size) on 
   split false true false e = (refl, λ _. refl)
   split false false full e = (refl, λ turn. absurd (cc))
 
--- and one that doesn't, ends
-pub ends-here : (now : Moment) → goes_on now ≡ false → Ends now (ending_of now.game.won)
-ends-here now stops = by now.game.won refl where
-  both : (turn full : Bool) → not (turn && full) ≡ false → (turn ≡ true) × (full ≡ true)
-  both true true e = (refl, refl)
-  both true false e = absurd (cc)
-  both false full e = absurd (cc)
-
-  by : (won : Option Win) → now.game.won ≡ won → Ends now (ending_of won)
-  by (Some win) is = is
-  by None is =
-      let over : is_over now.game ≡ false = ap (λ (won : Option Win). is_some won) is in
-      let rest : not (is_turn now.due && is_full now.size) ≡ false = ap (λ (over : Bool). not over && not (is_turn now.due && is_full now.size)) (sym over) ∙ stops in
-      let turn = both (is_turn now.due) (is_full now.size) rest in
-      (over, turn.0, turn.1)
-
 -- what has been played, with one more action
-pub played-more : (start : Moment) (actions : List Action) (old : Maker) (due : Due) (action : Action) (new : Maker) → HasPlayed start actions old due → goes_on (at old due) ≡ true → HasDone old due action new
+pub played-more : (start : Moment) (actions : List Action) (old : Maker) (due : Due) (action : Action) (new : Maker) → HasPlayed start actions old due → goes_on (moment_at old due) ≡ true → HasDoneDue old due action new
     → HasPlayed start (actions ++ action ∷ []) new (due_after action.player action.what)
 played-more start actions old due action new played on has =
-    let goes = going (at old due) on in
+    let goes = going (moment_at old due) on in
     let next = due_after action.player action.what in
     record {
-      done = all-do-more start actions (at old due) action (at new next) played.done (record { going = goes.0; room = goes.1; done = has.done; due = refl; size = has.size });
+      done = all-do-more start actions (moment_at old due) action (moment_at new next) played.done (record { going = goes.0; room = goes.1; done = has.done; due = refl; size = has.size });
       room = room-after old due action new has played.room goes.1;
-      over = pass-ends due (at old due) action.player action.what (at new next) has.done;
+      over = pass-ends due (moment_at old due) action.player action.what (moment_at new next) has.done;
     }
 
--- there is room for what is due
-pub room-now : (due : Due) (size : Size) → HasRoom (behind due) size → HasRoom 2 size
-room-now Start size room = (omega (arith, room.0), omega (arith, room.1))
-room-now (Turn player) size room = room
-room-now (Answer player) size room = (omega (arith, room.0), omega (arith, room.1))
-room-now (Roll player) size room = (omega (arith, room.0), omega (arith, room.1))
-room-now Nothing size room = room
-
--- a game that goes on has something due
-pub some-due : (start : Moment) (actions : List Action) (maker : Maker) (due : Due) → HasPlayed start actions maker due → goes_on (at maker due) ≡ true → due ≡ Nothing → ⊥
-some-due start actions maker due played on none = absurd (both (is_over maker.game) (played.over none) (going (at maker due) on).0) where
-  both : (over : Bool) → over ≡ true → over ≡ false → ⊥
-  both true p q = absurd (cc)
-  both false p q = absurd (cc)
-
 -- and is measured by fewer lines
-pub fewer-left : (old : Maker) (due : Due) (action : Action) (new : Maker) → HasRoom 2 old.size → HasDone old due action new → 60010 - new.size.lines < 60010 - old.size.lines
+pub fewer-left : (old : Maker) (due : Due) (action : Action) (new : Maker) → HasLinesLeft 2 old.size → HasDoneDue old due action new → 60010 - new.size.lines < 60010 - old.size.lines
 fewer-left old due action new room has =
     let lines : new.size.lines ≡ old.size.lines + 1 = ap (λ (size : Size). size.lines) has.size in
     omega (arith, lines, room.0)

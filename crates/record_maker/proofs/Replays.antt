@@ -30,13 +30,13 @@ use Rattle.game_record.specs.declared.record.What.{What}
 use Rattle.game_record.specs.declared.record.What.TheVariants.{Rolled, Doubled, Took, Passed, Beavered}
 use Rattle.game_record.specs.Games.{is_over, opening}
 use Rattle.game_record.specs.Lines.{ending_line, game_lines, games_lines}
-use Rattle.game_record.specs.Replay.{Acts, AllTell, IsReplay, Tells, first_moment}
+use Rattle.game_record.specs.Replay.{Acts, AllTell, IsReplay, Reports, first_moment}
 use Rattle.game_record.specs.Standings.{first_standing}
 use Rattle.record_maker.specs.declared.due.Due.{Due}
 use Rattle.record_maker.specs.declared.due.Due.TheVariants.{Start, Turn, Answer, Roll, Nothing}
 use Rattle.record_maker.specs.declared.size.Size.{Size}
-use Rattle.record_maker.specs.Draws.{ArePlays, Start as Opening, die, rest, roll_of, start_in, start_of, started_by, starter, two_dice}
-use Rattle.record_maker.specs.Making.{AllDo, AllMade, Ends, IsDone, IsMade, Makes, Moment, Plays, Sheet, begun, ending_text, first_sheet, undoubled_words}
+use Rattle.record_maker.specs.Draws.{ArePlays, Start as Opening, die, rest, roll_of, start_in, start_drawn, started_by, starter, two_dice}
+use Rattle.record_maker.specs.Making.{AllDo, AllMade, IsEnd, IsDone, IsMade, AddsGame, Moment, Plays, Sheet, begun, ending_text, first_sheet, undoubled_words}
 use Rattle.record_maker.specs.Sizes.{is_full, with_line}
 
 -- what is printed for a legal play is taken as one with the same end
@@ -103,7 +103,7 @@ plays-tell takes game line from player roll words Beavered to right going plays 
 
 done-tells : TakesPlays → (game line : ℕ) (due : Due) (from : Moment) (player : Player) (what : What) (to : Moment) → is_over from.game ≡ false → IsDone due from player what to → ActsTo game line from.game player what to.game
 done-tells takes game line Start from player what to going done =
-    plays-tell takes game line from.game player (start_of from.words).roll (start_of from.words).after what to (start-opens 32 from.words).0 going done.1
+    plays-tell takes game line from.game player (start_drawn from.words).roll (start_drawn from.words).after what to (start-opens 32 from.words).0 going done.1
 done-tells takes game line (Turn asked) from player Doubled to going done = (_, (going, done.1.0.0, refl, ap (moment_at game (line + 1)) done.1.1))
 done-tells takes game line (Turn asked) from player (Rolled roll written) to going done =
     let words = undoubled_words from player in
@@ -131,7 +131,7 @@ tells-more now (line ∷ lines) more between end (told, (here, next, one, later,
     let on = tells-more next lines more between end (later, all) rest in
     (here ++ on.0, (here, next, one, on.0, on.1, refl))
 
-pub tells-line : (now : Replayed) (line : Line) (told : List Decision) (next : Replayed) → Tells now line told next → TellsTo now (line ∷ []) next
+pub tells-line : (now : Replayed) (line : Line) (told : List Decision) (next : Replayed) → Reports now line told next → TellsTo now (line ∷ []) next
 tells-line now line told next one = (told ++ [], (told, next, one, [], (refl, refl), refl))
 
 pub all-tell : TakesPlays → (game line : ℕ) (from : Moment) (actions : List Action) (to : Moment) → AllDo from actions to → (last : ℕ) × TellsTo (moment_at game line from.game) (map Acted actions) (moment_at game last to.game)
@@ -156,16 +156,16 @@ full-stays size text full = by (nat_le 60000 size.lines) (nat_le 1000000 size.by
   by false false e f full = absurd (cc)
 
 -- a game that is left is the last
-pub none-left : (end : Moment) (ending : Ending) (sheet next : Sheet) (game : Game) → ending ≡ Stopped → Ends end ending → sheet.size ≡ with_line end.size (ending_text ending) → Makes sheet game next → ⊥
+pub none-left : (end : Moment) (ending : Ending) (sheet next : Sheet) (game : Game) → ending ≡ Stopped → IsEnd end ending → sheet.size ≡ with_line end.size (ending_text ending) → AddsGame sheet game next → ⊥
 none-left end ending sheet next game left ends size makes =
-    let stopped = subst (λ (e : Ending). Ends end e) left ends in
+    let stopped = subst (λ (e : Ending). IsEnd end e) left ends in
     let full : is_full sheet.size ≡ true = ap is_full size ∙ full-stays end.size (ending_text ending) stopped.2 in
     both (is_full sheet.size) full makes.room where
       both : (t : Bool) → t ≡ true → t ≡ false → ⊥
       both true p q = absurd (cc)
       both false p q = absurd (cc)
 
-game-tells : TakesPlays → (line : ℕ) (sheet : Sheet) (game : Game) (next : Sheet) → Makes sheet game next → (winner : Player) (points : ℕ) → game.ending ≡ Ended winner points
+game-tells : TakesPlays → (line : ℕ) (sheet : Sheet) (game : Game) (next : Sheet) → AddsGame sheet game next → (winner : Player) (points : ℕ) → game.ending ≡ Ended winner points
     → (last : ℕ) × TellsTo (moment_at sheet.games line (opening 1)) (game_lines (sheet.games + 1) game) (moment_at (sheet.games + 1) last (opening 1))
 game-tells takes line sheet game next makes winner points won =
     let number = sheet.games + 1 in
@@ -173,13 +173,13 @@ game-tells takes line sheet game next makes winner points won =
     let plays = all-tell takes number (line + 1) (begun sheet) game.actions makes.end makes.acts in
     let over : TellsTo (moment_at number plays.0 makes.end.game) (ending_line game.ending ∷ []) (moment_at number (plays.0 + 1) (opening 1)) =
     subst (λ (e : Ending). TellsTo (moment_at number plays.0 makes.end.game) (ending_line e ∷ []) (moment_at number (plays.0 + 1) (opening 1))) (sym won)
-    (tells-line (moment_at number plays.0 makes.end.game) (ending_line (Ended winner points)) [] (moment_at number (plays.0 + 1) (opening 1)) (subst (λ (e : Ending). Ends makes.end e) won makes.ends, refl, refl)) in (
+    (tells-line (moment_at number plays.0 makes.end.game) (ending_line (Ended winner points)) [] (moment_at number (plays.0 + 1) (opening 1)) (subst (λ (e : Ending). IsEnd makes.end e) won makes.ends, refl, refl)) in (
       plays.0 + 1,
       tells-more (moment_at sheet.games line (opening 1)) (GameLine number game.away ∷ []) (map Acted game.actions ++ ending_line game.ending ∷ []) (moment_at number (line + 1) (opening 1)) (moment_at number (plays.0 + 1) (opening 1)) first
           (tells-more (moment_at number (line + 1) (opening 1)) (map Acted game.actions) (ending_line game.ending ∷ []) (moment_at number plays.0 makes.end.game) (moment_at number (plays.0 + 1) (opening 1)) plays.1 over),
     )
 
-left-tells : TakesPlays → (line : ℕ) (sheet : Sheet) (game : Game) (next : Sheet) → Makes sheet game next → game.ending ≡ Stopped
+left-tells : TakesPlays → (line : ℕ) (sheet : Sheet) (game : Game) (next : Sheet) → AddsGame sheet game next → game.ending ≡ Stopped
     → (end : Replayed) × TellsTo (moment_at sheet.games line (opening 1)) (game_lines (sheet.games + 1) game) end
 left-tells takes line sheet game next makes left =
     let number = sheet.games + 1 in
@@ -187,7 +187,7 @@ left-tells takes line sheet game next makes left =
     let plays = all-tell takes number (line + 1) (begun sheet) game.actions makes.end makes.acts in
     let stopped : TellsTo (moment_at number plays.0 makes.end.game) (ending_line game.ending ∷ []) (moment_at number (plays.0 + 1) makes.end.game) =
     subst (λ (e : Ending). TellsTo (moment_at number plays.0 makes.end.game) (ending_line e ∷ []) (moment_at number (plays.0 + 1) makes.end.game)) (sym left)
-    (tells-line (moment_at number plays.0 makes.end.game) (ending_line Stopped) [] (moment_at number (plays.0 + 1) makes.end.game) ((subst (λ (e : Ending). Ends makes.end e) left makes.ends).0, refl, refl)) in (
+    (tells-line (moment_at number plays.0 makes.end.game) (ending_line Stopped) [] (moment_at number (plays.0 + 1) makes.end.game) ((subst (λ (e : Ending). IsEnd makes.end e) left makes.ends).0, refl, refl)) in (
       moment_at number (plays.0 + 1) makes.end.game,
       tells-more (moment_at sheet.games line (opening 1)) (GameLine number game.away ∷ []) (map Acted game.actions ++ ending_line game.ending ∷ []) (moment_at number (line + 1) (opening 1)) (moment_at number (plays.0 + 1) makes.end.game) first
           (tells-more (moment_at number (line + 1) (opening 1)) (map Acted game.actions) (ending_line game.ending ∷ []) (moment_at number plays.0 makes.end.game) (moment_at number (plays.0 + 1) makes.end.game) plays.1 stopped),

@@ -11,8 +11,8 @@ use Rattle.game_record.specs.declared.player.Player.{Player}
 use Rattle.game_record.specs.declared.player.Player.TheVariants.{A, B}
 
 -- the generator of a number
-abbrev pub words_of : ℕ → Lcg
-words_of number = started 64 multiplier_64 number (increment_of 64 54)
+abbrev pub drawn_words : ℕ → Lcg
+drawn_words number = started 64 multiplier_64 number (increment_of 64 54)
 
 -- the next word, and the words after it
 abbrev pub word : Lcg → ℕ
@@ -54,8 +54,8 @@ start_in zero words = record { player = A; roll = roll_of 2 1; after = words }
 start_in (suc draws) words =
     started_by (die words) (die (rest words)) (rest (rest words)) (start_in draws)
 
-abbrev pub start_of : Lcg → Start
-start_of words = start_in 32 words
+abbrev pub start_drawn : Lcg → Start
+start_drawn words = start_in 32 words
 
 -- the plays of a roll in their order: each legal end once, with the first legal sequence that leaves it
 pub record ArePlays (position : Placement) (roll : Dice) (entries : List Entry) : Type 0 where

@@ -10,20 +10,22 @@ use Rattle.record_maker.specs.declared.due.Due.{Due}
 use Rattle.record_maker.specs.declared.due.Due.TheVariants.{Start, Turn, Answer, Roll, Nothing}
 use Rattle.record_maker.specs.declared.state.Maker.{Maker}
 use Rattle.record_maker.specs.declared.size.Size.{Size}
-use Rattle.record_maker.specs.Making.{IsDone, IsMade, Moment, Sheet, action_text, due_after, is_turn}
+use Rattle.record_maker.specs.Making.{IsDone, IsMade, Moment, Sheet, deed_line, due_after, is_turn}
 use Rattle.record_maker.specs.Sizes.{is_full, with_line}
 
 -- where the code is in a game, as this is due
-abbrev pub at : Maker → Due → Moment
-at maker due = record { size = maker.size; due = due; game = maker.game; words = maker.words }
+abbrev pub moment_at : Maker → Due → Moment
+moment_at maker due =
+    record { size = maker.size; due = due; game = maker.game; words = maker.words }
 
 -- and before a game, where so many were made
 abbrev pub sheet_of : Maker → ℕ → Sheet
 sheet_of maker games = record { size = maker.size; games = games; words = maker.words }
 
 -- so many lines may stand behind the last place where there wasn't too much text
-abbrev pub HasRoom : ℕ → Size → Type 0
-HasRoom behind size = (size.lines ≤ 60000 + behind) × (size.bytes ≤ 1000000 + 60 * (behind + 1))
+abbrev pub HasLinesLeft : ℕ → Size → Type 0
+HasLinesLeft behind size =
+    (size.lines ≤ 60000 + behind) × (size.bytes ≤ 1000000 + 60 * (behind + 1))
 
 abbrev pub behind : Due → ℕ
 behind Start = 0
@@ -33,10 +35,10 @@ behind (Roll player) = 1
 behind Nothing = 2
 
 -- a player has done what was due
-pub record HasDone (old : Maker) (due : Due) (action : Action) (new : Maker) : Type 0 where
-  pub done : IsDone due (at old due) action.player action.what
-      (at new (due_after action.player action.what))
-  pub size : new.size ≡ with_line old.size (action_text action)
+pub record HasDoneDue (old : Maker) (due : Due) (action : Action) (new : Maker) : Type 0 where
+  pub done : IsDone due (moment_at old due) action.player action.what
+      (moment_at new (due_after action.player action.what))
+  pub size : new.size ≡ with_line old.size (deed_line action)
   pub short : new.size.bytes ≤ old.size.bytes + 60
 
 -- the game is not over, and no turn comes where there is too much text
@@ -54,4 +56,4 @@ makes_another made wanted size = nat_lt made wanted && not (is_full size)
 -- the record of a number and a count of games, with room for its close
 pub record IsDrawn (number count : ℕ) (rec : Record) : Type 0 where
   pub made : IsMade number count rec
-  pub room : HasRoom 3 made.end.size
+  pub room : HasLinesLeft 3 made.end.size

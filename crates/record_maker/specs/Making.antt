@@ -22,8 +22,8 @@ use Rattle.game_record.specs.Turns.{other_player}
 use Rattle.record_maker.specs.declared.due.Due.{Due}
 use Rattle.record_maker.specs.declared.due.Due.TheVariants.{Start, Turn, Answer, Roll, Nothing}
 use Rattle.record_maker.specs.declared.size.Size.{Size}
-use Rattle.record_maker.specs.Draws.{IsChosen, rest, start_of, two_dice, word, words_of}
-use Rattle.record_maker.specs.Sizes.{is_full, no_text, with_line}
+use Rattle.record_maker.specs.Draws.{IsChosen, rest, start_drawn, two_dice, word, drawn_words}
+use Rattle.record_maker.specs.Sizes.{is_full, empty_size, with_line}
 
 -- a moment of a game that is made: how much text there is, what is due, how the game stands, and which words come
 pub record Moment : Type 0 where
@@ -69,22 +69,22 @@ TakesTurn now player what next =
     (Doubles now player → ⊥) × Rolls now.game player (undoubled_words now player) what next
 
 -- he takes by an even word and passes by an odd one
-abbrev pub IsAnswer : Moment → Player → What → Moment → Type 0
-IsAnswer now player Took next =
+abbrev pub IsDrawnAnswer : Moment → Player → What → Moment → Type 0
+IsDrawnAnswer now player Took next =
     (word now.words % 2 ≡ 0) × (next.game ≡ after_answer player Take now.game)
     × (next.words ≡ rest now.words)
-IsAnswer now player Passed next =
+IsDrawnAnswer now player Passed next =
     (word now.words % 2 ≡ 1) × (next.game ≡ after_answer player Pass now.game)
     × (next.words ≡ rest now.words)
-IsAnswer now player _ next = ⊥
+IsDrawnAnswer now player _ next = ⊥
 
 -- a player does what he is to do
 abbrev pub IsDone : Due → Moment → Player → What → Moment → Type 0
 IsDone Start now player what next =
-    (player ≡ (start_of now.words).player)
-    × Plays now.game player (start_of now.words).roll (start_of now.words).after what next
+    (player ≡ (start_drawn now.words).player)
+    × Plays now.game player (start_drawn now.words).roll (start_drawn now.words).after what next
 IsDone (Turn asked) now player what next = (player ≡ asked) × TakesTurn now player what next
-IsDone (Answer asked) now player what next = (player ≡ asked) × IsAnswer now player what next
+IsDone (Answer asked) now player what next = (player ≡ asked) × IsDrawnAnswer now player what next
 IsDone (Roll asked) now player what next =
     (player ≡ asked) × Rolls now.game player now.words what next
 IsDone _ now player what next = ⊥
@@ -104,36 +104,38 @@ due_after player Beavered = Roll (other_player player)
 
 -- ---- lines
 
-abbrev pub action_text : Action → List ℕ
-action_text action = player_text action.player ++ codes " " ++ deed_text action.what
+abbrev pub deed_line : Action → List ℕ
+deed_line action = player_text action.player ++ codes " " ++ deed_text action.what
 
 abbrev pub ending_text : Ending → List ℕ
 ending_text (Ended winner points) =
     codes "end " ++ player_text winner ++ codes " " ++ decimal points
 ending_text Stopped = codes "stop"
 
-abbrev pub game_text : ℕ → List ℕ
-game_text number = codes "game " ++ decimal number
+abbrev pub game_line_text : ℕ → List ℕ
+game_line_text number = codes "game " ++ decimal number
 
 -- ---- actions
 
 -- an action of a game that goes on, from one moment to the next
-pub record Does (now : Moment) (action : Action) (next : Moment) : Type 0 where
+pub record DoesAct (now : Moment) (action : Action) (next : Moment) : Type 0 where
   pub going : is_over now.game ≡ false
   pub room : is_turn now.due ≡ true → is_full now.size ≡ false
   pub done : IsDone now.due now action.player action.what next
   pub due : next.due ≡ due_after action.player action.what
-  pub size : next.size ≡ with_line now.size (action_text action)
+  pub size : next.size ≡ with_line now.size (deed_line action)
 
 -- actions, one after another
 abbrev pub AllDo : Moment → List Action → Moment → Type 0
 AllDo now [] end = end ≡ now
-AllDo now (action ∷ actions) end = (next : Moment) × Does now action next × AllDo next actions end
+AllDo now (action ∷ actions) end =
+    (next : Moment) × DoesAct now action next × AllDo next actions end
 
 -- a game ends as it is won, and is left before a turn where there is too much text
-abbrev pub Ends : Moment → Ending → Type 0
-Ends now (Ended winner points) = now.game.won ≡ Some (record { winner = winner; points = points })
-Ends now Stopped = (is_over now.game ≡ false) × (is_turn now.due ≡ true) × (is_full now.size ≡ true)
+abbrev pub IsEnd : Moment → Ending → Type 0
+IsEnd now (Ended winner points) = now.game.won ≡ Some (record { winner = winner; points = points })
+IsEnd now Stopped =
+    (is_over now.game ≡ false) × (is_turn now.due ≡ true) × (is_full now.size ≡ true)
 
 -- ---- games
 
@@ -146,19 +148,19 @@ pub record Sheet : Type 0 where
 -- the board is set up for one checker a side
 abbrev pub begun : Sheet → Moment
 begun sheet = record {
-  size = with_line sheet.size (game_text (sheet.games + 1));
+  size = with_line sheet.size (game_line_text (sheet.games + 1));
   due = Start;
   game = opening 1;
   words = sheet.words;
 }
 
 -- a game is made, where there isn't too much text
-pub record Makes (sheet : Sheet) (game : Game) (next : Sheet) : Type 0 where
+pub record AddsGame (sheet : Sheet) (game : Game) (next : Sheet) : Type 0 where
   pub room : is_full sheet.size ≡ false
   pub away : game.away ≡ None
   pub end : Moment
   pub acts : AllDo (begun sheet) game.actions end
-  pub ends : Ends end game.ending
+  pub ends : IsEnd end game.ending
   pub size : next.size ≡ with_line end.size (ending_text game.ending)
   pub games : next.games ≡ sheet.games + 1
   pub words : next.words ≡ end.words
@@ -166,15 +168,16 @@ pub record Makes (sheet : Sheet) (game : Game) (next : Sheet) : Type 0 where
 -- games, one after another
 abbrev pub AllMade : Sheet → List Game → Sheet → Type 0
 AllMade sheet [] end = end ≡ sheet
-AllMade sheet (game ∷ games) end = (next : Sheet) × Makes sheet game next × AllMade next games end
+AllMade sheet (game ∷ games) end =
+    (next : Sheet) × AddsGame sheet game next × AllMade next games end
 
 -- behind the lines of the title, of one checker a side and of the Jacoby rule
 abbrev pub first_sheet : ℕ → Sheet
 first_sheet number = record {
-  size = with_line (with_line (with_line no_text (codes "hypergammon record 1"))
+  size = with_line (with_line (with_line empty_size (codes "hypergammon record 1"))
       (codes "checkers 1")) (codes "stakes jacoby");
   games = 0;
-  words = words_of number;
+  words = drawn_words number;
 }
 
 -- there are so many games, or fewer where there is too much text

@@ -6,8 +6,8 @@ use Rattle.record_maker.specs.declared.size.Size.{Size}
 abbrev pub with_line : Size → List ℕ → Size
 with_line size text = record { lines = size.lines + 1; bytes = size.bytes + length text + 1 }
 
-abbrev pub no_text : Size
-no_text = record { lines = 0; bytes = 0 }
+abbrev pub empty_size : Size
+empty_size = record { lines = 0; bytes = 0 }
 
 -- no game and no turn begins where there are 60,000 lines or 1,000,000 bytes
 abbrev pub is_full : Size → Bool

@@ -1,5 +1,5 @@
 ghost use Rattle.std.specs.Prelude.{◌≡◌, ◌≤◌, ◌+◌, ◌%◌};
-ghost use Rattle.record_maker.specs.Draws.{die, rest, roll_of, start_of, starter, two_dice, word};
+ghost use Rattle.record_maker.specs.Draws.{die, rest, roll_of, start_drawn, starter, two_dice, word};
 
 use game_record::Player;
 use rand_core::utils::NextWord;
@@ -58,7 +58,7 @@ fn starter(a: u8, b: u8) -> Player
 /// times: then A starts with 21.
 pub(crate) fn draw_start(words: &mut Lcg64Xsh32) -> (Player, Roll)
     ensures { record { player = result.0; roll = result.1; after = words.new }
-        ≡ start_of words.old }
+        ≡ start_drawn words.old }
 {
     'draws: for _ in 0..32u32 {
         let a = draw_die(words);

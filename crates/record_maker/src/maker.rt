@@ -1,6 +1,6 @@
 ghost use Rattle.std.specs.Prelude.{◌≡◌, ◌≢◌, ◌≤◌, ◌+◌, ◌↔◌, IsTrue};
-ghost use Rattle.record_maker.specs.Makers.{HasDone, HasRoom, at};
-ghost use Rattle.record_maker.specs.Making.{Doubles, Plays, Rolls, action_text, has_cube, undoubled_words};
+ghost use Rattle.record_maker.specs.Makers.{HasDoneDue, HasLinesLeft, moment_at};
+ghost use Rattle.record_maker.specs.Making.{Doubles, Plays, Rolls, deed_line, has_cube, undoubled_words};
 ghost use Rattle.record_maker.specs.Sizes.{with_line};
 
 use crate::choice::choose;
@@ -13,11 +13,11 @@ use roll_table::Roll;
 impl Maker {
     /// A player plays a roll as the next word chooses.
     fn play(&mut self, player: Player, roll: Roll) -> Action
-        requires { HasRoom 2 self.old.size }
+        requires { HasLinesLeft 2 self.old.size }
         ensures player { result.player ≡ player }
         ensures plays { (due : Due)
-            → Plays self.old.game player roll self.old.words result.what (at self.new due) }
-        ensures size { self.new.size ≡ with_line self.old.size (action_text result) }
+            → Plays self.old.game player roll self.old.words result.what (moment_at self.new due) }
+        ensures size { self.new.size ≡ with_line self.old.size (deed_line result) }
         ensures short { self.new.size.bytes ≤ self.old.size.bytes + 60 }
     {
         let chooser = draw_word(&mut self.words);
@@ -37,8 +37,8 @@ impl Maker {
 
     /// The player who wins the first roll plays it.
     fn start(&mut self) -> Action
-        requires { HasRoom 2 self.old.size }
-        ensures { HasDone self.old Due.Start result self.new }
+        requires { HasLinesLeft 2 self.old.size }
+        ensures { HasDoneDue self.old Due.Start result self.new }
     {
         let (player, roll) = draw_start(&mut self.words);
         self.play(player, roll)
@@ -46,19 +46,19 @@ impl Maker {
 
     /// A player who doubled, and whose double was taken, rolls.
     fn roll_on(&mut self, player: Player) -> Action
-        requires { HasRoom 2 self.old.size }
-        ensures { HasDone self.old (Due.Roll player) result self.new }
+        requires { HasLinesLeft 2 self.old.size }
+        ensures { HasDoneDue self.old (Due.Roll player) result self.new }
     {
         self.roll(player)
     }
 
     /// A player rolls and plays.
     fn roll(&mut self, player: Player) -> Action
-        requires { HasRoom 2 self.old.size }
+        requires { HasLinesLeft 2 self.old.size }
         ensures player { result.player ≡ player }
         ensures rolls { (due : Due)
-            → Rolls self.old.game player self.old.words result.what (at self.new due) }
-        ensures size { self.new.size ≡ with_line self.old.size (action_text result) }
+            → Rolls self.old.game player self.old.words result.what (moment_at self.new due) }
+        ensures size { self.new.size ≡ with_line self.old.size (deed_line result) }
         ensures short { self.new.size.bytes ≤ self.old.size.bytes + 60 }
     {
         let roll = draw_roll(&mut self.words);
@@ -76,8 +76,9 @@ impl Maker {
 
     /// Whether a player doubles: the next word says so, where he may.
     fn doubles(&mut self, player: Player) -> bool
-        ensures doubles { IsTrue result ↔ Doubles (at self.old (Due.Turn player)) player }
-        ensures words { self.new.words ≡ undoubled_words (at self.old (Due.Turn player)) player }
+        ensures doubles { IsTrue result ↔ Doubles (moment_at self.old (Due.Turn player)) player }
+        ensures words { self.new.words
+            ≡ undoubled_words (moment_at self.old (Due.Turn player)) player }
         ensures game { self.new.game ≡ self.old.game }
         ensures size { self.new.size ≡ self.old.size }
     {
@@ -89,8 +90,8 @@ impl Maker {
 
     /// A player doubles or rolls.
     fn take_turn(&mut self, player: Player) -> Action
-        requires { HasRoom 2 self.old.size }
-        ensures { HasDone self.old (Due.Turn player) result self.new }
+        requires { HasLinesLeft 2 self.old.size }
+        ensures { HasDoneDue self.old (Due.Turn player) result self.new }
     {
         if !self.doubles(player) {
             return self.roll(player);
@@ -105,8 +106,8 @@ impl Maker {
 
     /// A player who was doubled takes or passes.
     fn answer(&mut self, player: Player) -> Action
-        requires { HasRoom 2 self.old.size }
-        ensures { HasDone self.old (Due.Answer player) result self.new }
+        requires { HasLinesLeft 2 self.old.size }
+        ensures { HasDoneDue self.old (Due.Answer player) result self.new }
     {
         self.size = self.size.with_line(7);
         if draw_word(&mut self.words) % 2 == 0 {
@@ -127,8 +128,8 @@ impl Maker {
     /// A player does what is due.
     pub(crate) fn act(&mut self, due: Due) -> Action
         requires some { due ≢ Due.Nothing }
-        requires room { HasRoom 2 self.old.size }
-        ensures { HasDone self.old due result self.new }
+        requires room { HasLinesLeft 2 self.old.size }
+        ensures { HasDoneDue self.old due result self.new }
     {
         match due {
             Due::Start => self.start(),

@@ -1,7 +1,7 @@
 ghost use Rattle.std.specs.Prelude.{◌≡◌, ◌≤◌, ◌+◌, ◌∷◌, [], length, decimal, false, IfOk};
 ghost use Rattle.game_record.specs.Games.{opening};
-ghost use Rattle.record_maker.specs.Makers.{HasRoom, at, ending_of, goes_on, sheet_of};
-ghost use Rattle.record_maker.specs.Making.{AllDo, Ends, Makes, ending_text, first_sheet, game_text};
+ghost use Rattle.record_maker.specs.Makers.{HasLinesLeft, moment_at, ending_of, goes_on, sheet_of};
+ghost use Rattle.record_maker.specs.Making.{AllDo, IsEnd, AddsGame, ending_text, first_sheet, game_line_text};
 ghost use Rattle.record_maker.specs.Sizes.{is_full, with_line};
 ghost use Rattle.record_maker.specs.declared.due.Due.{Due as DueNow};
 
@@ -34,8 +34,8 @@ impl Maker {
         requires room { is_full self.old.size ≡ false }
         requires few { games + 1 ≤ 1000 }
         ensures makes { IfOk result (λ game.
-            Makes (sheet_of self.old games) game (sheet_of self.new (games + 1))) }
-        ensures room { IfOk result (λ _. HasRoom 3 self.new.size) }
+            AddsGame (sheet_of self.old games) game (sheet_of self.new (games + 1))) }
+        ensures room { IfOk result (λ _. HasLinesLeft 3 self.new.size) }
     {
         self.begin(games + 1);
         let mut actions = Actions::new(alloc);
@@ -52,10 +52,10 @@ impl Maker {
     fn begin(&mut self, number: u32)
         requires room { is_full self.old.size ≡ false }
         requires few { number ≤ 1000 }
-        ensures size { self.new.size ≡ with_line self.old.size (game_text number) }
+        ensures size { self.new.size ≡ with_line self.old.size (game_line_text number) }
         ensures game { self.new.game ≡ opening 1 }
         ensures words { self.new.words ≡ self.old.words }
-        ensures room { HasRoom 0 self.new.size }
+        ensures room { HasLinesLeft 0 self.new.size }
     {
         self.game = Progress::opening(1);
         self.size = self.size.with_line(6 + digits(number));
@@ -65,11 +65,11 @@ impl Maker {
     fn play_out(&mut self, actions: &mut Actions) -> Result<Ending, NoMemory>
         requires none { actions.old ≡ [] }
         requires game { self.old.game ≡ opening 1 }
-        requires room { HasRoom 0 self.old.size }
+        requires room { HasLinesLeft 0 self.old.size }
         ensures plays { IfOk result (λ ending. (due : DueNow)
-            × AllDo (at self.old Due.Start) actions.new (at self.new due)
-            × Ends (at self.new due) ending) }
-        ensures room { IfOk result (λ _. HasRoom 2 self.new.size) }
+            × AllDo (moment_at self.old Due.Start) actions.new (moment_at self.new due)
+            × IsEnd (moment_at self.new due) ending) }
+        ensures room { IfOk result (λ _. HasLinesLeft 2 self.new.size) }
     {
         let mut due = Due::Start;
         while self.goes_on(due) {
@@ -82,18 +82,18 @@ impl Maker {
 
     /// Whether what is due is done.
     fn goes_on(&self, due: Due) -> bool
-        ensures { result ≡ goes_on (at self.now due) }
+        ensures { result ≡ goes_on (moment_at self.now due) }
     {
         !self.game.is_over() && !(due.is_turn() && self.size.is_full())
     }
 
     /// Ends a game.
     fn end(&mut self, ending: Ending)
-        requires { HasRoom 2 self.old.size }
+        requires { HasLinesLeft 2 self.old.size }
         ensures size { self.new.size ≡ with_line self.old.size (ending_text ending) }
         ensures game { self.new.game ≡ self.old.game }
         ensures words { self.new.words ≡ self.old.words }
-        ensures room { HasRoom 3 self.new.size }
+        ensures room { HasLinesLeft 3 self.new.size }
     {
         let bytes = match ending {
             Ending::Ended { points, .. } => 7 + digits(u32::from(points)),

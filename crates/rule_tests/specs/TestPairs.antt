@@ -13,8 +13,8 @@ abbrev pub untold_zeros : Notes
 untold_zeros = record { words = zeros; told = false }
 
 -- words that aren't told, of so many checkers and kinds, which can all be had where the source is sure
-abbrev pub untold : ℕ → ℕ → Bool → Source
-untold checkers kinds sure = record {
+abbrev pub untold_pairs : ℕ → ℕ → Bool → Source
+untold_pairs checkers kinds sure = record {
   checkers = checkers;
   kinds = kinds;
   bound = point_units 3;

@@ -9,7 +9,7 @@ use Rattle.hyper_outside.specs.Causes.{Rose}
 use Rattle.hyper_outside.specs.declared.outside.LookStop.{LookStop}
 use Rattle.hyper_outside.specs.declared.outside.LookStop.TheVariants.{ReadFault, BadPage, NoMemory}
 use Rattle.turn_rule.specs.Turn.{Words}
-use Rattle.turn_rule.specs.Looks.{Source, Notes, Damage, States, AreUndamaged, MayStop, AreLater, Looked}
+use Rattle.turn_rule.specs.Looks.{Source, Notes, Damage, States, MayStop, AreLater, Looked}
 use Rattle.turn_rule.specs.Found.{IsFound}
 use Rattle.turn_rule.proofs.Tightness.{tight-neg}
 use Rattle.turn_rule.proofs.Tight.{words-refl, words-trans}

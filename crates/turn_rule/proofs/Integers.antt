@@ -38,9 +38,6 @@ pub floor_36_above : (z : ℤ) → z <ℤ (pos 36 *ℤ floor_36 z +ℤ pos 36)
 floor_36_above (pos n) = omega (arith, ints)
 floor_36_above (negsuc n) = omega (arith, ints)
 
-pub floor_36_greatest : (z q : ℤ) → (pos 36 *ℤ q) ≤ℤ z → q ≤ℤ floor_36 z
-floor_36_greatest z q h = omega (arith, ints, floor_36_above z)
-
 pub floor_36_mono : (a b : ℤ) → a ≤ℤ b → floor_36 a ≤ℤ floor_36 b
 floor_36_mono a b h = omega (arith, ints, floor_36_below a, floor_36_above b)
 

@@ -2,7 +2,7 @@
 use Rattle.std.proofs.Common.{◌≡◌, ◌<◌, ℕ, zero, suc, List, [], ◌∷◌, length, take, get_or, inl, inr, refl, subst, arith}
 use Rattle.position_rank.specs.Placement.{Placement}
 use Rattle.move_rules.specs.Listing.{Among}
-use Rattle.cube_actions.specs.Stakes.{Terms, kind_at}
+use Rattle.cube_actions.specs.Stakes.{Terms}
 use Rattle.roll_table.specs.Rolls.{Dice, all_rolls}
 use Rattle.move_rules.proofs.Members.{Among-Contains}
 use Rattle.turn_rule.specs.Looks.{Source, Damage, States, MayFollow, MayFollowDouble, MayFollowTurn, HasDamage, MayFollowRoll, AreUndamaged, Meets, MeetsFirst, MeetsOnRoll, MeetsRolling, MeetsDoubled, MeetsOnTurn}

@@ -48,9 +48,6 @@ among-more x (first ∷ rest) zero roll h e (inr m) = absurd m
 among-more x (first ∷ rest) (suc i) roll h e (inl is) = inl (inl is)
 among-more x (first ∷ rest) (suc i) roll h e (inr m) = elim (among-more x rest i roll (omega arith) e m) [ inl before ↦ inl (inr before) | inr is ↦ inr is ]
 
-nothing-more : (a b : ℤ) → a +ℤ b ≡ (pos 0 +ℤ a) +ℤ b
-nothing-more a b = omega (arith, ints)
-
 first_of : (a : ℤ) → a +ℤ pos 0 ≡ pos 0 +ℤ a
 first_of a = omega (arith, ints)
 

@@ -7,7 +7,7 @@ use Rattle.std.proofs.lemmas.List.{take_all}
 use Rattle.position_rank.specs.Placement.{Placement}
 use Rattle.roll_table.specs.Rolls.{all_rolls}
 use Rattle.move_rules.specs.Listing.{Among}
-use Rattle.move_rules.proofs.Members.{Among-Contains, Contains-Among}
+use Rattle.move_rules.proofs.Members.{Contains-Among}
 use Rattle.directed_fixed.specs.declared.bounds.End.{End}
 use Rattle.directed_fixed.specs.declared.bounds.End.TheVariants.{Lower, Upper}
 use Rattle.directed_fixed.specs.Bounds.{Bounds, IsNoLooser, IsWithin, IsWithinUnits, at}

@@ -1,5 +1,5 @@
 -- Pairs of words, two at a time.
-use Rattle.std.proofs.Common.{◌≡◌, ◌∙◌, ℕ, ◌+◌, ◌*◌, ◌<◌, List, [], ◌∷◌, length, drop, get_or, refl, sym, ap, arith, ℤ, Option, None, Some}
+use Rattle.std.proofs.Common.{◌≡◌, ◌∙◌, ℕ, ◌+◌, ◌*◌, ◌<◌, List, [], ◌∷◌, length, drop, get_or, refl, sym, ap, arith, ℤ, Option, None}
 use Rattle.std.proofs.lemmas.List.{drop_more}
 use Rattle.word_pages.specs.declared.version.Version.{Version}
 use Rattle.std.specs.Option.{option_or}
@@ -25,10 +25,3 @@ pub pairs_on : (version : Version) (bound : ℤ) (at n : ℕ) (words : List ℕ)
 pairs_on version bound at n words lt right =
     ap (pairs_flaw version bound at) (drop_pair n words lt)
     ∙ ap (λ (flaw : Option Flaw). option_or flaw (pairs_flaw version bound (at + 2 * word_size version) (drop (n + 2) words))) (sym right)
-
--- a pair's flaw is the first
-pub pairs_stop : (version : Version) (bound : ℤ) (at n : ℕ) (words : List ℕ) (flaw : Flaw) → n + 1 < length words → Some flaw ≡ pair_flaw version bound at (get_or words n 0) (get_or words (n + 1) 0)
-    → Some flaw ≡ pairs_flaw version bound at (drop n words)
-pairs_stop version bound at n words flaw lt wrong =
-    sym (ap (pairs_flaw version bound at) (drop_pair n words lt)
-    ∙ ap (λ (flaw : Option Flaw). option_or flaw (pairs_flaw version bound (at + 2 * word_size version) (drop (n + 2) words))) (sym wrong))

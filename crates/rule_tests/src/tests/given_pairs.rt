@@ -4,7 +4,7 @@ ghost use Rattle.std.specs.Prelude.{◌≡◌, false, IfOk, IfErr, is_none};
 ghost use Rattle.directed_fixed.specs.Bounds.{IsWithinUnits};
 ghost use Rattle.cube_actions.specs.Stakes.{point_units};
 ghost use Rattle.hyper_outside.specs.Causes.{HasCause};
-ghost use Rattle.rule_tests.specs.TestPairs.{untold, untold_zeros};
+ghost use Rattle.rule_tests.specs.TestPairs.{untold_pairs, untold_zeros};
 
 use directed_fixed::{End, Fixed};
 use hyper_outside::LookStop;
@@ -110,7 +110,7 @@ impl Pairs for GivenPairs {
     ghost stays = { λ s. tt };
 
     ghost seen = { λ s. record {
-      source = untold s.checkers s.kinds (is_none s.stop);
+      source = untold_pairs s.checkers s.kinds (is_none s.stop);
       notes = untold_zeros;
       faults = s.faults;
     } };

@@ -1,5 +1,5 @@
 use Rattle.std.proofs.Common.{◌<◌, ◌∙◌, All, sym, subst, arith}
-use Rattle.base_scan.specs.Found.{AreScanned, IsStateIn}
+use Rattle.base_scan.specs.Found.{AreScanned, IsFoundState}
 use Rattle.base_scan.proofs.scanning.scan.Goals as goal
 
 pub returns-clause-found : goal.returns-clause-found
@@ -16,4 +16,4 @@ returns-clause-right g c =
     let groups = c.args.condition.now in
     let some : 0 < c.args.team.now = omega arith in
     let are = subst (AreScanned words groups c.args.team.now) (sym c.deref.ensures.value) c.in_ok-parts.ensures in
-    subst (All (IsStateIn words.game)) (sym c.new.ensures) (c.in_ok-joined.ensures words groups c.args.team.now some are).right
+    subst (All (IsFoundState words.game)) (sym c.new.ensures) (c.in_ok-joined.ensures words groups c.args.team.now some are).right

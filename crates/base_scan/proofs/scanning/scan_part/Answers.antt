@@ -1,14 +1,14 @@
 use Rattle.std.proofs.Common.{◌≡◌, ◌≤◌, ◌<◌, ◌-◌, ◌++◌, ◌∙◌, List, All, sym, ap, subst, arith}
 use Rattle.std.proofs.lemmas.List.Elements.{All-nil}
 use Rattle.base_scan.specs.declared.found.State.{State}
-use Rattle.base_scan.specs.Found.{IsStateIn, meeting_among, states_of_row}
+use Rattle.base_scan.specs.Found.{IsFoundState, meeting_among, states_of_row}
 use Rattle.base_scan.proofs.Scans.{first-rise, part-done, rows-more, rows-none}
 use Rattle.base_scan.proofs.scanning.scan_part.Goals as goal
 
 pub loop-row-init : goal.loop-row-init
 loop-row-init c = record {
   found = c.new-found.ensures.items ∙ sym (rows-none c.args.words.now c.args.condition.now c.first_row-from.result);
-  right = subst (All (IsStateIn c.args.words.now.game)) (sym c.new-found.ensures.items) (All-nil (IsStateIn c.args.words.now.game));
+  right = subst (All (IsFoundState c.args.words.now.game)) (sym c.new-found.ensures.items) (All-nil (IsFoundState c.args.words.now.game));
 }
 
 pub loop-row-preserved : goal.loop-row-preserved

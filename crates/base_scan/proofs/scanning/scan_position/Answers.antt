@@ -3,7 +3,7 @@ use Rattle.position_rank.specs.LiveRanks.{live_rank_of}
 use Rattle.position_rank.specs.Placement.{Placement}
 use Rattle.turn_rule.specs.Games.{kinds_of}
 use Rattle.turn_rule.specs.States.{IsState}
-use Rattle.base_scan.specs.Found.{IsStateIn}
+use Rattle.base_scan.specs.Found.{IsFoundState}
 use Rattle.base_scan.specs.declared.numbers.Depth.TheVariants.{Checkers}
 use Rattle.base_scan.specs.Meets.{meets, meets_by}
 use Rattle.base_scan.specs.Sides.{position_of}
@@ -77,5 +77,5 @@ loop-kind-preserved c =
       found = kind-more words groups p kind c.if-may.kept c.state_of.result c.args.found.now.items c.loop-kind.found.items c.push_if.new.found.items
           kept told c.loop-kind.invariant.found c.in_ok-push_if.ensures;
       right = λ before. right-more words groups c.if-may.kept c.state_of.result c.loop-kind.found.items c.push_if.new.found.items
-          (subst (IsStateIn words.game) (sym told) state) (c.loop-kind.invariant.right before) c.in_ok-push_if.ensures;
+          (subst (IsFoundState words.game) (sym told) state) (c.loop-kind.invariant.right before) c.in_ok-push_if.ensures;
     }

@@ -6,7 +6,7 @@ use Rattle.position_rank.specs.Ranks.{layouts}
 use Rattle.turn_rule.specs.Games.{kinds_of}
 use Rattle.base_scan.specs.declared.found.State.{State}
 use Rattle.base_scan.specs.Sides.{position_of}
-use Rattle.base_scan.specs.Found.{IsStateIn, with_kinds}
+use Rattle.base_scan.specs.Found.{IsFoundState, with_kinds}
 use Rattle.base_scan.proofs.Scans.{dead-square, few-before, few-layouts, has-rank, is-listed, live-square, scanned, square-more, square-none}
 use Rattle.base_scan.proofs.scanning.scan_row.Goals as goal
 use Rattle.base_scan.proofs.scanning.scan_row.Goals.{then-are_live+in_ok-scan_position, else-are_live}
@@ -59,12 +59,12 @@ loop-rank-preserved c =
         found = square-more words groups first rank (with_kinds (kinds_of game) (position_of mover other)) old so_far new
             (live-square game row rank mover other one another high low inside (right.0 w.if-are_live.true)) c.loop-rank.invariant.found
             (ap (λ (v : Vec State Global). v.items) w.found-is ∙ w.in_ok-scan_position.ensures.found);
-        right = λ before. subst (λ (v : Vec State Global). All (IsStateIn game) v.items) (sym w.found-is) (w.in_ok-scan_position.ensures.right (c.loop-rank.invariant.right before));
+        right = λ before. subst (λ (v : Vec State Global). All (IsFoundState game) v.items) (sym w.found-is) (w.in_ok-scan_position.ensures.right (c.loop-rank.invariant.right before));
       }
       | else-are_live w ↦ record {
         found = ap (λ (v : Vec State Global). v.items) w.found-is
             ∙ square-none words groups first rank old so_far (dead-square game row rank mover other one another high low inside (iff_false right w.if-are_live.false)) c.loop-rank.invariant.found;
-        right = λ before. subst (λ (v : Vec State Global). All (IsStateIn game) v.items) (sym w.found-is) (c.loop-rank.invariant.right before);
+        right = λ before. subst (λ (v : Vec State Global). All (IsFoundState game) v.items) (sym w.found-is) (c.loop-rank.invariant.right before);
       }
     ]
 

@@ -1,16 +1,16 @@
 use Rattle.std.proofs.lemmas.Bool.{iff_false}
 use Rattle.interval_words.specs.WordLists.{words_in_list}
 use Rattle.play_analyser.specs.Regrets.{play_pair}
-use Rattle.best_reply.specs.Tables.{LeavesState}
+use Rattle.best_reply.specs.Tables.{LeavesStateOfGame}
 use Rattle.best_reply.proofs.Lefts.{best-changes, best-of_all, best-of_first, best-stays, item-end}
 use Rattle.best_reply.proofs.roll_lefts.first_best.Goals as goal
 use Rattle.best_reply.proofs.roll_lefts.first_best.Goals.{then-is_better, else-is_better}
 
 pub left_over-most-requires-clause-state : goal.left_over-most-requires-clause-state
-left_over-most-requires-clause-state c = item-end (LeavesState c.args.words.now.game c.args.kind.now.next) c.args.lefts.now c.requires.states 0 c.index-lefts-0.result c.requires.some c.index-lefts-0.is
+left_over-most-requires-clause-state c = item-end (LeavesStateOfGame c.args.words.now.game c.args.kind.now.next) c.args.lefts.now c.requires.states 0 c.index-lefts-0.result c.requires.some c.index-lefts-0.is
 
 pub left_over-pair-requires-clause-state : goal.left_over-pair-requires-clause-state
-left_over-pair-requires-clause-state c = item-end (LeavesState c.args.words.now.game c.args.kind.now.next) c.args.lefts.now c.requires.states c.loop-i.i c.index-lefts-i.result c.loop-i-test.true c.index-lefts-i.is
+left_over-pair-requires-clause-state c = item-end (LeavesStateOfGame c.args.words.now.game c.args.kind.now.next) c.args.lefts.now c.requires.states c.loop-i.i c.index-lefts-i.result c.loop-i-test.true c.index-lefts-i.is
 
 pub loop-i-init : goal.loop-i-init
 loop-i-init c = best-of_first (play_pair c.args.kind.now (words_in_list c.args.words.now)) c.args.lefts.now c.index-lefts-0.result c.left_over-most.result c.requires.some c.index-lefts-0.is c.left_over-most.ensures

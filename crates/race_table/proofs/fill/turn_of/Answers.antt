@@ -3,7 +3,7 @@ use Rattle.std.specs.Ordering.{ord_max}
 use Rattle.std.proofs.lemmas.Bool.Decides.{nat_tests}
 use Rattle.std.proofs.lemmas.Int.{ints}
 use Rattle.race_table.specs.FreePlays.{against}
-use Rattle.race_table.specs.Tables.{IsSmall, best_of}
+use Rattle.race_table.specs.Tables.{IsSmallRace, best_of}
 use Rattle.race_table.proofs.Sums.{all-sums, best-small, ends-same, ends-some, kept-at, kept-end, kept-few, no-sums, sum-small, sums-more, value-small}
 use Rattle.race_table.proofs.fill.turn_of.Goals as goal
 
@@ -33,7 +33,7 @@ add_times-lower-requires-clause-times c = (kept-at c.args.race.now.mover c.args.
 
 pub add_times-lower-requires-clause-value : goal.add_times-lower-requires-clause-value
 add_times-lower-requires-clause-value c =
-    let small : IsSmall c.best_of-best.result = rw c.best_of-best.ensures (best-small c.args.races.now c.requires.table.small _) in
+    let small : IsSmallRace c.best_of-best.result = rw c.best_of-best.ensures (best-small c.args.races.now c.requires.table.small _) in
     rw c.lower.ensures.lower (value-small _ small.within.from (let h = small.within.to in omega (arith, ints, small.within.in_order, h)))
 
 pub add_times-upper-requires-clause-sum : goal.add_times-upper-requires-clause-sum
@@ -44,7 +44,7 @@ add_times-upper-requires-clause-times c = (kept-at c.args.race.now.mover c.args.
 
 pub add_times-upper-requires-clause-value : goal.add_times-upper-requires-clause-value
 add_times-upper-requires-clause-value c =
-    let small : IsSmall c.best_of-best.result = rw c.best_of-best.ensures (best-small c.args.races.now c.requires.table.small _) in
+    let small : IsSmallRace c.best_of-best.result = rw c.best_of-best.ensures (best-small c.args.races.now c.requires.table.small _) in
     rw c.upper.ensures.upper (value-small _ (let h = small.within.from in omega (arith, ints, small.within.in_order, h)) small.within.to)
 
 pub loop-roll-preserved : goal.loop-roll-preserved

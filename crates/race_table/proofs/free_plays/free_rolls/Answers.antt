@@ -3,7 +3,7 @@ use Rattle.std.proofs.lemmas.List.{map-append, take_more}
 use Rattle.std.proofs.lemmas.List.Elements.{All-push}
 use Rattle.roll_table.specs.Rolls.{Dice}
 use Rattle.race_table.specs.declared.free_plays.FreeRoll.{FreeRoll}
-use Rattle.race_table.specs.FreePlays.{HasFreeEnds, weighted}
+use Rattle.race_table.specs.FreePlays.{HasFreeEnds, weighted_turns}
 use Rattle.race_table.proofs.free_plays.free_rolls.Goals as goal
 
 pub loop-roll-preserved : goal.loop-roll-preserved
@@ -18,8 +18,8 @@ loop-roll-preserved c =
     let items = c.in_ok-push.ensures.items in
     record {
       rolls =
-          ap (map weighted) items
-          ∙ (map-append weighted kept (one ∷ [])
+          ap (map weighted_turns) items
+          ∙ (map-append weighted_turns kept (one ∷ [])
           ∙ (ap (λ (xs : List (Dice × ℕ)). xs ++ roll ∷ []) c.loop-roll.invariant.rolls
           ∙ sym (take_more rolls i c.loop-roll-item.result here)));
       ends = subst (λ (xs : List FreeRoll). All P xs) (sym items) (All-push P kept one c.loop-roll.invariant.ends c.in_ok-free_ends.ensures);

@@ -2,7 +2,7 @@ use Rattle.std.proofs.Common.{◌<◌, ◌≤◌, ◌∙◌, ◌∷◌, [], leng
 use Rattle.position_rank.specs.Placement.{Placement}
 use Rattle.turn_rule.specs.States.{IsState}
 use Rattle.best_reply.specs.Outcomes.{IsOutcomeOf}
-use Rattle.best_reply.specs.Tables.{RollAt, policy_of, weighted}
+use Rattle.best_reply.specs.Tables.{RollAt, policy_of, weighted_kept}
 use Rattle.best_reply.proofs.OutcomeLemmas.{advised-more}
 use Rattle.best_reply.proofs.RollSums.{IsKept, kept-at, kept-many}
 use Rattle.best_reply.proofs.position_lefts.PositionLefts.push_advised.Goals as goal
@@ -22,7 +22,7 @@ loop-one-preserved c =
     let right : IsOutcomeOf (policy_of words c.args.self.now c.args.number one.roll) c.of.result =
     subst (λ (end : Placement). IsOutcomeOf end c.of.result) (c.advised.ensures.end ∙ ap (λ (p : Placement). policy_of words p c.args.number one.roll) (kept.position ∙ c.self.view_is)) c.of.ensures in
     record {
-      advised = advised-more words c.loop-one.outcomes.items c.push.new.self.items c.args.self.now c.args.number c.loop-one.one-index (weighted one) c.of.result c.loop-one.invariant.advised c.requires.state kept.here kept.weight c.loop-one.invariant.many right c.in_ok-push.ensures.items;
+      advised = advised-more words c.loop-one.outcomes.items c.push.new.self.items c.args.self.now c.args.number c.loop-one.one-index (weighted_kept one) c.of.result c.loop-one.invariant.advised c.requires.state kept.here kept.weight c.loop-one.invariant.many right c.in_ok-push.ensures.items;
       many = omega (arith, ap length c.in_ok-push.ensures.items ∙ length-append c.loop-one.outcomes.items (c.of.result ∷ []), c.loop-one.invariant.many);
     }
 

@@ -1,7 +1,7 @@
 use Rattle.std.proofs.Common.{◌∙◌, sym, refl}
 use Rattle.cube_actions.specs.Stakes.{IsValid}
 use Rattle.plain_table.specs.Tables.{IsFull}
-use Rattle.plain_table.specs.Rounds.{HasRounds}
+use Rattle.plain_table.specs.Rounds.{HasTable}
 use Rattle.plain_table.proofs.GameLemmas.{opening-rounds, rounds-agree-within, replicate-full}
 use Rattle.plain_table.proofs.plain_table.PlainTable.new.Goals as goal
 
@@ -10,7 +10,7 @@ invariant_of-result c =
     let now = c.in_ok-current.current in
     let stakes = c.copied.result in
     let valid : IsValid stakes = rw c.copied.ensures c.kinds.ensures.valid in
-    let has : HasRounds (record { stakes = stakes; table = now }) 0 =
+    let has : HasTable (record { stakes = stakes; table = now }) 0 =
     rw (c.copied.ensures, c.in_ok-current.ensures, c.new-bound_pair.ensures, c.neg.ensures, c.bound-bound.ensures.bound)
     (opening-rounds c.args.stakes.now c.args.checkers c.kinds.result c.kinds.ensures.kinds) in
     let full : IsFull now = rw c.in_ok-current.ensures (replicate-full c.args.checkers c.kinds.result c.new-bound_pair.result) in

@@ -4,7 +4,7 @@ use Rattle.position_rank.specs.Placement.{Placement, IsPosition}
 use Rattle.position_rank.specs.Ranks.{square_rank_of}
 use Rattle.cube_actions.specs.Stakes.{nothing}
 use Rattle.turn_rule.specs.Layouts.{squares_of}
-use Rattle.plain_table.specs.Tables.{PairTable, IsFull, words_of}
+use Rattle.plain_table.specs.Tables.{PairTable, IsFull, words_at}
 use Rattle.turn_rule.specs.States.{pair_of}
 use Rattle.plain_table.proofs.TableLemmas.{place-within}
 use Rattle.turn_rule.proofs.Squares.{square-below}
@@ -32,4 +32,4 @@ returns c =
     let here = inside _ _ c.args.position.now c.args.square c.args.kind c.self.invariant c.self.view_is c.requires.valid c.requires.checkers c.requires.square c.requires.kind in
     get_or_read_under items (c.args.square * c.self.inside.kinds + c.args.kind) (length items) c.index.result.now nothing c.index.ensures here refl
     ∙ (ap (λ (square : ℕ). get_or items (square * c.self.inside.kinds + c.args.kind) nothing) c.requires.square
-    ∙ ap (λ (table : PairTable). pair_of (words_of table) c.args.position.now c.args.kind) c.self.view_is)
+    ∙ ap (λ (table : PairTable). pair_of (words_at table) c.args.position.now c.args.kind) c.self.view_is)
