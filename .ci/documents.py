@@ -258,7 +258,9 @@ class Reader:
         due = int(refused[1]) if refused else 0
         if answer.status != due and not example.status_told:
             yield f"it ends with {answer.status}, and {due} is due"
-        if not has_note(answer.status, answer.told):
+        # A list gets a note that counts its wrong lines.
+        is_noted = answer.status or any(word.partition("=")[0] == "--positions" for word in words)
+        if not has_note(is_noted, answer.told):
             yield f"standard error: {answer.told.decode(errors='replace')}"
 
     def need(self, name, text=None):

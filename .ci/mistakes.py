@@ -48,7 +48,16 @@ MISTAKES = (
     Mistake(("shwo", SMALL, "6 / 1"), "1 words command 0", f'"shwo" is no command: {COMMANDS}'),
     Mistake(("show", SMALL), "1 words form 0", f"a word is missing: {FORM}"),
     Mistake(("show", SMALL, "6", "/", "1"), "1 words form 0", f'"/" is a word too many: {FORM}'),
-    Mistake(("show", SMALL, "6 / 1", "--roll", "41"), "1 words form 0", "--roll is no option of show, which has none: leave it out"),
+    Mistake(("show", SMALL, "6 / 1", "--roll", "41"), "1 words form 0", "--roll is no option of show: write --id"),
+    Mistake(("show", SMALL, "6 / 1", "--id", "--id"), "1 words form 0", "--id is given twice: leave one out"),
+    Mistake(("show", SMALL, "6 / 1", "--id=yes"), "1 words form 0", "--id takes no value: write --id alone"),
+    Mistake(("show", SMALL, "6 / 1", "--id="), "1 words word 3", "--id takes no value: write --id alone"),
+    Mistake(("show", SMALL, "6 / 1", "--id", "yes"), "1 words form 0", f'"yes" is a word too many: {FORM}'),
+    Mistake(
+        ("show", SMALL, "6 / 1", "--positions", "game.rec"), "1 words form 0", '"6 / 1" is a word too many: write hypergammon show FILE'
+    ),
+    Mistake(("show", SMALL, "--id", "--positions", "game.rec"), "1 words form 0", "--id is no option of show: write --positions"),
+    Mistake(("show", SMALL, "--positions"), "1 words form 0", "--positions has no value: write a file's name, 1 to 255 bytes behind it"),
     Mistake(
         ("scan", SMALL, "kind=0", "pips<8"),
         "1 words form 0",
@@ -57,9 +66,9 @@ MISTAKES = (
     Mistake(
         ("solve", "new", "--worker", "4"),
         "1 words form 0",
-        "--worker is no option of solve: write --checkers, --stakes, --rounds or --workers",
+        "--worker is no option of solve: write --checkers, --stakes, --rounds, --workers or --width",
     ),
-    Mistake(("advise", SMALL, "6 / 1", "--dice=41"), "1 words form 0", "--dice is no option of advise: write --kind or --roll"),
+    Mistake(("advise", SMALL, "6 / 1", "--dice=41"), "1 words form 0", "--dice is no option of advise: write --kind, --roll or --take"),
     Mistake(("solve", "new", "--workers", "4", "--workers=2"), "1 words form 0", "--workers is given twice: leave one out"),
     Mistake(("solve", "new", "--workers"), "1 words form 0", "--workers has no value: write a whole number from 1 to 64 behind it"),
     Mistake(("solve", "new", "--workers="), "1 words word 2", "--workers has no value: write a whole number from 1 to 64 behind it"),
@@ -76,11 +85,21 @@ MISTAKES = (
     ),
     Mistake(("solve", "new", "--rounds", "0"), "1 words value 4", '--rounds "0": write a whole number from 1 to 4096'),
     Mistake(("solve", "new", "--workers=65"), "1 words value 5", '--workers "65": write a whole number from 1 to 64'),
+    Mistake(
+        ("solve", "new", "--width", "0"),
+        "1 words value 6",
+        '--width "0": write points from 0.000001 to 64, with at most six decimals, as 0.001',
+    ),
     Mistake(("ladder", "new", "--length", "7"), "1 words value 3", '--length "7": write a whole number from 1 to 5'),
     Mistake(
         ("advise", SMALL, "6 / 1", "--kind", "center"),
         "1 words value 3",
         '--kind "center": write alone, centred, mine or theirs, or in a match as near:1:centred',
+    ),
+    Mistake(
+        ("advise", SMALL, "6 / 1", "--take", "--roll", "41"),
+        "1 words value 4",
+        "whoever was doubled has no roll: leave out --roll or --take",
     ),
     Mistake(("bound", "24 / 24", "1", "1"), "1 words value 1", 'CHECKERS "24 / 24": write 1, 2 or 3'),
     Mistake(("bound", "1", "5000", "24 / 24"), "1 words value 2", 'ROUNDS "5000": write a whole number from 1 to 4096'),
@@ -118,6 +137,16 @@ MISTAKES = (
         'in "off / 1" a side has all its checkers off, so the game is over: leave one on the bar or a point',
     ),
     Mistake(
+        ("show", SMALL, "AACgAgAAKgAAA="),
+        "2 position 1",
+        '"AACgAgAAKgAAA=" is no position ID: write one of 14 signs, or a position as "24 23 / 24 23"',
+    ),
+    Mistake(
+        ("board", "AAAAAAAAAAAAAA"),
+        "2 position 3",
+        '"AAAAAAAAAAAAAA" tells more than three checkers of a side, or none of either',
+    ),
+    Mistake(
         ("show", "6 / 1", SMALL), "2 position 1", "FILE and POSITION seem exchanged: write hypergammon show FILE POSITION"
     ),
     Mistake(
@@ -152,6 +181,11 @@ MISTAKES = (
         ("show", "no\x1b[31m.base", "6 / 1"),
         "3 missing no\x1b[31m.base",
         '"no?[31m.base" is missing: write the name of a file that solve or ladder wrote, as m.1.3.c',
+    ),
+    Mistake(
+        ("show", SMALL, "--positions", "none.txt"),
+        "3 missing none.txt",
+        '"none.txt" is missing: write the name of a file with one position in each line, or /dev/stdin',
     ),
     Mistake(
         ("study", "none.rec"),
@@ -215,6 +249,11 @@ MISTAKES = (
         ("show", SMALL, "24 23 / 24 23"),
         "10 base wanted checkers 2 found checkers 1 stakes jacoby",
         f'the position has 2 checkers a side and "{SMALL}" has 1: write as many places for each side, those off too',
+    ),
+    Mistake(
+        ("show", SMALL, "AACgAgAAKgAAAA"),
+        "10 base wanted checkers 3 found checkers 1 stakes jacoby",
+        f'the position has 3 checkers a side and "{SMALL}" has 1: write as many places for each side, those off too',
     ),
     Mistake(
         ("bound", "1", "1", "24 23 / 24 23"),

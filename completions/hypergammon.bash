@@ -1,6 +1,11 @@
 # Completion for bash. Source this file, as in: . completions/hypergammon.bash
 # completions/make writes it.
 
+_hypergammon_files() {
+    compopt -o filenames 2>/dev/null
+    mapfile -t COMPREPLY < <(compgen -P "${word%"$1"}" -f -- "$1")
+}
+
 _hypergammon() {
     local commands='board bound race solve show advise migrate verify scan reply ladder plan analyse study make'
     local subjects='position record match files status'
@@ -22,8 +27,10 @@ _hypergammon() {
         [make]='other other file'
     )
     local -A options=(
-        [solve]='--checkers --stakes --rounds --workers'
-        [advise]='--kind --roll'
+        [board]='--id'
+        [solve]='--checkers --stakes --rounds --workers --width'
+        [show]='--id --positions'
+        [advise]='--kind --roll --take'
         [migrate]='--workers'
         [verify]='--workers'
         [scan]='--workers'
@@ -38,6 +45,8 @@ _hypergammon() {
         [--stakes]='cubeless money jacoby money-beavers jacoby-beavers'
         [--kind]='alone centred mine theirs near:1:centred far:1:centred near:2:near far:2:near near:2:far far:2:far near:4:near far:4:near near:4:far far:4:far near:8:near far:8:near near:8:far far:8:far'
     )
+    # Options without a value, and those whose value is the name of a file.
+    local flags=' --id --take ' files=' --positions '
     local words=() word last='' command option='' value place=0 choices='' i
     # Bash cuts words at `=` and `:`; here they are whole again.
     for word in "${COMP_WORDS[@]:0:COMP_CWORD+1}"; do
@@ -57,7 +66,7 @@ _hypergammon() {
         if [ "$option" ]; then
             option=
         elif [[ ${words[i]} == --* ]]; then
-            [[ ${words[i]} == *=* ]] || option=${words[i]}
+            [[ ${words[i]} == *=* || $flags == *" ${words[i]} "* ]] || option=${words[i]}
         else
             ((place += 1))
         fi
@@ -70,17 +79,17 @@ _hypergammon() {
     elif [ "$command" = help ]; then
         [ "${#words[@]}" -gt 3 ] || choices="$commands $subjects"
     elif [ "$option" ]; then
-        [[ " ${options[$command]-} " != *" $option "* ]] || choices=${values[$option]-}
+        if [[ " ${options[$command]-} " == *" $option "* ]]; then
+            choices=${values[$option]-}
+            [[ $files != *" $option "* ]] || _hypergammon_files "$value"
+        fi
     elif [[ $word == -* ]]; then
         choices=${options[$command]-}
         [[ ${#words[@]} -ne 3 || ! ${arguments[$command]-} ]] || choices+=' --help'
     else
         read -ra words <<<"${arguments[$command]-}"
         case ${words[place]-none} in
-            file)
-                compopt -o filenames 2>/dev/null
-                mapfile -t COMPREPLY < <(compgen -f -- "$value")
-                ;;
+            file) _hypergammon_files "$value" ;;
             none) choices=${options[$command]-} ;;
         esac
     fi

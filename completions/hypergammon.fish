@@ -16,7 +16,7 @@ function __hypergammon_asks
         if test $is_value = yes
             set is_value no
         else if string match -q -- '--*' $it
-            string match -q -- '*=*' $it; or set is_value yes
+            string match -q -- '*=*' $it; or contains -- $it --id --take; or set is_value yes
         else
             set place (math $place + 1)
         end
@@ -48,12 +48,17 @@ complete -c hypergammon -n '__hypergammon_asks help.1' -a record -d 'how games a
 complete -c hypergammon -n '__hypergammon_asks help.1' -a match -d 'scores, their files, and where the cube is'
 complete -c hypergammon -n '__hypergammon_asks help.1' -a files -d 'files of bounds, their sizes, versions, damage'
 complete -c hypergammon -n '__hypergammon_asks help.1' -a status -d 'why there is no result, by the number told'
+complete -c hypergammon -n '__hypergammon_is board' -l id
 complete -c hypergammon -n '__hypergammon_is solve' -l checkers -x -a '1 2 3'
 complete -c hypergammon -n '__hypergammon_is solve' -l stakes -x -a 'cubeless money jacoby money-beavers jacoby-beavers'
 complete -c hypergammon -n '__hypergammon_is solve' -l rounds -x
 complete -c hypergammon -n '__hypergammon_is solve' -l workers -x
+complete -c hypergammon -n '__hypergammon_is solve' -l width -x
+complete -c hypergammon -n '__hypergammon_is show' -l id
+complete -c hypergammon -n '__hypergammon_is show' -l positions -rF
 complete -c hypergammon -n '__hypergammon_is advise' -l kind -x -a 'alone centred mine theirs near:1:centred far:1:centred near:2:near far:2:near near:2:far far:2:far near:4:near far:4:near near:4:far far:4:far near:8:near far:8:near near:8:far far:8:far'
 complete -c hypergammon -n '__hypergammon_is advise' -l roll -x
+complete -c hypergammon -n '__hypergammon_is advise' -l take
 complete -c hypergammon -n '__hypergammon_is migrate' -l workers -x
 complete -c hypergammon -n '__hypergammon_is verify' -l workers -x
 complete -c hypergammon -n '__hypergammon_is scan' -l workers -x
