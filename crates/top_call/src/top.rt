@@ -122,9 +122,10 @@ fn conclude<O: Sink, N: Sink>(
 /// - `race`: of how many turns a race may still take, and of a pair that encloses what it is worth exactly in every game of at least
 ///   as many turns, however its unfinished end is scored. The pair is at least as tight as after any number of rounds, and at most as
 ///   many units wide as there are turns.
-/// - `solve`: the file holds, for each state, a pair at least as tight as the asked number of rounds and, in every game of enough
-///   turns, however its unfinished end is scored, enclosing what the state is worth exactly, for every number of workers and every
-///   gate; no other file changed.
+/// - `solve`: the file holds, for each state, a pair at least as tight as the rounds that its head and the report tell and, in every
+///   game of enough turns, however its unfinished end is scored, enclosing what the state is worth exactly, for every number of
+///   workers and every gate; no other file changed. The rounds told are those asked for, or fewer where a width is asked for and no
+///   pair is wider; fewer plain rounds leave some pair wider.
 /// - `ladder`: each file is of a score of the match, with the start pairs of the scores before it, and each line has the start pair and
 ///   the width of the widest pair of its file's words. From one number of turns on for all of them, however unfinished games are
 ///   scored, the words enclose the game of their score with the exact payoffs of the match, and the start pairs the exact starts; all
@@ -140,6 +141,7 @@ fn conclude<O: Sink, N: Sink>(
 /// - `advise`: of the plays of a roll, or of what to do with the cube, by the pairs of the file, whose header and pages are right as
 ///   far as the advice rests on them. Where the file's pairs enclose what their states are worth exactly in every game of enough
 ///   turns, the best play, the offer and the answer lose, in every game of enough turns, at most the bound that is told with each.
+///   With `--take` the advice is on the cube in the position with the sides exchanged, and its answer stands first.
 /// - `verify`: of a file whose words are consistent. Whoever made it, they enclose every state in games of any number of turns, and
 ///   what a choice loses over them encloses what it loses exactly.
 /// - `scan`: of the states of the file's words that meet the condition, all of them and no others, by rising live rank and then by
@@ -158,7 +160,7 @@ fn conclude<O: Sink, N: Sink>(
 ///   on, with nothing asked of a file.
 /// - `make`: of a record that is drawn from a number and breaks no rule, with both players' totals after eight rounds. The file
 ///   holds its text, and no other changed.
-/// - `board`: of the position as a board.
+/// - `board`: of the position as a board, and of its ID where that is asked for, as of `show`.
 ///
 /// Else the line of one refusal was put, or a front of it where that failed, each only where the ones before don't come:
 ///
@@ -183,8 +185,7 @@ fn conclude<O: Sink, N: Sink>(
 /// 6 comes only where reading a file failed, 7 only where writing a file or the output failed, 8 where there was no memory. At 7 the
 /// report or a front of it may stand before the line. At all but 0 no file changed, but that those of the scores stay that a `ladder`
 /// has solved; their lines stand before that of the refusal. What lets one mend the call is put to the notes, a line without a control
-/// byte in it, or a front of it where that failed; at status 0 nothing is, but such a line of a list that was gone through: how many of its
-/// lines are wrong.
+/// byte in it, or a front of it where that failed; at status 0 nothing is, but such a line of a list that was gone through.
 pub fn run<R: Threads + Sync, F: Files, O: Sink, N: Sink, G: Gate + Sync>(
     rt: &R,
     alloc: Global,
