@@ -25,7 +25,7 @@ CRATES = "low:\nhyper_app: low\nbeside: low\n"
 NOON = 946728000
 NAMED = {"NAME": "Nobody", "EMAIL": "nobody@localhost", "DATE": f"{NOON} +0000"}
 # What belongs into a package beside the program.
-PACKED = ("hypergammon", "docs/help.txt", "docs/help/show.txt", "completions/hypergammon.bash", "README.md", "LICENSE-MIT", "LICENSE-APACHE")
+PACKED = ("hypergammon", "docs/help.txt", "docs/help/show.txt", "completions/hypergammon.bash", "README.md", "LICENSE-MIT", "LICENSE-APACHE", "NOTICE")
 
 
 class Checkout:
@@ -69,10 +69,13 @@ class Checkout:
 
 
 def first_calls(checkout):
-    """Two first calls at the same time build once; a later one builds nothing and says nothing."""
+    """Two first calls at the same time build once; a later one builds nothing, says nothing and compares no contents."""
     both = [checkout.begin() for _ in range(2)]
     ends = [(it.communicate(timeout=60)[0].strip(), it.returncode) for it in both]
+    seen = checkout.top / "crates/hyper_app/out/hyper_app.seen"
+    looked = seen.stat()
     yield ends == [("1", 0)] * 2 and checkout.call() == (0, "1", "") and not checkout.left()
+    yield seen.stat() == looked
 
 
 def touched(checkout):
@@ -91,6 +94,20 @@ def changed(checkout):
         status, output, told = checkout.call(has_rt=False)
         yield (status, output) == (0, "1") and "of other sources" in told
     yield checkout.call()[:2] == (0, "2")
+
+
+def came_and_went(checkout):
+    """A source that comes builds, one that goes too, and an older folder of sources that takes another's place."""
+    sources = checkout.source("low").parent
+    shutil.copytree(sources, checkout.top / "older")
+    (checkout.top / "older/main.rt").write_text("// a fourth text\n", encoding="utf-8")
+    (sources / "more.rt").write_text("// more\n", encoding="utf-8")
+    yield checkout.call()[:2] == (0, "3")
+    (sources / "more.rt").unlink()
+    yield checkout.call()[:2] == (0, "4")
+    sources.rename(checkout.top / "newer")
+    (checkout.top / "older").rename(sources)
+    yield checkout.call()[:2] == (0, "5")
 
 
 def failing(checkout):
@@ -114,7 +131,7 @@ def stopped(checkout):
     called.communicate(timeout=60)
     yield called.returncode == -signal.SIGTERM and not checkout.left()
     (checkout.top / "waits").unlink()
-    yield checkout.call()[:2] == (0, "5")
+    yield checkout.call()[:2] == (0, "8")
 
 
 def commit(checkout, changes):
@@ -156,7 +173,7 @@ def packed(checkout):
 def try_builds(tally, folder):
     folder.mkdir()
     checkout = Checkout(folder)
-    for part in (first_calls, touched, changed, failing, stopped, packed):
+    for part in (first_calls, touched, changed, came_and_went, failing, stopped, packed):
         with tally.going_on(part.__name__):
             wrong = [number for number, holds in enumerate(part(checkout), 1) if not holds]
             tally.note(f"builds: {part.__name__}", [f"{part.__doc__} Not so: {wrong}"] if wrong else [])

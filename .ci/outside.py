@@ -17,7 +17,7 @@ import threading
 import time
 
 import base_file
-from tally import BASE_START, PROGRAM, RECORD_START, Ran, has_note, old_file
+from tally import BASE_START, PROGRAM, RECORD_START, SCRIPT, Ran, has_note, old_file, run
 
 # After how many seconds a run of these small games counts as one that doesn't end.
 LIMIT = 20
@@ -156,6 +156,17 @@ def pipes(room):
         yield from differences((*words, "by a FIFO"), fifo, file)
     for words in (("analyse", FOUR, "/dev/stdin"), ("study", "/dev/stdin", "--rounds", "2")):
         yield from differences((*words, "of too much"), ask(words, folder, bytes(TOO_MUCH)), READ_REFUSED)
+
+
+def lists(room):
+    """A list from a pipe, which the script calls -, is answered as from its file."""
+    folder, lines = room.new("lists"), f"{POSITION}\nx\n".encode()
+    (folder / "list").write_bytes(lines)
+    due = run([PROGRAM, "show", FOUR, "--positions", "list"], folder)
+    yield from differences("a list", due.status, 0)
+    for words in ((FOUR, "--positions", "-"), ("--positions=-", FOUR), (FOUR, "--positions", "/dev/stdin")):
+        yield from differences(words, run([SCRIPT, "show", *words], folder, lines), due)
+    yield from differences("a file -", run([SCRIPT, "show", "-", POSITION], folder).status, 1)
 
 
 def unread(pipe):
@@ -427,7 +438,7 @@ def changing_files(room):
     yield from differences("it was replaced often enough", counts["changes"] >= 200, True)
 
 
-PARTS = (pipes, small_pieces, no_files, other_kinds, refused_files, one_file, links, limits, ended_runs, killed_runs, paired_runs)
+PARTS = (pipes, lists, small_pieces, no_files, other_kinds, refused_files, one_file, links, limits, ended_runs, killed_runs, paired_runs)
 PARTS += (changing_files,)
 
 
