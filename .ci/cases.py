@@ -12,6 +12,7 @@ from xml.etree import ElementTree
 
 import base_file
 from base import Base, lines, live_rank, read_places
+from decision_pages import try_decision_pages
 from documents import large_files
 from imports import try_imports
 from mistakes import try_mistakes
@@ -53,7 +54,7 @@ CASES = (
     Case("a first word that isn't text", (b"\xff",), 1, b"refused 1 words word 0\n"),
     Case("an argument too few", (b"bound", b"1", b"1"), 1, b"refused 1 words form 0\n"),
     Case("a point that both sides hold", (b"bound", b"1", b"1", b"6 / 19"), 2, b"refused 2 position 4\n"),
-    Case("a roll with the lower die first", (b"advise", SMALL, b"24 / 24", b"--roll", b"12"), 2, b"refused 2 roll 2\n"),
+    Case("a roll of one die", (b"advise", SMALL, b"24 / 24", b"--roll", b"7"), 2, b"refused 2 roll 1\n"),
     Case("no such file", (b"show", b"none.base", b"24 / 24"), 3, b"refused 3 missing none.base\n"),
     Case("a damaged page", (b"show", b"damaged.base", b"24 / 24"), 4, b"refused 4 file page-digest %d\n" % PAGE_DIGEST),
     Case("a file that is no record", (b"study", SMALL), 5, b"refused 5 record 1 shape\n"),
@@ -369,7 +370,7 @@ def try_cases(tally, folder, solved):
     solved.solve(["ladder", "match", "--checkers", "1", "--length", "5"], folder)
     solved.solve(["ladder", "m", "--checkers", "2", "--workers", "4"], folder)
     parts = (try_words, try_mistakes, try_terminal, try_help, try_boards, try_migrations, try_three_checkers)
-    parts += (try_reader, try_imports)
+    parts += (try_reader, try_imports, try_decision_pages)
     for part in parts:
         with tally.going_on(part.__name__):
             part(tally, folder)

@@ -48,7 +48,7 @@ MISTAKES = (
     Mistake(("shwo", SMALL, "6 / 1"), "1 words command 0", f'"shwo" is no command: {COMMANDS}'),
     Mistake(("show", SMALL), "1 words form 0", f"a word is missing: {FORM}"),
     Mistake(("show", SMALL, "6", "/", "1"), "1 words form 0", f'"/" is a word too many: {FORM}'),
-    Mistake(("show", SMALL, "6 / 1", "--roll", "41"), "1 words form 0", "--roll is no option of show: write --id"),
+    Mistake(("show", SMALL, "6 / 1", "--roll", "41"), "1 words form 0", "--roll is no option of show: write --board or --id"),
     Mistake(("show", SMALL, "6 / 1", "--id", "--id"), "1 words form 0", "--id is given twice: leave one out"),
     Mistake(("show", SMALL, "6 / 1", "--id=yes"), "1 words form 0", "--id takes no value: write --id alone"),
     Mistake(("show", SMALL, "6 / 1", "--id="), "1 words word 3", "--id takes no value: write --id alone"),
@@ -56,8 +56,14 @@ MISTAKES = (
     Mistake(
         ("show", SMALL, "6 / 1", "--positions", "game.rec"), "1 words form 0", '"6 / 1" is a word too many: write hypergammon show FILE'
     ),
-    Mistake(("show", SMALL, "--id", "--positions", "game.rec"), "1 words form 0", "--id is no option of show: write --positions"),
+    Mistake(("show", SMALL, "--id", "--positions", "game.rec"), "1 words form 0", "--id is no option of show: write --positions or --workers"),
     Mistake(("show", SMALL, "--positions"), "1 words form 0", "--positions has no value: write a file's name, 1 to 255 bytes behind it"),
+    Mistake(
+        ("advise", SMALL, "6 / 1", "--rolls", "game.rec"), "1 words form 0", '"6 / 1" is a word too many: write hypergammon advise FILE'
+    ),
+    Mistake(
+        ("advise", SMALL, "--take", "--rolls", "game.rec"), "1 words form 0", "--take is no option of advise: write --rolls, --kind or --workers"
+    ),
     Mistake(
         ("scan", SMALL, "kind=0", "pips<8"),
         "1 words form 0",
@@ -68,7 +74,7 @@ MISTAKES = (
         "1 words form 0",
         "--worker is no option of solve: write --checkers, --stakes, --rounds, --workers or --width",
     ),
-    Mistake(("advise", SMALL, "6 / 1", "--dice=41"), "1 words form 0", "--dice is no option of advise: write --kind, --roll or --take"),
+    Mistake(("advise", SMALL, "6 / 1", "--dice=41"), "1 words form 0", "--dice is no option of advise: write --kind, --roll, --board or --take"),
     Mistake(("solve", "new", "--workers", "4", "--workers=2"), "1 words form 0", "--workers is given twice: leave one out"),
     Mistake(("solve", "new", "--workers"), "1 words form 0", "--workers has no value: write a whole number from 1 to 64 behind it"),
     Mistake(("solve", "new", "--workers="), "1 words word 2", "--workers has no value: write a whole number from 1 to 64 behind it"),
@@ -101,6 +107,45 @@ MISTAKES = (
         "1 words value 4",
         "whoever was doubled has no roll: leave out --roll or --take",
     ),
+    Mistake(("analyse", SMALL, "game.rec", "--worst", "0"), "1 words value 3", '--worst "0": write a whole number from 1 to 100'),
+    Mistake(
+        ("study", "game.rec", "--worst=5", "--full"), "1 words value 4", "--full shows all decisions: leave out --full or --worst"
+    ),
+    Mistake(
+        ("show", "m", "6 / 1", "--away", "2:3"),
+        "1 words value 3",
+        '--away "2:3": write the points that you and the other side still need, 1 to 5 each, as 2-3',
+    ),
+    Mistake(
+        ("show", "m", "6 / 1", "--away", "1-3"),
+        "1 words value 3",
+        'with --away "1-3" it is the Crawford game or one after it: write --crawford or --post',
+    ),
+    Mistake(
+        ("show", "m", "6 / 1", "--away", "2-3", "--post"),
+        "1 words value 3",
+        'with --away "2-3" the Crawford game is still to come: leave out --crawford and --post',
+    ),
+    Mistake(
+        ("show", "m", "6 / 1", "--away", "1-1", "--crawford"),
+        "1 words value 3",
+        'with --away "1-1" the Crawford game is over: leave out --crawford',
+    ),
+    Mistake(
+        ("advise", "m", "6 / 1", "--away", "1-2", "--crawford", "--post"),
+        "1 words value 3",
+        "--crawford and --post are of two games: leave one out",
+    ),
+    Mistake(
+        ("advise", "m", "6 / 1", "--away", "2-2", "--cube", "middle"),
+        "1 words value 4",
+        '--cube "middle": write centred, mine or theirs',
+    ),
+    Mistake(
+        ("advise", "m", "6 / 1", "--away", "2-2", "--value", "2"),
+        "1 words value 5",
+        '--value "2": write 1 for a cube in the middle, or 2, 4 or 8 for one that a side has',
+    ),
     Mistake(("bound", "24 / 24", "1", "1"), "1 words value 1", 'CHECKERS "24 / 24": write 1, 2 or 3'),
     Mistake(("bound", "1", "5000", "24 / 24"), "1 words value 2", 'ROUNDS "5000": write a whole number from 1 to 4096'),
     Mistake(("make", "one", "1", "new"), "1 words value 1", 'NUMBER "one": write a whole number from 0 to 18446744073709551615'),
@@ -114,12 +159,7 @@ MISTAKES = (
         "2 position 1",
         f'"24 23 24 23" has no slash: write the places of the side to move, a slash and the other side\'s, {STEPS}',
     ),
-    Mistake(("show", SMALL, "24/24"), "2 position 1", f'"24/24" has no space on either side of the slash: write it {STEPS}'),
-    Mistake(
-        ("show", SMALL, "24  23 / 24 23"),
-        "2 position 1",
-        f'"24  23 / 24 23" has a slash or a space too many: write one slash, and single spaces, {STEPS}',
-    ),
+    Mistake(("show", SMALL, "24/23/24"), "2 position 1", f'"24/23/24" has a slash too many: write one, {STEPS}'),
     Mistake(
         ("show", SMALL, "6 5 / 1"),
         "2 position 3",
@@ -152,12 +192,7 @@ MISTAKES = (
     Mistake(
         ("advise", SMALL, "6 / 1", "--roll", "7"),
         "2 roll 1",
-        '--roll "7": write two digits from 1 to 6, the higher first, as 61',
-    ),
-    Mistake(
-        ("advise", SMALL, "6 / 1", "--roll", "16"),
-        "2 roll 2",
-        '--roll "16" has the lower die first: write the higher one first, as 61',
+        '--roll "7": write two digits from 1 to 6, as 61',
     ),
     Mistake(("scan", SMALL, "pips=1 |"), "11 condition 2", '"pips=1 |" ends too early: write a test as kind=0 at its end'),
     Mistake(
@@ -186,6 +221,11 @@ MISTAKES = (
         ("show", SMALL, "--positions", "none.txt"),
         "3 missing none.txt",
         '"none.txt" is missing: write the name of a file with one position in each line, or /dev/stdin',
+    ),
+    Mistake(
+        ("advise", SMALL, "--rolls", "none.txt"),
+        "3 missing none.txt",
+        '"none.txt" is missing: write the name of a file with a position and a roll in each line, or /dev/stdin',
     ),
     Mistake(
         ("study", "none.rec"),

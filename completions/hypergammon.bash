@@ -28,25 +28,30 @@ _hypergammon() {
     )
     local -A options=(
         [board]='--id'
+        [bound]='--board'
+        [race]='--board'
         [solve]='--checkers --stakes --rounds --workers --width'
-        [show]='--id --positions'
-        [advise]='--kind --roll --take'
+        [show]='--board --id --positions --workers --away --crawford --post'
+        [advise]='--kind --roll --board --take --rolls --workers --away --cube --value --crawford --post'
         [migrate]='--workers'
         [verify]='--workers'
         [scan]='--workers'
         [reply]='--kind --rounds'
         [ladder]='--checkers --length --rounds --workers'
         [plan]='--length'
-        [study]='--rounds --workers'
+        [analyse]='--worst --full'
+        [study]='--rounds --workers --worst --full'
     )
     local -A values=(
         [--checkers]='1 2 3'
         [--length]='1 2 3 4 5'
+        [--cube]='centred mine theirs'
+        [--value]='1 2 4 8'
         [--stakes]='cubeless money jacoby money-beavers jacoby-beavers'
         [--kind]='alone centred mine theirs near:1:centred far:1:centred near:2:near far:2:near near:2:far far:2:far near:4:near far:4:near near:4:far far:4:far near:8:near far:8:near near:8:far far:8:far'
     )
     # Options without a value, and those whose value is the name of a file.
-    local flags=' --id --take ' files=' --positions '
+    local flags=' --id --board --crawford --post --take --full ' files=' --positions --rolls '
     local words=() word last='' command option='' value place=0 choices='' i
     # Bash cuts words at `=` and `:`; here they are whole again.
     for word in "${COMP_WORDS[@]:0:COMP_CWORD+1}"; do

@@ -16,7 +16,7 @@ function __hypergammon_asks
         if test $is_value = yes
             set is_value no
         else if string match -q -- '--*' $it
-            string match -q -- '*=*' $it; or contains -- $it --id --take; or set is_value yes
+            string match -q -- '*=*' $it; or contains -- $it --id --board --crawford --post --take --full; or set is_value yes
         else
             set place (math $place + 1)
         end
@@ -49,16 +49,31 @@ complete -c hypergammon -n '__hypergammon_asks help.1' -a match -d 'scores, thei
 complete -c hypergammon -n '__hypergammon_asks help.1' -a files -d 'files of bounds, their sizes, versions, damage'
 complete -c hypergammon -n '__hypergammon_asks help.1' -a status -d 'why there is no result, by the number told'
 complete -c hypergammon -n '__hypergammon_is board' -l id
+complete -c hypergammon -n '__hypergammon_is bound' -l board
+complete -c hypergammon -n '__hypergammon_is race' -l board
 complete -c hypergammon -n '__hypergammon_is solve' -l checkers -x -a '1 2 3'
 complete -c hypergammon -n '__hypergammon_is solve' -l stakes -x -a 'cubeless money jacoby money-beavers jacoby-beavers'
 complete -c hypergammon -n '__hypergammon_is solve' -l rounds -x
 complete -c hypergammon -n '__hypergammon_is solve' -l workers -x
 complete -c hypergammon -n '__hypergammon_is solve' -l width -x
+complete -c hypergammon -n '__hypergammon_is show' -l board
 complete -c hypergammon -n '__hypergammon_is show' -l id
 complete -c hypergammon -n '__hypergammon_is show' -l positions -rF
+complete -c hypergammon -n '__hypergammon_is show' -l workers -x
+complete -c hypergammon -n '__hypergammon_is show' -l away -x
+complete -c hypergammon -n '__hypergammon_is show' -l crawford
+complete -c hypergammon -n '__hypergammon_is show' -l post
 complete -c hypergammon -n '__hypergammon_is advise' -l kind -x -a 'alone centred mine theirs near:1:centred far:1:centred near:2:near far:2:near near:2:far far:2:far near:4:near far:4:near near:4:far far:4:far near:8:near far:8:near near:8:far far:8:far'
 complete -c hypergammon -n '__hypergammon_is advise' -l roll -x
+complete -c hypergammon -n '__hypergammon_is advise' -l board
 complete -c hypergammon -n '__hypergammon_is advise' -l take
+complete -c hypergammon -n '__hypergammon_is advise' -l rolls -rF
+complete -c hypergammon -n '__hypergammon_is advise' -l workers -x
+complete -c hypergammon -n '__hypergammon_is advise' -l away -x
+complete -c hypergammon -n '__hypergammon_is advise' -l cube -x -a 'centred mine theirs'
+complete -c hypergammon -n '__hypergammon_is advise' -l value -x -a '1 2 4 8'
+complete -c hypergammon -n '__hypergammon_is advise' -l crawford
+complete -c hypergammon -n '__hypergammon_is advise' -l post
 complete -c hypergammon -n '__hypergammon_is migrate' -l workers -x
 complete -c hypergammon -n '__hypergammon_is verify' -l workers -x
 complete -c hypergammon -n '__hypergammon_is scan' -l workers -x
@@ -69,7 +84,11 @@ complete -c hypergammon -n '__hypergammon_is ladder' -l length -x -a '1 2 3 4 5'
 complete -c hypergammon -n '__hypergammon_is ladder' -l rounds -x
 complete -c hypergammon -n '__hypergammon_is ladder' -l workers -x
 complete -c hypergammon -n '__hypergammon_is plan' -l length -x -a '1 2 3 4 5'
+complete -c hypergammon -n '__hypergammon_is analyse' -l worst -x
+complete -c hypergammon -n '__hypergammon_is analyse' -l full
 complete -c hypergammon -n '__hypergammon_is study' -l rounds -x
 complete -c hypergammon -n '__hypergammon_is study' -l workers -x
+complete -c hypergammon -n '__hypergammon_is study' -l worst -x
+complete -c hypergammon -n '__hypergammon_is study' -l full
 complete -c hypergammon -n '__hypergammon_asks board.1 bound.1 race.1 solve.1 show.1 advise.1 migrate.1 verify.1 scan.1 reply.1 ladder.1 plan.1 analyse.1 study.1 make.1' -l help -d 'the page of the command'
 complete -c hypergammon -n '__hypergammon_asks solve.1 show.1 advise.1 migrate.1 migrate.2 verify.1 scan.1 reply.1 ladder.1 plan.1 analyse.1 analyse.2 study.1 make.3' -F

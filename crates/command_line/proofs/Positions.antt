@@ -12,13 +12,15 @@ use Rattle.position_rank.specs.Packed.{counts_of}
 use Rattle.position_rank.specs.PackedLaws.{length-counts_of, sum-counts_of}
 use Rattle.position_rank.specs.Text.{place, read_placement, read_places, read_position, read_words, share_point, words}
 use Rattle.position_rank.specs.declared.text.BadPosition.{BadPosition}
-use Rattle.position_rank.specs.declared.text.BadPosition.TheVariants.{Shape}
+use Rattle.position_rank.specs.declared.text.BadPosition.TheVariants.{Shape, Place}
 use Rattle.position_rank.proofs.PlaceTexts.{place-text}
 use Rattle.base64.specs.Engines.{standard_no_pad}
 use Rattle.base64.specs.GeneralPurpose.{decode_of}
 use Rattle.base64.specs.declared.decode.DecodeError.{DecodeError}
 use Rattle.position_id.specs.Readings.{bits_of_bytes, has_id_form, mover_told, other_told, places_told, read_id, read_key, read_told, with_off}
 use Rattle.position_id.proofs.Told.{mover-within, other-within, off-within}
+use Rattle.std.specs.Option.{option_map_or}
+use Rattle.command_line.specs.Plain.{plain_form, read_plain_position}
 use Rattle.command_line.specs.Values.{read_given}
 
 abbrev IsPlace : ℕ → Type 0
@@ -76,8 +78,12 @@ id-live text = taken (length text == 14) (read_key (decode_of standard_no_pad te
   taken true answer h = h
   taken false answer h = tt
 
+plain-live : (plain : Option (List ℕ)) → IfOk (option_map_or read_position plain (Err Place)) IsLivePosition
+plain-live None = tt
+plain-live (Some text) = words-live (words text)
+
 pub given-live : (word : List ℕ) → IfOk (read_given word) IsLivePosition
 given-live word = chosen (has_id_form word) where
-  chosen : (b : Bool) → IfOk (if b then read_id word else read_position word) IsLivePosition
+  chosen : (b : Bool) → IfOk (if b then read_id word else read_plain_position word) IsLivePosition
   chosen true = id-live word
-  chosen false = words-live (words word)
+  chosen false = plain-live (plain_form word)

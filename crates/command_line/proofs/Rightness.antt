@@ -16,12 +16,17 @@ use Rattle.word_forms.specs.Form.{Bytes, Values}
 use Rattle.command_line.specs.declared.command.Command.{Command}
 use Rattle.command_line.specs.declared.command.CommandName.{CommandName}
 use Rattle.command_line.specs.declared.command.CommandName.TheVariants as name
+use Rattle.command_line.specs.declared.command.Shown.{Shown}
 use Rattle.command_line.specs.declared.stop.WordsStop.{WordsStop}
-use Rattle.command_line.specs.Values.{long_number_given, number_given, number_or, stakes_or, file_name, other_name, prefix, position_given, roll_given, seen_by_doubler, usual_rounds, millionths_of, width_given}
+use Rattle.command_line.specs.Values.{long_number_given, number_given, number_or, stakes_or, file_name, other_name, prefix, position_given, roll_given, seen_by_doubler, shown_given, usual_rounds, millionths_of, width_given}
+use Rattle.command_line.specs.declared.away.Away.{Away}
+use Rattle.cube_actions.specs.Scores.{IsScore}
+use Rattle.command_line.specs.Away.{away_given}
+use Rattle.command_line.proofs.AwayScores.{away-is, name-at}
 use Rattle.command_line.specs.Commands.{Asked, checked, read, command_values}
 use Rattle.command_line.specs.Words.{reading}
 use Rattle.command_line.specs.Reading.{Gives}
-use Rattle.command_line.specs.Right.{IsName, IsPrefix, IsWidth, IsRightCommand}
+use Rattle.command_line.specs.Right.{IsName, IsPrefix, IsWidth, IsRightShown, IsRightCommand}
 
 -- what is asked keeps to its limits
 record Right (asked : Asked) : Type 0 where
@@ -80,6 +85,18 @@ position-right word next each = grind (arith, given-live word)
 roll-right : (given : Option Bytes) (next : Option Dice → Asked) → ((roll : Option Dice) → IfSome roll IsRoll → Right (next roll)) → Right (read (roll_given given) next)
 roll-right given next each = grind (arith, nat_tests)
 
+shown-right : (number : ℕ) (full : Bool) (given : Option Bytes) (next : Shown → Asked) → ((shown : Shown) → IsRightShown shown → Right (next shown)) → Right (checked number (shown_given full given) next)
+shown-right number true None next each = each _ tt
+shown-right number false None next each = each _ tt
+shown-right number true (Some word) next each = record { is = tt }
+shown-right number false (Some word) next each = grind (arith, nat_tests)
+
+away-right : (number : ℕ) (given : Option Bytes) (crawford post : Bool) (next : Away → Asked) → ((away : Away) → IsScore away.score → Right (next away)) → Right (checked number (away_given given crawford post) next)
+away-right number given crawford post next each = kept (away_given given crawford post) (away-is given crawford post) where
+  kept : (away : Option Away) → IfSome away (λ away. IsScore away.score) → Right (checked number away next)
+  kept None is = record { is = tt }
+  kept (Some away) is = each away is
+
 -- a live position is one from either side
 live-swap : (p : Placement) → IsLive p → IsLive (swap p)
 live-swap p live = record {
@@ -102,7 +119,7 @@ seen-live true p live = live-swap p live
 seen-live false p live = live
 
 -- one value after another, and then the command
-ruleset steps = (name-right, prefix-right, other-right, within-right, or-right, long-right, stakes-right, position-right, roll-right, option-right, ok-right, seen-right, seen-live, rounds-right, width-right)
+ruleset steps = (name-right, prefix-right, other-right, within-right, or-right, long-right, stakes-right, position-right, roll-right, option-right, ok-right, seen-right, seen-live, rounds-right, shown-right, width-right, away-right, name-at)
 
 values-right : (command : CommandName) (given : Values) → Right (command_values command given)
 values-right name.Bound given = search steps depth 9
@@ -110,8 +127,11 @@ values-right name.Race given = search steps depth 9
 values-right name.Solve given = search steps depth 9
 values-right name.Show given = search steps depth 9
 values-right name.ShowList given = search steps depth 9
+values-right name.ShowMatch given = search steps depth 9
 values-right name.Migrate given = search steps depth 9
 values-right name.Advise given = search steps depth 9
+values-right name.AdviseList given = search steps depth 9
+values-right name.AdviseMatch given = search steps depth 11
 values-right name.Verify given = search steps depth 9
 values-right name.Ladder given = search steps depth 9
 values-right name.Analyse given = search steps depth 9

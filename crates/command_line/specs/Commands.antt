@@ -1,5 +1,5 @@
 -- The commands: their names, their forms, and what their values ask for.
-use Rattle.std.specs.Prelude.{ℕ, [], ◌∷◌, codes, Option, Some, None, Result, Ok, Err, if◌then◌else◌}
+use Rattle.std.specs.Prelude.{ℕ, Bool, [], ◌∷◌, codes, Option, Some, None, Result, Ok, Err, if◌then◌else◌}
 use Rattle.std.specs.Option.{option_map_or}
 use Rattle.std.specs.Str.{bytes_eq}
 use Rattle.hyper_outside.specs.declared.outside.WordsKind.{WordsKind}
@@ -7,12 +7,13 @@ use Rattle.hyper_outside.specs.declared.outside.WordsKind.TheVariants.{Value}
 use Rattle.cube_actions.specs.declared.name.StakesName.TheVariants.{Jacoby}
 use Rattle.word_forms.specs.Form.{Bytes, Form, Values, value_of, is_set}
 use Rattle.command_line.specs.declared.command.Command.{Command}
-use Rattle.command_line.specs.declared.command.Command.TheVariants.{Bound, Race, Solve, Show, ShowList, Migrate, Advise, Verify, Ladder, Analyse, Study, Make, Plan, Scan, Reply, Board}
+use Rattle.command_line.specs.declared.command.Command.TheVariants.{Bound, Race, Solve, Show, ShowList, Migrate, Advise, AdviseList, Verify, Ladder, Analyse, Study, Make, Plan, Scan, Reply, Board}
 use Rattle.command_line.specs.declared.command.CommandName.{CommandName}
 use Rattle.command_line.specs.declared.command.CommandName.TheVariants as name
 use Rattle.command_line.specs.declared.stop.WordsFault.{WordsFault}
 use Rattle.command_line.specs.declared.stop.WordsFault.TheVariants.{Words}
-use Rattle.command_line.specs.Values.{long_number_given, number_given, number_or, stakes_or, kind_given, file_name, other_name, prefix, position_given, roll_given, seen_by_doubler, take_given, usual_rounds, width_given}
+use Rattle.command_line.specs.Values.{long_number_given, number_given, number_or, stakes_or, kind_given, file_name, other_name, prefix, position_given, roll_given, seen_by_doubler, shown_given, take_given, usual_rounds, width_given}
+use Rattle.command_line.specs.Away.{away_given, file_at, kind_at, owner_given, value_given}
 
 -- what words ask for, or why for nothing
 abbrev pub Asked : Type 0
@@ -38,7 +39,7 @@ abbrev pub bound_form : Form
 bound_form = record {
   arguments = codes "CHECKERS" ∷ codes "ROUNDS" ∷ codes "POSITION" ∷ [];
   options = [];
-  flags = [];
+  flags = codes "board" ∷ [];
 }
 
 abbrev pub bound_values : Values → Asked
@@ -47,13 +48,18 @@ bound_values given =
     checked 2 (number_given 4096 (value_of (codes "ROUNDS") given)) (λ rounds.
     checked 3 (value_of (codes "POSITION") given) (λ text.
     read (position_given text) (λ position.
-    Ok (Bound (record { checkers = checkers; rounds = rounds; position = position }))))))
+    Ok (Bound (record {
+      checkers = checkers;
+      rounds = rounds;
+      position = position;
+      board = is_set (codes "board") given;
+    }))))))
 
 abbrev pub race_form : Form
 race_form = record {
   arguments = codes "CHECKERS" ∷ codes "POSITION" ∷ [];
   options = [];
-  flags = [];
+  flags = codes "board" ∷ [];
 }
 
 abbrev pub race_values : Values → Asked
@@ -61,7 +67,11 @@ race_values given =
     checked 1 (number_given 3 (value_of (codes "CHECKERS") given)) (λ checkers.
     checked 2 (value_of (codes "POSITION") given) (λ text.
     read (position_given text) (λ position.
-    Ok (Race (record { checkers = checkers; position = position })))))
+    Ok (Race (record {
+      checkers = checkers;
+      position = position;
+      board = is_set (codes "board") given;
+    })))))
 
 abbrev pub solve_form : Form
 solve_form = record {
@@ -93,7 +103,7 @@ abbrev pub show_form : Form
 show_form = record {
   arguments = codes "FILE" ∷ codes "POSITION" ∷ [];
   options = [];
-  flags = codes "id" ∷ [];
+  flags = codes "board" ∷ codes "id" ∷ [];
 }
 
 abbrev pub show_values : Values → Asked
@@ -104,13 +114,14 @@ show_values given =
     Ok (Show (record {
       file = file;
       position = position;
+      board = is_set (codes "board") given;
       id = is_set (codes "id") given;
     })))))
 
 abbrev pub show_list_form : Form
 show_list_form = record {
   arguments = codes "FILE" ∷ [];
-  options = codes "positions" ∷ [];
+  options = codes "positions" ∷ codes "workers" ∷ [];
   flags = [];
 }
 
@@ -118,7 +129,34 @@ abbrev pub show_list_values : Values → Asked
 show_list_values given =
     checked 1 (file_name (value_of (codes "FILE") given)) (λ file.
     checked 2 (file_name (value_of (codes "positions") given)) (λ list.
-    Ok (ShowList (record { file = file; list = list }))))
+    checked 3 (number_or 64 1 (value_of (codes "workers") given)) (λ workers.
+    Ok (ShowList (record { file = file; list = list; workers = workers })))))
+
+-- A match is asked by its score and the names that its files begin with. The score is the side's that
+-- asks, as the position is.
+abbrev pub show_match_form : Form
+show_match_form = record {
+  arguments = codes "PREFIX" ∷ codes "POSITION" ∷ [];
+  options = codes "away" ∷ [];
+  flags = codes "crawford" ∷ codes "post" ∷ codes "board" ∷ codes "id" ∷ [];
+}
+
+abbrev pub show_at_score : (crawford post board id : Bool) → Values → Asked
+show_at_score crawford post board id given =
+    checked 1 (prefix (value_of (codes "PREFIX") given)) (λ prefix.
+    checked 2 (value_of (codes "POSITION") given) (λ text.
+    checked 3 (away_given (value_of (codes "away") given) crawford post) (λ away.
+    read (position_given text) (λ position.
+    Ok (Show (record {
+      file = file_at prefix away.score;
+      position = position;
+      board = board;
+      id = id;
+    }))))))
+
+abbrev pub show_match_values : Values → Asked
+show_match_values given = show_at_score (is_set (codes "crawford") given)
+    (is_set (codes "post") given) (is_set (codes "board") given) (is_set (codes "id") given) given
 
 abbrev pub migrate_form : Form
 migrate_form = record {
@@ -139,7 +177,7 @@ abbrev pub advise_form : Form
 advise_form = record {
   arguments = codes "FILE" ∷ codes "POSITION" ∷ [];
   options = codes "kind" ∷ codes "roll" ∷ [];
-  flags = codes "take" ∷ [];
+  flags = codes "board" ∷ codes "take" ∷ [];
 }
 
 -- Who asks whether to take gives the position as the side sees it that was doubled, and no roll.
@@ -158,7 +196,54 @@ advise_values given =
       kind = kind;
       roll = roll;
       take = take;
+      board = is_set (codes "board") given;
     }))))))))
+
+abbrev pub advise_list_form : Form
+advise_list_form = record {
+  arguments = codes "FILE" ∷ [];
+  options = codes "rolls" ∷ codes "kind" ∷ codes "workers" ∷ [];
+  flags = [];
+}
+
+abbrev pub advise_list_values : Values → Asked
+advise_list_values given =
+    checked 1 (file_name (value_of (codes "FILE") given)) (λ file.
+    checked 2 (file_name (value_of (codes "rolls") given)) (λ list.
+    checked 3 (kind_given (value_of (codes "kind") given)) (λ kind.
+    checked 4 (number_or 64 1 (value_of (codes "workers") given)) (λ workers.
+    Ok (AdviseList (record { file = file; list = list; kind = kind; workers = workers }))))))
+
+abbrev pub advise_match_form : Form
+advise_match_form = record {
+  arguments = codes "PREFIX" ∷ codes "POSITION" ∷ [];
+  options = codes "away" ∷ codes "cube" ∷ codes "value" ∷ codes "roll" ∷ [];
+  flags = codes "crawford" ∷ codes "post" ∷ codes "board" ∷ codes "take" ∷ [];
+}
+
+abbrev pub advise_at_score : (crawford post board take : Bool) → Values → Asked
+advise_at_score crawford post board take given =
+    let roll = value_of (codes "roll") given in
+    checked 1 (prefix (value_of (codes "PREFIX") given)) (λ prefix.
+    checked 2 (value_of (codes "POSITION") given) (λ text.
+    checked 3 (away_given (value_of (codes "away") given) crawford post) (λ away.
+    checked 4 (owner_given away.side (value_of (codes "cube") given)) (λ owner.
+    checked 5 (value_given owner (value_of (codes "value") given)) (λ value.
+    checked 6 (take_given take roll) (λ take.
+    read (position_given text) (λ position.
+    read (roll_given roll) (λ roll.
+    Ok (Advise (record {
+      file = file_at prefix away.score;
+      position = seen_by_doubler take position;
+      kind = Some (kind_at take away.side value owner);
+      roll = roll;
+      take = take;
+      board = board;
+    }))))))))))
+
+abbrev pub advise_match_values : Values → Asked
+advise_match_values given = advise_at_score (is_set (codes "crawford") given)
+    (is_set (codes "post") given) (is_set (codes "board") given) (is_set (codes "take") given) given
 
 abbrev pub verify_form : Form
 verify_form = record { arguments = codes "FILE" ∷ []; options = codes "workers" ∷ []; flags = [] }
@@ -192,19 +277,24 @@ ladder_values given =
     })))))))
 
 abbrev pub analyse_form : Form
-analyse_form = record { arguments = codes "BASE" ∷ codes "RECORD" ∷ []; options = []; flags = [] }
+analyse_form = record {
+  arguments = codes "BASE" ∷ codes "RECORD" ∷ [];
+  options = codes "worst" ∷ [];
+  flags = codes "full" ∷ [];
+}
 
 abbrev pub analyse_values : Values → Asked
 analyse_values given =
     checked 1 (file_name (value_of (codes "BASE") given)) (λ base.
     checked 2 (file_name (value_of (codes "RECORD") given)) (λ rec.
-    Ok (Analyse (record { base = base; rec = rec }))))
+    checked 3 (shown_given (is_set (codes "full") given) (value_of (codes "worst") given)) (λ shown.
+    Ok (Analyse (record { base = base; rec = rec; shown = shown })))))
 
 abbrev pub study_form : Form
 study_form = record {
   arguments = codes "RECORD" ∷ [];
-  options = codes "rounds" ∷ codes "workers" ∷ [];
-  flags = [];
+  options = codes "rounds" ∷ codes "workers" ∷ codes "worst" ∷ [];
+  flags = codes "full" ∷ [];
 }
 
 abbrev pub study_values : Values → Asked
@@ -212,7 +302,8 @@ study_values given =
     checked 1 (file_name (value_of (codes "RECORD") given)) (λ rec.
     checked 2 (number_or 4096 64 (value_of (codes "rounds") given)) (λ rounds.
     checked 3 (number_or 64 1 (value_of (codes "workers") given)) (λ workers.
-    Ok (Study (record { rec = rec; rounds = rounds; workers = workers })))))
+    checked 4 (shown_given (is_set (codes "full") given) (value_of (codes "worst") given)) (λ shown.
+    Ok (Study (record { rec = rec; rounds = rounds; workers = workers; shown = shown }))))))
 
 abbrev pub make_form : Form
 make_form = record {
@@ -304,8 +395,11 @@ command_form name.Race = race_form
 command_form name.Solve = solve_form
 command_form name.Show = show_form
 command_form name.ShowList = show_list_form
+command_form name.ShowMatch = show_match_form
 command_form name.Migrate = migrate_form
 command_form name.Advise = advise_form
+command_form name.AdviseList = advise_list_form
+command_form name.AdviseMatch = advise_match_form
 command_form name.Verify = verify_form
 command_form name.Ladder = ladder_form
 command_form name.Analyse = analyse_form
@@ -322,8 +416,11 @@ command_values name.Race given = race_values given
 command_values name.Solve given = solve_values given
 command_values name.Show given = show_values given
 command_values name.ShowList given = show_list_values given
+command_values name.ShowMatch given = show_match_values given
 command_values name.Migrate given = migrate_values given
 command_values name.Advise given = advise_values given
+command_values name.AdviseList given = advise_list_values given
+command_values name.AdviseMatch given = advise_match_values given
 command_values name.Verify given = verify_values given
 command_values name.Ladder given = ladder_values given
 command_values name.Analyse given = analyse_values given

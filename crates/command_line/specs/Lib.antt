@@ -1,3 +1,5 @@
+pub mod Away
+pub mod Plain
 pub mod Values
 pub mod Commands
 pub mod Words

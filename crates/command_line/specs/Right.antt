@@ -1,5 +1,5 @@
 -- What the commands that are read keep to.
-use Rattle.std.specs.Prelude.{◌≢◌, ◌*◌, ◌^◌, ◌<◌, ◌≤◌, ℤ, pos, ◌<ℤ◌, ◌≤ℤ◌, length, IfSome}
+use Rattle.std.specs.Prelude.{◌≢◌, ◌*◌, ◌^◌, ◌<◌, ◌≤◌, ℤ, pos, ◌<ℤ◌, ◌≤ℤ◌, length, IfSome, ⊤}
 use Rattle.position_rank.specs.Placement.{IsPosition, IsLive}
 use Rattle.roll_table.specs.Rolls.{IsRoll}
 use Rattle.cube_actions.specs.Scores.{MatchScore}
@@ -13,14 +13,17 @@ use Rattle.command_line.specs.declared.command.Show.{Show as ShowWords}
 use Rattle.command_line.specs.declared.command.ShowList.{ShowList as ShowListWords}
 use Rattle.command_line.specs.declared.command.Migrate.{Migrate as MigrateWords}
 use Rattle.command_line.specs.declared.command.Advise.{Advise as AdviseWords}
+use Rattle.command_line.specs.declared.command.AdviseList.{AdviseList as AdviseListWords}
 use Rattle.command_line.specs.declared.command.Analyse.{Analyse as AnalyseWords}
 use Rattle.command_line.specs.declared.command.Command.{Command}
-use Rattle.command_line.specs.declared.command.Command.TheVariants.{Bound, Race, Solve, Show, ShowList, Migrate, Advise, Verify, Ladder, Analyse, Study, Make, Plan, Scan, Reply, Board}
+use Rattle.command_line.specs.declared.command.Command.TheVariants.{Bound, Race, Solve, Show, ShowList, Migrate, Advise, AdviseList, Verify, Ladder, Analyse, Study, Make, Plan, Scan, Reply, Board}
 use Rattle.command_line.specs.declared.command.Ladder.{Ladder as LadderWords}
 use Rattle.command_line.specs.declared.command.Make.{Make as MakeWords}
 use Rattle.command_line.specs.declared.command.Plan.{Plan as PlanWords}
 use Rattle.command_line.specs.declared.command.Reply.{Reply as ReplyWords}
 use Rattle.command_line.specs.declared.command.Scan.{Scan as ScanWords}
+use Rattle.command_line.specs.declared.command.Shown.{Shown}
+use Rattle.command_line.specs.declared.command.Shown.TheVariants.{Worst}
 use Rattle.command_line.specs.declared.command.Study.{Study as StudyWords}
 use Rattle.command_line.specs.declared.command.Verify.{Verify as VerifyWords}
 
@@ -72,6 +75,8 @@ pub record IsRightShow (show : ShowWords) : Type 0 where
 pub record IsRightShowList (show : ShowListWords) : Type 0 where
   pub file : IsName show.file
   pub list : IsName show.list
+  pub one : 1 ≤ show.workers
+  pub most : show.workers ≤ 64
 
 pub record IsRightMigrate (migrate : MigrateWords) : Type 0 where
   pub old : IsName migrate.old
@@ -85,6 +90,12 @@ pub record IsRightAdvise (advise : AdviseWords) : Type 0 where
   pub position : IsPosition advise.position
   pub live : IsLive advise.position
   pub roll : IfSome advise.roll IsRoll
+
+pub record IsRightAdviseList (advise : AdviseListWords) : Type 0 where
+  pub file : IsName advise.file
+  pub list : IsName advise.list
+  pub one : 1 ≤ advise.workers
+  pub most : advise.workers ≤ 64
 
 pub record IsRightVerify (verify : VerifyWords) : Type 0 where
   pub file : IsName verify.file
@@ -102,9 +113,15 @@ pub record IsRightLadder (ladder : LadderWords) : Type 0 where
   pub one : 1 ≤ ladder.workers
   pub most : ladder.workers ≤ 64
 
+-- of the decisions that lost most 1 to 100 are shown
+abbrev pub IsRightShown : Shown → Type 0
+IsRightShown (Worst most) = (1 ≤ most) × (most ≤ 100)
+IsRightShown _ = ⊤
+
 pub record IsRightAnalyse (analyse : AnalyseWords) : Type 0 where
   pub base : IsName analyse.base
   pub rec : IsName analyse.rec
+  pub shown : IsRightShown analyse.shown
 
 pub record IsRightStudy (study : StudyWords) : Type 0 where
   pub rec : IsName study.rec
@@ -112,6 +129,7 @@ pub record IsRightStudy (study : StudyWords) : Type 0 where
   pub ended : study.rounds ≤ 4096
   pub one : 1 ≤ study.workers
   pub most : study.workers ≤ 64
+  pub shown : IsRightShown study.shown
 
 pub record IsRightMake (make : MakeWords) : Type 0 where
   pub number : make.number < 2 ^ 64
@@ -150,6 +168,7 @@ IsRightCommand (Show show) = IsRightShow show
 IsRightCommand (ShowList show) = IsRightShowList show
 IsRightCommand (Migrate migrate) = IsRightMigrate migrate
 IsRightCommand (Advise advise) = IsRightAdvise advise
+IsRightCommand (AdviseList advise) = IsRightAdviseList advise
 IsRightCommand (Verify verify) = IsRightVerify verify
 IsRightCommand (Ladder ladder) = IsRightLadder ladder
 IsRightCommand (Analyse analyse) = IsRightAnalyse analyse

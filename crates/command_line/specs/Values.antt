@@ -6,7 +6,6 @@ use Rattle.std.specs.Str.{bytes_eq, all_ascii_digits}
 use Rattle.std.specs.Str.Parse.{digits_value}
 use Rattle.position_id.specs.Readings.{has_id_form, read_id}
 use Rattle.position_rank.specs.Placement.{Placement, swap}
-use Rattle.position_rank.specs.Text.{read_position}
 use Rattle.position_rank.specs.declared.text.BadPosition.{BadPosition}
 use Rattle.roll_table.specs.Rolls.{Dice}
 use Rattle.roll_table.specs.Text.{read_roll}
@@ -15,6 +14,9 @@ use Rattle.cube_actions.specs.declared.name.KindName.{KindName}
 use Rattle.cube_actions.specs.declared.name.StakesName.{StakesName}
 use Rattle.cube_actions.specs.declared.name.StakesName.TheVariants.{Cubeless, Money, Jacoby, MoneyBeavers, JacobyBeavers}
 use Rattle.cube_actions.specs.Names.{read_name}
+use Rattle.command_line.specs.declared.command.Shown.{Shown}
+use Rattle.command_line.specs.declared.command.Shown.TheVariants.{Losses, Full, Worst}
+use Rattle.command_line.specs.Plain.{plain_roll, read_plain_position}
 use Rattle.command_line.specs.declared.stop.WordsFault.{WordsFault}
 use Rattle.command_line.specs.declared.stop.WordsFault.TheVariants.{Position, Roll}
 
@@ -109,18 +111,23 @@ abbrev pub kind_given : Option Bytes → Option (Option KindName)
 kind_given None = Some None
 kind_given (Some word) = option_map (λ kind. Some kind) (read_name word)
 
--- a position by its ID, where the word has the form of one, and by its text otherwise
+-- a position by its ID, where the word has the form of one, and by the plain form of its text otherwise
 abbrev pub read_given : Bytes → Result Placement BadPosition
-read_given word = if has_id_form word then read_id word else read_position word
+read_given word = if has_id_form word then read_id word else read_plain_position word
 
 abbrev pub position_given : Bytes → Result Placement WordsFault
 position_given word =
     result_map_both (λ position. position) (λ bad. Position bad) (read_given word)
 
+-- the roll that a word gives, or what is wrong with it
+abbrev pub roll_named : Bytes → Result Dice WordsFault
+roll_named word =
+    result_map_both (λ roll. roll) (λ bad. Roll bad) (read_roll (plain_roll word))
+
 -- the roll that is given, if one is
 abbrev pub roll_given : Option Bytes → Result (Option Dice) WordsFault
 roll_given None = Ok None
-roll_given (Some word) = result_map_both (λ roll. Some roll) (λ bad. Roll bad) (read_roll word)
+roll_given (Some word) = result_map_both (λ roll. Some roll) (λ fault. fault) (roll_named word)
 
 -- whether the answer to a double is asked for, beside which no roll is given
 abbrev pub take_given : Bool → Option Bytes → Option Bool
@@ -129,6 +136,12 @@ take_given set roll = if set && is_some roll then None else Some set
 -- a position that the side that was doubled gives as it sees it, as the doubler sees it
 abbrev pub seen_by_doubler : Bool → Placement → Placement
 seen_by_doubler take position = if take then swap position else position
+
+-- which decisions of a record are shown: all, or at most 100 of those that lost most, beside whose number all aren't asked for
+abbrev pub shown_given : Bool → Option Bytes → Option Shown
+shown_given full None = Some (if full then Full else Losses)
+shown_given full (Some word) =
+    if full then None else option_map (λ most. Worst most) (number_within 100 word)
 
 -- 1 to so many bytes, none of them 0
 abbrev pub is_name_within : ℕ → Bytes → Bool

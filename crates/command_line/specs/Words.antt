@@ -6,7 +6,7 @@ use Rattle.std.specs.Str.{bytes_eq}
 use Rattle.hyper_outside.specs.declared.outside.WordsKind.TheVariants.{Command, Word, Form}
 use Rattle.word_forms.specs.Form.{Bytes, values_of}
 use Rattle.command_line.specs.declared.command.CommandName.{CommandName}
-use Rattle.command_line.specs.declared.command.CommandName.TheVariants.{Show, ShowList}
+use Rattle.command_line.specs.declared.command.CommandName.TheVariants.{Show, ShowList, Advise, AdviseList, ShowMatch, AdviseMatch}
 use Rattle.command_line.specs.Commands.{Asked, refused, command_named, command_form, command_values}
 
 abbrev pub is_option : Bytes → Bool
@@ -30,11 +30,19 @@ has_option option words = list_any (is_option_named option) words
 -- the command of a list where the option of that list is among the words
 abbrev pub for_list : CommandName → List Bytes → CommandName
 for_list Show words = if has_option (codes "--positions") words then ShowList else Show
+for_list Advise words = if has_option (codes "--rolls") words then AdviseList else Advise
 for_list command words = command
+
+-- the command at a score of a match where the option of a score is among the words
+abbrev pub for_match : CommandName → List Bytes → CommandName
+for_match Show words = if has_option (codes "--away") words then ShowMatch else Show
+for_match Advise words = if has_option (codes "--away") words then AdviseMatch else Advise
+for_match command words = command
 
 -- the command that a name and the words behind it ask for
 abbrev pub command_asked : Bytes → List Bytes → Option CommandName
-command_asked name words = option_map (λ command. for_list command words) (command_named name)
+command_asked name words =
+    option_map (λ command. for_match (for_list command words) words) (command_named name)
 
 -- the place of the word at this index behind the name; the last number stands for all above
 abbrev pub place_at : ℕ → ℕ

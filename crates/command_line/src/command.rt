@@ -1,7 +1,7 @@
 ghost use Rattle.std.specs.Prelude.{◌≡◌};
 ghost use Rattle.word_forms.specs.Clap.{bytes_of, names};
 ghost use Rattle.command_line.specs.Commands.{command_named, command_form};
-ghost use Rattle.command_line.specs.Words.{command_asked, for_list, has_option};
+ghost use Rattle.command_line.specs.Words.{command_asked, for_list, for_match, has_option};
 
 use crate::text::Text;
 use crate::values::is_option_named;
@@ -18,6 +18,8 @@ pub struct Bound {
     /// 1 to 4096.
     pub rounds: u32,
     pub position: Position,
+    /// Whether the position's board is drawn.
+    pub board: bool,
 }
 
 /// A race whose turns and pair are found in a game without a cube.
@@ -26,6 +28,8 @@ pub struct Race {
     /// 1 to 3 a side.
     pub checkers: u8,
     pub position: Position,
+    /// Whether the position's board is drawn.
+    pub board: bool,
 }
 
 /// A game that is solved by some rounds, or until no pair is wider than is asked for, and written to a file.
@@ -51,6 +55,8 @@ pub struct Show {
     /// The file's name, 1 to 255 bytes.
     pub file: Text,
     pub position: Position,
+    /// Whether the position's board is drawn.
+    pub board: bool,
     /// Whether the position's ID is told.
     pub id: bool,
 }
@@ -62,6 +68,8 @@ pub struct ShowList {
     pub file: Text,
     /// The name of the list's file, 1 to 255 bytes.
     pub list: Text,
+    /// 1 to 64, who check the file's pages where the list is long.
+    pub workers: u32,
 }
 
 /// A file whose words are checked by some workers, and which is written anew under another name, in the latest
@@ -89,6 +97,21 @@ pub struct Advise {
     pub roll: Option<Roll>,
     /// Whether the side asks that was doubled: its answer is told first, and there is no roll.
     pub take: bool,
+    /// Whether the position's board is drawn.
+    pub board: bool,
+}
+
+/// Positions with their rolls, listed in a file, whose best plays are sought in another.
+#[derive(Drop)]
+pub struct AdviseList {
+    /// The name of the file of bounds, 1 to 255 bytes.
+    pub file: Text,
+    /// The name of the list's file, 1 to 255 bytes.
+    pub list: Text,
+    /// The kind of state; where none is given, the first of the file's game.
+    pub kind: Option<KindName>,
+    /// 1 to 64, who check the file's pages where the list is long.
+    pub workers: u32,
 }
 
 /// A file whose words are checked by some workers.
@@ -115,6 +138,17 @@ pub struct Ladder {
     pub workers: u32,
 }
 
+/// Which decisions of a recorded game a report shows.
+#[derive(Clone, Copy, Debug, PartialEq, Eq)]
+pub enum Shown {
+    /// All, each with no more than what it lost.
+    Losses,
+    /// All, each with its position.
+    Full,
+    /// So many of those that lost most, 1 to 100, each with its position.
+    Worst(u32),
+}
+
 /// A recorded game whose decisions are judged by a file.
 #[derive(Drop)]
 pub struct Analyse {
@@ -122,6 +156,7 @@ pub struct Analyse {
     pub base: Text,
     /// The record's name, 1 to 255 bytes.
     pub rec: Text,
+    pub shown: Shown,
 }
 
 /// A recorded game whose decisions are judged by what is solved for it.
@@ -133,6 +168,7 @@ pub struct Study {
     pub rounds: u32,
     /// 1 to 64.
     pub workers: u32,
+    pub shown: Shown,
 }
 
 /// A record that is made by a number, judged and written to a file.
@@ -195,6 +231,7 @@ pub enum Command {
     ShowList(ShowList),
     Migrate(Migrate),
     Advise(Advise),
+    AdviseList(AdviseList),
     Verify(Verify),
     Ladder(Ladder),
     Analyse(Analyse),
@@ -215,8 +252,14 @@ pub enum CommandName {
     Show,
     /// `show` with the option `positions`.
     ShowList,
+    /// `show` with the option `away`.
+    ShowMatch,
     Migrate,
     Advise,
+    /// `advise` with the option `rolls`.
+    AdviseList,
+    /// `advise` with the option `away`.
+    AdviseMatch,
     Verify,
     Ladder,
     Analyse,
@@ -249,7 +292,13 @@ static SHOW: [&str; 2] = ["FILE", "POSITION"];
 
 static SHOW_LIST: [&str; 1] = ["FILE"];
 
-static SHOW_LIST_OPTIONS: [&str; 1] = ["positions"];
+static SHOW_LIST_OPTIONS: [&str; 2] = ["positions", "workers"];
+
+static MATCH: [&str; 2] = ["PREFIX", "POSITION"];
+
+static SHOW_MATCH_OPTIONS: [&str; 1] = ["away"];
+
+static SHOW_MATCH_FLAGS: [&str; 4] = ["crawford", "post", "board", "id"];
 
 static MIGRATE: [&str; 2] = ["OLD", "NEW"];
 
@@ -258,6 +307,14 @@ static MIGRATE_OPTIONS: [&str; 1] = ["workers"];
 static ADVISE: [&str; 2] = ["FILE", "POSITION"];
 
 static ADVISE_OPTIONS: [&str; 2] = ["kind", "roll"];
+
+static ADVISE_LIST: [&str; 1] = ["FILE"];
+
+static ADVISE_LIST_OPTIONS: [&str; 3] = ["rolls", "kind", "workers"];
+
+static ADVISE_MATCH_OPTIONS: [&str; 4] = ["away", "cube", "value", "roll"];
+
+static ADVISE_MATCH_FLAGS: [&str; 4] = ["crawford", "post", "board", "take"];
 
 static VERIFY: [&str; 1] = ["FILE"];
 
@@ -269,9 +326,11 @@ static LADDER_OPTIONS: [&str; 4] = ["checkers", "length", "rounds", "workers"];
 
 static ANALYSE: [&str; 2] = ["BASE", "RECORD"];
 
+static ANALYSE_OPTIONS: [&str; 1] = ["worst"];
+
 static STUDY: [&str; 1] = ["RECORD"];
 
-static STUDY_OPTIONS: [&str; 2] = ["rounds", "workers"];
+static STUDY_OPTIONS: [&str; 3] = ["rounds", "workers", "worst"];
 
 static MAKE: [&str; 3] = ["NUMBER", "GAMES", "FILE"];
 
@@ -291,9 +350,15 @@ static BOARD: [&str; 1] = ["POSITION"];
 
 static NO_OPTIONS: [&str; 0] = [];
 
-static ID: [&str; 1] = ["id"];
+static DRAWN: [&str; 1] = ["board"];
 
-static TAKE: [&str; 1] = ["take"];
+static SHOW_FLAGS: [&str; 2] = ["board", "id"];
+
+static ADVISE_FLAGS: [&str; 2] = ["board", "take"];
+
+static BOARD_FLAGS: [&str; 1] = ["id"];
+
+static FULL: [&str; 1] = ["full"];
 
 static NO_FLAGS: [&str; 0] = [];
 
@@ -327,7 +392,7 @@ impl CommandName {
         ensures { result ≡ command_asked name.now (bytes_of words.now) }
     {
         let command = CommandName::read(name)?;
-        Some(command.for_list(words))
+        Some(command.for_list(words).for_match(words))
     }
 
     /// The command of a list where one of the words has the option of that list, or this one.
@@ -336,6 +401,18 @@ impl CommandName {
     {
         match self {
             CommandName::Show if has_option(words, "--positions") => CommandName::ShowList,
+            CommandName::Advise if has_option(words, "--rolls") => CommandName::AdviseList,
+            command => command,
+        }
+    }
+
+    /// The command at a score of a match where one of the words has the option of a score, or this one.
+    fn for_match(self, words: &[String]) -> CommandName
+        ensures { result ≡ for_match self (bytes_of words.now) }
+    {
+        match self {
+            CommandName::Show if has_option(words, "--away") => CommandName::ShowMatch,
+            CommandName::Advise if has_option(words, "--away") => CommandName::AdviseMatch,
             command => command,
         }
     }
@@ -350,8 +427,10 @@ impl CommandName {
             CommandName::Solve => SOLVE.as_slice(),
             CommandName::Show => SHOW.as_slice(),
             CommandName::ShowList => SHOW_LIST.as_slice(),
+            CommandName::ShowMatch | CommandName::AdviseMatch => MATCH.as_slice(),
             CommandName::Migrate => MIGRATE.as_slice(),
             CommandName::Advise => ADVISE.as_slice(),
+            CommandName::AdviseList => ADVISE_LIST.as_slice(),
             CommandName::Verify => VERIFY.as_slice(),
             CommandName::Ladder => LADDER.as_slice(),
             CommandName::Analyse => ANALYSE.as_slice(),
@@ -371,10 +450,14 @@ impl CommandName {
         match self {
             CommandName::Solve => SOLVE_OPTIONS.as_slice(),
             CommandName::ShowList => SHOW_LIST_OPTIONS.as_slice(),
+            CommandName::ShowMatch => SHOW_MATCH_OPTIONS.as_slice(),
+            CommandName::AdviseMatch => ADVISE_MATCH_OPTIONS.as_slice(),
             CommandName::Migrate => MIGRATE_OPTIONS.as_slice(),
             CommandName::Advise => ADVISE_OPTIONS.as_slice(),
+            CommandName::AdviseList => ADVISE_LIST_OPTIONS.as_slice(),
             CommandName::Verify => VERIFY_OPTIONS.as_slice(),
             CommandName::Ladder => LADDER_OPTIONS.as_slice(),
+            CommandName::Analyse => ANALYSE_OPTIONS.as_slice(),
             CommandName::Study => STUDY_OPTIONS.as_slice(),
             CommandName::Plan => PLAN_OPTIONS.as_slice(),
             CommandName::Scan => SCAN_OPTIONS.as_slice(),
@@ -382,7 +465,6 @@ impl CommandName {
             CommandName::Bound
             | CommandName::Race
             | CommandName::Show
-            | CommandName::Analyse
             | CommandName::Make
             | CommandName::Board => NO_OPTIONS.as_slice(),
         }
@@ -393,17 +475,19 @@ impl CommandName {
         ensures { names result.now ≡ (command_form self).flags }
     {
         match self {
-            CommandName::Show | CommandName::Board => ID.as_slice(),
-            CommandName::Advise => TAKE.as_slice(),
-            CommandName::Bound
-            | CommandName::Race
-            | CommandName::Solve
+            CommandName::Bound | CommandName::Race => DRAWN.as_slice(),
+            CommandName::Show => SHOW_FLAGS.as_slice(),
+            CommandName::Advise => ADVISE_FLAGS.as_slice(),
+            CommandName::ShowMatch => SHOW_MATCH_FLAGS.as_slice(),
+            CommandName::AdviseMatch => ADVISE_MATCH_FLAGS.as_slice(),
+            CommandName::Analyse | CommandName::Study => FULL.as_slice(),
+            CommandName::Board => BOARD_FLAGS.as_slice(),
+            CommandName::Solve
             | CommandName::ShowList
             | CommandName::Migrate
+            | CommandName::AdviseList
             | CommandName::Verify
             | CommandName::Ladder
-            | CommandName::Analyse
-            | CommandName::Study
             | CommandName::Make
             | CommandName::Plan
             | CommandName::Scan

@@ -1,23 +1,24 @@
 ghost use Rattle.std.specs.Prelude.{◌≡◌, Bool};
 ghost use Rattle.word_forms.specs.Form.{Values};
 ghost use Rattle.word_forms.specs.Clap.{HasValues, HasFlags, TellsFlag};
-ghost use Rattle.command_line.specs.Commands.{bound_values, race_values, solve_values, show_values, show_list_values, migrate_values, advise_values, command_values, verify_values, ladder_values, analyse_values, study_values, make_values, plan_values, scan_values, reply_values, board_values, command_form, show_form, advise_form, board_form};
+ghost use Rattle.command_line.specs.Commands.{bound_values, race_values, solve_values, show_values, show_list_values, migrate_values, advise_values, command_values, verify_values, ladder_values, analyse_values, study_values, make_values, plan_values, scan_values, reply_values, board_values, command_form, bound_form, race_form, show_form, advise_form, board_form, analyse_form, study_form, advise_list_values, show_match_form, show_at_score, show_match_values, advise_match_form, advise_at_score, advise_match_values};
 ghost use Rattle.command_line.specs.Reading.{Gives};
 
+use crate::away::{away_given, file_at, mover_of, owner_given, value_given};
 use crate::command::{
-    Advise, Analyse, Board, Bound, Command, CommandName, Ladder, Make, Migrate, Plan, Race, Reply,
-    Scan, Show, ShowList, Solve, Study, Verify,
+    Advise, AdviseList, Analyse, Board, Bound, Command, CommandName, Ladder, Make, Migrate, Plan,
+    Race, Reply, Scan, Show, ShowList, Solve, Study, Verify,
 };
 use crate::stop::{WordsStop, bad_value};
 use crate::text::Text;
 use crate::values::{
     MOST_GAMES, MOST_POINTS, MOST_ROUNDS, MOST_WORKERS, USUAL_POINTS, USUAL_REPLY_ROUNDS,
     USUAL_ROUNDS, file_name, kind_given, long_number_given, number_given, number_or, other_name,
-    position_given, prefix, roll_given, seen_by_doubler, stakes_or, take_given, usual_rounds,
-    width_given,
+    position_given, prefix, roll_given, seen_by_doubler, shown_given, stakes_or, take_given,
+    usual_rounds, width_given,
 };
 use clap::ArgMatches;
-use cube_actions::StakesName;
+use cube_actions::{KindName, StakesName};
 use position_rank::MOST_CHECKERS;
 use std::alloc::Global;
 
@@ -38,8 +39,11 @@ pub(crate) fn read_values(
         CommandName::Solve => read_solve(alloc, values),
         CommandName::Show => read_show(alloc, values),
         CommandName::ShowList => read_show_list(alloc, values),
+        CommandName::ShowMatch => read_show_match(alloc, values),
         CommandName::Migrate => read_migrate(alloc, values),
         CommandName::Advise => read_advise(alloc, values),
+        CommandName::AdviseList => read_advise_list(alloc, values),
+        CommandName::AdviseMatch => read_advise_match(alloc, values),
         CommandName::Verify => read_verify(alloc, values),
         CommandName::Ladder => read_ladder(alloc, values),
         CommandName::Analyse => read_analyse(alloc, values),
@@ -54,6 +58,7 @@ pub(crate) fn read_values(
 
 fn read_bound(values: &ArgMatches<'_>) -> Result<Command, WordsStop>
     ensures { (given : Values) → HasValues given values.now
+        → HasFlags bound_form given values.now
         → Gives (bound_values given) result }
 {
     let Some(checkers) = number_given(values.get_str("CHECKERS"), MOST_CHECKERS as u32) else {
@@ -69,11 +74,13 @@ fn read_bound(values: &ArgMatches<'_>) -> Result<Command, WordsStop>
         checkers: checkers as u8,
         rounds,
         position: position_given(position)?,
+        board: is_set(values, "board"),
     }))
 }
 
 fn read_race(values: &ArgMatches<'_>) -> Result<Command, WordsStop>
     ensures { (given : Values) → HasValues given values.now
+        → HasFlags race_form given values.now
         → Gives (race_values given) result }
 {
     let Some(checkers) = number_given(values.get_str("CHECKERS"), MOST_CHECKERS as u32) else {
@@ -85,6 +92,7 @@ fn read_race(values: &ArgMatches<'_>) -> Result<Command, WordsStop>
     Ok(Command::Race(Race {
         checkers: checkers as u8,
         position: position_given(position)?,
+        board: is_set(values, "board"),
     }))
 }
 
@@ -137,6 +145,7 @@ fn read_show(alloc: Global, values: &ArgMatches<'_>) -> Result<Command, WordsSto
     Ok(Command::Show(Show {
         position: position_given(position)?,
         file: Text::new(alloc, file)?,
+        board: is_set(values, "board"),
         id: is_set(values, "id"),
     }))
 }
@@ -151,9 +160,54 @@ fn read_show_list(alloc: Global, values: &ArgMatches<'_>) -> Result<Command, Wor
     let Some(list) = file_name(values.get_str("positions")) else {
         return Err(bad_value(2));
     };
+    let Some(workers) = number_or(values.get_str("workers"), MOST_WORKERS, 1) else {
+        return Err(bad_value(3));
+    };
     Ok(Command::ShowList(ShowList {
         file: Text::new(alloc, file)?,
         list: Text::new(alloc, list)?,
+        workers,
+    }))
+}
+
+fn read_show_match(alloc: Global, values: &ArgMatches<'_>) -> Result<Command, WordsStop>
+    ensures { (given : Values) → HasValues given values.now
+        → HasFlags show_match_form given values.now
+        → Gives (show_match_values given) result }
+{
+    let crawford = is_set(values, "crawford");
+    let post = is_set(values, "post");
+    let board = is_set(values, "board");
+    let id = is_set(values, "id");
+    show_at_score(alloc, values, crawford, post, board, id)
+}
+
+/// What the values of `show` ask for at a score, beside these flags.
+fn show_at_score(
+    alloc: Global,
+    values: &ArgMatches<'_>,
+    crawford: bool,
+    post: bool,
+    board: bool,
+    id: bool,
+) -> Result<Command, WordsStop>
+    ensures { (given : Values) → HasValues given values.now
+        → Gives (show_at_score crawford post board id given) result }
+{
+    let Some(prefix) = prefix(values.get_str("PREFIX")) else {
+        return Err(bad_value(1));
+    };
+    let Some(position) = values.get_str("POSITION") else {
+        return Err(bad_value(2));
+    };
+    let Some(away) = away_given(values.get_str("away"), crawford, post) else {
+        return Err(bad_value(3));
+    };
+    Ok(Command::Show(Show {
+        position: position_given(position)?,
+        file: file_at(alloc, prefix, away.score)?,
+        board,
+        id,
     }))
 }
 
@@ -202,6 +256,85 @@ fn read_advise(alloc: Global, values: &ArgMatches<'_>) -> Result<Command, WordsS
         file: Text::new(alloc, file)?,
         kind,
         take,
+        board: is_set(values, "board"),
+    }))
+}
+
+fn read_advise_list(alloc: Global, values: &ArgMatches<'_>) -> Result<Command, WordsStop>
+    ensures { (given : Values) → HasValues given values.now
+        → Gives (advise_list_values given) result }
+{
+    let Some(file) = file_name(values.get_str("FILE")) else {
+        return Err(bad_value(1));
+    };
+    let Some(list) = file_name(values.get_str("rolls")) else {
+        return Err(bad_value(2));
+    };
+    let Some(kind) = kind_given(values.get_str("kind")) else {
+        return Err(bad_value(3));
+    };
+    let Some(workers) = number_or(values.get_str("workers"), MOST_WORKERS, 1) else {
+        return Err(bad_value(4));
+    };
+    Ok(Command::AdviseList(AdviseList {
+        file: Text::new(alloc, file)?,
+        list: Text::new(alloc, list)?,
+        kind,
+        workers,
+    }))
+}
+
+fn read_advise_match(alloc: Global, values: &ArgMatches<'_>) -> Result<Command, WordsStop>
+    ensures { (given : Values) → HasValues given values.now
+        → HasFlags advise_match_form given values.now
+        → Gives (advise_match_values given) result }
+{
+    let crawford = is_set(values, "crawford");
+    let post = is_set(values, "post");
+    let board = is_set(values, "board");
+    let take = is_set(values, "take");
+    advise_at_score(alloc, values, crawford, post, board, take)
+}
+
+/// What the values of `advise` ask for at a score, beside these flags.
+fn advise_at_score(
+    alloc: Global,
+    values: &ArgMatches<'_>,
+    crawford: bool,
+    post: bool,
+    board: bool,
+    take: bool,
+) -> Result<Command, WordsStop>
+    ensures { (given : Values) → HasValues given values.now
+        → Gives (advise_at_score crawford post board take given) result }
+{
+    let Some(prefix) = prefix(values.get_str("PREFIX")) else {
+        return Err(bad_value(1));
+    };
+    let Some(position) = values.get_str("POSITION") else {
+        return Err(bad_value(2));
+    };
+    let Some(away) = away_given(values.get_str("away"), crawford, post) else {
+        return Err(bad_value(3));
+    };
+    let Some(owner) = owner_given(away.side, values.get_str("cube")) else {
+        return Err(bad_value(4));
+    };
+    let Some(cube) = value_given(owner, values.get_str("value")) else {
+        return Err(bad_value(5));
+    };
+    let roll = values.get_str("roll");
+    let Some(take) = take_given(take, roll) else {
+        return Err(bad_value(6));
+    };
+    let mover = mover_of(take, away.side);
+    Ok(Command::Advise(Advise {
+        position: seen_by_doubler(take, position_given(position)?),
+        roll: roll_given(roll)?,
+        file: file_at(alloc, prefix, away.score)?,
+        kind: Some(KindName::InMatch { mover, cube, owner }),
+        take,
+        board,
     }))
 }
 
@@ -255,6 +388,7 @@ fn read_ladder(alloc: Global, values: &ArgMatches<'_>) -> Result<Command, WordsS
 
 fn read_analyse(alloc: Global, values: &ArgMatches<'_>) -> Result<Command, WordsStop>
     ensures { (given : Values) → HasValues given values.now
+        → HasFlags analyse_form given values.now
         → Gives (analyse_values given) result }
 {
     let Some(base) = file_name(values.get_str("BASE")) else {
@@ -263,14 +397,20 @@ fn read_analyse(alloc: Global, values: &ArgMatches<'_>) -> Result<Command, Words
     let Some(rec) = file_name(values.get_str("RECORD")) else {
         return Err(bad_value(2));
     };
+    let full = is_set(values, "full");
+    let Some(shown) = shown_given(full, values.get_str("worst")) else {
+        return Err(bad_value(3));
+    };
     Ok(Command::Analyse(Analyse {
         base: Text::new(alloc, base)?,
         rec: Text::new(alloc, rec)?,
+        shown,
     }))
 }
 
 fn read_study(alloc: Global, values: &ArgMatches<'_>) -> Result<Command, WordsStop>
     ensures { (given : Values) → HasValues given values.now
+        → HasFlags study_form given values.now
         → Gives (study_values given) result }
 {
     let Some(rec) = file_name(values.get_str("RECORD")) else {
@@ -284,10 +424,15 @@ fn read_study(alloc: Global, values: &ArgMatches<'_>) -> Result<Command, WordsSt
     let Some(workers) = number_or(workers, MOST_WORKERS, 1) else {
         return Err(bad_value(3));
     };
+    let full = is_set(values, "full");
+    let Some(shown) = shown_given(full, values.get_str("worst")) else {
+        return Err(bad_value(4));
+    };
     Ok(Command::Study(Study {
         rec: Text::new(alloc, rec)?,
         rounds,
         workers,
+        shown,
     }))
 }
 

@@ -1,14 +1,17 @@
-ghost use Rattle.std.specs.Prelude.{◌≡◌, ◌==◌, ℕ, ◌≤◌, IfOk, IfSome, option_map, ◌<◌};
+ghost use Rattle.std.specs.Prelude.{◌≡◌, ◌==◌, ℕ, ◌≤◌, IfOk, IfSome, length, option_map, ◌<◌};
 ghost use Rattle.std.specs.List.{list_any};
 ghost use Rattle.position_rank.specs.Placement.{IsPosition, IsLive};
-ghost use Rattle.command_line.specs.Values.{number_within, long_number, long_number_given, number_given, number_or, stakes_named, stakes_or, kind_given, is_name_within, name_within, file_name, other_name, prefix, position_given, read_given, roll_given, seen_by_doubler, take_given, points_of, millionths_behind, millionths_of, width_of, width_given, usual_rounds};
+ghost use Rattle.command_line.specs.Values.{number_within, long_number, long_number_given, number_given, number_or, stakes_named, stakes_or, kind_given, is_name_within, name_within, file_name, other_name, prefix, position_given, read_given, roll_given, seen_by_doubler, shown_given, take_given, points_of, millionths_behind, millionths_of, width_of, width_given, usual_rounds, roll_named};
+ghost use Rattle.roll_table.specs.Rolls.{IsRoll};
 ghost use Rattle.command_line.specs.Words.{is_option, is_option_named, is_faulty};
 
+use crate::command::Shown;
+use crate::plain::{read_plain_position, read_plain_roll};
 use crate::stop::WordsFault;
 use cube_actions::{KindName, StakesName};
 use directed_fixed::Fixed;
 use position_id::{has_id_form, read_id};
-use position_rank::{BadPosition, Position, read_position};
+use position_rank::{BadPosition, Position};
 use roll_table::Roll;
 
 /// The most rounds.
@@ -31,6 +34,9 @@ pub const USUAL_POINTS: u32 = 3;
 
 /// The most games of a record that is made.
 pub const MOST_GAMES: u32 = 1000;
+
+/// The most decisions that are shown of those that lost most.
+const MOST_WORST: u32 = 100;
 
 /// The most points of a width that is given.
 const WIDEST_POINTS: u64 = 64;
@@ -211,7 +217,7 @@ pub fn position_given(word: &str) -> Result<Position, WordsFault>
     read_given(word).map_err(WordsFault::Position)
 }
 
-/// The position of an ID or of a text.
+/// The position of an ID, or of the plain form of a text.
 fn read_given(word: &str) -> Result<Position, BadPosition>
     ensures given { result ≡ read_given word.now }
     ensures position { IfOk result IsPosition }
@@ -220,8 +226,16 @@ fn read_given(word: &str) -> Result<Position, BadPosition>
     if has_id_form(word) {
         read_id(word)
     } else {
-        read_position(word)
+        read_plain_position(word)
     }
+}
+
+/// The roll of two dice that a word gives, or what is wrong with it.
+pub fn roll_named(word: &str) -> Result<Roll, WordsFault>
+    ensures given { result ≡ roll_named word.now }
+    ensures roll { IfOk result IsRoll }
+{
+    read_plain_roll(word).map_err(WordsFault::Roll)
 }
 
 /// The roll that is given, if one is.
@@ -229,9 +243,9 @@ pub(crate) fn roll_given(word: Option<&str>) -> Result<Option<Roll>, WordsFault>
     ensures { result ≡ roll_given (option_map (λ w. w.now) word.entry) }
 {
     match word {
-        Some(word) => match Roll::read(word) {
+        Some(word) => match roll_named(word) {
             Ok(roll) => Ok(Some(roll)),
-            Err(bad) => Err(WordsFault::Roll(bad)),
+            Err(fault) => Err(fault),
         },
         None => Ok(None),
     }
@@ -276,8 +290,9 @@ pub(crate) fn file_name<'a>(word: Option<&'a str>) -> Option<&'a str>
 
 /// What is given that the names of a ladder's files begin with.
 pub(crate) fn prefix<'a>(word: Option<&'a str>) -> Option<&'a str>
-    ensures { option_map (λ w. w.now) result
+    ensures name { option_map (λ w. w.now) result
         ≡ prefix (option_map (λ w. w.now) word.entry) }
+    ensures short { IfSome result (λ prefix. length prefix.now ≤ 240) }
 {
     name_within(word, LONGEST_PREFIX)
 }
@@ -338,4 +353,16 @@ pub(crate) fn seen_by_doubler(take: bool, position: Position) -> Position
     ensures { result ≡ seen_by_doubler take position }
 {
     if take { position.swap() } else { position }
+}
+
+/// Which decisions are shown. `None` exactly where the number of those that lost most is out of its form, or all are asked for too.
+pub(crate) fn shown_given(full: bool, worst: Option<&str>) -> Option<Shown>
+    ensures { result ≡ shown_given full (option_map (λ w. w.now) worst.entry) }
+{
+    match worst {
+        Some(_) if full => None,
+        Some(word) => number_within(word, MOST_WORST).map(Shown::Worst),
+        None if full => Some(Shown::Full),
+        None => Some(Shown::Losses),
+    }
 }

@@ -22,6 +22,8 @@ pub(crate) fn add_missing(text: &mut Text, call: &Call<'_>, name: &str) {
         "@ is missing: write the name of a record; hypergammon help record shows one"
     } else if call.given("positions") == Some(name) {
         "@ is missing: write the name of a file with one position in each line, or /dev/stdin"
+    } else if call.given("rolls") == Some(name) {
+        "@ is missing: write the name of a file with a position and a roll in each line, or /dev/stdin"
     } else {
         match call.command {
             CommandName::Analyse if call.given("BASE") != Some(name) => {

@@ -29,7 +29,7 @@ const NOT_A_RACE: &str =
 fn add_refusal(text: &mut Text, call: &Call<'_>, refusal: &Refusal) {
     match refusal {
         Refusal::Position(bad) => add_position(text, call, *bad),
-        Refusal::Roll(bad) => add_roll(text, call, *bad),
+        Refusal::Roll(_) => add_roll(text, call),
         Refusal::Missing(name) => add_missing(text, call, name.as_str()),
         Refusal::File(bad) => add_file(text, call, *bad),
         Refusal::Base { wanted, found } => add_game(text, call, *wanted, *found),

@@ -52,7 +52,10 @@ fn fault_form(fault: RecordFault) -> &'static str {
 
 /// The first wrong line of a record, or a list that is too long.
 pub(crate) fn add_record(text: &mut Text, call: &Call<'_>, bad: BadRecord) {
-    if call.command == CommandName::ShowList {
+    if matches!(
+        call.command,
+        CommandName::ShowList | CommandName::AdviseList
+    ) {
         return say(text, LONG_LIST, &[]);
     }
     if bad.line != 1 {

@@ -2,39 +2,34 @@ ghost use Rattle.std.specs.Prelude.{◌≤◌};
 
 use crate::call::Call;
 use crate::sentence::{Part, Text, say};
+use command_line::{plain_position, position_given};
 use position_id::has_id_form;
-use position_rank::{BadPosition, read_place, read_position};
-use roll_table::BadRoll;
+use position_rank::{BadPosition, read_place};
 
 /// A roll's text that shows none.
-pub(crate) fn add_roll(text: &mut Text, call: &Call<'_>, bad: BadRoll) {
-    let form = match bad {
-        BadRoll::Shape => "--roll @: write two digits from 1 to 6, the higher first, as 61",
-        BadRoll::Order => "--roll @ has the lower die first: write the higher one first, as 61",
-    };
+pub(crate) fn add_roll(text: &mut Text, call: &Call<'_>) {
+    let form = "--roll @: write two digits from 1 to 6, as 61";
     say(text, form, &[Part::Word(call.given("roll").unwrap_or(""))]);
 }
 
-/// A text with an empty word, or without one slash.
+/// A text without one slash.
 fn add_shape(text: &mut Text, position: &str) {
-    let form = if !position.contains('/') {
-        "@ has no slash: write the places of the side to move, a slash and the other side's, as in \"24 23 / 24 23\""
-    } else if !position.contains(" / ") {
-        "@ has no space on either side of the slash: write it as in \"24 23 / 24 23\""
+    let form = if position.contains('/') {
+        "@ has a slash too many: write one, as in \"24 23 / 24 23\""
     } else {
-        "@ has a slash or a space too many: write one slash, and single spaces, as in \"24 23 / 24 23\""
+        "@ has no slash: write the places of the side to move, a slash and the other side's, as in \"24 23 / 24 23\""
     };
     say(text, form, &[Part::Word(position)]);
 }
 
-/// The first word that is neither a place nor the slash.
-fn wrong_place(text: &str) -> &str {
-    for word in text.split(' ') {
+/// The first word of a plain form that is neither a place nor the slash.
+fn wrong_place(plain: &str) -> &str {
+    for word in plain.split(' ') {
         if word != "/" && read_place(word).is_none() {
             return word;
         }
     }
-    text
+    plain
 }
 
 fn count_places(side: &str) -> u64 {
@@ -92,29 +87,15 @@ fn form_of_id(bad: BadPosition) -> &'static str {
     }
 }
 
-/// A position's text that describes none.
-pub(crate) fn add_position(text: &mut Text, call: &Call<'_>, bad: BadPosition) {
-    let position = call.given("POSITION").unwrap_or("");
-    let (mover, other) = position.split_once('/').unwrap_or((position, ""));
-    if has_id_form(position) {
-        return say(text, form_of_id(bad), &[Part::Word(position)]);
-    }
-    if read_position(call.given("FILE").unwrap_or("")).is_ok() {
-        return say(
-            text,
-            "FILE and POSITION seem exchanged: write hypergammon @@",
-            &[
-                Part::Text(call.name),
-                Part::Arguments(call.command.arguments()),
-            ],
-        );
-    }
+/// What is wrong with a position's text of this plain form, or of none.
+fn add_places(text: &mut Text, position: &str, plain: &str, bad: BadPosition) {
+    let (mover, other) = plain.split_once('/').unwrap_or((plain, ""));
     match bad {
         BadPosition::Shape => add_shape(text, position),
         BadPosition::Place => say(
             text,
             "@ is no place: write bar, 1 to 24 or off, as in \"24 23 / 24 23\"",
-            &[Part::Word(wrong_place(position))],
+            &[Part::Word(wrong_place(plain))],
         ),
         BadPosition::Count => say(
             text,
@@ -130,6 +111,28 @@ pub(crate) fn add_position(text: &mut Text, call: &Call<'_>, bad: BadPosition) {
             "in @ a side has all its checkers off, so the game is over: leave one on the bar or a point",
             &[Part::Word(position)],
         ),
+    }
+}
+
+/// A position's text that describes none.
+pub(crate) fn add_position(text: &mut Text, call: &Call<'_>, bad: BadPosition) {
+    let position = call.given("POSITION").unwrap_or("");
+    if has_id_form(position) {
+        return say(text, form_of_id(bad), &[Part::Word(position)]);
+    }
+    if position_given(call.given("FILE").unwrap_or("")).is_ok() {
+        return say(
+            text,
+            "FILE and POSITION seem exchanged: write hypergammon @@",
+            &[
+                Part::Text(call.name),
+                Part::Arguments(call.command.arguments()),
+            ],
+        );
+    }
+    match plain_position(position) {
+        Some(plain) => add_places(text, position, plain.as_str(), bad),
+        None => add_places(text, position, position, bad),
     }
 }
 

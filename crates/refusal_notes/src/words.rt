@@ -8,13 +8,17 @@ fn may_stand(name: &str) -> Part<'static> {
         "CHECKERS" | "checkers" => "1, 2 or 3",
         "ROUNDS" | "rounds" => "a whole number from 1 to 4096",
         "workers" => "a whole number from 1 to 64",
+        "worst" => "a whole number from 1 to 100",
         "width" => "points from 0.000001 to 64, with at most six decimals, as 0.001",
         "length" => "a whole number from 1 to 5",
         "GAMES" => "a whole number from 1 to 1000",
         "NUMBER" => "a whole number from 0 to 18446744073709551615",
         "stakes" => "cubeless, money, jacoby, money-beavers or jacoby-beavers",
         "kind" => "alone, centred, mine or theirs, or in a match as near:1:centred",
-        "roll" => "two digits from 1 to 6, the higher first, as 61",
+        "roll" => "two digits from 1 to 6, as 61",
+        "away" => "the points that you and the other side still need, 1 to 5 each, as 2-3",
+        "cube" => "centred, mine or theirs",
+        "value" => "1 for a cube in the middle, or 2, 4 or 8 for one that a side has",
         "PREFIX" => "1 to 240 bytes, with which the names of a match's files begin",
         _ => "a file's name, 1 to 255 bytes",
     })
@@ -173,6 +177,26 @@ fn add_misformed(text: &mut Text, call: &Call<'_>) {
     add_other_arguments(text, call);
 }
 
+/// Whether these are the points that two sides still need.
+fn are_needs(value: &str) -> bool {
+    matches!(*value.as_bytes(), [b'1'..=b'5', b'-', b'1'..=b'5'])
+}
+
+/// Needs whose phase isn't told as it has to be.
+fn add_phase(text: &mut Text, call: &Call<'_>, value: &str) {
+    let crawford = has_option(call.words, "crawford");
+    let form = if crawford && has_option(call.words, "post") {
+        "--crawford and --post are of two games: leave one out"
+    } else if value == "1-1" {
+        "with --away @ the Crawford game is over: leave out --crawford"
+    } else if value.contains('1') {
+        "with --away @ it is the Crawford game or one after it: write --crawford or --post"
+    } else {
+        "with --away @ the Crawford game is still to come: leave out --crawford and --post"
+    };
+    say(text, form, &[Part::Word(value)]);
+}
+
 /// The value of this number, from 1.
 fn add_bad_value(text: &mut Text, call: &Call<'_>, number: u32) {
     let name = call.name_of(number).unwrap_or("");
@@ -183,6 +207,13 @@ fn add_bad_value(text: &mut Text, call: &Call<'_>, number: u32) {
     if name == "roll" {
         let form = "whoever was doubled has no roll: leave out --roll or --take";
         return say(text, form, &[]);
+    }
+    if name == "worst" && has_option(call.words, "full") {
+        let form = "--full shows all decisions: leave out --full or --worst";
+        return say(text, form, &[]);
+    }
+    if name == "away" && are_needs(value) {
+        return add_phase(text, call, value);
     }
     let dashes = if call.takes(name) { "" } else { "--" };
     say(
