@@ -9,7 +9,7 @@ use position_rank::{Position, print_position};
 
 /// Adds the line of a position, with which a report begins.
 pub fn add_position(report: &mut Report, position: &Position)
-    requires { length report.old.bytes ≤ 100 }
+    requires { length report.old.bytes ≤ 600 }
     ensures bytes { report.new.bytes
         ≡ report.old.bytes ++ line (codes "position") (position_text position.now) }
     ensures length { length report.new.bytes ≤ length report.old.bytes + 42 }
@@ -21,7 +21,7 @@ pub fn add_position(report: &mut Report, position: &Position)
 
 /// Adds the line of a pair in a game without a cube, in points, rounded outwards, and in units.
 pub fn add_alone(report: &mut Report, pair: Pair)
-    requires { length report.old.bytes ≤ 70 }
+    requires { length report.old.bytes ≤ 700 }
     ensures { report.new.bytes ≡ report.old.bytes ++ line (codes "alone") (pair_text pair) }
 {
     report.push_str("alone ");

@@ -1,5 +1,5 @@
 -- A position as a board of text, as the mover sees it: X is who is to move, O the other side.
-use Rattle.std.specs.Prelude.{ℕ, ◌-◌, List, [], ◌∷◌, ◌++◌, codes, decimal, nat_lt, slice_index, if◌then◌else◌}
+use Rattle.std.specs.Prelude.{ℕ, Bool, true, false, ◌-◌, List, [], ◌∷◌, ◌++◌, codes, decimal, nat_lt, slice_index, if◌then◌else◌}
 use Rattle.std.specs.List.{flat_map}
 use Rattle.position_rank.specs.Placement.{Placement}
 use Rattle.race_table.specs.Races.{pips_of}
@@ -55,3 +55,8 @@ board_text p =
     pips_line (codes "O: ") (pips_of p.other) ++ upper_half p
     ++ codes "|                  |BAR|                  |\n" ++ lower_half p
     ++ pips_line (codes "X to move: ") (pips_of p.mover)
+
+-- the board where it is asked for
+abbrev pub board_told : Bool → Placement → List ℕ
+board_told true p = board_text p
+board_told false p = []

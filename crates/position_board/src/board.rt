@@ -1,6 +1,6 @@
 ghost use Rattle.std.specs.Prelude.{◌≡◌, ◌≤◌, ◌+◌, ◌++◌, IsTrue, length, nat_le};
 ghost use Rattle.std.specs.List.{flat_map, list_all};
-ghost use Rattle.position_board.specs.Boards.{board_text, cell, lower_half, lower_row, off_mark, pips_line, point_cell, upper_half, upper_row};
+ghost use Rattle.position_board.specs.Boards.{board_told, board_text, cell, lower_half, lower_row, off_mark, pips_line, point_cell, upper_half, upper_row};
 
 use arrayvec::ArrayString;
 use itoa::Buffer;
@@ -27,6 +27,18 @@ pub fn print_board(position: &Position) -> BoardText
     push_lower_half(&mut text, position);
     push_pips(&mut text, "X to move: ", pips_of(&position.mover()));
     text
+}
+
+/// The board of a position where it is asked for, else nothing.
+pub fn board_told(asked: bool, position: &Position) -> BoardText
+    ensures bytes { result.bytes ≡ board_told asked position.now }
+    ensures length { length result.bytes ≤ 512 }
+{
+    if asked {
+        print_board(position)
+    } else {
+        ArrayString::new()
+    }
 }
 
 fn push_pips(text: &mut BoardText, side: &str, pips: u32)

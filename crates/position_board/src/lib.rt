@@ -4,5 +4,5 @@
 mod board;
 mod laws;
 
-pub use board::{BoardText, print_board};
+pub use board::{BoardText, board_told, print_board};
 pub use laws::boards_are_as_drawn;

@@ -13,7 +13,8 @@ use Rattle.solve_commands.specs.Checkers.{IsOfOtherCheckers}
 
 -- the report of the race's turns and pair
 abbrev pub race_report : RaceTask → List ℕ
-race_report task = race_text task.position (turns_left task.position) (race_pair task.position)
+race_report task =
+    race_text task.board task.position (turns_left task.position) (race_pair task.position)
 
 -- The position is a race of as many checkers as are asked for, and the turns that it may still take and its pair were told so. In every
 -- game without a cube of at least as many turns, however its unfinished end is scored, the pair encloses what the race is worth exactly; it

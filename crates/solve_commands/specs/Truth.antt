@@ -20,7 +20,7 @@ abbrev pub bound_pair : BoundTask → Bounds
 bound_pair task = pair_of (rounds cubeless task.rounds) task.position 0
 
 abbrev pub bound_report : BoundTask → List ℕ
-bound_report task = bound_text task.position task.rounds (bound_pair task)
+bound_report task = bound_text task.board task.position task.rounds (bound_pair task)
 
 -- What is true of a pair. It encloses what the position is worth exactly: in every game without a cube that is played for at least as many
 -- turns as there were rounds, however its unfinished end is scored.

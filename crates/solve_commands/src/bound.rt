@@ -36,6 +36,6 @@ pub fn run_bound<O: Sink>(alloc: Global, task: &Bound, out: &mut O) -> Result<()
 {
     count_checkers(&task.position, task.checkers)?;
     let pair = pair_after(alloc, task)?;
-    write_bound(out, &task.position, task.rounds, pair)?;
+    write_bound(out, task.board, &task.position, task.rounds, pair)?;
     Ok(())
 }

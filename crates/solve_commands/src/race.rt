@@ -24,6 +24,12 @@ pub fn run_race<O: Sink>(alloc: Global, task: &Race, out: &mut O) -> Result<(), 
         return Err(RunStop::Refused(Refusal::Contact));
     }
     let table = RaceTable::build(alloc, task.checkers)?;
-    write_race(out, position, table.turns(position), table.pair(position))?;
+    write_race(
+        out,
+        task.board,
+        position,
+        table.turns(position),
+        table.pair(position),
+    )?;
     Ok(())
 }

@@ -7,12 +7,13 @@ use directed_fixed::Pair;
 use equity_report::{Report, add_alone, add_number, add_position};
 use hyper_outside::Failed;
 use outside_log::Sink;
+use position_board::board_told;
 use position_rank::Position;
 
 fn add_rounds(report: &mut Report, rounds: u32)
-    requires { length report.old.bytes ≤ 42 }
+    requires { length report.old.bytes ≤ 600 }
     ensures bytes { report.new.bytes ≡ report.old.bytes ++ line (codes "rounds") (decimal rounds) }
-    ensures length { length report.new.bytes ≤ 70 }
+    ensures length { length report.new.bytes ≤ 640 }
 {
     report.push_str("rounds ");
     add_number(report, u64::from(rounds));
@@ -23,14 +24,16 @@ fn add_rounds(report: &mut Report, rounds: u32)
 /// rounded outwards, and in units. `Failed` comes only where `put` failed; then a front of the text was put.
 pub fn write_bound<O: Sink>(
     out: &mut O,
+    board: bool,
     position: &Position,
     rounds: u32,
     pair: Pair,
 ) -> Result<(), Failed>
     ensures { Puts (O.output out.old) (O.output out.new)
-        (bound_text position.now rounds pair) result }
+        (bound_text board position.now rounds pair) result }
 {
     let mut report = Report::new();
+    report.push_str(board_told(board, position).as_str());
     add_position(&mut report, position);
     add_rounds(&mut report, rounds);
     add_alone(&mut report, pair);

@@ -7,12 +7,13 @@ use directed_fixed::Pair;
 use equity_report::{Report, add_alone, add_number, add_position};
 use hyper_outside::Failed;
 use outside_log::Sink;
+use position_board::board_told;
 use position_rank::Position;
 
 fn add_turns(report: &mut Report, turns: u32)
-    requires { length report.old.bytes ≤ 42 }
+    requires { length report.old.bytes ≤ 600 }
     ensures bytes { report.new.bytes ≡ report.old.bytes ++ line (codes "turns") (decimal turns) }
-    ensures length { length report.new.bytes ≤ 70 }
+    ensures length { length report.new.bytes ≤ 640 }
 {
     report.push_str("turns ");
     add_number(report, u64::from(turns));
@@ -23,14 +24,16 @@ fn add_turns(report: &mut Report, turns: u32)
 /// in units. `Failed` comes only where `put` failed; then a front of the text was put.
 pub fn write_race<O: Sink>(
     out: &mut O,
+    board: bool,
     position: &Position,
     turns: u32,
     pair: Pair,
 ) -> Result<(), Failed>
     ensures { Puts (O.output out.old) (O.output out.new)
-        (race_text position.now turns pair) result }
+        (race_text board position.now turns pair) result }
 {
     let mut report = Report::new();
+    report.push_str(board_told(board, position).as_str());
     add_position(&mut report, position);
     add_turns(&mut report, turns);
     add_alone(&mut report, pair);
