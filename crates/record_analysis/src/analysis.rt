@@ -1,9 +1,10 @@
-ghost use Rattle.std.specs.Prelude.{◌≡◌, ◌<◌, ◌≤◌, All, IfOk, IfSome, OnErr, Some, length, map, slice_get};
+ghost use Rattle.std.specs.Prelude.{◌≡◌, ◌<◌, ◌≤◌, All, IfOk, IfSome, None, OnErr, Some, length, map, slice_get};
 ghost use Rattle.record_analysis.specs.Analyses.{IsSmallJudged, unjudged};
 
 use directed_fixed::Pair;
-use game_record::{Decision, Decisions};
+use game_record::{Choice, Decision, Decisions, Offer, Player};
 use hyper_outside::NoMemory;
+use position_rank::Position;
 use std::alloc::Global;
 use std::marker::Model;
 
@@ -12,6 +13,26 @@ use std::marker::Model;
 pub struct Judged {
     pub decision: Decision,
     pub loss: Option<Pair>,
+}
+
+impl Default for Judged {
+    ghost is_default = { λ judged. judged.loss ≡ None };
+
+    /// One that was never made, and not judged.
+    fn default() -> Self {
+        Judged {
+            decision: Decision {
+                game: 0,
+                line: 0,
+                player: Player::A,
+                score: None,
+                position: Position::start(1),
+                kind: 0,
+                choice: Choice::Offered(Offer::NoDouble),
+            },
+            loss: None,
+        }
+    }
 }
 
 /// At most 131,072 decisions of a recorded game in their order, each with the pair of what it loses,

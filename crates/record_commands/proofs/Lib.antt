@@ -4,3 +4,4 @@ mod Recorded
 mod Matches
 mod MatchTruth
 mod RightRecords
+mod Studied

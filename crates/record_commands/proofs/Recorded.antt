@@ -1,5 +1,5 @@
 -- Decisions of a record, judged by the file of its game.
-use Rattle.std.proofs.Common.{◌≡◌, ◌∙◌, ℕ, List, [], ◌∷◌, length, get_or, Bool, true, false, IsTrue, All, Option, Some, None, Result, Ok, Err, inl, inr, refl, sym, ap, subst, arith}
+use Rattle.std.proofs.Common.{◌≡◌, ◌∙◌, ℕ, List, [], ◌∷◌, length, get_or, Bool, true, false, All, IfOk, Option, Some, None, Result, Ok, Err, inl, inr, refl, sym, ap, subst, arith}
 use Rattle.std.proofs.lemmas.Bool.{false≢true}
 use Rattle.std.proofs.lemmas.List.{get_or-map, length-map}
 use Rattle.std.proofs.lemmas.List.Elements.{All-head, All-tail}
@@ -33,7 +33,7 @@ use Rattle.command_line.specs.declared.command.Analyse.{Analyse}
 use Rattle.equity_report.specs.declared.text.GameName.{GameName}
 use Rattle.equity_report.specs.declared.refusal.Refusal.{Refusal}
 use Rattle.run_endings.specs.Pages.{OfHeld}
-use Rattle.record_commands.specs.Analyses.{AnswersJudging, AnswersPlain, IsAnalysed, JudgesBy, JudgesPlain, RefusesAnalysis, RefusesBy}
+use Rattle.record_commands.specs.Analyses.{AnswersJudging, AnswersPlain, JudgesBy, JudgesPlain, RefusesAnalysis, RefusesBy}
 use Rattle.record_commands.specs.ByFile.{IsDecisionFor, JudgesAt, JudgesList, JudgesOne, front_head}
 use Rattle.record_commands.specs.MatchAnalyses.{AnswersMatch}
 use Rattle.record_commands.specs.Records.{HoldsRecord, game_recorded, stakes_recorded}
@@ -48,6 +48,12 @@ decisions-long list = length-map list (λ (one : Judged). one.decision)
 pub each-decision : (P : Decision → Type 0) (list : List Judged) → All P (decisions_in list) → All (λ (one : Judged). P one.decision) list
 each-decision P list all i d below =
     subst P (get_or-map (λ (one : Judged). one.decision) list i d d.decision below) (all i d.decision (let long = decisions-long list in omega (arith, long, below)))
+
+-- decisions that stay are as right as they were
+pub rights-kept : (rec : Record) (decisions : List Decision) → All (IsRightDecision rec) decisions → (olds : List Decision) → olds ≡ decisions → (result : Result (List Judged) Refusal) → IfOk result (λ list. decisions_in list ≡ olds)
+    → IfOk result (All (λ (one : Judged). IsRightDecision rec one.decision))
+rights-kept rec decisions right olds same (Ok list) kept = each-decision (IsRightDecision rec) list (subst (All (IsRightDecision rec)) (sym (kept ∙ same)) right)
+rights-kept rec decisions right olds same (Err refusal) kept = tt
 
 -- what decisions lose over words is their analysis
 analysed : (stakes : Terms) (u : Words) (list : List Judged) → All (λ (one : Judged). one.loss ≡ Some (lost stakes u one.decision)) list → list ≡ analysis_of stakes u (decisions_in list)
@@ -111,15 +117,12 @@ module _ (name : List ℕ) (replayed : Replayed) (held : Contents) where
   judging-plain is (Ok list) a = subst (λ (b : Bool). JudgesBy b name replayed held list) (sym is) a
   judging-plain is (Err refusal) a = inr (subst (λ (b : Bool). RefusesBy b name replayed refusal held) (sym is) a)
 
+-- the decisions of a record are judged by what is held
+abbrev pub JudgesHeld : List ℕ → Replayed → List Judged → Contents → Type 0
+JudgesHeld name replayed list held = JudgesBy (is_match replayed.rec.stakes) name replayed held list
+
 -- what is answered of the files as they are after the record was read is so of them as they were
 module _ (task : Analyse) (replayed : Replayed) (held after : Contents) (same : after ≡ held) where
   pub judging-refused : OfHeld (held task.rec) (λ bytes. HoldsRecord bytes replayed) → (refusal : Refusal) → AnswersJudging task.base replayed after (Err refusal) → RefusesAnalysis task refusal held
   judging-refused holds refusal (inl outside) = inr (record { replayed = replayed; record_file = holds; cause = inl outside })
   judging-refused holds refusal (inr cause) = inr (record { replayed = replayed; record_file = holds; cause = inr (subst (RefusesBy (is_match replayed.rec.stakes) task.base replayed refusal) same cause) })
-
-  pub judging-done : (told mid : Bool) (list : List Judged) → (IsTrue told → IsTrue mid) → (IsTrue mid → OfHeld (held task.rec) (λ bytes. HoldsRecord bytes replayed)) → (IsTrue told → AnswersJudging task.base replayed after (Ok list)) → IsAnalysed task told held list
-  judging-done told mid list was holds judges = record {
-    replayed = replayed;
-    record_file = λ tells. holds (was tells);
-    base_files = λ tells. subst (λ (h : Contents). JudgesBy (is_match replayed.rec.stakes) task.base replayed h list) same (judges tells);
-  }

@@ -12,13 +12,12 @@ use Rattle.record_analysis.specs.declared.analysis.Judged.{Judged}
 use Rattle.record_study.specs.Keeping.{decisions_in}
 use Rattle.database_file.specs.Texts.{game_in}
 use Rattle.command_line.specs.declared.command.Analyse.{Analyse}
-use Rattle.record_reports.specs.Analyses.{analysis_text}
 use Rattle.equity_report.specs.declared.refusal.Refusal.{Refusal}
 use Rattle.run_endings.specs.Endings.{Ending, IsOutside, Tells}
 use Rattle.run_endings.specs.Pages.{HavePairsOf, OfHeld}
 use Rattle.record_commands.specs.ByFile.{IsFileOf, JudgesOne, RefusesFile, front_head}
 use Rattle.record_commands.specs.MatchAnalyses.{JudgesMatch, RefusesMatch}
-use Rattle.record_commands.specs.Records.{HoldsRecord, RefusesRecord, game_recorded}
+use Rattle.record_commands.specs.Records.{HoldsRecord, RefusesRecord, game_recorded, report_shown}
 use Rattle.record_commands.specs.declared.record.Replayed.{Replayed}
 
 -- ---- what decisions lose
@@ -54,7 +53,7 @@ pub record HasAnalysed (task : Analyse) (told : Bool) (held : Contents)
     (IsReport : List ℕ → Type 0) : Type 0 where
   pub list : List Judged
   pub analysed : IsAnalysed task told held list
-  pub report : IsReport (analysis_text list)
+  pub report : IsReport (report_shown task.shown analysed.replayed.rec.stakes list)
 
 -- ---- why nothing is told of it
 

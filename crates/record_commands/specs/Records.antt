@@ -16,6 +16,11 @@ use Rattle.game_record.specs.declared.record.RecordStakes.{RecordStakes}
 use Rattle.game_record.specs.declared.record.RecordStakes.TheVariants.{Match}
 use Rattle.outside_log.specs.declared.reading.WholeStop.{WholeStop}
 use Rattle.outside_log.specs.declared.reading.WholeStop.TheVariants as whole
+use Rattle.record_analysis.specs.declared.analysis.Judged.{Judged}
+use Rattle.command_line.specs.declared.command.Shown.{Shown}
+use Rattle.command_line.specs.declared.command.Shown.TheVariants.{Losses, Full, Worst}
+use Rattle.record_reports.specs.Analyses.{analysis_text}
+use Rattle.record_reports.specs.Full.{full_text, worst_text}
 use Rattle.equity_report.specs.declared.text.GameName.{GameName}
 use Rattle.equity_report.specs.declared.refusal.Refusal.{Refusal}
 use Rattle.equity_report.specs.declared.refusal.Refusal.TheVariants.{Missing, Read, Memory, Record}
@@ -67,6 +72,14 @@ RefusesRecord name (Record bad) (Some bytes) = IsWrongIn bytes bad
 RefusesRecord name Memory (Some bytes) = length bytes ≤ 1048576
 RefusesRecord name Read held = ⊤
 RefusesRecord name _ _ = ⊥
+
+-- ---- what is told of its decisions
+
+-- the report that shows these decisions of a record, and each player's total of all
+abbrev pub report_shown : Shown → RecordStakes → List Judged → List ℕ
+report_shown Losses stakes list = analysis_text list
+report_shown Full stakes list = full_text stakes list
+report_shown (Worst most) stakes list = worst_text most stakes list
 
 -- ---- what reading a record may answer
 

@@ -6,11 +6,10 @@ use Rattle.record_analysis.specs.declared.analysis.Judged.{Judged}
 use Rattle.record_study.specs.Matches.{AreStudiedInMatch}
 use Rattle.record_study.specs.Studies.{AreStudied, game_of_record}
 use Rattle.command_line.specs.declared.command.Study.{Study}
-use Rattle.record_reports.specs.Analyses.{analysis_text}
 use Rattle.equity_report.specs.declared.refusal.Refusal.{Refusal}
 use Rattle.equity_report.specs.declared.refusal.Refusal.TheVariants.{Memory}
 use Rattle.run_endings.specs.Pages.{OfHeld}
-use Rattle.record_commands.specs.Records.{HoldsRecord, RefusesRecord, match_length}
+use Rattle.record_commands.specs.Records.{HoldsRecord, RefusesRecord, match_length, report_shown}
 use Rattle.run_endings.specs.Endings.{Ending, Tells}
 use Rattle.record_commands.specs.declared.record.Replayed.{Replayed}
 
@@ -38,7 +37,7 @@ pub record HasStudied (task : Study) (told : Bool) (held : Option (List ℕ))
     (IsReport : List ℕ → Type 0) : Type 0 where
   pub list : List Judged
   pub studied : IsStudied task told held list
-  pub report : IsReport (analysis_text list)
+  pub report : IsReport (report_shown task.shown studied.replayed.rec.stakes list)
 
 -- the record breaks no rule, and there was no memory to study it
 pub record LacksMemory (refusal : Refusal) (held : Option (List ℕ)) : Type 0 where

@@ -1,4 +1,4 @@
-ghost use Rattle.std.specs.Prelude.{◌≡◌, ◌≤◌, IsTrue, All, false, IfErr, Err, length};
+ghost use Rattle.std.specs.Prelude.{◌≡◌, ◌≤◌, IsTrue, All, false, IfErr, IfOk, Err, length};
 ghost use Rattle.hyper_outside.specs.Causes.{Rose};
 ghost use Rattle.outside_log.specs.Log.{standing};
 ghost use Rattle.outside_log.specs.Readings.{ReadsOn, is_faithful, read_faults};
@@ -16,13 +16,13 @@ ghost use Rattle.record_commands.specs.Records.{IsRightReplayed};
 use crate::analyse_match::judge_match;
 use crate::by_file::judge_by;
 use crate::record::{Replayed, game_recorded, is_match, read_recorded};
+use crate::shown::write_shown;
 use command_line::Analyse;
 use equity_report::Refusal;
-use game_record::Record;
+use game_record::{Decisions, Record};
 use hyper_outside::Failed;
 use outside_log::{Files, Sink};
 use record_analysis::{Analysis, analyses_enclose_what_is_lost, right_decisions_can_be_judged};
-use record_reports::write_analysis;
 use run_endings::RunStop;
 use std::alloc::Global;
 
@@ -45,6 +45,7 @@ fn judge_plain<F: Files>(
     ensures cause { result ≡ Err Read
         → Rose (read_faults (F.log files.old)) (read_faults (F.log files.new)) }
     ensures kinds { IfErr result IsOfShowing }
+    ensures decisions { IfOk result (λ list. decisions_in list ≡ decisions_in analysis) }
 {
     right_decisions_can_be_judged();
     analyses_enclose_what_is_lost();
@@ -58,31 +59,33 @@ fn judge_plain<F: Files>(
 fn judge_replayed<F: Files>(
     alloc: Global,
     name: &str,
-    replayed: Replayed,
+    rec: &Record,
+    decisions: Decisions,
     files: &mut F,
 ) -> Result<Analysis, Refusal>
     requires name { length name.now ≤ 255 }
-    requires right { IsRightReplayed replayed }
+    requires right { IsRightReplayed (record { rec = rec.now; decisions = decisions }) }
     ensures told { IsTrue (is_faithful (F.log files.new))
-        → AnswersJudging name.now replayed (standing (F.log files.old)) result }
+        → AnswersJudging name.now (record { rec = rec.now; decisions = decisions })
+        (standing (F.log files.old)) result }
     ensures reads { ReadsOn (F.log files.old) (F.log files.new) }
     ensures cause { result ≡ Err Read
         → Rose (read_faults (F.log files.old)) (read_faults (F.log files.new)) }
     ensures kinds { IfErr result IsOfShowing }
+    ensures right { IfOk result (All (λ one. IsRightDecision rec.now one.decision)) }
 {
-    let Replayed { rec, decisions } = replayed;
     let Ok(analysis) = Analysis::new(alloc, decisions) else {
         return Err(Refusal::Memory);
     };
     if is_match(rec.stakes) {
-        judge_match(alloc, name, &rec, analysis, files)
+        judge_match(alloc, name, rec, analysis, files)
     } else {
-        judge_plain(alloc, name, &rec, analysis, files)
+        judge_plain(alloc, name, rec, analysis, files)
     }
 }
 
-/// Puts what each decision of a recorded game loses, by a file of bounds of its game or in a match by those of its scores, and each player's
-/// total. It is refused where a file can't be had, a line of the record is wrong, a file is of another game, or there is no memory.
+/// Puts what each decision of a recorded game loses, or those that lost most, by a file of bounds of its game or in a match by those of its
+/// scores, and each player's total. It is refused where a file can't be had, a line of the record is wrong, a file is of another game, or there is no memory.
 pub fn run_analyse<F: Files, O: Sink>(
     alloc: Global,
     task: &Analyse,
@@ -97,15 +100,15 @@ pub fn run_analyse<F: Files, O: Sink>(
         → Rose (read_faults (F.log files.old)) (read_faults (F.log files.new)) }
     ensures reads { ReadsOn (F.log files.old) (F.log files.new) }
 {
-    let replayed = match read_recorded(alloc, task.rec.as_str(), files) {
+    let Replayed { rec, decisions } = match read_recorded(alloc, task.rec.as_str(), files) {
         Ok(replayed) => replayed,
         Err(refusal) => return Err(RunStop::Refused(refusal)),
     };
-    let analysis = match judge_replayed(alloc, task.base.as_str(), replayed, files) {
+    let analysis = match judge_replayed(alloc, task.base.as_str(), &rec, decisions, files) {
         Ok(analysis) => analysis,
         Err(refusal) => return Err(RunStop::Refused(refusal)),
     };
-    match write_analysis(out, &analysis) {
+    match write_shown(out, task.shown, &rec, &analysis) {
         Ok(()) => Ok(()),
         Err(Failed) => Err(RunStop::NotWritten),
     }

@@ -1,4 +1,4 @@
-ghost use Rattle.std.specs.Prelude.{◌≡◌, ◌≤◌, ◌<◌, ◌↔◌, All, IfErr, IfSome, IsTrue, None, Some, Err, length, true};
+ghost use Rattle.std.specs.Prelude.{◌≡◌, ◌≤◌, ◌<◌, ◌↔◌, All, IfErr, IfOk, IfSome, IsTrue, None, Some, Err, length, true};
 ghost use Rattle.hyper_outside.specs.Causes.{Rose};
 ghost use Rattle.outside_log.specs.Log.{standing};
 ghost use Rattle.outside_log.specs.Readings.{ReadsOn, is_faithful, read_faults};
@@ -196,6 +196,7 @@ pub(crate) fn judge_match<F: Files>(
     ensures cause { result ≡ Err Read
         → Rose (read_faults (F.log files.old)) (read_faults (F.log files.new)) }
     ensures kinds { IfErr result IsOfShowing }
+    ensures decisions { IfOk result (λ list. decisions_in list ≡ decisions_in analysis) }
 {
     right_decisions_can_be_judged();
     enclosing_starts_bound_the_payoffs();

@@ -7,6 +7,7 @@ mod by_file;
 mod make;
 mod record;
 mod right_laws;
+mod shown;
 mod studying;
 
 pub use analyse::run_analyse;

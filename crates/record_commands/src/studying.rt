@@ -1,7 +1,8 @@
-ghost use Rattle.std.specs.Prelude.{◌≡◌, IfOk, Err};
+ghost use Rattle.std.specs.Prelude.{◌≡◌, All, IfOk, Err};
 ghost use Rattle.hyper_outside.specs.Causes.{Rose};
 ghost use Rattle.outside_log.specs.Log.{standing};
 ghost use Rattle.outside_log.specs.Readings.{ReadsOn, is_faithful, read_faults};
+ghost use Rattle.game_record.specs.RightDecisions.{IsRightDecision};
 ghost use Rattle.equity_report.specs.declared.refusal.Refusal.TheVariants.{Read};
 ghost use Rattle.command_line.specs.Right.{IsRightStudy};
 ghost use Rattle.run_endings.specs.Endings.{EndsBy, IsOfReplaying};
@@ -10,13 +11,14 @@ ghost use Rattle.record_commands.specs.Records.{IsRightReplayed};
 ghost use Rattle.record_commands.specs.Studies.{IsStudiedBy, TellsStudy};
 
 use crate::record::{Replayed, is_match, match_length, read_recorded};
+use crate::shown::write_shown;
 use command_line::Study;
 use equity_report::Refusal;
+use game_record::{Decisions, Record};
 use hyper_outside::{Failed, Gate, NoMemory};
 use outside_log::{Files, Sink};
 use position_rank::layout_count;
 use record_analysis::Analysis;
-use record_reports::write_analysis;
 use record_study::{study, study_match};
 use run_endings::{RunStop, ladder_rounds};
 use std::alloc::Global;
@@ -28,27 +30,30 @@ fn study_replayed<R: Threads + Sync, G: Gate + Sync>(
     team: &Team<R>,
     alloc: Global,
     task: &Study,
-    replayed: Replayed,
+    rec: &Record,
+    decisions: Decisions,
     gate: &G,
 ) -> Result<Analysis, NoMemory>
     requires task { IsRightStudy task.now }
-    requires right { IsRightReplayed replayed }
-    ensures { IfOk result (IsStudiedBy replayed task.now.rounds) }
+    requires right { IsRightReplayed (record { rec = rec.now; decisions = decisions }) }
+    ensures studied { IfOk result
+        (IsStudiedBy (record { rec = rec.now; decisions = decisions }) task.now.rounds) }
+    ensures right { IfOk result (All (λ one. IsRightDecision rec.now one.decision)) }
 {
-    let Replayed { rec, decisions } = replayed;
     let rounds = task.rounds;
     let columns = layout_count(rec.checkers);
     if is_match(rec.stakes) {
         let points = match_length(rec.stakes);
         gate.expect(ladder_rounds(points, rounds), columns);
-        study_match(team, alloc, &rec, points, decisions, rounds, gate)
+        study_match(team, alloc, rec, points, decisions, rounds, gate)
     } else {
         gate.expect(rounds, columns);
-        study(team, alloc, &rec, decisions, rounds, gate)
+        study(team, alloc, rec, decisions, rounds, gate)
     }
 }
 
-/// Solves what a recorded game is played for, and puts what each of its decisions loses by that and each player's total. It is refused where
+/// Solves what a recorded game is played for, and puts what each of its decisions loses by that, or those that lost most, and each player's total.
+/// It is refused where
 /// the record's file isn't there or can't be read, a line of it is wrong, or there is no memory.
 pub fn run_study<R: Threads + Sync, F: Files, O: Sink, G: Gate + Sync>(
     team: &Team<R>,
@@ -68,14 +73,14 @@ pub fn run_study<R: Threads + Sync, F: Files, O: Sink, G: Gate + Sync>(
         → Rose (read_faults (F.log files.old)) (read_faults (F.log files.new)) }
     ensures reads { ReadsOn (F.log files.old) (F.log files.new) }
 {
-    let replayed = match read_recorded(alloc, task.rec.as_str(), files) {
+    let Replayed { rec, decisions } = match read_recorded(alloc, task.rec.as_str(), files) {
         Ok(replayed) => replayed,
         Err(refusal) => return Err(RunStop::Refused(refusal)),
     };
-    let Ok(analysis) = study_replayed(team, alloc, task, replayed, gate) else {
+    let Ok(analysis) = study_replayed(team, alloc, task, &rec, decisions, gate) else {
         return Err(RunStop::Refused(Refusal::Memory));
     };
-    match write_analysis(out, &analysis) {
+    match write_shown(out, task.shown, &rec, &analysis) {
         Ok(()) => Ok(()),
         Err(Failed) => Err(RunStop::NotWritten),
     }

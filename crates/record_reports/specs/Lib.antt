@@ -1,1 +1,2 @@
 pub mod Analyses
+pub mod Full

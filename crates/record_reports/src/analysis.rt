@@ -12,7 +12,7 @@ use hyper_outside::Failed;
 use outside_log::Sink;
 use record_analysis::{Analysis, Judged};
 
-fn player_text(player: Player) -> &'static str
+pub(crate) fn player_text(player: Player) -> &'static str
     ensures text { result.now ≡ player_text player }
     ensures short { length result.now ≤ 16 }
 {
@@ -22,7 +22,7 @@ fn player_text(player: Player) -> &'static str
     }
 }
 
-fn choice_text(choice: &Choice) -> &'static str
+pub(crate) fn choice_text(choice: &Choice) -> &'static str
     ensures text { result.now ≡ choice_text choice.now }
     ensures short { length result.now ≤ 16 }
 {
@@ -109,7 +109,7 @@ fn add_totals(report: &mut Report, analysis: &Analysis)
     add_total(report, Player::B, analysis);
 }
 
-fn put_totals<O: Sink>(out: &mut O, analysis: &Analysis) -> Result<(), Failed>
+pub(crate) fn put_totals<O: Sink>(out: &mut O, analysis: &Analysis) -> Result<(), Failed>
     ensures { Puts (O.output out.old) (O.output out.new) (totals_text analysis.now) result }
 {
     let mut totals = Report::new();

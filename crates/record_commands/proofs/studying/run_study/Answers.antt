@@ -7,16 +7,16 @@ returns-in-Err-clause-tells g c = (λ told. inl (rw (c.as_str.ensures) at c.in-E
 pub returns-in_default-clause-tells : goal.returns-in_default-clause-tells
 returns-in_default-clause-tells g c = (λ told. inr (record { replayed = c.in-Ok.replayed; record_file = rw (c.as_str.ensures) at c.in-Ok.ensures.told told; line = refl }), refl)
 
-pub returns-in-Ok-write_analysis-clause-tells : goal.returns-in-Ok-write_analysis-clause-tells
-returns-in-Ok-write_analysis-clause-tells g c = record {
+pub returns-in-Ok-write_shown-clause-tells : goal.returns-in-Ok-write_shown-clause-tells
+returns-in-Ok-write_shown-clause-tells g c = record {
   list = c.in-Ok-study_replayed.analysis;
-  studied = record { replayed = c.in-Ok.replayed; record_file = λ told. rw (c.as_str.ensures) at c.in-Ok.ensures.told told; studied = c.in-Ok-study_replayed.ensures };
-  report = c.in-Ok-write_analysis.ensures;
+  studied = record { replayed = c.in-Ok.replayed; record_file = λ told. rw (c.as_str.ensures) at c.in-Ok.ensures.told told; studied = c.in-Ok-study_replayed.ensures.studied };
+  report = c.in-Ok-write_shown.ensures;
 }
 
 pub returns-clause-tells : goal.returns-clause-tells
 returns-clause-tells g c = record {
   list = c.in-Ok-study_replayed.analysis;
-  studied = record { replayed = c.in-Ok.replayed; record_file = λ told. rw (c.as_str.ensures) at c.in-Ok.ensures.told told; studied = c.in-Ok-study_replayed.ensures };
-  report = (c.in-Err-write_analysis.field-0, c.in-Err-write_analysis.ensures);
+  studied = record { replayed = c.in-Ok.replayed; record_file = λ told. rw (c.as_str.ensures) at c.in-Ok.ensures.told told; studied = c.in-Ok-study_replayed.ensures.studied };
+  report = (c.in-Err-write_shown.field-0, c.in-Err-write_shown.ensures);
 }

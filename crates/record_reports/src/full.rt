@@ -1,0 +1,228 @@
+ghost use Rattle.std.specs.Prelude.{◌≡◌, ◌≤◌, ◌++◌, ◌+◌, All, Some, length, slice_get};
+ghost use Rattle.std.specs.List.{flat_map};
+ghost use Rattle.cube_actions.specs.Ladder.{IsOfMatch};
+ghost use Rattle.cube_actions.specs.Names.{names_of};
+ghost use Rattle.cube_actions.specs.Scores.{MatchScore};
+ghost use Rattle.cube_actions.specs.Starts.{Covers, StartPairs};
+ghost use Rattle.game_record.specs.Kinds.{stakes_at};
+ghost use Rattle.game_record.specs.Lines.{AreRecordStakes};
+ghost use Rattle.game_record.specs.declared.record.RecordStakes.TheVariants.{Match};
+ghost use Rattle.game_record.specs.RightDecisions.{IsRightDecision, IsScoreIn, terms_for};
+ghost use Rattle.outside_log.specs.Sink.{Puts};
+ghost use Rattle.record_reports.specs.Full.{answered_text, chosen_fields, full_line, full_text, loss_fields, offered_text, place_fields, score_told, state_fields};
+
+use crate::analysis::{choice_text, player_text, put_totals};
+use cube_actions::{KindName, Score, Stakes, Starts, ladder, ladders_are_exact};
+use directed_fixed::{Fixed, Pair, print_down, print_up};
+use equity_report::{Report, add_number};
+use game_record::{Answer, Choice, Decision, Offer, Record, RecordStakes};
+use hyper_outside::Failed;
+use outside_log::Sink;
+use position_rank::print_position;
+use record_analysis::{Analysis, Judged};
+
+/// A pair for each score of a match: the names of kinds don't depend on what they are.
+fn some_starts(match_length: u8) -> Starts
+    requires { AreRecordStakes (Match match_length) }
+    ensures { (score : MatchScore) → IsOfMatch match_length score → Covers result score }
+{
+    // So each score of the match has a place in its ladder.
+    ladders_are_exact();
+    let scores = ladder(match_length);
+    let mut starts = Starts::new(match_length);
+    for _score in scores.as_slice() {
+        starts.add(Pair::exactly(Fixed::whole(0)));
+    }
+    starts
+}
+
+/// What a game of a match is played for at a score, where the scores after it are worth nothing.
+fn match_stakes(match_length: u8, score: Option<Score>) -> Stakes
+    requires points { AreRecordStakes (Match match_length) }
+    requires score { IsScoreIn (Match match_length) score }
+    ensures { (starts : StartPairs)
+        × (result ≡ terms_for (stakes_at (Match match_length) score) starts) }
+{
+    match score {
+        Some(score) => Stakes::of_score(score, &some_starts(match_length)),
+        // Each game of a match has a score.
+        None => unreachable!(),
+    }
+}
+
+/// What a game of a record is played for at a score, which only a match has.
+fn stakes_scored(stakes: RecordStakes, score: Option<Score>) -> Stakes
+    requires points { AreRecordStakes stakes }
+    requires score { IsScoreIn stakes score }
+    ensures { (starts : StartPairs) × (result ≡ terms_for (stakes_at stakes score) starts) }
+{
+    match stakes {
+        RecordStakes::Cubeless => Stakes::cubeless(),
+        RecordStakes::Money => Stakes::money(),
+        RecordStakes::Jacoby => Stakes::jacoby(),
+        RecordStakes::MoneyBeavers => Stakes::money_beavers(),
+        RecordStakes::JacobyBeavers => Stakes::jacoby_beavers(),
+        RecordStakes::Match(match_length) => match_stakes(match_length, score),
+    }
+}
+
+/// The name of the kind of a decision's state.
+fn kind_of(rec: &Record, decision: &Decision) -> KindName
+    requires points { AreRecordStakes rec.now.stakes }
+    requires right { IsRightDecision rec.now decision.now }
+    ensures { slice_get (names_of (stakes_at rec.now.stakes decision.now.score)) decision.now.kind
+        ≡ Some result }
+{
+    let stakes = stakes_scored(rec.stakes, decision.score);
+    stakes.kind_name(decision.kind)
+}
+
+/// Adds where a decision stands in its record, whose it was and what was decided.
+fn add_place(line: &mut Report, decision: &Decision)
+    requires { length line.old.bytes ≤ 0 }
+    ensures bytes { line.new.bytes ≡ line.old.bytes ++ place_fields decision.now }
+    ensures length { length line.new.bytes ≤ 100 }
+{
+    add_number(line, u64::from(decision.game));
+    line.push_str("\t");
+    add_number(line, u64::from(decision.line));
+    line.push_str("\t");
+    line.push_str(player_text(decision.player));
+    line.push_str("\t");
+    line.push_str(choice_text(&decision.choice));
+    line.push_str("\t");
+}
+
+fn add_score(line: &mut Report, score: Option<Score>)
+    requires { length line.old.bytes ≤ 1000 }
+    ensures bytes { line.new.bytes ≡ line.old.bytes ++ score_told score }
+    ensures length { length line.new.bytes ≤ length line.old.bytes + 8 }
+{
+    match score {
+        Some(score) => line.push_str(score.print().as_str()),
+        None => line.push_str("-"),
+    }
+}
+
+/// Adds the position, the kind of state and the score.
+fn add_state(line: &mut Report, rec: &Record, decision: &Decision)
+    requires points { AreRecordStakes rec.now.stakes }
+    requires right { IsRightDecision rec.now decision.now }
+    requires room { length line.old.bytes ≤ 100 }
+    ensures bytes { line.new.bytes ≡ line.old.bytes ++ state_fields rec.now.stakes decision.now }
+    ensures length { length line.new.bytes ≤ length line.old.bytes + 60 }
+{
+    line.push_str(print_position(&decision.position).as_str());
+    line.push_str("\t");
+    line.push_str(kind_of(rec, decision).print().as_str());
+    line.push_str("\t");
+    add_score(line, decision.score);
+    line.push_str("\t");
+}
+
+fn offered_text(offer: Offer) -> &'static str
+    ensures text { result.now ≡ offered_text offer }
+    ensures short { length result.now ≤ 16 }
+{
+    match offer {
+        Offer::NoDouble => "no-double",
+        Offer::Double => "double",
+    }
+}
+
+fn answered_text(answer: Answer) -> &'static str
+    ensures text { result.now ≡ answered_text answer }
+    ensures short { length result.now ≤ 16 }
+{
+    match answer {
+        Answer::Take => "take",
+        Answer::Pass => "pass",
+        Answer::Beaver => "beaver",
+    }
+}
+
+/// Adds the roll and what was chosen.
+fn add_chosen(line: &mut Report, choice: &Choice)
+    requires { length line.old.bytes ≤ 200 }
+    ensures bytes { line.new.bytes ≡ line.old.bytes ++ chosen_fields choice.now }
+    ensures length { length line.new.bytes ≤ length line.old.bytes + 40 }
+{
+    match choice {
+        Choice::Played { roll, end } => {
+            line.push_str(roll.print().as_str());
+            line.push_str("\t");
+            line.push_str(print_position(end).as_str());
+        }
+        Choice::Offered(offer) => {
+            line.push_str("-\t");
+            line.push_str(offered_text(*offer));
+        }
+        Choice::Answered(answer) => {
+            line.push_str("-\t");
+            line.push_str(answered_text(*answer));
+        }
+    }
+}
+
+fn add_loss(line: &mut Report, loss: Pair)
+    requires { length line.old.bytes ≤ 300 }
+    ensures { line.new.bytes ≡ line.old.bytes ++ loss_fields loss }
+{
+    line.push_str("\t");
+    line.push_str(print_down(loss.lower()).as_str());
+    line.push_str("\t");
+    line.push_str(print_up(loss.upper()).as_str());
+    line.push_str("\n");
+}
+
+/// The line of a decision with its position, which is empty where it wasn't judged.
+fn line_in_full(rec: &Record, judged: &Judged) -> Report
+    requires points { AreRecordStakes rec.now.stakes }
+    requires right { IsRightDecision rec.now judged.now.decision }
+    ensures { result.bytes ≡ full_line rec.now.stakes judged.now }
+{
+    let mut line = Report::new();
+    if let Some(loss) = judged.loss {
+        add_place(&mut line, &judged.decision);
+        add_state(&mut line, rec, &judged.decision);
+        add_chosen(&mut line, &judged.decision.choice);
+        add_loss(&mut line, loss);
+    }
+    line
+}
+
+fn put_full<O: Sink>(out: &mut O, rec: &Record, judged: &Judged) -> Result<(), Failed>
+    requires points { AreRecordStakes rec.now.stakes }
+    requires right { IsRightDecision rec.now judged.now.decision }
+    ensures { Puts (O.output out.old) (O.output out.new)
+        (full_line rec.now.stakes judged.now) result }
+{
+    out.put(line_in_full(rec, judged).as_str().as_bytes())
+}
+
+/// Puts the lines of some decisions with their positions.
+pub(crate) fn put_all<O: Sink>(out: &mut O, rec: &Record, list: &[Judged]) -> Result<(), Failed>
+    requires points { AreRecordStakes rec.now.stakes }
+    requires right { All (λ judged. IsRightDecision rec.now judged.decision) list.now }
+    ensures { Puts (O.output out.old) (O.output out.new)
+        (flat_map (full_line rec.now.stakes) list.now) result }
+{
+    'decisions: for judged in list {
+        put_full(out, rec, judged)?;
+    }
+    Ok(())
+}
+
+/// Puts a line for each decision of a record that was judged, in their order, and then each player's total. Between the fields of a line stand
+/// tabs: the number of the game and that of the line, the player, whether it is a play, an offer or an answer; the position, the kind of state
+/// and in a match the score; the roll, and what was chosen, a play by what it leaves; and what that loses at least and at most in points,
+/// rounded outwards. It takes no memory. `Failed` comes only where `put` failed; then a front of the text was put.
+pub fn write_full<O: Sink>(out: &mut O, rec: &Record, analysis: &Analysis) -> Result<(), Failed>
+    requires points { AreRecordStakes rec.now.stakes }
+    requires right { All (λ judged. IsRightDecision rec.now judged.decision) analysis.now }
+    ensures { Puts (O.output out.old) (O.output out.new)
+        (full_text rec.now.stakes analysis.now) result }
+{
+    put_all(out, rec, analysis.as_slice())?;
+    put_totals(out, analysis)
+}
