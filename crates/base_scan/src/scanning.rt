@@ -11,7 +11,7 @@ use crate::condition::Condition;
 use crate::found::{Found, State};
 use crate::numbers::{Depth, Seen, asks_more, first_state, may_meet, meets_with};
 use crate::sides::{Listed, all_listed};
-use hyper_outside::NoMemory;
+use hyper_outside::{Gate, NoMemory};
 use interval_words::{Words, states_are_numbered};
 use position_rank::{MoverPoints, Position, layout_count};
 use std::alloc::{AllocError, Global};
@@ -137,14 +137,15 @@ fn scan_row(
     Ok(())
 }
 
-/// The states of the rows of a part that meet the condition, where so many parts share them.
-fn scan_part(
+/// The states of the rows of a part that meet the condition, where so many parts share them. Each row passes the gate.
+fn scan_part<G: Gate>(
     alloc: Global,
     words: &Words,
     condition: &Condition,
     all: &[Listed],
     parts: usize,
     number: usize,
+    gate: &G,
 ) -> Result<Vec<State>, NoMemory>
     requires all { AreLayoutsListed words.now.game.checkers all.now }
     requires few { parts ≤ 64 }
@@ -157,18 +158,20 @@ fn scan_part(
     let from = first_row(words, parts, number);
     let to = first_row(words, parts, number + 1);
     for row in from..to {
+        gate.pass(number as u32, u64::from(row));
         scan_row(&mut found, words, condition, all, row, asks_checkers)?;
     }
     Ok(found)
 }
 
 /// The states of each part, a part for each worker.
-fn scan_parts<R: Threads + Sync>(
+fn scan_parts<R: Threads + Sync, G: Gate + Sync>(
     team: &Team<R>,
     alloc: Global,
     words: &Words,
     condition: &Condition,
     all: &[Listed],
+    gate: &G,
 ) -> Result<Vec<Result<Vec<State>, NoMemory>>, AllocError>
     requires { AreLayoutsListed words.now.game.checkers all.now }
     ensures { IfOk result (λ told. AreScanned words.now condition.now team.now told.items) }
@@ -176,7 +179,7 @@ fn scan_parts<R: Threads + Sync>(
     let parts = team.workers() as usize;
     team.map(
         alloc,
-        &|number| scan_part(alloc, words, condition, all, parts, number),
+        &|number| scan_part(alloc, words, condition, all, parts, number, gate),
     )
 }
 
@@ -197,20 +200,22 @@ fn joined(alloc: Global, parts: &[Result<Vec<State>, NoMemory>]) -> Result<Vec<S
 }
 
 /// The states of a game whose words meet a condition, by rising live rank and then by kind. It is
-/// the same list for every number of workers. It asks for memory for a list of all layouts and for
+/// the same list for every number of workers and every gate, which each row of positions passes. It asks for memory for a list of all layouts and for
 /// the states found, and may answer `NoMemory`.
-pub fn scan<R: Threads + Sync>(
+pub fn scan<R: Threads + Sync, G: Gate + Sync>(
     team: &Team<R>,
     alloc: Global,
     words: &Words,
     condition: &Condition,
+    gate: &G,
 ) -> Result<Found, NoMemory>
     ensures found { IfOk result (λ found. found ≡ meeting words.now condition.now) }
     ensures right { IfOk result (All (IsFoundState words.now.game)) }
 {
     let all = all_listed(alloc, words.checkers())?;
+    gate.expect(1, layout_count(words.checkers()));
     // What `workers` ensures says that there is one.
     let _some = team.workers();
-    let parts = scan_parts(team, alloc, words, condition, all.as_slice())?;
+    let parts = scan_parts(team, alloc, words, condition, all.as_slice(), gate)?;
     Ok(Found::new(joined(alloc, &parts)?))
 }

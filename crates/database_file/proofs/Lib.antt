@@ -3,6 +3,7 @@ pub mod Batches
 pub mod FileTexts
 pub mod Places
 pub mod FrontBytes
+pub mod KeepingPages
 pub mod KeptPages
 pub mod Loading
 pub mod ManyPages

@@ -1,6 +1,7 @@
 -- Pages that are read together and looked at by workers, a page each.
-use Rattle.std.specs.Prelude.{◌≡◌, ◌≤◌, ◌<◌, ◌+◌, ◌-◌, ◌*◌, ℕ, List, take, drop, length, slice_index_or, None, Some, Result, Ok, Err, Vec, ⊤}
+use Rattle.std.specs.Prelude.{◌≡◌, ◌≤◌, ◌<◌, ◌+◌, ◌-◌, ◌*◌, ℕ, Bool, IsTrue, Option, List, take, drop, length, slice_index_or, None, Some, Result, Ok, Err, Vec, ⊤}
 use Rattle.std.specs.Global.{Global}
+use Rattle.outside_log.specs.Files.{bytes_from}
 use Rattle.word_pages.specs.Pages.{page_size}
 use Rattle.database_file.specs.declared.batch.Batch.{Batch}
 use Rattle.database_file.specs.declared.pages.Pages.{Pages}
@@ -46,6 +47,14 @@ pub record AnswersEach (pages : Pages) (batch : Batch) (bytes : List ℕ)
       → AnswersOn pages (batch.first + number) all (slice_index_or read number (Err NoMemory))
   pub faultless : (number : ℕ) → number < batch.past - batch.first
       → slice_index_or read number (Err NoMemory) ≡ Err ReadFault → ⊥
+
+-- a batch of a file was read: these come of its pages, and what was read is what there is of it where all answers were faithful
+pub record HasReadBatch (pages : Pages) (batch : Batch) (told : Bool) (file : Option (List ℕ))
+    (read : List (Result (Vec ℕ Global) PagesStop)) : Type 0 where
+  pub bytes : List ℕ
+  pub few : length bytes ≤ batch_size pages batch
+  pub answers : AnswersEach pages batch bytes read
+  pub is_batch : IsTrue told → IsBatch pages batch bytes (bytes_from pages.at file)
 
 -- the first n pages have no flaw, and these are their words
 pub record AreRead (pages : Pages) (bytes : List ℕ) (n : ℕ) (list : List ℕ) : Type 0 where

@@ -1,5 +1,5 @@
 -- Words that are looked up in a file page by page.
-use Rattle.std.specs.Prelude.{◌≡◌, ℕ, ◌*◌, ◌+◌, ◌/◌, ◌%◌, ℤ, neg_ℤ, Bool, false, IsTrue, List, length, take, slice_index, Contains, Option, None, Some, Result, Ok, Err, Vec, ⊤}
+use Rattle.std.specs.Prelude.{◌≡◌, ◌<◌, ◌⊎◌, ℕ, ◌*◌, ◌+◌, ◌/◌, ◌%◌, ℤ, neg_ℤ, Bool, false, IsTrue, List, length, take, slice_index, slice_index_or, Contains, Option, None, Some, Result, Ok, Err, Vec, ⊤}
 use Rattle.std.specs.Global.{Global}
 use Rattle.std.specs.Option.{option_map}
 use Rattle.std.specs.Borrow.{GName}
@@ -24,7 +24,7 @@ use Rattle.base_head.specs.declared.header.Header.{Header}
 use Rattle.database_file.specs.declared.kept.Spot.{Spot}
 use Rattle.database_file.specs.declared.pages.Pages.{Pages}
 use Rattle.database_file.specs.declared.pages.PagesStop.{PagesStop}
-use Rattle.database_file.specs.declared.pages.PagesStop.TheVariants.{BadPage}
+use Rattle.database_file.specs.declared.pages.PagesStop.TheVariants.{BadPage, NoMemory}
 use Rattle.database_file.specs.Pages.{flaw_on, page_words, words_on}
 use Rattle.database_file.specs.Faults.{pages_behind}
 use Rattle.database_file.specs.PagedFiles.{PagedFile}
@@ -126,6 +126,13 @@ pub record IsPagedFile (header : Header) (head : FileHead) (digest : List ℕ) (
   pub indexed : index ≡ header.checkers
   pub right : ArePagesKept (pages_behind header digest) kept
 
+-- what is kept further was kept before, or it is the words that come of one of the pages from this one on
+abbrev pub KeepsRead : ℕ → List (Result (Vec ℕ Global) PagesStop) → Kept → Kept → Type 0
+KeepsRead first read old new = (page : ℕ × Vec ℕ Global) → Contains new page
+    → Contains old page
+    ⊎ ((number : ℕ) × (number < length read) × (page.0 ≡ first + number)
+    × (slice_index_or read number (Err NoMemory) ≡ Ok page.1))
+
 -- where the file is told, each page that is kept is one of its right pages
 abbrev pub AreOfFile : Pages → Bool → Option (List ℕ) → Kept → Type 0
 AreOfFile pages told file kept =
@@ -182,11 +189,14 @@ AnswersLook header file end p k (Err (looks.BadPage fault at)) =
     flaw_at header file p ≡ Some (record { fault = fault; at = at })
 AnswersLook header file end p k (Err _) = ⊤
 
--- What no look-up changes: the head, the file's name, how many pages are kept at most, what calls were made before the first look-up, and
--- which files are lent.
+-- What no look-up changes: of the base all but the pages that are kept, what calls were made before the first look-up, and which base and which
+-- files are lent.
 pub record PagedStays : Type 0 where
+  pub header : Header
   pub head : FileHead
+  pub digest : List ℕ
   pub name : List ℕ
   pub most : ℕ
   pub from : List Event
+  pub base : GName
   pub lent : GName

@@ -1,5 +1,5 @@
 ghost use Rattle.std.specs.Prelude.{◌≡◌, ◌≤◌, ◌<◌, ◌+◌, ◌-◌, ◌++◌, ◌*◌, ◌^◌, ℕ, List, IfErr, IfOk, IsTrue, Err, length};
-ghost use Rattle.hyper_outside.specs.Causes.{Rose};
+ghost use Rattle.hyper_outside.specs.Causes.{HasCause, Rose};
 ghost use Rattle.outside_log.specs.Log.{standing};
 ghost use Rattle.outside_log.specs.Readings.{ReadsOn, is_faithful, read_faults};
 ghost use Rattle.outside_log.specs.Files.{bytes_from};
@@ -7,9 +7,10 @@ ghost use Rattle.database_file.specs.declared.batch.Batch.{Batch as BatchOf};
 ghost use Rattle.database_file.specs.declared.pages.Pages.{Pages as PagesOf};
 ghost use Rattle.database_file.specs.declared.pages.PagesStop.TheVariants.{ReadFault, NoMemory};
 ghost use Rattle.database_file.specs.Pages.{ArePages, page_count, place_of, whole_page};
-ghost use Rattle.database_file.specs.Batches.{AddsBatch, AnswersEach, AnswersOn, AreOnPage, IsBatch, batch_size};
+ghost use Rattle.database_file.specs.Batches.{AddsBatch, AnswersEach, AnswersOn, AreOnPage, HasReadBatch, IsBatch, batch_size};
 
 use crate::pages::{Pages, PagesStop};
+use hyper_outside::Failed;
 use outside_log::{Files, fill};
 use std::alloc::Global;
 use std::mem;
@@ -143,8 +144,38 @@ fn add_words(read: &[Result<Vec<u64>, PagesStop>], words: &mut Vec<u64>) -> Resu
     Ok(())
 }
 
-/// Reads a batch of pages through a buffer, over as many reads as it takes, has them looked at by the
-/// workers, who leave their words in `read`, and adds these in order.
+/// Reads a batch of pages through a buffer, over as many reads as it takes, and has them looked at by
+/// the workers, who leave their words in `read`.
+pub(crate) fn read_batch<R: Threads + Sync, F: Files>(
+    team: &Team<R>,
+    alloc: Global,
+    files: &mut F,
+    name: &str,
+    pages: &Pages,
+    batch: Batch,
+    buf: &mut [u8],
+    read: &mut [Result<Vec<u64>, PagesStop>],
+) -> Result<(), Failed>
+    requires pages { ArePages pages.now }
+    requires some { batch.first < batch.past }
+    requires there { batch.past ≤ page_count pages.now }
+    requires bytes { (batch.past - batch.first) * whole_page pages.now ≤ length buf.old }
+    requires room { length read.old ≡ batch.past - batch.first }
+    ensures read { IfOk result (λ _. HasReadBatch pages.now batch (is_faithful (F.log files.new))
+        (standing (F.log files.old) name.now) read.new) }
+    ensures buf { length buf.new ≡ length buf.old }
+    ensures kept { length read.new ≡ length read.old }
+    ensures cause { HasCause (read_faults (F.log files.old))
+        (read_faults (F.log files.new)) result }
+    ensures reads { ReadsOn (F.log files.old) (F.log files.new) }
+{
+    let size = batch_size(pages, batch);
+    let count = fill(files, name, pages.place_of(batch.first), &mut buf[..size])?;
+    read_each(team, alloc, pages, batch, &buf[..count], read);
+    Ok(())
+}
+
+/// Reads a batch of pages and adds their words in order.
 pub(crate) fn add_batch<R: Threads + Sync, F: Files>(
     team: &Team<R>,
     alloc: Global,
@@ -174,9 +205,7 @@ pub(crate) fn add_batch<R: Threads + Sync, F: Files>(
         → Rose (read_faults (F.log files.old)) (read_faults (F.log files.new)) }
     ensures reads { ReadsOn (F.log files.old) (F.log files.new) }
 {
-    let size = batch_size(pages, batch);
-    let count = fill(files, name, pages.place_of(batch.first), &mut buf[..size])?;
     let read = &mut read[..batch.past - batch.first];
-    read_each(team, alloc, pages, batch, &buf[..count], read);
+    read_batch(team, alloc, files, name, pages, batch, buf, read)?;
     add_words(read, words)
 }

@@ -3,6 +3,7 @@
 
 mod batch;
 mod front;
+mod keeping;
 mod kept;
 mod laws;
 mod load;

@@ -18,7 +18,7 @@ use crate::stop::LoadStop;
 use base_head::{Head, Header, PAGE_POSITIONS};
 use cube_actions::StakesName;
 use directed_fixed::Fixed;
-use hyper_outside::NoMemory;
+use hyper_outside::{Gate, NoMemory};
 use interval_words::{LiveIndex, Words};
 use outside_log::Files;
 use std::alloc::Global;
@@ -102,15 +102,16 @@ fn base_of(alloc: Global, head: Head, list: Vec<u64>) -> Result<Base, NoMemory>
 
 /// Loads a file of bounds of the version `oldest` or a later one: it asks for the size, and then reads header,
 /// starts and pages in order, some pages together, which the workers check. What it answers is the same for
-/// each number of workers. `Missing` comes exactly where there is no file of this name, and `BadFile` exactly
+/// each number of workers and every gate. `Missing` comes exactly where there is no file of this name, and `BadFile` exactly
 /// where the bytes that were read aren't a file of bounds of such a version: it tells the first fault in the
 /// order of the format, and its place. `ReadFault` comes only where a call that reads failed. No file changes.
-pub fn load_base<R: Threads + Sync, F: Files>(
+pub fn load_base<R: Threads + Sync, F: Files, G: Gate>(
     team: &Team<R>,
     alloc: Global,
     files: &mut F,
     name: &str,
     oldest: Version,
+    gate: &G,
 ) -> Result<Base, LoadStop>
     ensures read { (file : Option Read) × AnswersFrom oldest file result }
     ensures told { IsTrue (is_faithful (F.log files.new))
@@ -126,7 +127,7 @@ pub fn load_base<R: Threads + Sync, F: Files>(
         digest,
     } = read_front(files, name, oldest)?;
     let pages = pages_behind(&header, digest);
-    let list = read_pages(team, alloc, files, name, &pages)?;
+    let list = read_pages(team, alloc, files, name, &pages, gate)?;
     let base = base_of(alloc, head, list)?;
     Ok(base)
 }

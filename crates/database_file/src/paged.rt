@@ -14,11 +14,12 @@ ghost use Rattle.database_file.specs.Pages.{page_count, words_on};
 ghost use Rattle.database_file.specs.Paged.{AnswersLook, IsPagedFile, IsSourceOfHead, KeepsPagesOf, page_of, source_of, spot_of, words_of_pages};
 
 use crate::front::Front;
+use crate::keeping::keep_all;
 use crate::kept::{Spot, word_on};
 use crate::load::pages_behind;
 use base_head::{Head, PAGE_POSITIONS};
 use directed_fixed::{End, Fixed};
-use hyper_outside::{LookStop, NoMemory};
+use hyper_outside::{Gate, LookStop, NoMemory};
 use interval_words::LiveIndex;
 use lru::LruCache;
 use outside_log::{Files, Log};
@@ -26,7 +27,9 @@ use position_rank::Position;
 use std::alloc::Global;
 use std::marker::Model;
 use std::num::NonZeroUsize;
+use std::thread::Threads;
 use turn_rule::Pairs;
+use worker_team::Team;
 
 /// A file of bounds that was opened: what stands before its pages, and the pages that were used last.
 #[derive(Drop)]
@@ -124,6 +127,25 @@ impl PagedBase {
         }
     }
 
+    /// Reads the pages in the order of the file, some of them together, which the workers check, and keeps those that are right: what is looked up
+    /// on these then needs no call. Nothing else changes by it. The gate is told how many such parts there are at most, and passed before each.
+    /// Where reading fails, or there is no memory, no more are kept.
+    pub fn keep_pages<R: Threads + Sync, F: Files, G: Gate>(
+        &mut self,
+        team: &Team<R>,
+        files: &mut F,
+        gate: &G,
+    )
+        requires of_file { KeepsPagesOf self.old (F.log files.old) }
+        ensures of_file { KeepsPagesOf self.new (F.log files.new) }
+        ensures kept { self.new ≡ record self.old { kept = self.new.kept } }
+        ensures reads { ReadsOn (F.log files.old) (F.log files.new) }
+    {
+        let pages = pages_behind(&self.front.header, self.front.digest);
+        let name = self.name.as_str();
+        let _ = keep_all(&mut self.kept, team, self.alloc, files, name, &pages, gate);
+    }
+
     /// Where the word of a state at an end stands.
     fn spot(&self, position: &Position, kind: usize, end: End) -> Spot
         requires { IsStateOf self.now.header.checkers self.now.header.kinds
@@ -212,10 +234,13 @@ impl<'a, F: Files> Pairs for PagedReader<'a, F> {
     ghost Stays = { PagedStays };
 
     ghost stays = { λ r. record {
+      header = r.base.now.header;
       head = r.base.now.head;
+      digest = r.base.now.digest;
       name = r.base.now.name;
       most = r.base.now.most;
       from = r.from.events;
+      base = r.base.ghost_name;
       lent = r.files.ghost_name;
     } };
 

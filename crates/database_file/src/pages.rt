@@ -9,7 +9,7 @@ ghost use Rattle.database_file.specs.Pages.{AddsPage, AnswersPages, ArePages, bi
 
 use crate::batch::{Batch, add_batch, make_room};
 use directed_fixed::Fixed;
-use hyper_outside::Failed;
+use hyper_outside::{Failed, Gate};
 use outside_log::Files;
 use std::alloc::{AllocError, AllocFailed, Global};
 use std::thread::Threads;
@@ -17,7 +17,7 @@ use word_pages::{Binding, Flaw, PageStop, Version, binding_of, load_page};
 use worker_team::Team;
 
 /// How many pages are read together: so many that the workers seldom wait for the slowest of them, which they do once for each batch.
-const BATCH_PAGES: usize = 256;
+pub(crate) const BATCH_PAGES: usize = 256;
 
 /// Pages of words that follow one another in a file.
 #[derive(Clone, Copy)]
@@ -98,6 +98,13 @@ impl Pages {
         (self.count + (self.size - 1)) / self.size
     }
 
+    /// How many batches the pages make at most, up to 65,536.
+    pub(crate) fn batch_count(&self) -> u32
+        requires { ArePages self.now }
+    {
+        (self.page_count() / BATCH_PAGES).min(65_535) as u32 + 1
+    }
+
     /// How many words the page with this number has.
     pub fn words_on(&self, page: usize) -> usize
         requires pages { ArePages self.now }
@@ -170,14 +177,15 @@ pub(crate) fn add_page<F: Files>(
 }
 
 /// Reads all pages in order, some of them together, which the workers check, and whose words they
-/// read, and answers the words of all. `BadPage` tells the first flaw of the pages, and is the same for each number of workers.
+/// read, and answers the words of all. The gate is told how many such parts there are at most, and passed before each. `BadPage` tells the first flaw of the pages, and is the same for each number of workers.
 /// `ReadFault` comes only where a call that reads failed.
-pub fn read_pages<R: Threads + Sync, F: Files>(
+pub fn read_pages<R: Threads + Sync, F: Files, G: Gate>(
     team: &Team<R>,
     alloc: Global,
     files: &mut F,
     name: &str,
     pages: &Pages,
+    gate: &G,
 ) -> Result<Vec<u64>, PagesStop>
     requires pages { ArePages pages.now }
     ensures read { (bytes : List ℕ) × AnswersPages pages.now bytes result }
@@ -190,12 +198,14 @@ pub fn read_pages<R: Threads + Sync, F: Files>(
     ensures reads { ReadsOn (F.log files.old) (F.log files.new) }
 {
     let count = pages.page_count();
+    gate.expect(1, pages.batch_count());
     let most = BATCH_PAGES.min(count);
     let mut buf = vec![in alloc; 0u8; most * pages.version.page_size(pages.size)]?;
     let mut read = make_room(alloc, most)?;
     let mut words = Vec::with_capacity(alloc, pages.count)?;
     let mut first = 0;
     'batches: while first < count {
+        gate.pass(0, first as u64);
         let past = (first + most).min(count);
         let batch = Batch { first, past };
         add_batch(

@@ -1,6 +1,7 @@
 /// Where a worker stops before each block.
 pub trait Gate {
-    /// So many rounds over so many blocks each are to come. A run that can tell says it once, before it comes to the first block.
+    /// So many rounds over so many blocks each are to come. A run that can tell says so before it comes to the first block, one of several
+    /// parts before the first of each.
     fn expect(&self, rounds: u32, blocks: u32);
 
     /// The worker of this number comes to the block of this number.

@@ -95,6 +95,7 @@ impl<'a, R: Clock + Eprint> Gate for ProgressGate<'a, R> {
         if self.shows {
             let now = milliseconds(self.rt).unwrap_or(0);
             self.began.store(now, Ordering::SeqCst);
+            self.passed.store(0, Ordering::SeqCst);
             self.blocks.store(blocks, Ordering::SeqCst);
             self.rounds.store(rounds, Ordering::SeqCst);
         }

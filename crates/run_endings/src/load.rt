@@ -11,7 +11,7 @@ ghost use Rattle.run_endings.specs.Pages.{AnswersOpening};
 use base_head::{BadFile, Head};
 use database_file::{Base, LoadStop, PagedBase, load_base, open_paged};
 use equity_report::{FileName, GameName, Refusal};
-use hyper_outside::LookStop;
+use hyper_outside::{Gate, LookStop};
 use outside_log::Files;
 use std::alloc::Global;
 use std::thread::Threads;
@@ -77,12 +77,13 @@ pub fn open_keeping<F: Files>(
 }
 
 /// Loads a file of bounds of the versions from `oldest` on, which the workers check, or says what refuses it.
-pub fn load_file<R: Threads + Sync, F: Files>(
+pub fn load_file<R: Threads + Sync, F: Files, G: Gate>(
     team: &Team<R>,
     alloc: Global,
     name: &str,
     files: &mut F,
     oldest: Version,
+    gate: &G,
 ) -> Result<Base, Refusal>
     requires { length name.now ≤ 272 }
     ensures told { OfFile (is_faithful (F.log files.new)) (standing (F.log files.old) name.now)
@@ -93,7 +94,7 @@ pub fn load_file<R: Threads + Sync, F: Files>(
         → Rose (read_faults (F.log files.old)) (read_faults (F.log files.new)) }
     ensures reads { ReadsOn (F.log files.old) (F.log files.new) }
 {
-    match load_base(team, alloc, files, name, oldest) {
+    match load_base(team, alloc, files, name, oldest, gate) {
         Ok(base) => Ok(base),
         Err(stop) => Err(stop_refusal(stop, name)),
     }

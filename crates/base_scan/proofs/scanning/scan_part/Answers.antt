@@ -6,13 +6,13 @@ use Rattle.base_scan.proofs.Scans.{first-rise, part-done, rows-more, rows-none}
 use Rattle.base_scan.proofs.scanning.scan_part.Goals as goal
 
 pub loop-row-init : goal.loop-row-init
-loop-row-init c = record {
+loop-row-init g c = record {
   found = c.new-found.ensures.items ∙ sym (rows-none c.args.words.now c.args.condition.now c.first_row-from.result);
   right = subst (All (IsFoundState c.args.words.now.game)) (sym c.new-found.ensures.items) (All-nil (IsFoundState c.args.words.now.game));
 }
 
 pub loop-row-preserved : goal.loop-row-preserved
-loop-row-preserved c = record {
+loop-row-preserved g c = record {
   found = c.in_ok-scan_row.ensures.found
       ∙ (ap (λ (xs : List State). xs ++ meeting_among c.args.words.now c.args.condition.now (states_of_row c.args.words.now.game c.loop-row.row)) c.loop-row.invariant.found
       ∙ sym (rows-more c.args.words.now c.args.condition.now c.first_row-from.result c.loop-row.row (omega arith)));
@@ -20,7 +20,7 @@ loop-row-preserved c = record {
 }
 
 pub returns : goal.returns
-returns c =
+returns g c =
     let from = c.first_row-from.result in
     let to = c.first_row-to.result in
     let some : 0 < c.args.parts = omega arith in

@@ -38,9 +38,12 @@ pub returns-clause-stays : goal.returns-clause-stays
 returns-clause-stays g c =
     let kept = c.look.ensures.kept in
     λ i. record {
+      header = (kept i).header;
       head = (kept i).head;
+      digest = (kept i).digest;
       name = (kept i).name;
       most = (kept i).most;
       from = c.args.self.now.from.events;
+      base = c.args.self.now.base.ghost_name;
       lent = c.args.self.now.files.ghost_name;
     }
