@@ -5,8 +5,9 @@ use Rattle.std.specs.Prelude.{⊤}
 use Rattle.roll_table.specs.Rolls.{Dice, IsRoll}
 use Rattle.hyper_outside.specs.declared.outside.LookStop.{LookStop}
 use Rattle.hyper_outside.specs.declared.outside.LookStop.TheVariants as looks
+use Rattle.hyper_outside.specs.declared.outside.PageFault.{PageFault}
 use Rattle.turn_rule.specs.Games.{IsGame, kinds_of}
-use Rattle.position_rank.specs.Placement.{Placement}
+use Rattle.position_rank.specs.Placement.{Placement, IsPosition, IsLive}
 use Rattle.cube_actions.specs.Stakes.{Terms}
 use Rattle.turn_rule.specs.Looks.{Damage, HasDamage, Looked, Meets, Notes, Source}
 use Rattle.turn_rule.proofs.MetFirst.{met-on_roll, met-on_turn}
@@ -25,25 +26,24 @@ use Rattle.database_file.specs.Texts.{game_in}
 use Rattle.base_commands.specs.declared.advise.AskedKind.{AskedKind}
 use Rattle.command_line.specs.declared.command.Advise.{Advise as AdviseTask}
 use Rattle.run_endings.specs.Loads.{look_refusal}
-use Rattle.command_line.specs.Right.{IsRightAdvise}
-use Rattle.base_commands.specs.Advises.{Advises, AnswersAdvice, AnswersRanking, IsStateIn, MeetsAdvising, Ranks, RefusesAdvice, RestsOn}
+use Rattle.base_commands.specs.Advises.{Advises, AnswersAdvice, AnswersRanking, IsBadFor, IsStateIn, MeetsAdvising, Ranks, RefusesAdvice, RestsOn}
 use Rattle.base_commands.specs.Games.{AnswersAsked}
 use Rattle.run_endings.specs.Pages.{AnswersSought, IsOnBadPage, OfHeld, TellsFirst}
 use Rattle.run_endings.proofs.Pages.{bad-page, noted_in, same-kinds, source_in}
 
 pub state-opened : (task : AdviseTask) (held : Option (List ℕ)) (base : PagedFile) (kind : AskedKind) → AnswersPaged (option_map whole held) (Ok base)
-    → IsRightAdvise task → IsHeader base.header → base.head.checkers ≡ base.header.checkers → base.head.name ≡ base.header.name
+    → IsPosition task.position → IsLive task.position → IsHeader base.header → base.head.checkers ≡ base.header.checkers → base.head.name ≡ base.header.name
     → AnswersAsked task.position task.kind base.head (Ok kind) → IsGame (game_in base.head) → kind.number < kinds_of (game_in base.head)
     → OfHeld held (λ bytes. IsStateIn task bytes base.head kind × (base.header ≡ header_of_file bytes))
-state-opened task None base kind a right valid many name asked game inside = absurd a
-state-opened task (Some bytes) base kind a right valid many name asked game inside = (
+state-opened task None base kind a position live valid many name asked game inside = absurd a
+state-opened task (Some bytes) base kind a position live valid many name asked game inside = (
   record {
     asked = record { front = a.right; head_is = a.head; checkers = asked.0; kind_is = asked.1 };
     valid = subst IsHeader a.header valid;
     game = game;
     checkers = sym (many ∙ ap (λ (h : Header). h.checkers) a.header);
     kinds = ap (λ (h : Header). h.kinds) (sym a.header) ∙ same-kinds base.header base.head valid name;
-    state = record { position = right.position; many = sym asked.0; live = right.live; kind = inside };
+    state = record { position = position; many = sym asked.0; live = live; kind = inside };
   },
   a.header,
 )
@@ -81,12 +81,11 @@ module _ (task : AdviseTask) (base : PagedFile) (kind : AskedKind) where
   cube-advised law (Some bytes) advice opened is =
       law bytes advice opened.0 (subst (λ (h : Header). IsCubeAdvice (stakes_of base.head) task.position kind.number (paged_source h (Some bytes)) (told_notes h (Some bytes)) advice) opened.1 is)
 
-  pub not-looked-up : (roll : Option Dice) → task.roll ≡ roll → (held : Option (List ℕ)) (stop : LookStop) → Opened held
-      → AnswersSought {A = Unit {0}} base.header held (MeetsAdvising roll (stakes_of base.head) task.position kind.number) (λ none. ⊤) (Err stop) → RefusesAdvice task (look_refusal stop) held
-  not-looked-up roll is held looks.ReadFault opened told = inl (inl tt)
-  not-looked-up roll is held looks.NoMemory opened told = inl (inl tt)
-  not-looked-up roll is None (looks.BadPage fault at) opened told = absurd opened
-  not-looked-up roll is (Some bytes) (looks.BadPage fault at) opened told =
+  -- the first damage that is met refuses the advice
+  pub bad-advice : (roll : Option Dice) → task.roll ≡ roll → (held : Option (List ℕ)) (fault : PageFault) (at : ℕ) → Opened held
+      → AnswersSought {A = Unit {0}} base.header held (MeetsAdvising roll (stakes_of base.head) task.position kind.number) (λ none. ⊤) (Err (looks.BadPage fault at)) → OfHeld held (λ bytes. IsBadFor task bytes (look_refusal (looks.BadPage fault at)))
+  bad-advice roll is None fault at opened told = absurd opened
+  bad-advice roll is (Some bytes) fault at opened told =
       let stakes = stakes_of base.head in
       let p = task.position in
       let k = kind.number in
@@ -95,4 +94,10 @@ module _ (task : AdviseTask) (base : PagedFile) (kind : AskedKind) where
       let met = subst (λ (h : Header). MeetsAdvising roll stakes p k (paged_source h (Some bytes)) damage) opened.1 told in
       let both = subst (λ (r : Option Dice). IsOnBadPage bytes (RestsOn r stakes p k) refusal × TellsFirst bytes (MeetsAdvising r stakes p k) refusal) (sym is)
       (bad-page bytes (RestsOn roll stakes p k) damage (met-advising (source_in bytes) damage roll stakes p k met), record { damage = damage; met = met; told = refl }) in
-      inr (record { head = base.head; kind = kind; asked = opened.0.asked; page = both.0; first = both.1 })
+      record { head = base.head; kind = kind; asked = opened.0.asked; page = both.0; first = both.1 }
+
+  pub not-looked-up : (roll : Option Dice) → task.roll ≡ roll → (held : Option (List ℕ)) (stop : LookStop) → Opened held
+      → AnswersSought {A = Unit {0}} base.header held (MeetsAdvising roll (stakes_of base.head) task.position kind.number) (λ none. ⊤) (Err stop) → RefusesAdvice task (look_refusal stop) held
+  not-looked-up roll is held looks.ReadFault opened told = inl (inl tt)
+  not-looked-up roll is held looks.NoMemory opened told = inl (inl tt)
+  not-looked-up roll is held (looks.BadPage fault at) opened told = inr (bad-advice roll is held fault at opened told)

@@ -1,10 +1,10 @@
 pub mod Fitting
 mod ListLines
-mod ListLaws
 mod LookedUp
 mod ShowLaws
 mod AdviseLaws
 mod AdviseFiles
+mod ListLaws
 mod Verified
 mod PlanLaws
 mod PlanFiles

@@ -20,7 +20,6 @@ use Rattle.command_line.specs.declared.command.Plan.{Plan}
 use Rattle.command_line.specs.declared.command.Reply.{Reply as ReplyTask}
 use Rattle.command_line.specs.declared.command.Scan.{Scan}
 use Rattle.command_line.specs.declared.command.Show.{Show as ShowTask}
-use Rattle.command_line.specs.declared.command.ShowList.{ShowList as ShowListTask}
 use Rattle.equity_report.specs.declared.refusal.Refusal.{Refusal}
 use Rattle.equity_report.specs.declared.refusal.Refusal.TheVariants.{Missing, Other, Read, Record, Memory}
 use Rattle.run_endings.specs.Beginnings.{RefusesBeginning}
@@ -30,10 +29,10 @@ use Rattle.base_commands.specs.Games.{IsKindAsked, WantsCheckers, WantsOther}
 use Rattle.base_commands.specs.Migrates.{MayRefuseMigrating}
 use Rattle.base_commands.specs.Plans.{MayRefusePlanning, RefusesPlanning, WantsFirst, first_file}
 use Rattle.base_commands.specs.Replies.{MayRefuseReplying, RefusesReplying}
-use Rattle.base_commands.specs.RightFiles.{IsRightForAdvising, IsRightForMigrating, IsRightForPlanning, IsRightForReplying, IsRightForScanning, IsRightForShowing, IsRightForShowingList, IsRightForVerifying, HasRightFront, IsRightList}
+use Rattle.base_commands.specs.RightFiles.{IsRightForAdvising, IsRightForMigrating, IsRightForPlanning, IsRightForReplying, IsRightForScanning, IsRightForListing, IsRightForShowing, IsRightForVerifying, HasRightFront, IsRightList}
 use Rattle.base_commands.specs.Scans.{MayRefuseScanning, RefusesScanning}
 use Rattle.base_commands.specs.Lists.{RefusesList}
-use Rattle.base_commands.specs.ShowLists.{RefusesShowList}
+use Rattle.base_commands.specs.ListAnswers.{RefusesListing}
 use Rattle.base_commands.specs.Shows.{RefusesShowing}
 use Rattle.run_endings.specs.Pages.{RefusesOpening}
 use Rattle.base_commands.specs.Verifies.{MayRefuseVerifying, RefusesVerifying}
@@ -60,9 +59,9 @@ right-opened : (name : List ℕ) (held : Option (List ℕ)) (refusal : Refusal) 
 right-opened name None refusal right refused = absurd right
 right-opened name (Some bytes) refusal right refused = right-opens name bytes right refusal refused
 
-pub right-shown-list : (task : ShowListTask) (held : Contents) (refusal : Refusal) → IsRightForShowingList task held → RefusesShowList task refusal held → IsOutside refusal
-right-shown-list task held refusal right (inl list) = right-list task.list (held task.list) refusal right.0 list
-right-shown-list task held refusal right (inr file) = right-opened task.file (held task.file) refusal right.1 file
+pub right-listed : (file list : List ℕ) (held : Contents) (refusal : Refusal) → IsRightForListing file list held → RefusesListing file list refusal held → IsOutside refusal
+right-listed file list held refusal right (inl refused) = right-list list (held list) refusal right.0 refused
+right-listed file list held refusal right (inr refused) = right-opened file (held file) refusal right.1 refused
 
 pub right-advised : (task : AdviseTask) (held : Option (List ℕ)) (refusal : Refusal) → IsRightForAdvising task held → MayRefuseAdvice task true held refusal → IsOutside refusal
 right-advised task None refusal can may = absurd can

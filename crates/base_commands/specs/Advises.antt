@@ -90,7 +90,7 @@ pub record HasRanked (task : AdviseTask) (roll : Dice) (told : Bool) (held : Opt
   pub kind : AskedKind
   pub ranking : Ranking
   pub file : IsTrue told → OfHeld held (λ bytes. Ranks task roll bytes head kind ranking)
-  pub report : IsReport (ranking_text task.position roll kind.name ranking)
+  pub report : IsReport (ranking_text task.board task.position roll kind.name ranking)
 
 -- the same of advice on the cube
 pub record HasAdvisedCube (task : AdviseTask) (told : Bool) (held : Option (List ℕ))
@@ -99,7 +99,7 @@ pub record HasAdvisedCube (task : AdviseTask) (told : Bool) (held : Option (List
   pub kind : AskedKind
   pub advice : CubeAdvice
   pub file : IsTrue told → OfHeld held (λ bytes. Advises task bytes head kind advice)
-  pub report : IsReport (cube_report task.take task.position kind.name advice)
+  pub report : IsReport (cube_report task.board task.take task.position kind.name advice)
 
 abbrev pub HasAdvisedOn : Option Dice → AdviseTask → Bool → Option (List ℕ) → (List ℕ → Type 0)
     → Type 0

@@ -1,8 +1,10 @@
 pub mod Games
 pub mod Shows
 pub mod Lists
-pub mod ShowLists
 pub mod Advises
+pub mod ShowLists
+pub mod AdviseLists
+pub mod ListAnswers
 pub mod Verifies
 pub mod Migrates
 pub mod Plans

@@ -19,7 +19,6 @@ use Rattle.command_line.specs.declared.command.Plan.{Plan}
 use Rattle.command_line.specs.declared.command.Reply.{Reply as ReplyTask}
 use Rattle.command_line.specs.declared.command.Scan.{Scan}
 use Rattle.command_line.specs.declared.command.Show.{Show as ShowTask}
-use Rattle.command_line.specs.declared.command.ShowList.{ShowList as ShowListTask}
 use Rattle.run_endings.specs.Pages.{AreOnRightPages, OfHeld}
 use Rattle.base_commands.specs.declared.advise.AskedKind.{AskedKind}
 use Rattle.base_commands.specs.Advises.{RestsOn}
@@ -55,8 +54,9 @@ IsRightList held = OfHeld held (λ list. length list ≤ 67108864)
 abbrev pub HasRightFront : Option (List ℕ) → Type 0
 HasRightFront held = OfHeld held (λ bytes. fault_before_pages (whole bytes) ≡ None)
 
-abbrev pub IsRightForShowingList : ShowListTask → Contents → Type 0
-IsRightForShowingList task held = IsRightList (held task.list) × HasRightFront (held task.file)
+-- the same of a file of this name, and a list is there under that one
+abbrev pub IsRightForListing : List ℕ → List ℕ → Contents → Type 0
+IsRightForListing file list held = IsRightList (held list) × HasRightFront (held file)
 
 -- the states on which the advice that is asked for rests
 abbrev pub AdviceRestsOn : AdviseTask → FileHead → States

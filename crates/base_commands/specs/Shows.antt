@@ -49,7 +49,8 @@ pub record HasShown (task : ShowTask) (told : Bool) (held : Option (List ℕ))
   pub head : FileHead
   pub rows : List KindRow
   pub file : IsTrue told → OfHeld held (λ bytes. ShowsPairs bytes task.position head rows)
-  pub report : IsReport (shown_text task.id task.position (game_told head) head.rounds rows)
+  pub report : IsReport (shown_text task.board task.id task.position (game_told head)
+      head.rounds rows)
 
 -- the position has the head's checkers, and this is wrong with its page
 pub record IsBadAt (bytes : List ℕ) (p : Placement) (refusal : Refusal) : Type 0 where

@@ -121,7 +121,7 @@ fn open_asked<F: Files>(alloc: Global, task: &Advise, files: &mut F) -> Result<O
 }
 
 /// The plays of a roll, from the best to the worst.
-fn ranking_of<F: Files>(
+pub(crate) fn ranking_of<F: Files>(
     base: &mut PagedBase,
     files: &mut F,
     position: &Position,
@@ -135,6 +135,9 @@ fn ranking_of<F: Files>(
         → AnswersRanking base.old.header (standing (F.log files.old) (base.old.name))
         (stakes_of base.old.head) position.now kind roll result }
     ensures plays { IfOk result (λ ranking. CanBePlayed position.now ranking.rows.items) }
+    ensures of_file { KeepsPagesOf base.new (F.log files.new) }
+    ensures kept { base.new ≡ record base.old { kept = base.new.kept } }
+    ensures later { read_faults (F.log files.old) ≤ read_faults (F.log files.new) }
     ensures reads { ReadsOn (F.log files.old) (F.log files.new) }
     ensures cause { result ≡ Err ReadFault
         → Rose (read_faults (F.log files.old)) (read_faults (F.log files.new)) }
@@ -238,7 +241,8 @@ pub fn run_advise<F: Files, O: Sink>(
     match task.roll {
         Some(roll) => {
             let found = find_ranking(alloc, task, roll, files)?;
-            match write_ranking(out, &task.position, roll, found.kind.name, &found.ranking) {
+            let kind = found.kind.name;
+            match write_ranking(out, task.board, &task.position, roll, kind, &found.ranking) {
                 Ok(()) => Ok(()),
                 Err(Failed) => Err(RunStop::NotWritten),
             }
@@ -246,7 +250,14 @@ pub fn run_advise<F: Files, O: Sink>(
         None => {
             let found = find_advice(alloc, task, files)?;
             let kind = found.kind.name;
-            match write_cube(out, task.take, &task.position, kind, &found.advice) {
+            match write_cube(
+                out,
+                task.board,
+                task.take,
+                &task.position,
+                kind,
+                &found.advice,
+            ) {
                 Ok(()) => Ok(()),
                 Err(Failed) => Err(RunStop::NotWritten),
             }

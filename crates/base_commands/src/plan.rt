@@ -15,7 +15,7 @@ use command_line::Plan;
 use cube_actions::{Phase, Score, StakesName, Starts};
 use database_file::Base;
 use equity_report::{Refusal, Wanted};
-use hyper_outside::Failed;
+use hyper_outside::{Failed, Gate};
 use match_plan::write_plan;
 use match_scores::start_pair;
 use outside_log::{Files, Sink};
@@ -54,11 +54,12 @@ fn is_of_first_game(head: &Head, match_length: u8) -> bool
 }
 
 /// What the file of a match's first game holds, or what refuses it.
-fn load_first<R: Threads + Sync, F: Files>(
+fn load_first<R: Threads + Sync, F: Files, G: Gate>(
     team: &Team<R>,
     alloc: Global,
     task: &Plan,
     files: &mut F,
+    gate: &G,
 ) -> Result<Base, Refusal>
     requires { IsRightPlan task.now }
     ensures told { AnswersFirst task.now (is_faithful (F.log files.new))
@@ -70,7 +71,7 @@ fn load_first<R: Threads + Sync, F: Files>(
 {
     let score = first_score(task.match_length);
     let name = score_file(task.prefix.as_str(), score);
-    let base = load_file(team, alloc, name.as_str(), files, Version::Three)?;
+    let base = load_file(team, alloc, name.as_str(), files, Version::Three, gate)?;
     if is_of_first_game(base.head(), task.match_length) {
         Ok(base)
     } else {
@@ -99,12 +100,13 @@ fn planned_starts(base: &Base, match_length: u8) -> Starts
 
 /// Loads the file of a match's first game and puts the plan of the match. It is refused by `Missing` or `File` where the file isn't there or isn't
 /// right, by `Base` where it is of another game, by `Read` where reading failed, and by `Memory`. `NotWritten` comes where putting failed.
-pub fn run_plan<R: Threads + Sync, F: Files, O: Sink>(
+pub fn run_plan<R: Threads + Sync, F: Files, O: Sink, G: Gate>(
     team: &Team<R>,
     alloc: Global,
     task: &Plan,
     files: &mut F,
     out: &mut O,
+    gate: &G,
 ) -> Result<(), RunStop>
     requires right { IsRightPlan task.now }
     requires team { team.now ≡ 1 }
@@ -118,7 +120,7 @@ pub fn run_plan<R: Threads + Sync, F: Files, O: Sink>(
 {
     plans_hold_inside_their_pairs();
     plans_of_solved_matches_hold_in_the_end();
-    let base = load_first(team, alloc, task, files)?;
+    let base = load_first(team, alloc, task, files, gate)?;
     let starts = planned_starts(&base, task.match_length);
     match write_plan(out, &starts) {
         Ok(()) => Ok(()),

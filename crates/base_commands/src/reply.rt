@@ -18,7 +18,7 @@ use command_line::Reply;
 use database_file::Base;
 use directed_fixed::Pair;
 use equity_report::Refusal;
-use hyper_outside::{Failed, NoMemory};
+use hyper_outside::{Failed, Gate, NoMemory};
 use interval_words::Words;
 use outside_log::{Files, Sink};
 use position_rank::Position;
@@ -47,11 +47,12 @@ pub struct FoundReply {
 }
 
 /// Loads the file of a task, and finds the kind of state that is asked for; or what refuses it.
-fn load_asked<R: Threads + Sync, F: Files>(
+fn load_asked<R: Threads + Sync, F: Files, G: Gate>(
     team: &Team<R>,
     alloc: Global,
     task: &Reply,
     files: &mut F,
+    gate: &G,
 ) -> Result<LoadedFile, Refusal>
     requires { IsRightReply task.now }
     ensures told { AnswersLoaded task.now (is_faithful (F.log files.new))
@@ -65,24 +66,27 @@ fn load_asked<R: Threads + Sync, F: Files>(
     ensures kinds { IfErr result IsOfShowing }
 {
     let name = task.file.as_str();
-    let base = load_file(team, alloc, name, files, Version::Three)?;
+    let base = load_file(team, alloc, name, files, Version::Three, gate)?;
     let kind = asked_kind(base.head(), &task.position, task.kind)?;
     Ok(LoadedFile { base, kind })
 }
 
 /// Both sides' pairs of a state after so many rounds, where one side makes the plays that the words advise, and the words' own.
-fn replies_after(
+fn replies_after<G: Gate>(
     alloc: Global,
     words: &Words,
     rounds: u32,
     position: &Position,
     kind: usize,
+    gate: &G,
 ) -> Result<FoundReply, NoMemory>
     requires { IsState words.now.game position.now kind }
     ensures { IfOk result (AreReplies words.now rounds position.now kind) }
 {
     let mut table = ReplyTable::new(alloc, words)?;
-    for _round in 0..rounds {
+    gate.expect(rounds, 1);
+    for round in 0..rounds {
+        gate.pass(0, u64::from(round));
         table.sweep_all();
     }
     Ok(FoundReply {
@@ -95,12 +99,13 @@ fn replies_after(
 /// Loads the file, sweeps both sides' pairs as often as is asked for and puts the report. It is refused by `Missing` or `File` where the file isn't
 /// there or isn't right, by `Base` where it is of another number of checkers or has no such kind, by `Read` where reading failed, and by `Memory`.
 /// `NotWritten` comes where putting failed.
-pub fn run_reply<R: Threads + Sync, F: Files, O: Sink>(
+pub fn run_reply<R: Threads + Sync, F: Files, O: Sink, G: Gate>(
     team: &Team<R>,
     alloc: Global,
     task: &Reply,
     files: &mut F,
     out: &mut O,
+    gate: &G,
 ) -> Result<(), RunStop>
     requires right { IsRightReply task.now }
     requires team { team.now ≡ 1 }
@@ -113,9 +118,16 @@ pub fn run_reply<R: Threads + Sync, F: Files, O: Sink>(
     ensures reads { ReadsOn (F.log files.old) (F.log files.new) }
 {
     replies_hold_for_any_words();
-    let LoadedFile { base, kind } = load_asked(team, alloc, task, files)?;
+    let LoadedFile { base, kind } = load_asked(team, alloc, task, files, gate)?;
     let position = &task.position;
-    let found = replies_after(alloc, base.words(), task.rounds, position, kind.number)?;
+    let found = replies_after(
+        alloc,
+        base.words(),
+        task.rounds,
+        position,
+        kind.number,
+        gate,
+    )?;
     match write_reply(
         out,
         position,

@@ -7,30 +7,29 @@ ghost use Rattle.command_line.specs.declared.command.Plan.{Plan as PlanTask};
 ghost use Rattle.command_line.specs.declared.command.Reply.{Reply as ReplyTask};
 ghost use Rattle.command_line.specs.declared.command.Scan.{Scan as ScanTask};
 ghost use Rattle.command_line.specs.declared.command.Show.{Show as ShowTask};
-ghost use Rattle.command_line.specs.declared.command.ShowList.{ShowList as ShowListTask};
 ghost use Rattle.equity_report.specs.declared.refusal.Refusal.{Refusal};
 ghost use Rattle.run_endings.specs.Endings.{IsOutside};
 ghost use Rattle.base_commands.specs.Advises.{MayRefuseAdvice};
+ghost use Rattle.base_commands.specs.ListAnswers.{RefusesListing};
 ghost use Rattle.base_commands.specs.Migrates.{MayRefuseMigrating};
 ghost use Rattle.base_commands.specs.Plans.{MayRefusePlanning};
 ghost use Rattle.base_commands.specs.Replies.{MayRefuseReplying};
-ghost use Rattle.base_commands.specs.RightFiles.{IsRightForAdvising, IsRightForMigrating, IsRightForPlanning, IsRightForReplying, IsRightForScanning, IsRightForShowing, IsRightForShowingList, IsRightForVerifying};
+ghost use Rattle.base_commands.specs.RightFiles.{IsRightForAdvising, IsRightForMigrating, IsRightForPlanning, IsRightForReplying, IsRightForScanning, IsRightForListing, IsRightForShowing, IsRightForVerifying};
 ghost use Rattle.base_commands.specs.Scans.{MayRefuseScanning};
-ghost use Rattle.base_commands.specs.ShowLists.{RefusesShowList};
 ghost use Rattle.base_commands.specs.Shows.{RefusesShowing};
 ghost use Rattle.base_commands.specs.Verifies.{MayRefuseVerifying};
 
 /// Where the file of a command is there and is right for what is asked of it, and all answers were faithful, the command is refused
 /// only where reading failed or there was no memory. Of `show` and `advise` that is a file of the position's checkers, and of the
-/// kind that is asked for, which is right up to its pages and on the pages on which the report rests; of `show` of a list, one that is right up
+/// kind that is asked for, which is right up to its pages and on the pages on which the report rests; where they are asked for a list, one that is right up
 /// to its pages, and the list is there and not too long. The others load a file, of
 /// which nothing is wrong: `verify` and `migrate` one whose words are consistent, `scan` one of any game, where the text is that of a
 /// condition, `reply` one of the position's checkers and the kind that is asked for, and `plan` one of the match's first game.
 pub fn right_files_are_not_refused()
     ensures show { (task : ShowTask) (held : Option (List ℕ)) (refusal : Refusal)
         → IsRightForShowing task held → RefusesShowing task refusal held → IsOutside refusal }
-    ensures show_list { (task : ShowListTask) (held : Contents) (refusal : Refusal)
-        → IsRightForShowingList task held → RefusesShowList task refusal held
+    ensures list { (file list : List ℕ) (held : Contents) (refusal : Refusal)
+        → IsRightForListing file list held → RefusesListing file list refusal held
         → IsOutside refusal }
     ensures advise { (task : AdviseTask) (held : Option (List ℕ)) (refusal : Refusal)
         → IsRightForAdvising task held → MayRefuseAdvice task true held refusal

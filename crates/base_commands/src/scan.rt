@@ -12,7 +12,7 @@ use base_reports::write_scan;
 use base_scan::{read_condition, scan};
 use command_line::Scan;
 use equity_report::Refusal;
-use hyper_outside::Failed;
+use hyper_outside::{Failed, Gate};
 use outside_log::{Files, Sink};
 use run_endings::{RunStop, load_file};
 use std::alloc::Global;
@@ -23,12 +23,13 @@ use worker_team::Team;
 /// Reads the condition, loads the file, searches its states by the task's workers and puts the report. It is refused by `Condition` where the text is
 /// that of none, for which the files are not asked, by `Missing` or `File` where the file isn't there or isn't right, by `Read` where reading
 /// failed, and by `Memory`. `NotWritten` comes where putting failed.
-pub fn run_scan<R: Threads + Sync, F: Files, O: Sink>(
+pub fn run_scan<R: Threads + Sync, F: Files, O: Sink, G: Gate + Sync>(
     team: &Team<R>,
     alloc: Global,
     task: &Scan,
     files: &mut F,
     out: &mut O,
+    gate: &G,
 ) -> Result<(), RunStop>
     requires right { IsRightScan task.now }
     requires team { team.now ≡ task.now.workers }
@@ -47,8 +48,8 @@ pub fn run_scan<R: Threads + Sync, F: Files, O: Sink>(
         Err(bad) => return Err(RunStop::Refused(Refusal::Condition { word: bad.word })),
     };
     let name = task.file.as_str();
-    let base = load_file(team, alloc, name, files, Version::Three)?;
-    let Ok(found) = scan(team, alloc, base.words(), &condition) else {
+    let base = load_file(team, alloc, name, files, Version::Three, gate)?;
+    let Ok(found) = scan(team, alloc, base.words(), &condition, gate) else {
         return Err(RunStop::Refused(Refusal::Memory));
     };
     match write_scan(out, base.words(), &found) {

@@ -142,7 +142,15 @@ pub fn run_show<F: Files, O: Sink>(
 {
     let shown = look_up(alloc, task, files)?;
     let rows = shown.rows.as_slice();
-    match write_shown(out, task.id, &task.position, shown.game, shown.rounds, rows) {
+    match write_shown(
+        out,
+        task.board,
+        task.id,
+        &task.position,
+        shown.game,
+        shown.rounds,
+        rows,
+    ) {
         Ok(()) => Ok(()),
         Err(Failed) => Err(RunStop::NotWritten),
     }

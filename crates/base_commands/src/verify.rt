@@ -84,7 +84,7 @@ pub(crate) fn load_verified<R: Threads + Sync, F: Files, G: Gate + Sync>(
         → Rose (read_faults (F.log files.old)) (read_faults (F.log files.new)) }
     ensures kinds { IfErr result IsOfVerifying }
 {
-    let base = load_file(team, alloc, name, files, oldest)?;
+    let base = load_file(team, alloc, name, files, oldest, gate)?;
     match check(team, alloc, &base, gate) {
         Ok(()) => Ok(base),
         Err(refusal) => Err(refusal),

@@ -2,6 +2,7 @@
 use Rattle.std.specs.Prelude.{ℕ, suc, ℤ, Bool, true, false, List, [], ◌∷◌, ◌++◌, codes, decimal, Option, Some, None}
 use Rattle.position_rank.specs.Placement.{Placement}
 use Rattle.position_rank.specs.Text.{position_text}
+use Rattle.position_board.specs.Boards.{board_told}
 use Rattle.roll_table.specs.Rolls.{Dice}
 use Rattle.roll_table.specs.Text.{roll_text}
 use Rattle.move_rules.specs.Notation.{play_text}
@@ -37,9 +38,9 @@ ranked_texts p number [] = []
 ranked_texts p number (row ∷ rows) = ranked_text p number row ++ ranked_texts p (suc number) rows
 
 -- the plays of a roll from the best to the worst, and what the best loses at most
-abbrev pub ranking_text : Placement → Dice → KindName → Ranking → List ℕ
-ranking_text p roll kind ranking =
-    line (codes "position") (position_text p)
+abbrev pub ranking_text : (board : Bool) → Placement → Dice → KindName → Ranking → List ℕ
+ranking_text board p roll kind ranking =
+    board_told board p ++ line (codes "position") (position_text p)
     ++ line (codes "roll") (roll_text roll ++ codes " kind " ++ kind_text kind)
     ++ ranked_texts p 1 ranking.rows.items
     ++ advised_text (codes "best") (codes "1") ranking.loss_bound
@@ -76,12 +77,14 @@ action_text (Some action) =
     ++ answer_advised (Some action)
 
 -- what to do with the cube before a roll
-abbrev pub cube_text : Placement → KindName → CubeAdvice → List ℕ
-cube_text p kind advice =
-    line (codes "position") (position_text p) ++ line (codes "kind") (kind_text kind)
+abbrev pub cube_text : (board : Bool) → Placement → KindName → CubeAdvice → List ℕ
+cube_text board p kind advice =
+    board_told board p ++ line (codes "position") (position_text p)
+    ++ line (codes "kind") (kind_text kind)
     ++ line (codes "no-double") (points_text advice.no_double) ++ action_text advice.action
 
 -- the same, for whoever asks whether to take with the answer before it
-abbrev pub cube_report : Bool → Placement → KindName → CubeAdvice → List ℕ
-cube_report true p kind advice = answer_advised advice.action ++ cube_text p kind advice
-cube_report false p kind advice = cube_text p kind advice
+abbrev pub cube_report : (board take : Bool) → Placement → KindName → CubeAdvice → List ℕ
+cube_report board true p kind advice =
+    answer_advised advice.action ++ cube_text board p kind advice
+cube_report board false p kind advice = cube_text board p kind advice

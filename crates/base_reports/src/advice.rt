@@ -16,6 +16,7 @@ use hyper_outside::Failed;
 use move_rules::print_play;
 use outside_log::Sink;
 use play_analyser::{CubeAction, CubeAdvice, PlayRow, Ranking};
+use position_board::board_told;
 use position_rank::Position;
 use roll_table::Roll;
 
@@ -71,10 +72,10 @@ fn ranked_line(position: &Position, number: u64, row: &PlayRow) -> Report
 fn add_ranked(report: &mut LongReport, position: &Position, rows: &[PlayRow])
     requires plays { All (λ row. CanFollow position.now row.entry.play.items) rows.now }
     requires many { length rows.now ≤ MOST_PLAYS }
-    requires room { length report.old.bytes ≤ 100 }
+    requires room { length report.old.bytes ≤ 650 }
     ensures bytes { report.new.bytes
         ≡ report.old.bytes ++ ranked_texts position.now 1 rows.now }
-    ensures length { length report.new.bytes ≤ 11500 }
+    ensures length { length report.new.bytes ≤ 12100 }
 {
     'rows: for i in 0..rows.len() {
         let line = ranked_line(position, i as u64 + 1, &rows[i]);
@@ -84,7 +85,7 @@ fn add_ranked(report: &mut LongReport, position: &Position, rows: &[PlayRow])
 
 /// The line of a roll and a kind.
 fn add_roll(report: &mut Report, roll: Roll, kind: KindName)
-    requires { length report.old.bytes ≤ 50 }
+    requires { length report.old.bytes ≤ 600 }
     ensures bytes { report.new.bytes
         ≡ report.old.bytes ++ line (codes "roll") (roll_text roll ++ codes " kind " ++ kind_text kind) }
     ensures length { length report.new.bytes ≤ length report.old.bytes + 30 }
@@ -96,11 +97,12 @@ fn add_roll(report: &mut Report, roll: Roll, kind: KindName)
     report.push_str("\n");
 }
 
-/// Puts the plays of a roll from the best to the worst: the position, the roll and the kind, for each play its number from 1 on, what the mover
+/// Puts the plays of a roll from the best to the worst: the position, with its board before it where that is asked for, the roll and the kind, for each play its number from 1 on, what the mover
 /// has after it at least and at most in points, and its moves, and then what the first loses at most, rounded up. `Failed` comes only where
 /// `put` failed; then a front of the text was put.
 pub fn write_ranking<O: Sink>(
     out: &mut O,
+    board: bool,
     position: &Position,
     roll: Roll,
     kind: KindName,
@@ -108,9 +110,10 @@ pub fn write_ranking<O: Sink>(
 ) -> Result<(), Failed>
     requires { All (λ row. CanFollow position.now row.entry.play.items) ranking.now.rows.items }
     ensures { Puts (O.output out.old) (O.output out.new)
-        (ranking_text position.now roll kind ranking.now) result }
+        (ranking_text board position.now roll kind ranking.now) result }
 {
     let mut head = Report::new();
+    head.push_str(board_told(board, position).as_str());
     add_position(&mut head, position);
     add_roll(&mut head, roll, kind);
     let mut report = LongReport::new();
@@ -144,7 +147,7 @@ fn answer_text(answer: Answer) -> &'static str
 }
 
 fn add_beaver(report: &mut Report, beaver: Option<Pair>)
-    requires { length report.old.bytes ≤ 1000 }
+    requires { length report.old.bytes ≤ 1500 }
     ensures bytes { report.new.bytes ≡ report.old.bytes ++ beaver_text beaver }
     ensures length { length report.new.bytes ≤ length report.old.bytes + 90 }
 {
@@ -154,7 +157,7 @@ fn add_beaver(report: &mut Report, beaver: Option<Pair>)
 }
 
 fn add_answer(report: &mut Report, action: Option<CubeAction>)
-    requires { length report.old.bytes ≤ 1000 }
+    requires { length report.old.bytes ≤ 1500 }
     ensures bytes { report.new.bytes ≡ report.old.bytes ++ answer_advised action }
     ensures length { length report.new.bytes ≤ length report.old.bytes + 80 }
 {
@@ -168,7 +171,7 @@ fn add_answer(report: &mut Report, action: Option<CubeAction>)
 }
 
 fn add_action(report: &mut Report, action: Option<CubeAction>)
-    requires { length report.old.bytes ≤ 500 }
+    requires { length report.old.bytes ≤ 900 }
     ensures bytes { report.new.bytes ≡ report.old.bytes ++ action_text action }
 {
     match action {
@@ -189,7 +192,7 @@ fn add_action(report: &mut Report, action: Option<CubeAction>)
 }
 
 pub(crate) fn add_kind(report: &mut Report, kind: KindName)
-    requires { length report.old.bytes ≤ 500 }
+    requires { length report.old.bytes ≤ 700 }
     ensures bytes { report.new.bytes ≡ report.old.bytes ++ line (codes "kind") (kind_text kind) }
     ensures length { length report.new.bytes ≤ length report.old.bytes + 22 }
 {
@@ -200,22 +203,24 @@ pub(crate) fn add_kind(report: &mut Report, kind: KindName)
 
 /// Puts what to do with the cube before a roll: the position and the kind, what rolling is worth and what each answer to a double leads to, in
 /// points, and the offer and the answer that are advised, each with what it loses at most, rounded up; or `no cube action` where this side may
-/// not double. Where the answer is asked for, it stands before all that. `Failed` comes only where `put` failed; then a front of the text was
+/// not double. Where the answer is asked for, it stands before all that, and then the board, where that is. `Failed` comes only where `put` failed; then a front of the text was
 /// put.
 pub fn write_cube<O: Sink>(
     out: &mut O,
+    board: bool,
     take: bool,
     position: &Position,
     kind: KindName,
     advice: &CubeAdvice,
 ) -> Result<(), Failed>
     ensures { Puts (O.output out.old) (O.output out.new)
-        (cube_report take position.now kind advice.now) result }
+        (cube_report board take position.now kind advice.now) result }
 {
     let mut report = Report::new();
     if take {
         add_answer(&mut report, advice.action);
     }
+    report.push_str(board_told(board, position).as_str());
     add_position(&mut report, position);
     add_kind(&mut report, kind);
     add_worth(&mut report, "no-double", advice.no_double);

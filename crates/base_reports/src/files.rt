@@ -10,6 +10,7 @@ use equity_report::{
 };
 use hyper_outside::Failed;
 use outside_log::Sink;
+use position_board::board_told;
 use position_id::id_told;
 use position_rank::Position;
 
@@ -76,7 +77,7 @@ fn add_row(report: &mut Report, row: &KindRow)
 
 fn add_rows(report: &mut Report, rows: &[KindRow])
     requires many { length rows.now ≤ 14 }
-    requires room { length report.old.bytes ≤ 200 }
+    requires room { length report.old.bytes ≤ 750 }
     ensures { report.new.bytes ≡ report.old.bytes ++ flat_map row_text rows.now }
 {
     'rows: for row in rows {
@@ -84,10 +85,11 @@ fn add_rows(report: &mut Report, rows: &[KindRow])
     }
 }
 
-/// Puts a position, its ID where that is asked for, and its pairs in a game after so many rounds, one for each of at most 14 kinds. `Failed`
-/// comes only where `put` failed; then a front of the text was put.
+/// Puts a position, its board and its ID where they are asked for, and its pairs in a game after so many rounds, one for each of at most 14
+/// kinds. `Failed` comes only where `put` failed; then a front of the text was put.
 pub fn write_shown<O: Sink>(
     out: &mut O,
+    board: bool,
     id: bool,
     position: &Position,
     game: GameName,
@@ -96,9 +98,10 @@ pub fn write_shown<O: Sink>(
 ) -> Result<(), Failed>
     requires { length rows.now ≤ 14 }
     ensures { Puts (O.output out.old) (O.output out.new)
-        (shown_text id position.now game rounds rows.now) result }
+        (shown_text board id position.now game rounds rows.now) result }
 {
     let mut report = Report::new();
+    report.push_str(board_told(board, position).as_str());
     add_position(&mut report, position);
     report.push_str(id_told(id, position).as_str());
     add_rounds(&mut report, game, rounds);

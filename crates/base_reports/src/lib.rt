@@ -9,6 +9,6 @@ mod scan;
 
 pub use advice::{write_cube, write_ranking};
 pub use files::{KindRow, write_migrated, write_shown, write_verified};
-pub use lists::{add_refused, add_shown};
+pub use lists::{add_best_play, add_refused, add_shown};
 pub use reply::write_reply;
 pub use scan::write_scan;

@@ -1,22 +1,38 @@
-ghost use Rattle.std.specs.Prelude.{◌≡◌, ◌≤◌, ◌++◌, ◌+◌, ◌*◌, OnOk, length};
+ghost use Rattle.std.specs.Prelude.{◌≡◌, ◌≤◌, ◌++◌, ◌+◌, ◌*◌, All, OnOk, length};
 ghost use Rattle.std.specs.List.{flat_map};
-ghost use Rattle.base_reports.specs.Lists.{next_field, refused_line, row_fields, shown_line};
+ghost use Rattle.move_rules.specs.Notation.{CanFollow};
+ghost use Rattle.base_reports.specs.Lists.{best_fields, next_field, pair_fields, best_play_line, refused_line, row_fields, shown_line};
 
 use crate::files::KindRow;
-use directed_fixed::{print_down, print_units, print_up};
+use cube_actions::KindName;
+use directed_fixed::{Pair, print_down, print_units, print_up};
 use equity_report::{Refusal, Report, add_refusal};
 use hyper_outside::NoMemory;
+use move_rules::print_play;
+use play_analyser::{PlayRow, Ranking};
 use position_rank::{Position, print_position};
+use roll_table::Roll;
 
 /// Adds a field behind a tab.
 fn add_field(line: &mut Report, text: &str)
-    requires text { length text.now ≤ 32 }
+    requires text { length text.now ≤ 48 }
     requires room { length line.old.bytes ≤ 3000 }
     ensures bytes { line.new.bytes ≡ line.old.bytes ++ next_field text.now }
-    ensures length { length line.new.bytes ≤ length line.old.bytes + 33 }
+    ensures length { length line.new.bytes ≤ length line.old.bytes + length text.now + 1 }
 {
     line.push_str("\t");
     line.push_str(text);
+}
+
+fn add_pair(line: &mut Report, pair: Pair)
+    requires { length line.old.bytes ≤ 2850 }
+    ensures bytes { line.new.bytes ≡ line.old.bytes ++ pair_fields pair }
+    ensures length { length line.new.bytes ≤ length line.old.bytes + 132 }
+{
+    add_field(line, print_down(pair.lower()).as_str());
+    add_field(line, print_up(pair.upper()).as_str());
+    add_field(line, print_units(pair.lower()).as_str());
+    add_field(line, print_units(pair.upper()).as_str());
 }
 
 fn add_row(line: &mut Report, row: &KindRow)
@@ -25,10 +41,7 @@ fn add_row(line: &mut Report, row: &KindRow)
     ensures length { length line.new.bytes ≤ length line.old.bytes + 165 }
 {
     add_field(line, row.kind.print().as_str());
-    add_field(line, print_down(row.pair.lower()).as_str());
-    add_field(line, print_up(row.pair.upper()).as_str());
-    add_field(line, print_units(row.pair.lower()).as_str());
-    add_field(line, print_units(row.pair.upper()).as_str());
+    add_pair(line, row.pair);
 }
 
 fn add_rows(line: &mut Report, rows: &[KindRow])
@@ -51,6 +64,43 @@ pub fn add_shown(text: &mut Vec<u8>, position: &Position, rows: &[KindRow]) -> R
     let mut line = Report::new();
     line.push_str(print_position(position).as_str());
     add_rows(&mut line, rows);
+    line.push_str("\n");
+    text.extend_from_slice(line.as_str().as_bytes())?;
+    Ok(())
+}
+
+/// Adds the first of some plays with its pair.
+fn add_best(line: &mut Report, position: &Position, rows: &[PlayRow])
+    requires plays { All (λ row. CanFollow position.now row.entry.play.items) rows.now }
+    requires room { length line.old.bytes ≤ 200 }
+    ensures bytes { line.new.bytes ≡ line.old.bytes ++ best_fields position.now rows.now }
+    ensures length { length line.new.bytes ≤ length line.old.bytes + 200 }
+{
+    if let Some(row) = rows.first() {
+        add_field(line, print_play(position, &row.entry.play).as_str());
+        add_pair(line, row.pair);
+    }
+}
+
+/// Adds the line of a position, a roll and a kind with the first of the roll's plays, its pair, and what it loses at most. It asks for memory,
+/// and may answer `NoMemory`.
+pub fn add_best_play(
+    text: &mut Vec<u8>,
+    position: &Position,
+    roll: Roll,
+    kind: KindName,
+    ranking: &Ranking,
+) -> Result<(), NoMemory>
+    requires { All (λ row. CanFollow position.now row.entry.play.items) ranking.now.rows.items }
+    ensures { OnOk result (text.new.items
+        ≡ text.old.items ++ best_play_line position.now roll kind ranking.now) }
+{
+    let mut line = Report::new();
+    line.push_str(print_position(position).as_str());
+    add_field(&mut line, roll.print().as_str());
+    add_field(&mut line, kind.print().as_str());
+    add_best(&mut line, position, ranking.rows.as_slice());
+    add_field(&mut line, print_up(ranking.loss_bound).as_str());
     line.push_str("\n");
     text.extend_from_slice(line.as_str().as_bytes())?;
     Ok(())

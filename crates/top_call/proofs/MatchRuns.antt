@@ -44,7 +44,7 @@ use Rattle.run_endings.specs.Scores.{score_file}
 use Rattle.solve_commands.specs.Ladders.{HasSolvedLadder, SolvedScore, AreScoresSolved, file_of, ladder_score, scores_in}
 use Rattle.record_commands.specs.Analyses.{HasAnalysed, JudgesBy}
 use Rattle.record_commands.specs.MatchAnalyses.{HasTrueFile, HoldsTruth, JudgesMatch}
-use Rattle.record_commands.specs.Records.{HoldsRecord}
+use Rattle.record_commands.specs.Records.{HoldsRecord, report_shown}
 use Rattle.game_record.specs.Turns.{is_match}
 use Rattle.record_commands.specs.declared.record.Replayed.{Replayed}
 use Rattle.top_call.specs.Headline.{HoldLadder, PrintsGoodAdvice, PrintsTrueMatch, PrintsTruePlan, ladder_file, ladder_head}
@@ -108,7 +108,7 @@ pub true-match : Law → ((n : ℕ) → 1 ≤ n → n ≤ 5 → (score : MatchSc
     → ((rec : Record) (told : List Decision) → IsRecord rec → IsReplay rec told → All (IsRightDecision rec) told)
     → (task : LadderTask) (analyse : Analyse) (held : Contents) (before after : List Event) (put_before put_after old new : Output) → IsRightLadder task → (solved : HasSolvedLadder task before after put_before put_after)
     → HoldLadder task solved.starts solved.scores.scores held → analyse.base ≡ task.prefix → (analysed : HasAnalysed analyse true held (λ text. IsPut old new text)) → analysed.analysed.replayed.rec.stakes ≡ Match task.match_length
-    → PrintsTrueMatch analysed.analysed.replayed.rec.checkers (λ text. IsPut old new text)
+    → PrintsTrueMatch analysed.analysed.replayed.rec.checkers (report_shown analyse.shown analysed.analysed.replayed.rec.stakes) (λ text. IsPut old new text)
 true-match law exact decisions_right task analyse held before after put_before put_after old new right solved holds named analysed stakes =
     let replayed = analysed.analysed.replayed in
     let (valid, replay) = read-right (held analyse.rec) replayed (analysed.analysed.record_file refl) in

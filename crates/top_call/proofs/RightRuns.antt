@@ -14,7 +14,7 @@ use Rattle.command_line.specs.declared.command.Advise.{Advise as AdviseTask}
 use Rattle.command_line.specs.declared.command.Analyse.{Analyse as AnalyseTask}
 use Rattle.command_line.specs.declared.command.Bound.{Bound as BoundTask}
 use Rattle.command_line.specs.declared.command.Command.{Command}
-use Rattle.command_line.specs.declared.command.Command.TheVariants.{Bound, Race, Solve, Show, ShowList, Migrate, Advise, Verify, Ladder, Analyse, Study, Make, Plan, Scan, Reply, Board}
+use Rattle.command_line.specs.declared.command.Command.TheVariants.{Bound, Race, Solve, Show, ShowList, Migrate, Advise, AdviseList, Verify, Ladder, Analyse, Study, Make, Plan, Scan, Reply, Board}
 use Rattle.command_line.specs.declared.command.Ladder.{Ladder as LadderTask}
 use Rattle.command_line.specs.declared.command.Migrate.{Migrate as MigrateTask}
 use Rattle.command_line.specs.declared.command.Plan.{Plan as PlanTask}
@@ -22,7 +22,6 @@ use Rattle.command_line.specs.declared.command.Race.{Race as RaceTask}
 use Rattle.command_line.specs.declared.command.Reply.{Reply as ReplyTask}
 use Rattle.command_line.specs.declared.command.Scan.{Scan as ScanTask}
 use Rattle.command_line.specs.declared.command.Show.{Show as ShowTask}
-use Rattle.command_line.specs.declared.command.ShowList.{ShowList as ShowListTask}
 use Rattle.command_line.specs.declared.command.Study.{Study as StudyTask}
 use Rattle.equity_report.specs.declared.refusal.Refusal.{Refusal}
 use Rattle.equity_report.specs.declared.refusal.Refusal.TheVariants.{Memory, Read}
@@ -32,9 +31,9 @@ use Rattle.base_commands.specs.Advises.{MayRefuseAdvice}
 use Rattle.base_commands.specs.Migrates.{MayRefuseMigrating}
 use Rattle.base_commands.specs.Plans.{MayRefusePlanning, first_file}
 use Rattle.base_commands.specs.Replies.{MayRefuseReplying}
-use Rattle.base_commands.specs.RightFiles.{IsRightForAdvising, IsRightForMigrating, IsRightForPlanning, IsRightForReplying, IsRightForScanning, IsRightForShowing, IsRightForShowingList, IsRightForVerifying}
+use Rattle.base_commands.specs.RightFiles.{IsRightForAdvising, IsRightForMigrating, IsRightForPlanning, IsRightForReplying, IsRightForScanning, IsRightForListing, IsRightForShowing, IsRightForVerifying}
 use Rattle.base_commands.specs.Scans.{MayRefuseScanning}
-use Rattle.base_commands.specs.ShowLists.{RefusesShowList}
+use Rattle.base_commands.specs.ListAnswers.{RefusesListing}
 use Rattle.base_commands.specs.Shows.{RefusesShowing}
 use Rattle.base_commands.specs.Verifies.{MayRefuseVerifying}
 use Rattle.base_commands.proofs.RightFiles.{right-begun}
@@ -51,7 +50,7 @@ use Rattle.top_call.specs.RightRuns.{AreAnswered, IsDoneUnlessHindered, IsRightF
 
 pub record FileLaws : Type 0 where
   pub show : (task : ShowTask) (held : Option (List ℕ)) (refusal : Refusal) → IsRightForShowing task held → RefusesShowing task refusal held → IsOutside refusal
-  pub show_list : (task : ShowListTask) (held : Contents) (refusal : Refusal) → IsRightForShowingList task held → RefusesShowList task refusal held → IsOutside refusal
+  pub list : (file list : List ℕ) (held : Contents) (refusal : Refusal) → IsRightForListing file list held → RefusesListing file list refusal held → IsOutside refusal
   pub advise : (task : AdviseTask) (held : Option (List ℕ)) (refusal : Refusal) → IsRightForAdvising task held → MayRefuseAdvice task true held refusal → IsOutside refusal
   pub verify : (oldest : Version) (name : List ℕ) (held : Option (List ℕ)) (refusal : Refusal) → IsRightForVerifying oldest held → MayRefuseVerifying oldest name true held refusal → IsOutside refusal
   pub migrate : (task : MigrateTask) (held : Contents) (refusal : Refusal) → IsRightForMigrating task held → MayRefuseMigrating task true held refusal → IsOutside refusal
@@ -93,9 +92,10 @@ module _ (files : FileLaws) (records : RecordLaws) (before after : List Event) (
   not-refused (Race task) right run = right-race task refusal right run.0
   not-refused (Solve task) right run = right-begun magic task.file (standing before task.file) refusal right (run.0 told)
   not-refused (Show task) right run = files.show task (standing before task.file) refusal right (run.0 told)
-  not-refused (ShowList task) right run = files.show_list task (standing before) refusal right (run.0 told)
+  not-refused (ShowList task) right run = files.list task.file task.list (standing before) refusal right (run.0 told)
   not-refused (Migrate task) right run = files.migrate task (standing before) refusal right (faithfully (λ told. MayRefuseMigrating task told (standing before) refusal) run.0)
   not-refused (Advise task) right run = files.advise task (standing before task.file) refusal right (faithfully (λ told. MayRefuseAdvice task told (standing before task.file) refusal) run.0)
+  not-refused (AdviseList task) right run = files.list task.file task.list (standing before) refusal right (run.0 told)
   not-refused (Verify task) right run = files.verify Three task.file (standing before task.file) refusal right (faithfully (λ told. MayRefuseVerifying Three task.file told (standing before task.file) refusal) run.0)
   not-refused (Ladder task) right (inl run) = no-memory refusal run.0
   not-refused (Ladder task) right (inr run) = right-ladder task (standing before) refusal right (faithfully (λ told. MayRefuseLadder task told (standing before) refusal) run.0)

@@ -43,7 +43,7 @@ use Rattle.database_file.proofs.Bases.{kinds-named}
 use Rattle.command_line.specs.declared.command.Advise.{Advise as AdviseTask}
 use Rattle.command_line.specs.declared.command.Analyse.{Analyse as AnalyseTask}
 use Rattle.command_line.specs.declared.command.Command.{Command}
-use Rattle.command_line.specs.declared.command.Command.TheVariants.{Show, ShowList, Migrate, Advise, Verify, Analyse, Study, Plan, Scan, Reply}
+use Rattle.command_line.specs.declared.command.Command.TheVariants.{Show, ShowList, Migrate, Advise, AdviseList, Verify, Analyse, Study, Plan, Scan, Reply}
 use Rattle.command_line.specs.declared.command.Ladder.{Ladder as LadderTask}
 use Rattle.command_line.specs.declared.command.Make.{Make as MakeTask}
 use Rattle.command_line.specs.declared.command.Show.{Show as ShowTask}
@@ -121,6 +121,7 @@ module _ (law : Law) (head : FileHead) (words : WordList) (bytes : List ℕ) (te
   right-for (Show task) fit held asks is = subst (λ (file : Option (List ℕ)). OfHeld file (CanLookUp (λ head. head.checkers ≡ sum task.position.mover) (λ head q k. q ≡ task.position))) (sym is) (show-file task fit asks)
   right-for (ShowList task) fit held asks is = (asks, subst HasRightFront (sym is) (held-front law head words bytes text))
   right-for (Advise task) fit held asks is = subst (λ (file : Option (List ℕ)). OfHeld file (CanLookUp (HasState task.position task.kind) (AdviceRestsOn task))) (sym is) (advise-file task fit asks)
+  right-for (AdviseList task) fit held asks is = (asks, subst HasRightFront (sym is) (held-front law head words bytes text))
   right-for (Verify task) fit held asks is = subst (λ (file : Option (List ℕ)). IsRightForVerifying Three file) (sym is) (held-load law head words bytes text HasConsistentWords consistent)
   right-for (Migrate task) fit held asks is = (subst (λ (file : Option (List ℕ)). IsRightForVerifying One file) (sym is) (held-load-any law head words bytes text HasConsistentWords consistent), asks)
   right-for (Plan task) fit held asks is = subst (λ (file : Option (List ℕ)). IsRightForPlanning task file) (sym is) (held-load law head words bytes text (λ base. IsOfFirstGame task.match_length base.head) asks)

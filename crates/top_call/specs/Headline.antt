@@ -9,7 +9,6 @@ use Rattle.play_analyser.specs.Advised.{ActionLosesAtMost, FirstLosesAtMost}
 use Rattle.base_head.specs.Heads.{FileHead}
 use Rattle.database_file.specs.Texts.{game_in}
 use Rattle.base_reports.specs.Advice.{cube_report, ranking_text}
-use Rattle.record_reports.specs.Analyses.{analysis_text}
 use Rattle.match_scores.specs.Ladders.{starts_till}
 use Rattle.record_analysis.specs.Truth.{IsTrueAnalysis}
 use Rattle.record_analysis.specs.declared.analysis.Judged.{Judged}
@@ -30,7 +29,7 @@ pub record PrintsGoodPlay (head : FileHead) (advise : AdviseTask) (roll : Dice)
   pub kind : AskedKind
   pub ranking : Ranking
   pub asked : IsKindAsked head advise.kind kind
-  pub printed : IsPrinted (ranking_text advise.position roll kind.name ranking)
+  pub printed : IsPrinted (ranking_text advise.board advise.position roll kind.name ranking)
   pub loses :
       InTheEnd (game_in head) (λ scoring turns.
       FirstLosesAtMost (game_in head) scoring turns advise.position kind.number roll
@@ -43,7 +42,7 @@ pub record PrintsGoodActions (head : FileHead) (advise : AdviseTask)
   pub kind : AskedKind
   pub advice : CubeAdvice
   pub asked : IsKindAsked head advise.kind kind
-  pub printed : IsPrinted (cube_report advise.take advise.position kind.name advice)
+  pub printed : IsPrinted (cube_report advise.board advise.take advise.position kind.name advice)
   pub loses :
       InTheEnd (game_in head) (λ scoring turns.
       ActionLosesAtMost (game_in head) scoring turns advise.position kind.number
@@ -59,17 +58,19 @@ PrintsGoodAdvice head advise = PrintsGoodFor advise.roll head advise
 
 -- ---- analyses
 
--- The losses of a recorded game's decisions were printed, and from some number of turns on each pair encloses what its decision loses exactly in the
--- game of the head, however its unfinished end is scored.
-pub record PrintsTrueLosses (head : FileHead) (IsPrinted : List ℕ → Type 0) : Type 0 where
+-- A report on the losses of a recorded game's decisions was printed, and from some number of turns on each pair encloses what its decision loses
+-- exactly in the game of the head, however its unfinished end is scored.
+pub record PrintsTrueLosses (head : FileHead) (report_on : List Judged → List ℕ)
+    (IsPrinted : List ℕ → Type 0) : Type 0 where
   pub list : List Judged
-  pub printed : IsPrinted (analysis_text list)
+  pub printed : IsPrinted (report_on list)
   pub true : IsTrueAnalysis (game_in head) list
 
 -- the same of a match of so many checkers a side, with the payoffs of the match, from one number of turns on for all its games
-pub record PrintsTrueMatch (checkers : ℕ) (IsPrinted : List ℕ → Type 0) : Type 0 where
+pub record PrintsTrueMatch (checkers : ℕ) (report_on : List Judged → List ℕ)
+    (IsPrinted : List ℕ → Type 0) : Type 0 where
   pub list : List Judged
-  pub printed : IsPrinted (analysis_text list)
+  pub printed : IsPrinted (report_on list)
   pub true : IsTrueMatch checkers list
 
 -- The take points and gammon prices of a match were printed, and from some number of turns on they enclose those of the match itself.

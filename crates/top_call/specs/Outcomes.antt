@@ -7,7 +7,7 @@ use Rattle.outside_log.specs.Readings.{ReadsOn, is_faithful, read_faults}
 use Rattle.outside_log.specs.Sink.{Output}
 use Rattle.word_forms.specs.Clap.{bytes_of}
 use Rattle.command_line.specs.declared.command.Command.{Command}
-use Rattle.command_line.specs.declared.command.Command.TheVariants.{Bound, Race, Solve, Show, ShowList, Migrate, Advise, Verify, Ladder, Analyse, Study, Make, Plan, Scan, Reply, Board}
+use Rattle.command_line.specs.declared.command.Command.TheVariants.{Bound, Race, Solve, Show, ShowList, Migrate, Advise, AdviseList, Verify, Ladder, Analyse, Study, Make, Plan, Scan, Reply, Board}
 use Rattle.command_line.specs.declared.stop.WordsFault.{WordsFault}
 use Rattle.command_line.specs.declared.stop.WordsStop.{WordsStop}
 use Rattle.command_line.specs.declared.stop.WordsStop.TheVariants.{Bad, NoMemory}
@@ -23,7 +23,9 @@ use Rattle.base_commands.specs.Migrates.{Migrates}
 use Rattle.base_commands.specs.Plans.{TellsPlan, first_file}
 use Rattle.base_commands.specs.Replies.{TellsReply}
 use Rattle.base_commands.specs.Scans.{TellsScan}
-use Rattle.base_commands.specs.ShowLists.{TellsShownList}
+use Rattle.base_commands.specs.AdviseLists.{AdvisesLine}
+use Rattle.base_commands.specs.ListAnswers.{TellsListed}
+use Rattle.base_commands.specs.ShowLists.{ShowsLine}
 use Rattle.base_commands.specs.Shows.{TellsShown}
 use Rattle.base_commands.specs.Verifies.{TellsVerified}
 use Rattle.solve_commands.specs.Ladders.{SolvesLadder}
@@ -57,6 +59,7 @@ Ends (Show task) ending = EndsBy IsOfShowing ending
 Ends (ShowList task) ending = EndsBy IsOfListing ending
 Ends (Migrate task) ending = EndsBy IsOfMigrating ending
 Ends (Advise task) ending = EndsBy IsOfShowing ending
+Ends (AdviseList task) ending = EndsBy IsOfListing ending
 Ends (Verify task) ending = EndsBy IsOfVerifying ending
 Ends (Ladder task) ending = EndsBy IsOfWriting ending
 Ends (Analyse task) ending = EndsBy IsOfAnalysing ending
@@ -79,11 +82,14 @@ HasRun (Solve task) before after old new ending =
 HasRun (Show task) before after old new ending =
     TellsShown task (is_faithful after) (standing before task.file) old new ending
 HasRun (ShowList task) before after old new ending =
-    TellsShownList task (is_faithful after) (standing before) old new ending
+    TellsListed task.file task.list ShowsLine (is_faithful after) (standing before) old new ending
 HasRun (Migrate task) before after old new ending =
     Migrates task (is_faithful after) (standing before) before after old new ending
 HasRun (Advise task) before after old new ending =
     TellsAdvice task (is_faithful after) (standing before task.file) old new ending
+HasRun (AdviseList task) before after old new ending =
+    TellsListed task.file task.list (AdvisesLine task.file task.kind)
+    (is_faithful after) (standing before) old new ending
 HasRun (Verify task) before after old new ending =
     TellsVerified task (is_faithful after) (standing before task.file) old new ending
 HasRun (Ladder task) before after old new ending =
@@ -164,6 +170,7 @@ LeavesAllFiles (Err fault) ending = ⊤
 -- whether a command goes through a list
 abbrev pub is_list : Command → Bool
 is_list (ShowList task) = true
+is_list (AdviseList task) = true
 is_list _ = false
 
 abbrev pub asks_list : Result Command WordsFault → Bool

@@ -11,10 +11,10 @@ use Rattle.record_commands.specs.Makes.{title_line}
 use Rattle.word_pages.specs.declared.version.Version.TheVariants.{Three}
 use Rattle.base_head.specs.Headers.{magic}
 use Rattle.command_line.specs.declared.command.Command.{Command}
-use Rattle.command_line.specs.declared.command.Command.TheVariants.{Bound, Race, Solve, Show, ShowList, Migrate, Advise, Verify, Ladder, Analyse, Study, Make, Plan, Scan, Reply, Board}
+use Rattle.command_line.specs.declared.command.Command.TheVariants.{Bound, Race, Solve, Show, ShowList, Migrate, Advise, AdviseList, Verify, Ladder, Analyse, Study, Make, Plan, Scan, Reply, Board}
 use Rattle.command_line.specs.declared.command.Ladder.{Ladder as LadderTask}
 use Rattle.base_commands.specs.Plans.{first_file}
-use Rattle.base_commands.specs.RightFiles.{IsRightForAdvising, IsRightForMigrating, IsRightForPlanning, IsRightForReplying, IsRightForScanning, IsRightForShowing, IsRightForShowingList, IsRightForVerifying}
+use Rattle.base_commands.specs.RightFiles.{IsRightForAdvising, IsRightForMigrating, IsRightForPlanning, IsRightForReplying, IsRightForScanning, IsRightForListing, IsRightForShowing, IsRightForVerifying}
 use Rattle.solve_commands.specs.Ladders.{file_of, scores_in}
 use Rattle.record_commands.specs.RightRecords.{IsRightForAnalysing, IsRightForStudying}
 
@@ -35,9 +35,10 @@ IsRightFor (Bound task) held = sum task.position.mover ≡ task.checkers
 IsRightFor (Race task) held = IsRaceOf task.checkers task.position
 IsRightFor (Solve task) held = MayBeReplaced magic held task.file
 IsRightFor (Show task) held = IsRightForShowing task (held task.file)
-IsRightFor (ShowList task) held = IsRightForShowingList task held
+IsRightFor (ShowList task) held = IsRightForListing task.file task.list held
 IsRightFor (Migrate task) held = IsRightForMigrating task held
 IsRightFor (Advise task) held = IsRightForAdvising task (held task.file)
+IsRightFor (AdviseList task) held = IsRightForListing task.file task.list held
 IsRightFor (Verify task) held = IsRightForVerifying Three (held task.file)
 IsRightFor (Ladder task) held = IsRightForLadder task held
 IsRightFor (Analyse task) held = IsRightForAnalysing task held

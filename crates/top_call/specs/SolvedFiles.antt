@@ -4,7 +4,7 @@ use Rattle.outside_log.specs.Files.{Contents}
 use Rattle.base_head.specs.Heads.{FileHead}
 use Rattle.base_head.specs.Headers.{magic}
 use Rattle.command_line.specs.declared.command.Command.{Command}
-use Rattle.command_line.specs.declared.command.Command.TheVariants.{Show, ShowList, Migrate, Advise, Verify, Plan, Scan, Reply}
+use Rattle.command_line.specs.declared.command.Command.TheVariants.{Show, ShowList, Migrate, Advise, AdviseList, Verify, Plan, Scan, Reply}
 use Rattle.base_commands.specs.Games.{HasState}
 use Rattle.base_commands.specs.RightFiles.{IsRightList}
 use Rattle.base_commands.specs.Plans.{IsOfFirstGame, first_file}
@@ -16,6 +16,7 @@ abbrev pub file_read : Command → List ℕ
 file_read (Show task) = task.file
 file_read (ShowList task) = task.file
 file_read (Advise task) = task.file
+file_read (AdviseList task) = task.file
 file_read (Verify task) = task.file
 file_read (Migrate task) = task.old
 file_read (Plan task) = first_file task
@@ -30,6 +31,7 @@ abbrev pub AsksOf : FileHead → Contents → Command → Type 0
 AsksOf head held (Show task) = head.checkers ≡ sum task.position.mover
 AsksOf head held (ShowList task) = IsRightList (held task.list)
 AsksOf head held (Advise task) = HasState task.position task.kind head
+AsksOf head held (AdviseList task) = IsRightList (held task.list)
 AsksOf head held (Verify task) = ⊤
 AsksOf head held (Migrate task) = MayBeReplaced magic held task.new
 AsksOf head held (Plan task) = IsOfFirstGame task.match_length head

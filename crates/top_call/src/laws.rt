@@ -20,7 +20,7 @@ ghost use Rattle.run_endings.specs.Pages.{OfHeld};
 ghost use Rattle.command_line.specs.declared.command.Make.{Make};
 ghost use Rattle.command_line.specs.declared.command.Study.{Study};
 ghost use Rattle.record_commands.specs.Makes.{HasMade};
-ghost use Rattle.record_commands.specs.Records.{HoldsRecord, game_recorded};
+ghost use Rattle.record_commands.specs.Records.{HoldsRecord, game_recorded, report_shown};
 ghost use Rattle.record_commands.specs.declared.record.Replayed.{Replayed};
 ghost use Rattle.solve_commands.specs.Solves.{HasSolved, head_of};
 ghost use Rattle.base_commands.specs.Advises.{HasAdvised};
@@ -76,7 +76,9 @@ pub fn analyses_by_a_solved_file_are_true()
         → held analyse.base ≡ standing after solve.file
         → (analysed : HasAnalysed analyse true held (λ text. IsPut old new text))
         → is_match analysed.analysed.replayed.rec.stakes ≡ false
-        → PrintsTrueLosses (head_of solve solved.words.rounds) (λ text. IsPut old new text) }
+        → PrintsTrueLosses (head_of solve solved.words.rounds)
+        (report_shown analyse.shown analysed.analysed.replayed.rec.stakes)
+        (λ text. IsPut old new text) }
 {
     texts_are_read_back();
 }
@@ -92,7 +94,9 @@ pub fn analyses_by_a_solved_match_are_true()
         → analyse.base ≡ ladder.prefix
         → (analysed : HasAnalysed analyse true held (λ text. IsPut old new text))
         → analysed.analysed.replayed.rec.stakes ≡ Match ladder.match_length
-        → PrintsTrueMatch analysed.analysed.replayed.rec.checkers (λ text. IsPut old new text) }
+        → PrintsTrueMatch analysed.analysed.replayed.rec.checkers
+        (report_shown analyse.shown analysed.analysed.replayed.rec.stakes)
+        (λ text. IsPut old new text) }
 {
     texts_are_read_back();
     ladders_are_exact();

@@ -11,8 +11,8 @@ ghost use Rattle.top_call.specs.Outcomes.{Ends, HasRun, KeepsFiles, LeavesAllFil
 
 use crate::board::run_board;
 use base_commands::{
-    run_advise, run_migrate, run_plan, run_reply, run_scan, run_show, run_show_list, run_verify,
-    words_refusal,
+    run_advise, run_advise_list, run_migrate, run_plan, run_reply, run_scan, run_show,
+    run_show_list, run_verify, words_refusal,
 };
 use command_line::{Command, WordsStop, read_words};
 use equity_report::Refusal;
@@ -68,12 +68,19 @@ fn perform<R: Threads + Sync, F: Files, O: Sink, N: Sink, G: Gate + Sync>(
             run_solve(&team, alloc, &task, files, out, gate)
         }
         Command::Show(task) => run_show(alloc, &task, files, out),
-        Command::ShowList(task) => run_show_list(alloc, &task, files, out, notes),
+        Command::ShowList(task) => {
+            let team = Team::new(rt, task.workers);
+            run_show_list(&team, alloc, &task, files, out, notes, gate)
+        }
         Command::Migrate(task) => {
             let team = Team::new(rt, task.workers);
             run_migrate(&team, alloc, &task, files, out, gate)
         }
         Command::Advise(task) => run_advise(alloc, &task, files, out),
+        Command::AdviseList(task) => {
+            let team = Team::new(rt, task.workers);
+            run_advise_list(&team, alloc, &task, files, out, notes, gate)
+        }
         Command::Verify(task) => {
             let team = Team::new(rt, task.workers);
             run_verify(&team, alloc, &task, files, out, gate)
@@ -88,12 +95,12 @@ fn perform<R: Threads + Sync, F: Files, O: Sink, N: Sink, G: Gate + Sync>(
         }
         Command::Make(task) => run_make(&Team::new(rt, 1), alloc, &task, files, out, gate),
         Command::Analyse(task) => run_analyse(alloc, &task, files, out),
-        Command::Plan(task) => run_plan(&Team::new(rt, 1), alloc, &task, files, out),
+        Command::Plan(task) => run_plan(&Team::new(rt, 1), alloc, &task, files, out, gate),
         Command::Scan(task) => {
             let team = Team::new(rt, task.workers);
-            run_scan(&team, alloc, &task, files, out)
+            run_scan(&team, alloc, &task, files, out, gate)
         }
-        Command::Reply(task) => run_reply(&Team::new(rt, 1), alloc, &task, files, out),
+        Command::Reply(task) => run_reply(&Team::new(rt, 1), alloc, &task, files, out, gate),
         Command::Board(task) => run_board(&task, out),
     }
 }
@@ -115,7 +122,8 @@ fn conclude<O: Sink, N: Sink>(
 
 /// Runs the program on the words after its name, over these files, this output, these notes and this gate, and answers its status.
 ///
-/// At status 0 the report was put.
+/// At status 0 the report was put. Where it is asked for, those of `bound`, `race`, `show` and `advise` have the position's board before its
+/// line.
 ///
 /// - `bound`: of a pair that encloses what the position is worth exactly in every game of at least as many turns as there were
 ///   rounds, however its unfinished end is scored.
@@ -133,15 +141,19 @@ fn conclude<O: Sink, N: Sink>(
 /// - `plan`: of the take points and gammon prices of a match, from the start pairs of the file of its first game and that of its words.
 ///   Each encloses those of all exact starts inside these pairs; and where the file is the last one of a match that was solved, those of
 ///   the match itself, from one number of turns on for all of them.
-/// - `show`: of the position's pairs in the file, whose header and page are right.
+/// - `show`: of the position's pairs in the file, whose header and page are right. Where a match score is asked for, the file is that of
+///   the score, and so of `advise`, with the kind that the place of the cube tells.
 /// - `show` with `--positions`: for each line of a list, in their order, what `show` of its position alone says by the same file, whose header
-///   is right: the position's pairs, or behind a `!` the refusal of the line's text, of the position or of its page.
+///   is right: the position's pairs, or behind a `!` the refusal of the line's text, of the position or of its page. Of a long list, and of
+///   one of `advise`, the workers check the file's pages beforehand, which changes no line.
 /// - `migrate`: the new file, of version 3, holds the old one's head and words. The old one is of any version, and its words are
 ///   consistent as those of `verify` are.
 /// - `advise`: of the plays of a roll, or of what to do with the cube, by the pairs of the file, whose header and pages are right as
 ///   far as the advice rests on them. Where the file's pairs enclose what their states are worth exactly in every game of enough
 ///   turns, the best play, the offer and the answer lose, in every game of enough turns, at most the bound that is told with each.
 ///   With `--take` the advice is on the cube in the position with the sides exchanged, and its answer stands first.
+/// - `advise` with `--rolls`: for each line of a list, a position and a roll, in their order, what `advise` of them alone says by the same file,
+///   whose header is right: the best play, or behind a `!` the refusal of the line's text, of the position, the kind or a page.
 /// - `verify`: of a file whose words are consistent. Whoever made it, they enclose every state in games of any number of turns, and
 ///   what a choice loses over them encloses what it loses exactly.
 /// - `scan`: of the states of the file's words that meet the condition, all of them and no others, by rising live rank and then by
@@ -154,7 +166,8 @@ fn conclude<O: Sink, N: Sink>(
 ///   the file of its score, whose header and pages are right as far as the losses rest on them, and of both players' totals. Where
 ///   the files' pairs enclose what their states are worth exactly in every game of enough turns, and in a match the start pairs in
 ///   their heads the exact starts, each loss encloses what its decision loses exactly, from one number of turns on for all of them,
-///   in a match for all its games.
+///   in a match for all its games. Where it is asked for, here and of `study`, all decisions have their positions, or only so many are
+///   told as are asked for, with theirs: those that lost most at most, the worst first.
 /// - `study`: of the same losses by pairs that are solved for the record, in a match at each of its scores, at least as tight as
 ///   after the asked rounds, in a match from plain starts. Each encloses what its decision loses exactly, from one number of turns
 ///   on, with nothing asked of a file.

@@ -3,7 +3,7 @@ use Rattle.best_reply.specs.Sides.{AreReplyRounds}
 use Rattle.base_commands.proofs.reply.replies_after.Given as goal
 
 abbrev pub invariant-loop-round : goal.invariant-loop-round
-invariant-loop-round l = record {
+invariant-loop-round g l = record {
   words : l.table.words ≡ l.words;
-  rounds : AreReplyRounds l.table l._round;
+  rounds : AreReplyRounds l.table l.round;
 }

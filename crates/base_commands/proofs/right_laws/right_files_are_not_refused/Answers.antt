@@ -1,11 +1,11 @@
-use Rattle.base_commands.proofs.RightFiles.{right-advised, right-migrated, right-planned, right-replied, right-searched, right-shown, right-shown-list, right-verified}
+use Rattle.base_commands.proofs.RightFiles.{right-advised, right-migrated, right-planned, right-replied, right-searched, right-shown, right-listed, right-verified}
 use Rattle.base_commands.proofs.right_laws.right_files_are_not_refused.Goals as goal
 
 pub returns-clause-show : goal.returns-clause-show
 returns-clause-show c = right-shown
 
-pub returns-clause-show_list : goal.returns-clause-show_list
-returns-clause-show_list c = right-shown-list
+pub returns-clause-list : goal.returns-clause-list
+returns-clause-list c = right-listed
 
 pub returns-clause-advise : goal.returns-clause-advise
 returns-clause-advise c = right-advised

@@ -1,14 +1,4 @@
-use Rattle.outside_log.specs.Log.{standing}
-use Rattle.run_endings.specs.Endings.{IsPut, WasCut}
-use Rattle.base_commands.proofs.ListLaws.{list-put}
 use Rattle.base_commands.proofs.show_list.run_show_list.Goals as goal
 
-pub returns-in-Ok-clause-tells : goal.returns-in-Ok-clause-tells
-returns-in-Ok-clause-tells g c =
-    list-put c.args.task.now _ (standing (g.F.Files.log c.args.files.now)) c.in_ok-report.report.items (IsPut (g.O.Sink.output c.args.out.now) (g.O.Sink.output c.put.new.self)) c.in_ok-report.ensures.told
-    (rw (c.as_slice.ensures.value) at c.in-Ok.ensures)
-
 pub returns-clause-tells : goal.returns-clause-tells
-returns-clause-tells g c =
-    list-put c.args.task.now _ (standing (g.F.Files.log c.args.files.now)) c.in_ok-report.report.items (WasCut (g.O.Sink.output c.args.out.now) (g.O.Sink.output c.put.new.self)) c.in_ok-report.ensures.told
-    (_, rw (c.as_slice.ensures.value) at c.in-Err.ensures)
+returns-clause-tells g c = rw (c.as_str-file.ensures, c.as_str-list.ensures) at c.run_list.ensures.tells
