@@ -259,7 +259,7 @@ class Reader:
         if answer.status != due and not example.status_told:
             yield f"it ends with {answer.status}, and {due} is due"
         # A list gets a note that counts its wrong lines.
-        is_noted = answer.status or any(word.partition("=")[0] == "--positions" for word in words)
+        is_noted = answer.status or any(word.partition("=")[0] in ("--positions", "--rolls") for word in words)
         if not has_note(is_noted, answer.told):
             yield f"standard error: {answer.told.decode(errors='replace')}"
 

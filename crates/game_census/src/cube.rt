@@ -14,7 +14,7 @@ use crate::task::{CubeTask, Part};
 use arrayvec::ArrayVec;
 use cube_actions::Stakes;
 use database_file::load_base;
-use hyper_outside::LookStop;
+use hyper_outside::{LookStop, OpenGate};
 use interval_words::Words;
 use move_rules::PlayList;
 use play_analyser::{CubeAdvice, cube_advice_of, one_list_gives_the_advice};
@@ -176,7 +176,14 @@ pub(crate) fn count_calls<R: Threads + Sync + Print + Files>(
 {
     let mut files = RealFiles::new(rt, alloc);
     let team = Team::new(rt, 1);
-    let base = load_base(&team, alloc, &mut files, task.file, Version::Three)?;
+    let base = load_base(
+        &team,
+        alloc,
+        &mut files,
+        task.file,
+        Version::Three,
+        &OpenGate,
+    )?;
     let words = base.words();
     PartCensus::of(words, &task.part).print(rt, words.stakes())
 }

@@ -37,8 +37,10 @@ pub(crate) struct Meeting {
     pub(crate) last: AtomicU64,
     /// How many rounds were said to come.
     pub(crate) rounds: AtomicU64,
-    /// How often a worker gave up, or came that isn't one of them, or to a block that there is none of, or rounds were said to come over
-    /// another number of blocks or behind the first block.
+    /// 1 while parts of a file are loaded, at which none is held, else 0.
+    pub(crate) loading: AtomicU64,
+    /// How often a worker gave up, or came that isn't one of them, or to a block that there is none of, or rounds were said to come behind the
+    /// first block.
     pub(crate) gave_up: AtomicU64,
     ghost crew: { length came.items ≡ workers },
     ghost blocks: { length passes.items ≡ 26 },
@@ -57,6 +59,7 @@ impl Meeting {
             all: AtomicU64::new(0),
             last: AtomicU64::new(0),
             rounds: AtomicU64::new(0),
+            loading: AtomicU64::new(0),
             gave_up: AtomicU64::new(0),
         })
     }
@@ -87,13 +90,21 @@ impl Meeting {
 
 impl Gate for Meeting {
     fn expect(&self, rounds: u32, blocks: u32) {
-        if blocks as usize != BLOCKS || self.all.load(Ordering::SeqCst) > 0 {
+        let is_loading = blocks as usize != BLOCKS;
+        self.loading.store(u64::from(is_loading), Ordering::SeqCst);
+        if is_loading {
+            return;
+        }
+        if self.all.load(Ordering::SeqCst) > 0 {
             self.give_up();
         }
         self.rounds.fetch_add(u64::from(rounds), Ordering::SeqCst);
     }
 
     fn pass(&self, worker: u32, block: u64) {
+        if self.loading.load(Ordering::SeqCst) > 0 {
+            return;
+        }
         if worker as usize >= self.workers || block >= BLOCKS as u64 {
             self.give_up();
             return;

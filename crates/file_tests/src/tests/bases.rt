@@ -8,7 +8,7 @@ use arrayvec::ArrayVec;
 use base_head::{BadFile, FileFault, Head};
 use cube_actions::StakesName;
 use database_file::{LoadStop, append_base, load_base, open_paged};
-use hyper_outside::{Failed, LookStop, PageFault};
+use hyper_outside::{Failed, LookStop, OpenGate, PageFault};
 use memory_files::MemFiles;
 use outside_log::{Files, Log, Told};
 use position_rank::read_position;
@@ -32,6 +32,7 @@ fn stop_of<R: Abort + Threads + Sync>(rt: &R, alloc: Global, bytes: &[u8]) -> Op
         &mut with_base(rt, alloc, bytes),
         "base",
         Version::Three,
+        &OpenGate,
     )
     .err()
 }
@@ -44,7 +45,14 @@ fn bad(fault: FileFault, at: u64) -> Option<LoadStop> {
 fn loads_a_file(rt: HostRuntime) {
     let mut files = with_base(&rt, rt.alloc(), text().as_slice());
     let team = Team::new(&rt, 1);
-    let Ok(base) = load_base(&team, rt.alloc(), &mut files, "base", Version::Three) else {
+    let Ok(base) = load_base(
+        &team,
+        rt.alloc(),
+        &mut files,
+        "base",
+        Version::Three,
+        &OpenGate,
+    ) else {
         panic!(rt; "it was not loaded");
     };
     let counts = (base.head().checkers(), base.head().rounds());
@@ -64,7 +72,15 @@ fn loads_a_file(rt: HostRuntime) {
 fn tells_a_missing_file(rt: HostRuntime) {
     let mut files = with_base(&rt, rt.alloc(), b"");
     let team = Team::new(&rt, 1);
-    let stop = load_base(&team, rt.alloc(), &mut files, "other", Version::Three).err();
+    let stop = load_base(
+        &team,
+        rt.alloc(),
+        &mut files,
+        "other",
+        Version::Three,
+        &OpenGate,
+    )
+    .err();
     same(&rt, &stop, &Some(LoadStop::Missing), &"another file");
 }
 
@@ -189,7 +205,15 @@ impl Files for Cut {
 fn tells_where_reads_end(rt: HostRuntime) {
     let mut files = Cut::new(rt.alloc());
     let team = Team::new(&rt, 1);
-    let stop = load_base(&team, rt.alloc(), &mut files, "base", Version::Three).err();
+    let stop = load_base(
+        &team,
+        rt.alloc(),
+        &mut files,
+        "base",
+        Version::Three,
+        &OpenGate,
+    )
+    .err();
     same(&rt, &stop, &bad(FileFault::Short, 5000), &"a cut file");
 }
 

@@ -150,6 +150,7 @@ fn base_with<R: Abort + Threads + Sync + AllocGlobal>(
         &mut files,
         "base",
         Version::Three,
+        &OpenGate,
     ) else {
         panic!(rt; "it was not loaded");
     };

@@ -5,6 +5,7 @@ use crate::tests::asserts::same;
 use crate::tests::lists::common_words;
 use base_scan::{read_condition, scan};
 use cube_actions::Stakes;
+use hyper_outside::OpenGate;
 use interval_words::Words;
 use std::alloc::AllocGlobal;
 use std::process::Abort;
@@ -103,7 +104,7 @@ fn count<R: Threads + Sync + Abort + AllocGlobal>(
         panic!(rt; "no condition");
     };
     let team = Team::new(rt, workers);
-    let found = scan(&team, rt.alloc(), words, &condition).expect(rt, "no memory");
+    let found = scan(&team, rt.alloc(), words, &condition, &OpenGate).expect(rt, "no memory");
     found.as_slice().len()
 }
 

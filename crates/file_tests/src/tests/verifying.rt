@@ -24,6 +24,7 @@ fn base<R: Abort + Threads + Sync + AllocGlobal>(rt: &R, changes: &[Change]) -> 
         &mut files,
         "base",
         Version::Three,
+        &OpenGate,
     ) else {
         panic!(rt; "it was not loaded");
     };

@@ -69,7 +69,6 @@ advise;x\0;y;--kind=z => Value 1\n\
 advise;x;y;--roll= => Word 3\n\
 advise;x;6 / 19;--roll=12;--kind=z => Value 3\n\
 advise;x;6 / 19;--roll=12 => Position SharedPoint\n\
-advise;x;6 / 1;--roll=12 => Roll Order\n\
 advise;x;6 / 1;--roll;7 => Roll Shape\n\
 ladder => Form 0\n\
 ladder;x;y => Form 0\n\
@@ -135,9 +134,20 @@ reply;x;y => Position Shape\n\
 reply;--rounds;4097;x;6 / 1 => Value 4\n\
 reply;x;6 / 1;--rounds => Form 0\n\
 advise;x;6 / 1;--take;--roll;21 => Value 4\n\
+advise;x;6 / 1;--away;2-2;--kind=mine => Form 0\n\
+advise;x;6 / 1;--away;6-2 => Value 3\n\
+advise;x;6 / 1;--away;1-2 => Value 3\n\
+advise;x;6 / 1;--away;2-1;--post;--value=2 => Value 5\n\
+advise;x;6 / 1;--away;1-1;--cube=mine;--value=3 => Value 5\n\
+show;x;6 / 1;--away;1-1;--crawford => Value 3\n\
+show;x;6 / 1;--away;2-2;--post => Value 3\n\
 solve;x;--width;0 => Value 6\n\
 show;x;6 / 1;--id;--id => Form 0\n\
+race;3;6 / 1;--board=x => Form 0\n\
 show;x;6 / 1;--positions;y => Form 0\n\
+advise;x;6 / 1;--rolls;y => Form 0\n\
+advise;x;--roll;21;--rolls;y => Form 0\n\
+advise;x;--rolls=y;--kind;x => Value 3\n\
 board;6 / 1;--id=x => Form 0\n\
 board => Form 0\n\
 board;6 / 1;x => Form 0\n\
@@ -155,6 +165,7 @@ verify;--workers=3;two.base => (["two.base", ""], [3, 0, 0, 0], None, None)
 advise;x;6 / 1 => (["x", "6 / 1"], [0, 0, 0, 0], None, None)
 advise;--roll;66;x;--kind=mine;6 / 1 => (["x", "6 / 1"], [0, 0, 0, 0], Some(Mine), Some("66"))
 advise;x;6 / 1;--roll=21 => (["x", "6 / 1"], [0, 0, 0, 0], None, Some("21"))
+advise;x;OFF  B/2 bar;--roll=1 2 => (["x", "bar off / bar 2"], [0, 0, 0, 0], None, Some("21"))
 ladder;L => (["L", ""], [3, 3, 64, 1], None, None)
 ladder;--length;5;--checkers=1;L;--rounds=4;--workers=2 => (["L", ""], [1, 5, 4, 2], None, None)
 analyse;j1;g.rec => (["j1", "g.rec"], [0, 0, 0, 0], None, None)
@@ -176,7 +187,15 @@ reply;--rounds=1;x;6 / 1 => (["x", "6 / 1"], [1, 0, 0, 0], None, None)
 reply;x;--kind;mine;6 / 1;--rounds=4096 => (["x", "6 / 1"], [4096, 0, 0, 0], Some(Mine), None)
 board;6 bar / 18 24 => (["bar 6 / 24 18", ""], [0, 0, 0, 0], None, None)
 board;AACgAgAAKgAAAA;--id => (["24 23 22 / 24 23 22", ""], [0, 0, 0, 0], None, None)
+show;x;--board;6 / 1;--id => (["x", "6 / 1"], [0, 0, 0, 0], None, None)
+bound;--board;3;4096;6 / 1 => (["6 / 1", ""], [3, 4096, 0, 0], None, None)
 show;--positions=y;x => (["x", "y"], [0, 0, 0, 0], None, None)
+advise;--kind=mine;--rolls;y;x => (["x", "y"], [0, 0, 0, 0], Some(Mine), None)
+show;m;6 / 1;--away;3-2 => (["m.2.3.n", "6 / 1"], [0, 0, 0, 0], None, None)
+show;m;6 / 1;--away;1-1;--post => (["m.1.1.p", "6 / 1"], [0, 0, 0, 0], None, None)
+advise;m;6 / 1;--away=2-3;--cube=theirs => (["m.2.3.n", "6 / 1"], [0, 0, 0, 0], Some(InMatch { mover: Near, cube: 2, owner: Some(Far) }), None)
+advise;m;6 / 1;--away=3-1;--crawford;--roll=12 => (["m.1.3.c", "6 / 1"], [0, 0, 0, 0], Some(InMatch { mover: Far, cube: 1, owner: None }), Some("21"))
+advise;m;24 / 2;--away=5-4;--take;--cube;theirs;--value=4 => (["m.4.5.n", "2 / 24"], [0, 0, 0, 0], Some(InMatch { mover: Near, cube: 4, owner: Some(Near) }), None)
 advise;x;--take;24 / 2 => (["x", "2 / 24"], [0, 0, 0, 0], None, None)
 solve;x;--width;0.5 => (["x", ""], [3, 4096, 1, 0], None, None)
 solve;x;--width;64;--rounds;9 => (["x", ""], [3, 9, 1, 0], None, None)
@@ -201,6 +220,7 @@ fn texts<'a>(command: &'a Command, position: &'a str) -> [&'a str; 2] {
         Command::Reply(reply) => [reply.file.as_str(), position],
         Command::Show(show) => [show.file.as_str(), position],
         Command::ShowList(show) => [show.file.as_str(), show.list.as_str()],
+        Command::AdviseList(advise) => [advise.file.as_str(), advise.list.as_str()],
         Command::Migrate(migrate) => [migrate.old.as_str(), migrate.new.as_str()],
     }
 }
@@ -255,6 +275,7 @@ fn kind(rt: &impl Abort, command: &Command) -> Option<KindName> {
             None
         }
         Command::Advise(advise) => advise.kind,
+        Command::AdviseList(advise) => advise.kind,
         Command::Reply(reply) => reply.kind,
         _ => None,
     }

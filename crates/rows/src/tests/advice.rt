@@ -78,7 +78,7 @@ static UNCUBED: [Step; 10] = [
         10,
         "refused 10 base wanted checkers 2 found checkers 1 stakes cubeless\n",
     ),
-    Row("advise, c1, 6 / 1, --roll, 12", 2, "refused 2 roll 2\n"),
+    Row("advise, c1, 2/24, --roll, 1-2", 0, PLAY_TEXT),
     Row("advise, c1, 6 / 1, --roll, 7", 2, "refused 2 roll 1\n"),
     Row(
         "advise, c1, 1 / 24, --roll, 12",

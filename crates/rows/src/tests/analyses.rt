@@ -143,6 +143,42 @@ static FAULTS: [&[Step]; 6] = [
     &[FailCall(6), Row(ANALYSE, 0, CHOSEN_TEXT), SAME],
 ];
 
+// The same with positions, and of those that lost most first the one that may have lost, then the earlier of the others.
+const CHOSEN_FULL: &str = "1\t5\tA\tplay\t24 / 24\talone\t-\t65\t13 / 24\t0.000000\t0.000000\n\
+1\t6\tB\tplay\t24 / 13\talone\t-\t43\t17 / 13\t0.000000\t0.000000\n\
+1\t7\tA\tplay\t13 / 17\talone\t-\t51\t7 / bar\t0.000000\t2.000000\n\
+A decisions 2 loss 0.000000 2.000000\nB decisions 1 loss 0.000000 0.000000\n";
+
+const CHOSEN_WORST: &str = "1\t7\tA\tplay\t13 / 17\talone\t-\t51\t7 / bar\t0.000000\t2.000000\n\
+1\t5\tA\tplay\t24 / 24\talone\t-\t65\t13 / 24\t0.000000\t0.000000\n\
+A decisions 2 loss 0.000000 2.000000\nB decisions 1 loss 0.000000 0.000000\n";
+
+static SHOWN: [Step; 6] = [
+    Row("analyse, c1, game, --full", 0, CHOSEN_FULL),
+    Row("analyse, c1, game, --worst, 2", 0, CHOSEN_WORST),
+    Row("analyse, --worst=100, c1, y", 3, "refused 3 missing y\n"),
+    Row(
+        "analyse, c1, game, --worst=0",
+        1,
+        "refused 1 words value 3\n",
+    ),
+    Row(
+        "analyse, c1, game, --worst=101",
+        1,
+        "refused 1 words value 3\n",
+    ),
+    Row(
+        "study, --full, game, --worst=1",
+        1,
+        "refused 1 words value 4\n",
+    ),
+];
+
+#[test]
+fn decisions_are_shown_with_their_positions(rt: HostRuntime) -> Result<(), Fail> {
+    run(&rt, &[&CHOICE, &SHOWN])
+}
+
 #[test]
 fn a_failing_read_is_told_of_an_analysis(rt: HostRuntime) -> Result<(), Fail> {
     run_each(&rt, &CHOICE, &FAULTS)

@@ -3,7 +3,7 @@ ghost use Rattle.std.specs.Prelude.{◌≤◌};
 
 use base_scan::{Condition, read_condition, scan};
 use cube_actions::Stakes;
-use hyper_outside::NoMemory;
+use hyper_outside::{NoMemory, OpenGate};
 use interval_words::{LiveIndex, Words};
 use std::alloc::Global;
 use std::test::Fail;
@@ -38,7 +38,7 @@ fn finds_all<R: Threads + Sync>(
 ) -> Result<bool, NoMemory>
     requires { (1 ≤ workers) × (workers ≤ 64) }
 {
-    let found = scan(&Team::new(rt, workers), alloc, words, condition)?;
+    let found = scan(&Team::new(rt, workers), alloc, words, condition, &OpenGate)?;
     let states = found.as_slice();
     for (number, state) in states.iter().enumerate() {
         if state.kind as usize != number % 3 {

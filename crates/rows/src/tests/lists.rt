@@ -2,13 +2,13 @@ use super::bench::run;
 use super::steps::Change::Ends;
 use super::steps::Content::{Cubeless, Text};
 use super::steps::Step;
-use super::steps::Step::{Change, FailPut, Make, Row};
+use super::steps::Step::{Ask, Change, FailPut, Make, Row};
 use std::test::Fail;
 
 // Of all lines but the first and the last no pair is shown. The last has no line end.
 static LISTED: [Step; 6] = [
     Make("c1", Cubeless(3)),
-    Make("l1", Text("6 / 1\r\n1 / 24\n\n6 off / 1 off\n5 / bar")),
+    Make("l1", Text("6 / 1\r\n1 / 24\n\n6 off / 1 off\n 5/\tB ")),
     Row(
         "show, c1, --positions, l1",
         0,
@@ -41,6 +41,51 @@ static WORDS: [Step; 4] = [
     Row("show, c1, --positions=", 1, "refused 1 words word 2\n"),
     Row("advise, c1, --positions=l1", 1, "refused 1 words form 0\n"),
 ];
+
+// Lines with a roll. That without one has its last place read as the roll.
+static ROLLED: [Step; 9] = [
+    Ask("solve, c1, --checkers=1, --stakes=cubeless, --rounds=8", 0),
+    Make(
+        "r1",
+        Text("2 / 24 21\r\n2 / 24 \t21\n6 / 1 17\n6 / 1\n\n6 off / 1 off 61"),
+    ),
+    Row(
+        "advise, c1, --rolls, r1",
+        0,
+        "2 / 24\t21\talone\t2/1* 1/off\t3.000000\t3.000000\t12884901888\t12884901888\t0.000000\n2 / 24\t21\talone\t2/1* 1/off\t3.000000\t3.000000\t12884901888\t12884901888\t0.000000\n! 2 roll 1\n! 2 position 3\n! 2 position 1\n! 10 base wanted checkers 2 found checkers 1 stakes cubeless\n",
+    ),
+    Row(
+        "advise, --rolls=r2, c1, --kind, mine",
+        3,
+        "refused 3 missing r2\n",
+    ),
+    Make("r2", Text("2 / 24 21")),
+    Row(
+        "advise, --rolls=r2, c1, --kind, mine",
+        0,
+        "! 10 base wanted kind mine found checkers 1 stakes cubeless\n",
+    ),
+    Row(
+        "advise, c1, --rolls=r1, --kind=our",
+        1,
+        "refused 1 words value 3\n",
+    ),
+    Row(
+        "advise, c1, 2 / 24, --rolls=r1",
+        1,
+        "refused 1 words form 0\n",
+    ),
+    Row(
+        "advise, c1, --rolls=r1, --take",
+        1,
+        "refused 1 words form 0\n",
+    ),
+];
+
+#[test]
+fn each_line_of_a_list_with_rolls_is_advised_on(rt: HostRuntime) -> Result<(), Fail> {
+    run(&rt, &[&ROLLED])
+}
 
 #[test]
 fn each_line_of_a_list_is_shown(rt: HostRuntime) -> Result<(), Fail> {

@@ -42,7 +42,7 @@ static ANSWERS: [Step; 12] = [
         "position 6 / 1\nkind near:1:centred\nno-double 0.500000 0.500000\ndouble-take 0.500000 0.500000\n",
     )),
     Put(Has("\noffer no-double loss 0.000000\n")),
-    Ask("advise, L.1.2.c, 6 / 1, --kind, far:1:centred", 0),
+    Ask("advise, L, 6 / 1, --away, 2-1, --crawford", 0),
     Put(Begins(
         "position 6 / 1\nkind far:1:centred\nno-double 0.500000 0.500000\nno cube action\n",
     )),

@@ -16,7 +16,7 @@ static SOLVES: [Step; 5] = [
 ];
 
 // The pair of `12 / 9` was tightened in the same round as those that it rests on.
-static SHOWS: [Step; 7] = [
+static SHOWS: [Step; 8] = [
     Row(
         "show, g1, 12 / 9",
         0,
@@ -26,6 +26,11 @@ static SHOWS: [Step; 7] = [
         "show, j1, 1 / 1",
         0,
         "position 1 / 1\ncheckers 1 stakes jacoby rounds 2\ncentred 1.000000 1.000000 4294967296 4294967296\nmine 2.000000 2.000000 8589934592 8589934592\ntheirs 2.000000 2.000000 8589934592 8589934592\n",
+    ),
+    Row(
+        "show, g1, 12 / 9, --board",
+        0,
+        "O: 9 pips\n+13-14-15-16-17-18------19-20-21-22-23-24-+\n|          O       |   |                  |\n|                  |   |                  |\n|                  |   |                  |\n|                  |BAR|                  |\n|                  |   |                  |\n|                  |   |                  |\n| X                |   |                  |\n+12-11-10--9--8--7-------6--5--4--3--2--1-+\nX to move: 12 pips\nposition 12 / 9\ncheckers 1 stakes cubeless rounds 1\nalone -0.631180 0.978356 -2710895827 4202003325\n",
     ),
     Row("show, g1, 1 / 24", 2, "refused 2 position 4\n"),
     Row("show, g2, 1 / 1", 3, "refused 3 missing g2\n"),

@@ -53,7 +53,7 @@ fn bounds_are_as_worked_by_hand(rt: HostRuntime) -> Result<(), Fail> {
 
 static POSITIONS: [Step; 9] = [
     Row("bound, 1, 1, 1 / 24", 2, "refused 2 position 4\n"),
-    Row("bound, 1, 1, 6 /  1", 2, "refused 2 position 1\n"),
+    Row("bound, 1, 1, 6 / 1 /", 2, "refused 2 position 1\n"),
     Row("bound, 1, 1, 06 / 1", 2, "refused 2 position 2\n"),
     Row("bound, 1, 1, 26 / 1", 2, "refused 2 position 2\n"),
     Row("bound, 1, 1, 6 / 1 1", 2, "refused 2 position 3\n"),
