@@ -193,7 +193,7 @@ def try_terminal(tally, folder):
     for shown in shown_cases(folder):
         (folder / shown.file).write_bytes(shown.before)
         status, output, got = on_terminal(shown.words, folder)
-        line = rb"\rround \d+ of %d, \d+ %%, \d+ s gone(, \d+ s left)?\x1b\[K" % shown.rounds
+        line = rb"\r\x1b\[\?7lround \d+ of %d, \d+ %%, \d+ s gone(, \d+ s left)?\x1b\[K\x1b\[\?7h" % shown.rounds
         faults = differences("status", status, 0) + differences("output", output, shown.report)
         if not re.fullmatch(rb"(%s)+\r\x1b\[K" % line, got):
             faults.append(f"the terminal got {got}, due are lines of progress")

@@ -12,8 +12,13 @@ const PAUSE: u64 = 500;
 /// What has a terminal clear the rest of a line.
 const WIPE: &str = "\x1b[K";
 
+/// What has a terminal cut what is longer than a row at its right edge, in place of going on in the next row; and what ends that.
+const CUT: &str = "\x1b[?7l";
+
+const UNCUT: &str = "\x1b[?7h";
+
 /// A gate that lets all pass, and tells on standard error how far a run has come, from where it says how many rounds are to come: in one
-/// line, which it writes anew at most twice a second. It changes nothing else.
+/// line, which it writes anew at most twice a second and which a terminal cuts to its width. It changes nothing else.
 #[derive(Drop)]
 pub struct ProgressGate<'a, R> {
     rt: &'a R,
@@ -111,7 +116,7 @@ impl<'a, R: Clock + Eprint> Gate for ProgressGate<'a, R> {
         };
         if self.is_due(now) {
             let line = progress_line(&self.progress(now, passed));
-            let _ = eprint!(self.rt; "\r{}{WIPE}", line.as_str());
+            let _ = eprint!(self.rt; "\r{CUT}{}{WIPE}{UNCUT}", line.as_str());
         }
     }
 }
