@@ -1,9 +1,9 @@
 -- Right files are refused for no fault of theirs.
-use Rattle.std.proofs.Common.{◌≡◌, ◌∙◌, List, ℕ, length, true, Option, Some, None, inl, inr, refl, sym, subst, arith}
+use Rattle.std.proofs.Common.{◌≡◌, ◌∙◌, List, ℕ, true, Option, Some, None, inl, inr, refl, sym, subst, arith}
 use Rattle.std.specs.Prelude.{IsFalse}
 use Rattle.std.proofs.lemmas.Bool.{false≢true}
 use Rattle.std.proofs.lemmas.Option.{none-some}
-use Rattle.position_rank.specs.Text.{words}
+use Rattle.position_text.specs.Text.{words}
 use Rattle.outside_log.specs.Files.{Contents}
 use Rattle.outside_log.specs.Reading.{begins_otherwise}
 use Rattle.turn_rule.specs.Truth.{AreConsistent}

@@ -19,7 +19,7 @@ use Rattle.base_head.specs.Heads.{FileHead}
 use Rattle.base_head.specs.Headers.{IsHeader, front_length}
 use Rattle.base_head.specs.declared.header.Header.{Header}
 use Rattle.database_file.specs.Faults.{pages_behind, whole}
-use Rattle.database_file.specs.Pages.{words_in}
+use Rattle.database_file.specs.Pages.{words_listed}
 use Rattle.interval_words.specs.Numbers.{words_of}
 use Rattle.database_file.specs.Opened.{AnswersPaged}
 use Rattle.database_file.specs.Paged.{flaw_at, word_at}
@@ -48,7 +48,7 @@ shown-told p None base rows a valid many name position live fits told = absurd a
 shown-told p (Some bytes) base rows a valid many name position live fits told =
     let header = a.header in
     let among : (end : End) (j : ℕ) → j < length (names_of base.header.name) + 0 → word_at base.header (Some bytes) end p j ≡ words_in_file bytes end p j =
-    λ end j inside. word-among base.header bytes end p j valid (record { position = position; many = fits ∙ many; live = live; kind = omega (arith, inside, valid.kinds) }) ∙ ap (λ (h : Header). words_of h.kinds (words_in (pages_behind h (digest_in h bytes)) (drop (front_length h) bytes)) end p j) header in
+    λ end j inside. word-among base.header bytes end p j valid (record { position = position; many = fits ∙ many; live = live; kind = omega (arith, inside, valid.kinds) }) ∙ ap (λ (h : Header). words_of h.kinds (words_listed (pages_behind h (digest_in h bytes)) (drop (front_length h) bytes)) end p j) header in
     record {
       front = a.right;
       page = subst (λ (h : Header). flaw_at h (Some bytes) p ≡ None) header told.0;

@@ -5,7 +5,7 @@ use Rattle.roll_table.specs.Rolls.{Dice}
 use Rattle.outside_log.specs.Sink.{Output}
 use Rattle.hyper_outside.specs.declared.outside.LookStop.{LookStop}
 use Rattle.cube_actions.specs.Stakes.{Terms}
-use Rattle.move_rules.specs.Notation.{CanFollow}
+use Rattle.play_text.specs.Notation.{CanFollow}
 use Rattle.turn_rule.specs.Looks.{MayFollowTurn, States, MayFollowRoll, Meets, MeetsOnRoll, MeetsOnTurn}
 use Rattle.turn_rule.specs.Games.{IsGame, kinds_of}
 use Rattle.turn_rule.specs.States.{IsState}

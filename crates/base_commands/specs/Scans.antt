@@ -1,6 +1,6 @@
 -- What a search of a file's states rests on, and what it tells.
 use Rattle.std.specs.Prelude.{◌≡◌, ◌⊎◌, ℕ, List, Bool, Option, Ok}
-use Rattle.position_rank.specs.Text.{words}
+use Rattle.position_text.specs.Text.{words}
 use Rattle.outside_log.specs.Sink.{Output}
 use Rattle.base_scan.specs.declared.condition.Test.{Test}
 use Rattle.base_scan.specs.declared.found.State.{State}

@@ -18,7 +18,7 @@ use Rattle.base_head.specs.declared.header.Header.{Header}
 use Rattle.word_pages.specs.declared.version.Version.{Version}
 use Rattle.word_pages.specs.declared.version.Version.TheVariants.{One, Two, Three}
 use Rattle.word_pages.specs.Words.{word_size}
-use Rattle.base_head.specs.Headers.{IsHeader, IsLengthOf, digest_place, pair_size, starts_before}
+use Rattle.base_head.specs.Headers.{IsHeader, IsLengthOf, digest_place, pair_size, starts_told}
 
 filter-few : {X : Type 0} (p : X → Bool) (xs : List X) → length (filter p xs) ≤ length xs
 filter-few p xs = omega (arith, length-filter p xs, count_by-le-length p xs)
@@ -48,7 +48,7 @@ pub ladder-few : (n : ℕ) → 1 ≤ n → n ≤ 5 → length (ladder n) ≤ 18
 unfolding ladder in_order
 ladder-few = one_to_five (λ n. length (ladder n) ≤ 18) (omega arith) (omega arith) (omega arith) (omega arith) (omega arith)
 
-pub starts-few : (name : StakesName) (match_length : ℕ) → IsLengthOf name match_length → starts_before match_length name ≤ 17
+pub starts-few : (name : StakesName) (match_length : ℕ) → IsLengthOf name match_length → starts_told match_length name ≤ 17
 starts-few Cubeless match_length is = omega arith
 starts-few Money match_length is = omega arith
 starts-few Jacoby match_length is = omega arith

@@ -18,7 +18,7 @@ use Rattle.word_pages.specs.declared.version.Version.{Version}
 use Rattle.word_pages.specs.Flaws.{pairs_flaw}
 use Rattle.word_pages.specs.Pages.{AreBytes}
 use Rattle.word_pages.specs.Sealed.{is_sealed, sealed}
-use Rattle.word_pages.specs.Words.{Fits, word_size, words_of, words_text}
+use Rattle.word_pages.specs.Words.{Fits, word_size, words_in_bytes, words_bytes}
 use Rattle.word_pages.proofs.Back.{text-words_of, words_of-text}
 use Rattle.word_pages.proofs.PageTexts.{is_sealed-sealed}
 use Rattle.word_pages.proofs.Seals.{is_sealed-exactly, length-sealed}
@@ -32,7 +32,7 @@ use Rattle.base_head.specs.Faults.{check, first_wrong}
 use Rattle.base_head.specs.Fronts.{bad_of, digest_in, front_text, head_digest, head_in, head_text, pairs_of_words, start_words, starts_fault, starts_length, words_of_pairs}
 use Rattle.base_head.specs.FrontTexts.{IsFront, front_fault}
 use Rattle.base_head.specs.Heads.{AreStartsOf, FileHead, HasText, IsHead, no_starts}
-use Rattle.base_head.specs.Headers.{IsHeader, IsLengthOf, IsSince, digest_place, file_length, front_length, header_of, length_if_match, magic, pair_size, spelled, starts_before, text_length}
+use Rattle.base_head.specs.Headers.{IsHeader, IsLengthOf, IsSince, digest_place, file_length, front_length, header_of, length_if_match, magic, pair_size, spelled, starts_told, text_length}
 use Rattle.base_head.specs.HeaderFaults.{field_checks, fields_of, header_fault, header_in, length_checks, opening_checks}
 use Rattle.base_head.proofs.Checked.{none_or}
 use Rattle.base_head.proofs.FieldChecks.{after-fields, all-header}
@@ -135,17 +135,17 @@ right-front oldest bytes are none =
     }
 
 -- the bytes up to the digest are header and starts
-front-bytes : (oldest : Version) (h : Header) (bytes : List ℕ) → AreBytes bytes → RightFront oldest h bytes → take (digest_place h) bytes ≡ spelled h ++ words_text h.version (words_of_pairs (head_in h bytes).starts.pairs)
+front-bytes : (oldest : Version) (h : Header) (bytes : List ℕ) → AreBytes bytes → RightFront oldest h bytes → take (digest_place h) bytes ≡ spelled h ++ words_bytes h.version (words_of_pairs (head_in h bytes).starts.pairs)
 front-bytes oldest h bytes are right =
     let n = pair_size h.version * h.starts in
     let words : List ℕ = start_words h bytes in
     let room : word_size h.version * (2 * h.starts) ≤ length (drop 64 bytes) = omega (arith, right.size, starts-size h, length-drop 64 bytes) in
-    let text : words_text h.version words ≡ take n (drop 64 bytes) = text-words_of h.version (2 * h.starts) (drop 64 bytes) room (AreBytes-drop 64 bytes are) ∙ ap (λ (k : ℕ). take k (drop 64 bytes)) (starts-size h) in
+    let text : words_bytes h.version words ≡ take n (drop 64 bytes) = text-words_of h.version (2 * h.starts) (drop 64 bytes) room (AreBytes-drop 64 bytes are) ∙ ap (λ (k : ℕ). take k (drop 64 bytes)) (starts-size h) in
     let pairs : words_of_pairs (pairs_of_words words) ≡ words = words-back h.starts words (length-words_of h.version (2 * h.starts) (drop 64 bytes)) in
-    take-add 64 n bytes ∙ ap₂ (λ (first : List ℕ) (rest : List ℕ). first ++ rest) (sym right.spelled_is) (sym text ∙ ap (words_text h.version) (sym pairs))
+    take-add 64 n bytes ∙ ap₂ (λ (first : List ℕ) (rest : List ℕ). first ++ rest) (sym right.spelled_is) (sym text ∙ ap (words_bytes h.version) (sym pairs))
 
 -- the front is that of the head
-front-is : (oldest : Version) (h : Header) (bytes : List ℕ) → AreBytes bytes → RightFront oldest h bytes → take (front_length h) bytes ≡ sealed (spelled h ++ words_text h.version (words_of_pairs (head_in h bytes).starts.pairs))
+front-is : (oldest : Version) (h : Header) (bytes : List ℕ) → AreBytes bytes → RightFront oldest h bytes → take (front_length h) bytes ≡ sealed (spelled h ++ words_bytes h.version (words_of_pairs (head_in h bytes).starts.pairs))
 front-is oldest h bytes are right =
     let k = front_length h in
     let d = digest_place h in
@@ -183,7 +183,7 @@ front-of oldest bytes are none =
       record {
         valid = head-is oldest h bytes right;
         takes = right.valid.takes;
-        text = ap (λ (h : Header). take (front_length h) bytes) again ∙ front-is oldest h bytes are right ∙ ap (λ (header : Header). sealed (spelled header ++ words_text h.version (words_of_pairs head.starts.pairs))) (sym again);
+        text = ap (λ (h : Header). take (front_length h) bytes) again ∙ front-is oldest h bytes are right ∙ ap (λ (header : Header). sealed (spelled header ++ words_bytes h.version (words_of_pairs head.starts.pairs))) (sym again);
       },
       right.size ∙ ap file_length (sym again),
     )
@@ -212,7 +212,7 @@ header-valid version head is takes = record {
     fitting JacobyBeavers starts valid go = refl
     fitting (Match score) starts valid go = record { from = valid.from; to = valid.to; listed = go.listed }
 
-    before : (name : StakesName) (starts : StartPairs) → AreStartsOf name starts → length starts.pairs ≡ starts_before (length_if_match name starts.match_length) name
+    before : (name : StakesName) (starts : StartPairs) → AreStartsOf name starts → length starts.pairs ≡ starts_told (length_if_match name starts.match_length) name
     before Cubeless starts go = ap (λ (starts : StartPairs). length starts.pairs) go
     before Money starts go = ap (λ (starts : StartPairs). length starts.pairs) go
     before Jacoby starts go = ap (λ (starts : StartPairs). length starts.pairs) go
@@ -226,23 +226,23 @@ length-front version head =
     let h = header_of version head in
     let words : List ℕ = words_of_pairs head.starts.pairs in
     let header : length (spelled h) ≡ 64 = refl in
-    let cells : length (words_text version words) ≡ word_size version * (2 * h.starts) = length-cells (word_size version) words ∙ ap (λ (n : ℕ). word_size version * n) (length-words head.starts.pairs) in
-    let both = length-append (spelled h) (words_text version words) in
-    let all = length-sealed [] (spelled h ++ words_text version words) in
+    let cells : length (words_bytes version words) ≡ word_size version * (2 * h.starts) = length-cells (word_size version) words ∙ ap (λ (n : ℕ). word_size version * n) (length-words head.starts.pairs) in
+    let both = length-append (spelled h) (words_bytes version words) in
+    let all = length-sealed [] (spelled h ++ words_bytes version words) in
     omega (arith, header, cells, both, all, starts-size h)
 
 -- what stands behind the header
 behind : Version → FileHead → List ℕ → List ℕ
 behind version head bytes =
-    words_text version (words_of_pairs head.starts.pairs)
-    ++ (sha256 (spelled (header_of version head) ++ words_text version (words_of_pairs head.starts.pairs)) ++ drop (front_length (header_of version head)) bytes)
+    words_bytes version (words_of_pairs head.starts.pairs)
+    ++ (sha256 (spelled (header_of version head) ++ words_bytes version (words_of_pairs head.starts.pairs)) ++ drop (front_length (header_of version head)) bytes)
 
 parts-of : (version : Version) (head : FileHead) (bytes : List ℕ) → IsFront version head bytes → bytes ≡ spelled (header_of version head) ++ behind version head bytes
 unfolding behind
 parts-of version head bytes is =
     let k = front_length (header_of version head) in
     let header : List ℕ = spelled (header_of version head) in
-    let words : List ℕ = words_text version (words_of_pairs head.starts.pairs) in
+    let words : List ℕ = words_bytes version (words_of_pairs head.starts.pairs) in
     let digest : List ℕ = sha256 (header ++ words) in
     sym (take-append-drop k bytes)
     ∙ ap (λ (front : List ℕ). front ++ drop k bytes) is.text
@@ -262,11 +262,11 @@ unfolding behind
 words-read version head bytes is =
     let h = header_of version head in
     let words : List ℕ = words_of_pairs head.starts.pairs in
-    let more : List ℕ = sha256 (spelled h ++ words_text version words) ++ drop (front_length h) bytes in
-    let rest : drop 64 bytes ≡ words_text version words ++ more = ap (drop 64) (parts-of version head bytes is) in
+    let more : List ℕ = sha256 (spelled h ++ words_bytes version words) ++ drop (front_length h) bytes in
+    let rest : drop 64 bytes ≡ words_bytes version words ++ more = ap (drop 64) (parts-of version head bytes is) in
     let within = words-within head.starts.pairs is.valid.valid.within in
     let fit : All (Fits version) words = within-fit version (point_units 1) (length head.starts.pairs) words low (length-words head.starts.pairs) within in
-    ap₂ (λ (n : ℕ) (bytes : List ℕ). words_of version n bytes) (sym (length-words head.starts.pairs)) rest ∙ words_of-text version words more fit
+    ap₂ (λ (n : ℕ) (bytes : List ℕ). words_in_bytes version n bytes) (sym (length-words head.starts.pairs)) rest ∙ words_of-text version words more fit
   where
     low : point_units 1 ≤ℤ WORD_OFFSET
     low = record { le = tt }
@@ -306,7 +306,7 @@ digest-read version head bytes is =
 starts-pass : (version : Version) (head : FileHead) (bytes : List ℕ) → IsFront version head bytes → starts_fault (header_of version head) bytes ≡ None
 starts-pass version head bytes is =
     let h = header_of version head in
-    let sealed_is : is_sealed (take (front_length h) bytes) ≡ true = ap is_sealed is.text ∙ is_sealed-sealed [] (spelled h ++ words_text version (words_of_pairs head.starts.pairs)) in
+    let sealed_is : is_sealed (take (front_length h) bytes) ≡ true = ap is_sealed is.text ∙ is_sealed-sealed [] (spelled h ++ words_bytes version (words_of_pairs head.starts.pairs)) in
     let none : pairs_flaw version (point_units 1) 64 (start_words h bytes) ≡ None =
     ap (pairs_flaw version (point_units 1) 64) (words-read version head bytes is) ∙ within-none version (point_units 1) 64 (words_of_pairs head.starts.pairs) (words-within head.starts.pairs is.valid.valid.within) in
     ap₂ (λ (b : Bool) (flaw : Option Flaw). if b then option_map bad_of flaw else Some (record { fault = faults.HeadDigest; at = digest_place h })) sealed_is none

@@ -19,7 +19,7 @@ use Rattle.base_head.specs.declared.fields.Fields.{Fields}
 use Rattle.base_head.specs.declared.header.Header.{Header}
 use Rattle.base_head.specs.Faults.{first_wrong}
 use Rattle.base_head.specs.Heads.{TakesStakes}
-use Rattle.base_head.specs.Headers.{HasScore, IsHeader, IsLengthOf, IsSince, far_field, near_field, phase_field, phase_number, spelled, stakes_number, starts_before, version_number}
+use Rattle.base_head.specs.Headers.{HasScore, IsHeader, IsLengthOf, IsSince, far_field, near_field, phase_field, phase_number, spelled, stakes_number, starts_told, version_number}
 use Rattle.base_head.specs.HeaderFaults.{checkers_check, count_checks, field_checks, fields_of, header_in, is_from_to, is_phase_at, is_phase_in, last_stakes, match_checks, name_in, name_numbered, number_at, other_checks, phase_numbered, score_in, stakes_checks, version_check, version_in, version_numbered}
 use Rattle.base_head.proofs.Counts.{header-kinds-few, header-positions-few, header-starts-few}
 use Rattle.base_head.proofs.FieldChecks.{after-name}
@@ -231,10 +231,10 @@ counts-pass h is =
     let f : Fields = numbers_of h in
     let name : name_in f ≡ h.name = name-same h.name in
     let kinds : f.kinds ≡ length (names_of (name_in f)) = is.kinds ∙ ap (λ (name : StakesName). length (names_of name)) (sym name) in
-    let starts : f.starts ≡ starts_before f.match_length (name_in f) = is.starts ∙ ap (starts_before h.match_length) (sym name) in
+    let starts : f.starts ≡ starts_told f.match_length (name_in f) = is.starts ∙ ap (starts_told h.match_length) (sym name) in
     pass (f.kinds == length (names_of (name_in f))) _ _ (is-eq _ _ kinds)
     (pass (is_from_to 1 4096 f.rounds) _ _ (from-to 1 4096 f.rounds is.begun is.ended)
-    (pass (f.starts == starts_before f.match_length (name_in f)) _ _ (is-eq _ _ starts)
+    (pass (f.starts == starts_told f.match_length (name_in f)) _ _ (is-eq _ _ starts)
     (pass (f.positions == live_positions f.checkers) _ _ (is-eq _ _ is.positions)
     (pass (f.rest == 0) (record { fault = faults.Head; at = 56 }) None refl refl))))
 

@@ -10,7 +10,7 @@ use Rattle.word_pages.specs.declared.version.Version.{Version}
 use Rattle.word_pages.specs.declared.version.Version.TheVariants.{One, Two, Three}
 use Rattle.base_head.specs.Faults.{first_wrong}
 use Rattle.base_head.specs.Heads.{has_beavers}
-use Rattle.base_head.specs.Headers.{HasScore, IsHeader, IsLengthOf, starts_before}
+use Rattle.base_head.specs.Headers.{HasScore, IsHeader, IsLengthOf, starts_told}
 use Rattle.base_head.specs.HeaderFaults.{count_checks, field_checks, header_in, is_from_to, is_length_of, is_phase_at, is_phase_in, last_stakes, match_checks, name_in, name_numbered, other_checks, phase_numbered, score_in, stakes_checks, version_in}
 use Rattle.base_head.specs.declared.fields.Fields.{Fields}
 use Rattle.base_head.proofs.Checked.{both-right, right-if, right-then}
@@ -33,7 +33,7 @@ pub record RightCounts (fields : Fields) : Type 0 where
   pub kinds : fields.kinds ≡ length (names_of (name_in fields))
   pub begun : 1 ≤ fields.rounds
   pub ended : fields.rounds ≤ 4096
-  pub starts : fields.starts ≡ starts_before fields.match_length (name_in fields)
+  pub starts : fields.starts ≡ starts_told fields.match_length (name_in fields)
   pub positions : fields.positions ≡ live_positions fields.checkers
   pub rest : fields.rest ≡ 0
 
@@ -41,7 +41,7 @@ pub counts-right : (fields : Fields) → first_wrong (count_checks fields) ≡ N
 counts-right fields none =
     let a = right-then (fields.kinds == length (names_of (name_in fields))) _ _ none in
     let b = right-then (is_from_to 1 4096 fields.rounds) _ _ a.1 in
-    let c = right-then (fields.starts == starts_before fields.match_length (name_in fields)) _ _ b.1 in
+    let c = right-then (fields.starts == starts_told fields.match_length (name_in fields)) _ _ b.1 in
     let d = right-then (fields.positions == live_positions fields.checkers) _ _ c.1 in
     let e = right-then (fields.rest == 0) _ _ d.1 in
     let rounds = between 1 4096 fields.rounds b.0 in

@@ -7,10 +7,10 @@ use Rattle.cube_actions.specs.declared.name.StakesName.TheVariants.{Cubeless, Mo
 use Rattle.cube_actions.specs.Stakes.{point_units}
 use Rattle.word_pages.specs.Flaws.{pairs_flaw}
 use Rattle.word_pages.specs.Sealed.{is_sealed}
-use Rattle.word_pages.specs.Words.{words_of}
+use Rattle.word_pages.specs.Words.{words_in_bytes}
 use Rattle.base_head.specs.Fronts.{bad_of, pairs_of_words, starts_fault, starts_length}
 use Rattle.base_head.specs.Heads.{AreStartsOf}
-use Rattle.base_head.specs.Headers.{IsLengthOf, digest_place, front_length, starts_before}
+use Rattle.base_head.specs.Headers.{IsLengthOf, digest_place, front_length, starts_told}
 use Rattle.base_head.specs.declared.fault.FileFault.TheVariants as faults
 use Rattle.base_head.specs.declared.header.Header.{Header}
 
@@ -25,7 +25,7 @@ none-of : (pairs : List Bounds) → length pairs ≡ 0 → pairs ≡ []
 none-of [] is = refl
 none-of (pair ∷ pairs) is = absurd (omega (arith, is))
 
-pub starts-go : (name : StakesName) (match_length n : ℕ) (pairs : List Bounds) → IsLengthOf name match_length → n ≡ starts_before match_length name → length pairs ≡ n
+pub starts-go : (name : StakesName) (match_length n : ℕ) (pairs : List Bounds) → IsLengthOf name match_length → n ≡ starts_told match_length name → length pairs ≡ n
     → AreStartsOf name (record { match_length = starts_length name match_length; pairs = pairs })
 starts-go Cubeless match_length n pairs fitting before is = ap (λ (list : List Bounds). record { match_length = 1; pairs = list }) (none-of pairs (is ∙ before))
 starts-go Money match_length n pairs fitting before is = ap (λ (list : List Bounds). record { match_length = 1; pairs = list }) (none-of pairs (is ∙ before))
@@ -35,7 +35,7 @@ starts-go JacobyBeavers match_length n pairs fitting before is = ap (λ (list : 
 starts-go (Match score) match_length n pairs fitting before is = record { listed = fitting.listed; held = is ∙ before }
 
 pub sealed-starts : (header : Header) (bytes rest : List ℕ) → rest ≡ drop 64 bytes → is_sealed (take (front_length header) bytes) ≡ true
-    → starts_fault header bytes ≡ option_map bad_of (pairs_flaw header.version (point_units 1) 64 (words_of header.version (2 * header.starts) rest))
+    → starts_fault header bytes ≡ option_map bad_of (pairs_flaw header.version (point_units 1) 64 (words_in_bytes header.version (2 * header.starts) rest))
 sealed-starts header bytes rest same right =
-    ap (λ (b : Bool). if b then option_map bad_of (pairs_flaw header.version (point_units 1) 64 (words_of header.version (2 * header.starts) (drop 64 bytes))) else Some (record { fault = faults.HeadDigest; at = digest_place header })) right
-    ∙ ap (λ (r : List ℕ). option_map bad_of (pairs_flaw header.version (point_units 1) 64 (words_of header.version (2 * header.starts) r))) (sym same)
+    ap (λ (b : Bool). if b then option_map bad_of (pairs_flaw header.version (point_units 1) 64 (words_in_bytes header.version (2 * header.starts) (drop 64 bytes))) else Some (record { fault = faults.HeadDigest; at = digest_place header })) right
+    ∙ ap (λ (r : List ℕ). option_map bad_of (pairs_flaw header.version (point_units 1) 64 (words_in_bytes header.version (2 * header.starts) r))) (sym same)

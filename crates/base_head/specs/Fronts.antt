@@ -10,9 +10,9 @@ use Rattle.cube_actions.specs.declared.name.StakesName.TheVariants.{Match}
 use Rattle.cube_actions.specs.Stakes.{point_units}
 use Rattle.word_pages.specs.declared.flaws.Flaw.{Flaw}
 use Rattle.word_pages.specs.declared.version.Version.{Version}
-use Rattle.word_pages.specs.Flaws.{pairs_flaw, value_of}
+use Rattle.word_pages.specs.Flaws.{pairs_flaw, word_value}
 use Rattle.word_pages.specs.Sealed.{sealed, is_sealed}
-use Rattle.word_pages.specs.Words.{words_text, words_of}
+use Rattle.word_pages.specs.Words.{words_bytes, words_in_bytes}
 use Rattle.base_head.specs.Faults.{checked}
 use Rattle.base_head.specs.Heads.{FileHead}
 use Rattle.base_head.specs.Headers.{digest_place, front_length, header_text}
@@ -22,12 +22,12 @@ use Rattle.base_head.specs.declared.fault.FileFault.TheVariants as faults
 use Rattle.base_head.specs.declared.header.Header.{Header}
 
 -- the word that stands for a value
-abbrev pub word_of : ℤ → ℕ
-word_of value = nat_abs (value +ℤ pos (2 ^ 36))
+abbrev pub counted_word : ℤ → ℕ
+counted_word value = nat_abs (value +ℤ pos (2 ^ 36))
 
 -- the words of pairs, of each the lower one and then the upper one
 abbrev pub words_of_pair : Bounds → List ℕ
-words_of_pair pair = word_of pair.lower ∷ word_of pair.upper ∷ []
+words_of_pair pair = counted_word pair.lower ∷ counted_word pair.upper ∷ []
 
 abbrev pub words_of_pairs : List Bounds → List ℕ
 words_of_pairs pairs = flat_map words_of_pair pairs
@@ -35,7 +35,7 @@ words_of_pairs pairs = flat_map words_of_pair pairs
 -- the header, and the pairs of the starts in the order of the ladder
 abbrev pub head_text : Version → FileHead → List ℕ
 head_text version head =
-    header_text version head ++ words_text version (words_of_pairs head.starts.pairs)
+    header_text version head ++ words_bytes version (words_of_pairs head.starts.pairs)
 
 -- their digest, to which the pages are bound
 abbrev pub head_digest : Version → FileHead → List ℕ
@@ -54,11 +54,11 @@ abbrev pub pairs_of_words : List ℕ → List Bounds
 pairs_of_words [] = []
 pairs_of_words (word ∷ []) = []
 pairs_of_words (lower ∷ upper ∷ words) =
-    record { lower = value_of lower; upper = value_of upper } ∷ pairs_of_words words
+    record { lower = word_value lower; upper = word_value upper } ∷ pairs_of_words words
 
 -- the words of the starts, which follow the header
 abbrev pub start_words : Header → List ℕ → List ℕ
-start_words header bytes = words_of header.version (2 * header.starts) (drop 64 bytes)
+start_words header bytes = words_in_bytes header.version (2 * header.starts) (drop 64 bytes)
 
 -- the starts of stakes that aren't a match have the length 1
 abbrev pub starts_length : StakesName → ℕ → ℕ

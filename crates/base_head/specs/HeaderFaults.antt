@@ -12,7 +12,7 @@ use Rattle.cube_actions.specs.Names.{names_of}
 use Rattle.cube_actions.specs.Scores.{MatchScore}
 use Rattle.cube_actions.specs.Starts.{ladder_place}
 use Rattle.base_head.specs.Faults.{Check, check, first_wrong, checked}
-use Rattle.base_head.specs.Headers.{magic, file_length, starts_before, version_number}
+use Rattle.base_head.specs.Headers.{magic, file_length, starts_told, version_number}
 use Rattle.base_head.specs.declared.fault.BadFile.{BadFile}
 use Rattle.base_head.specs.declared.fault.FileFault.TheVariants as faults
 use Rattle.base_head.specs.declared.fields.Fields.{Fields}
@@ -139,7 +139,7 @@ count_checks fields =
     check faults.Head 36 (not (fields.kinds == length (names_of (name_in fields))))
     ∷ check faults.Head 40 (not (is_from_to 1 4096 fields.rounds))
     ∷ check faults.Head 44
-    (not (fields.starts == starts_before fields.match_length (name_in fields)))
+    (not (fields.starts == starts_told fields.match_length (name_in fields)))
     ∷ check faults.Head 48 (not (fields.positions == live_positions fields.checkers))
     ∷ check faults.Head 56 (not (fields.rest == 0))
     ∷ []

@@ -89,9 +89,9 @@ IsLengthOf (Match score) match_length = HasScore match_length score
 IsLengthOf _ match_length = match_length ≡ 0
 
 -- how many scores come before this one, 0 unless in a match
-abbrev pub starts_before : ℕ → StakesName → ℕ
-starts_before match_length (Match score) = ladder_place match_length score
-starts_before match_length _ = 0
+abbrev pub starts_told : ℕ → StakesName → ℕ
+starts_told match_length (Match score) = ladder_place match_length score
+starts_told match_length _ = 0
 
 -- what headers of heads say: the counts go with the stakes and the checkers
 pub record IsHeader (header : Header) : Type 0 where
@@ -102,7 +102,7 @@ pub record IsHeader (header : Header) : Type 0 where
   pub kinds : header.kinds ≡ length (names_of header.name)
   pub begun : 1 ≤ header.rounds
   pub ended : header.rounds ≤ 4096
-  pub starts : header.starts ≡ starts_before header.match_length header.name
+  pub starts : header.starts ≡ starts_told header.match_length header.name
   pub positions : header.positions ≡ live_positions header.checkers
 
 -- a field of four bytes, the highest first

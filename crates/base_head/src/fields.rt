@@ -4,7 +4,7 @@ ghost use Rattle.cube_actions.specs.Scores.{AreNeeds};
 ghost use Rattle.cube_actions.specs.Names.{names_of};
 ghost use Rattle.position_rank.specs.LiveRanks.{live_positions};
 ghost use Rattle.base_head.specs.Faults.{checked, first_wrong};
-ghost use Rattle.base_head.specs.Headers.{HasScore, IsHeader, IsLengthOf, starts_before};
+ghost use Rattle.base_head.specs.Headers.{HasScore, IsHeader, IsLengthOf, starts_told};
 ghost use Rattle.base_head.specs.HeaderFaults.{checkers_check, count_checks, field_checks, fields_of, header_in, is_length_of, is_phase_in, last_stakes, match_checks, name_in, number_at, other_checks, score_in, stakes_checks, version_in, version_check};
 
 use crate::fault::{BadFile, FileFault, check};
@@ -272,7 +272,7 @@ fn match_kind_count(score: Score, match_length: u8) -> u32
 /// How many scores come before that of a match of this length, 0 to 17.
 fn starts_before(name: StakesName, match_length: u8) -> u32
     requires { IsLengthOf name match_length }
-    ensures count { result ≡ starts_before match_length name }
+    ensures count { result ≡ starts_told match_length name }
     ensures few { result ≤ 17 }
 {
     match name {

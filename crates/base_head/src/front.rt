@@ -2,8 +2,8 @@ ghost use Rattle.std.specs.Prelude.{◌≡◌, ◌≤◌, ◌<◌, ◌+◌, ◌*
 ghost use Rattle.std.specs.Option.{option_map};
 ghost use Rattle.cube_actions.specs.Ladder.{ladder};
 ghost use Rattle.cube_actions.specs.Stakes.{point_units};
-ghost use Rattle.word_pages.specs.Flaws.{AreWithin, pairs_flaw};
-ghost use Rattle.word_pages.specs.Words.{words_of, words_text};
+ghost use Rattle.word_pages.specs.Flaws.{ArePairsWithin, pairs_flaw};
+ghost use Rattle.word_pages.specs.Words.{words_in_bytes, words_bytes};
 ghost use Rattle.base_head.specs.Faults.{checked};
 ghost use Rattle.base_head.specs.Fronts.{bad_of, digest_in, fault_of, front_text, head_digest, pairs_of_words, starts_length, starts_read, words_of_pairs};
 ghost use Rattle.base_head.specs.Heads.{AreStartsOf, HasText};
@@ -39,7 +39,7 @@ pub fn put_front<const N: usize>(
 fn put_starts<const N: usize>(starts: &Starts, version: Version, out: &mut ArrayVec<u8, N>)
     requires { length out.old.items + pair_size version * length starts.now.pairs ≤ N }
     ensures { out.new.items
-        ≡ out.old.items ++ words_text version (words_of_pairs starts.now.pairs) }
+        ≡ out.old.items ++ words_bytes version (words_of_pairs starts.now.pairs) }
 {
     'starts: for number in 0..starts.len() {
         let pair = starts.pair(number);
@@ -108,11 +108,11 @@ impl Header {
         requires places { 64 + length bytes.now < 2 ^ 64 }
         ensures { result ≡ checked
             (option_map bad_of (pairs_flaw self.now.version (point_units 1) 64
-            (words_of self.now.version (2 * self.now.starts) bytes.now)))
+            (words_in_bytes self.now.version (2 * self.now.starts) bytes.now)))
             (record {
               match_length = starts_length self.now.name self.now.match_length;
               pairs = pairs_of_words
-                  (words_of self.now.version (2 * self.now.starts) bytes.now);
+                  (words_in_bytes self.now.version (2 * self.now.starts) bytes.now);
             }) }
     {
         let mut cells = [0; 34];
@@ -151,7 +151,7 @@ fn starts_of_words(match_length: u8, words: &[u64]) -> Starts
     requires from { 1 ≤ match_length }
     requires to { match_length ≤ 5 }
     requires room { length words.now ≤ 2 * length (ladder match_length) }
-    requires right { AreWithin (point_units 1) words.now }
+    requires right { ArePairsWithin (point_units 1) words.now }
     ensures { result ≡ record {
       match_length = match_length;
       pairs = pairs_of_words words.now;

@@ -1,15 +1,15 @@
 -- The reports of advice: the plays of a roll from the best to the worst, or what to do with the cube.
 use Rattle.std.specs.Prelude.{ℕ, suc, ℤ, Bool, true, false, List, [], ◌∷◌, ◌++◌, codes, decimal, Option, Some, None}
 use Rattle.position_rank.specs.Placement.{Placement}
-use Rattle.position_rank.specs.Text.{position_text}
+use Rattle.position_text.specs.Text.{position_text}
 use Rattle.position_board.specs.Boards.{board_told}
 use Rattle.roll_table.specs.Rolls.{Dice}
 use Rattle.roll_table.specs.Text.{roll_text}
-use Rattle.move_rules.specs.Notation.{play_text}
+use Rattle.play_text.specs.Notation.{play_text}
 use Rattle.directed_fixed.specs.Bounds.{Bounds}
-use Rattle.directed_fixed.specs.Decimal.{millionths_up, millionths_text}
+use Rattle.point_text.specs.Decimal.{millionths_up, millionths_text}
 use Rattle.cube_actions.specs.declared.name.KindName.{KindName}
-use Rattle.cube_actions.specs.Names.{kind_text}
+use Rattle.cube_text.specs.Texts.{kind_text}
 use Rattle.game_record.specs.declared.decision.Offer.{Offer}
 use Rattle.game_record.specs.declared.decision.Offer.TheVariants.{NoDouble, Double}
 use Rattle.game_record.specs.declared.decision.Answer.{Answer}

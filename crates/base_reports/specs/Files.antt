@@ -2,10 +2,10 @@
 use Rattle.std.specs.Prelude.{ℕ, Bool, List, ◌++◌, codes}
 use Rattle.std.specs.List.{flat_map}
 use Rattle.position_rank.specs.Placement.{Placement}
-use Rattle.position_rank.specs.Text.{position_text}
+use Rattle.position_text.specs.Text.{position_text}
 use Rattle.position_board.specs.Boards.{board_told}
 use Rattle.position_id.specs.Ids.{id_told}
-use Rattle.cube_actions.specs.Names.{kind_text}
+use Rattle.cube_text.specs.Texts.{kind_text}
 use Rattle.equity_report.specs.declared.text.GameName.{GameName}
 use Rattle.equity_report.specs.Files.{rounds_text, written_text}
 use Rattle.equity_report.specs.Reports.{line, counted_text, pair_text}

@@ -3,14 +3,14 @@ use Rattle.std.specs.Prelude.{ℕ, List, [], ◌∷◌, ◌++◌, codes}
 use Rattle.std.specs.Fmt.{signed_decimal}
 use Rattle.std.specs.List.{flat_map}
 use Rattle.position_rank.specs.Placement.{Placement}
-use Rattle.position_rank.specs.Text.{position_text}
+use Rattle.position_text.specs.Text.{position_text}
 use Rattle.roll_table.specs.Rolls.{Dice}
 use Rattle.roll_table.specs.Text.{roll_text}
-use Rattle.move_rules.specs.Notation.{play_text}
+use Rattle.play_text.specs.Notation.{play_text}
 use Rattle.directed_fixed.specs.Bounds.{Bounds}
-use Rattle.directed_fixed.specs.Decimal.{millionths_down, millionths_up, millionths_text}
+use Rattle.point_text.specs.Decimal.{millionths_down, millionths_up, millionths_text}
 use Rattle.cube_actions.specs.declared.name.KindName.{KindName}
-use Rattle.cube_actions.specs.Names.{kind_text}
+use Rattle.cube_text.specs.Texts.{kind_text}
 use Rattle.play_analyser.specs.declared.ranking.PlayRow.{PlayRow}
 use Rattle.play_analyser.specs.declared.ranking.Ranking.{Ranking}
 use Rattle.equity_report.specs.declared.refusal.Refusal.{Refusal}

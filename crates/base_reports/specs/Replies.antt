@@ -2,10 +2,10 @@
 -- replies, and the pair that the file itself has.
 use Rattle.std.specs.Prelude.{ℕ, List, ◌++◌, codes}
 use Rattle.position_rank.specs.Placement.{Placement}
-use Rattle.position_rank.specs.Text.{position_text}
+use Rattle.position_text.specs.Text.{position_text}
 use Rattle.directed_fixed.specs.Bounds.{Bounds}
 use Rattle.cube_actions.specs.declared.name.KindName.{KindName}
-use Rattle.cube_actions.specs.Names.{kind_text}
+use Rattle.cube_text.specs.Texts.{kind_text}
 use Rattle.equity_report.specs.Reports.{line, points_text}
 
 -- the position and the kind, and the three pairs in points

@@ -2,9 +2,10 @@
 use Rattle.std.specs.Prelude.{ℕ, List, ◌++◌, codes, decimal, length, slice_get, []}
 use Rattle.std.specs.List.{flat_map}
 use Rattle.std.specs.Option.{option_map_or}
-use Rattle.position_rank.specs.Text.{position_text}
+use Rattle.position_text.specs.Text.{position_text}
 use Rattle.cube_actions.specs.declared.name.StakesName.{StakesName}
-use Rattle.cube_actions.specs.Names.{kind_text, names_of}
+use Rattle.cube_actions.specs.Names.{names_of}
+use Rattle.cube_text.specs.Texts.{kind_text}
 use Rattle.turn_rule.specs.States.{pair_of}
 use Rattle.interval_words.specs.WordLists.{WordList, states_of, words_in_list}
 use Rattle.base_scan.specs.declared.found.State.{State}

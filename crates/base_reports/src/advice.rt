@@ -1,21 +1,23 @@
 ghost use Rattle.std.specs.Prelude.{◌≡◌, ◌≤◌, ◌<◌, ◌++◌, ◌+◌, ◌*◌, All, codes, length};
 ghost use Rattle.outside_log.specs.Sink.{Puts};
-ghost use Rattle.move_rules.specs.Notation.{CanFollow};
+ghost use Rattle.play_text.specs.Notation.{CanFollow};
 ghost use Rattle.move_rules.specs.declared.play.TheConstants.{MOST_PLAYS};
 ghost use Rattle.roll_table.specs.Text.{roll_text};
-ghost use Rattle.cube_actions.specs.Names.{kind_text};
+ghost use Rattle.cube_text.specs.Texts.{kind_text};
 ghost use Rattle.equity_report.specs.Reports.{line, points_text};
 ghost use Rattle.base_reports.specs.Advice.{action_text, advised_text, answer_advised, answer_text, beaver_text, cube_report, offer_text, ranked_text, ranked_texts, ranking_text};
 
 use arrayvec::ArrayString;
 use cube_actions::KindName;
-use directed_fixed::{Fixed, Pair, print_up};
+use cube_text::print_kind;
+use directed_fixed::{Fixed, Pair};
 use equity_report::{Report, add_number, add_points, add_position};
 use game_record::{Answer, Offer};
 use hyper_outside::Failed;
-use move_rules::print_play;
 use outside_log::Sink;
 use play_analyser::{CubeAction, CubeAdvice, PlayRow, Ranking};
+use play_text::print_play;
+use point_text::print_up;
 use position_board::board_told;
 use position_rank::Position;
 use roll_table::Roll;
@@ -93,7 +95,7 @@ fn add_roll(report: &mut Report, roll: Roll, kind: KindName)
     report.push_str("roll ");
     report.push_str(roll.print().as_str());
     report.push_str(" kind ");
-    report.push_str(kind.print().as_str());
+    report.push_str(print_kind(kind).as_str());
     report.push_str("\n");
 }
 
@@ -197,7 +199,7 @@ pub(crate) fn add_kind(report: &mut Report, kind: KindName)
     ensures length { length report.new.bytes ≤ length report.old.bytes + 22 }
 {
     report.push_str("kind ");
-    report.push_str(kind.print().as_str());
+    report.push_str(print_kind(kind).as_str());
     report.push_str("\n");
 }
 

@@ -4,6 +4,7 @@ ghost use Rattle.outside_log.specs.Sink.{Puts};
 ghost use Rattle.base_reports.specs.Files.{migrated_text, row_text, shown_text, verified_text};
 
 use cube_actions::KindName;
+use cube_text::print_kind;
 use directed_fixed::Pair;
 use equity_report::{
     GameName, Report, add_counted, add_points, add_position, add_rounds, add_units, add_written,
@@ -67,7 +68,7 @@ fn add_row(report: &mut Report, row: &KindRow)
     ensures bytes { report.new.bytes ≡ report.old.bytes ++ row_text row.now }
     ensures length { length report.new.bytes ≤ length report.old.bytes + 149 }
 {
-    report.push_str(row.kind.print().as_str());
+    report.push_str(print_kind(row.kind).as_str());
     report.push_str(" ");
     add_points(report, row.pair);
     report.push_str(" ");

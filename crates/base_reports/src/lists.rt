@@ -1,16 +1,19 @@
 ghost use Rattle.std.specs.Prelude.{◌≡◌, ◌≤◌, ◌++◌, ◌+◌, ◌*◌, All, OnOk, length};
 ghost use Rattle.std.specs.List.{flat_map};
-ghost use Rattle.move_rules.specs.Notation.{CanFollow};
+ghost use Rattle.play_text.specs.Notation.{CanFollow};
 ghost use Rattle.base_reports.specs.Lists.{best_fields, next_field, pair_fields, best_play_line, refused_line, row_fields, shown_line};
 
 use crate::files::KindRow;
 use cube_actions::KindName;
-use directed_fixed::{Pair, print_down, print_units, print_up};
+use cube_text::print_kind;
+use directed_fixed::Pair;
 use equity_report::{Refusal, Report, add_refusal};
 use hyper_outside::NoMemory;
-use move_rules::print_play;
 use play_analyser::{PlayRow, Ranking};
-use position_rank::{Position, print_position};
+use play_text::print_play;
+use point_text::{print_down, print_units, print_up};
+use position_rank::Position;
+use position_text::print_position;
 use roll_table::Roll;
 
 /// Adds a field behind a tab.
@@ -40,7 +43,7 @@ fn add_row(line: &mut Report, row: &KindRow)
     ensures bytes { line.new.bytes ≡ line.old.bytes ++ row_fields row.now }
     ensures length { length line.new.bytes ≤ length line.old.bytes + 165 }
 {
-    add_field(line, row.kind.print().as_str());
+    add_field(line, print_kind(row.kind).as_str());
     add_pair(line, row.pair);
 }
 
@@ -98,7 +101,7 @@ pub fn add_best_play(
     let mut line = Report::new();
     line.push_str(print_position(position).as_str());
     add_field(&mut line, roll.print().as_str());
-    add_field(&mut line, kind.print().as_str());
+    add_field(&mut line, print_kind(kind).as_str());
     add_best(&mut line, position, ranking.rows.as_slice());
     add_field(&mut line, print_up(ranking.loss_bound).as_str());
     line.push_str("\n");

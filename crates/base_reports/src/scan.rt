@@ -5,11 +5,12 @@ ghost use Rattle.base_scan.specs.Found.{IsFoundState};
 ghost use Rattle.base_reports.specs.Scans.{found_end_text, found_text, scan_text};
 
 use base_scan::{Found, State};
+use cube_text::print_kind;
 use equity_report::{Report, add_counted, add_number, add_points};
 use hyper_outside::Failed;
 use interval_words::Words;
 use outside_log::Sink;
-use position_rank::print_position;
+use position_text::print_position;
 
 /// The line of a state that was found.
 fn found_line(words: &Words, state: &State) -> Report
@@ -18,7 +19,7 @@ fn found_line(words: &Words, state: &State) -> Report
 {
     let mut line = Report::new();
     let kind = usize::from(state.kind);
-    line.push_str(words.stakes().kind_name(kind).print().as_str());
+    line.push_str(print_kind(words.stakes().kind_name(kind)).as_str());
     line.push_str(" ");
     line.push_str(print_position(&state.position).as_str());
     line.push_str(" ");

@@ -3,7 +3,7 @@ use Rattle.std.proofs.Common.{◌≡◌, Bool, true, false, ◌&&◌, ◌||◌, 
 use Rattle.std.specs.List.{list_all, list_any}
 use Rattle.std.proofs.lemmas.Bool.{false≢true}
 use Rattle.position_rank.specs.Placement.{Placement}
-use Rattle.position_rank.proofs.PlaceTexts.{both-true}
+use Rattle.position_text.proofs.PlaceTexts.{both-true}
 use Rattle.interval_words.specs.WordLists.{WordList}
 use Rattle.base_scan.specs.declared.condition.Test.{Test}
 use Rattle.base_scan.specs.declared.condition.Field.{Field}

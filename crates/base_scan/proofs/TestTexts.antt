@@ -9,7 +9,7 @@ use Rattle.std.proofs.lemmas.Bool.Decides.{nat_tests, eqb_tells}
 use Rattle.std.proofs.lemmas.Fmt.{decimal_by_steps, decimal_digit, decimal_nonempty, decimal-digits_value, digits_decimal, first_decimal, parse-decimal}
 use Rattle.std.proofs.lemmas.Str.Parse.{IsNumeralModel, not_in_digits, numerals_by_value, parse_plain, tells_all_ascii_digits}
 use Rattle.std.proofs.lemmas.Str.Pattern.{IsSplitOnceResult, split_after, split_parts}
-use Rattle.position_rank.proofs.PlaceTexts.{both-true, lacks-append, lacks-at, lacks-middle}
+use Rattle.position_text.proofs.PlaceTexts.{both-true, lacks-append, lacks-at, lacks-middle}
 use Rattle.base_scan.specs.declared.condition.Comparison.{Comparison}
 use Rattle.base_scan.specs.declared.condition.Comparison.TheVariants.{Below, Equal, Above}
 use Rattle.base_scan.specs.declared.condition.Test.{Test}

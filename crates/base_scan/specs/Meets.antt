@@ -31,8 +31,8 @@ use Rattle.base_scan.specs.declared.condition.Comparison.TheVariants.{Below, Equ
 abbrev pub pips_at : List ℕ → ℕ → ℕ
 pips_at counts place = place * slice_index counts place
 
-abbrev pub pips : List ℕ → ℕ
-pips counts = sum (map (pips_at counts) (range_with_len 0 26))
+abbrev pub side_pips : List ℕ → ℕ
+side_pips counts = sum (map (pips_at counts) (range_with_len 0 26))
 
 -- ---- cube actions, over the words of a list
 
@@ -94,8 +94,8 @@ number_of words p k LowerWord = words_in_list words Lower p k
 number_of words p k UpperWord = words_in_list words Upper p k
 number_of words p k Width = width (pair_of (words_in_list words) p k)
 number_of words p k KindNumber = pos k
-number_of words p k Pips = pos (pips p.mover)
-number_of words p k OtherPips = pos (pips p.other)
+number_of words p k Pips = pos (side_pips p.mover)
+number_of words p k OtherPips = pos (side_pips p.other)
 number_of words p k Off = pos (slice_index p.mover 0)
 number_of words p k OtherOff = pos (slice_index p.other 0)
 number_of words p k OnBar = pos (slice_index p.mover 25)

@@ -10,11 +10,11 @@ use Rattle.interval_words.specs.WordLists.{WordList, states_of}
 use Rattle.base_scan.specs.declared.numbers.Seen.{Seen}
 use Rattle.base_scan.specs.declared.sides.Listed.{Listed}
 use Rattle.base_scan.specs.declared.sides.Side.{Side}
-use Rattle.base_scan.specs.Meets.{pips}
+use Rattle.base_scan.specs.Meets.{side_pips}
 
 -- the pips of these checkers, and how many of them are off and on the bar
 pub record IsSideOf (counts : List ℕ) (side : Side) : Type 0 where
-  pub pips_are : side.pips ≡ pips counts
+  pub pips_are : side.pips ≡ side_pips counts
   pub off : side.off ≡ slice_index counts 0
   pub on_bar : side.on_bar ≡ slice_index counts 25
 

@@ -1,5 +1,5 @@
 ghost use Rattle.std.specs.Prelude.{◌≡◌, ◌<◌, length, IfErr, IfOk, MatchOption};
-ghost use Rattle.position_rank.specs.Text.{words};
+ghost use Rattle.position_text.specs.Text.{words};
 ghost use Rattle.base_scan.specs.declared.condition.Part.{Part};
 ghost use Rattle.base_scan.specs.Groups.{TakesInPart, joint_of};
 ghost use Rattle.base_scan.specs.Conditions.{AreConditionWords, IsFirstBad, IsWordOf, MayComeInCondition};

@@ -1,6 +1,6 @@
 ghost use Rattle.std.specs.Prelude.{◌≡◌, ◌<◌, ◌≤◌, IfOk};
 ghost use Rattle.position_rank.specs.Ranks.{layouts, rank_of};
-ghost use Rattle.base_scan.specs.Meets.{pips};
+ghost use Rattle.base_scan.specs.Meets.{side_pips};
 ghost use Rattle.base_scan.specs.Sides.{AreLayoutsListed, IsLayoutListed, IsSideOf};
 
 use hyper_outside::NoMemory;
@@ -29,7 +29,7 @@ pub(crate) struct Listed {
 
 /// The sum of the places of a side's checkers.
 fn pips(layout: &Layout) -> u32
-    ensures { result ≡ pips layout.now }
+    ensures { result ≡ side_pips layout.now }
 {
     let mut pips: u32 = 0;
     for place in 0..26u8 {

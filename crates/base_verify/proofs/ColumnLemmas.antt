@@ -12,13 +12,13 @@ use Rattle.turn_rule.specs.States.{IsState}
 use Rattle.turn_rule.specs.Looks.{IsTurnPair, MayFollowTurn, all_told}
 use Rattle.turn_rule.proofs.Sure.{exact-pair}
 use Rattle.column_sums.specs.Leaps.{layout_at}
-use Rattle.column_turns.specs.Columns.{ColumnPairs}
+use Rattle.column_turns.specs.Columns.{ColumnPairs, IsRoomOf, position_in}
 use Rattle.column_turns.specs.Turns.{AreLiveMovers, AreTurnsOf}
 use Rattle.interval_words.specs.WordLists.{WordList, words_in_list, source_of}
 use Rattle.base_verify.specs.Findings.{WordHolds}
-use Rattle.base_verify.specs.Columns.{ColumnsHold, HasRoomFor, IsPositionTurned, PositionHolds, position_in}
+use Rattle.base_verify.specs.Columns.{ColumnsHold, IsPositionTurned, PositionHolds}
 
-module _ (words : WordList) (column : ColumnPairs) (rank : ℕ) (room : HasRoomFor words column) (inside : rank < layouts words.game.checkers) (other_is : column.other ≡ layout_at column.layouts rank) (movers : AreLiveMovers column.layouts column.other column.movers) where
+module _ (words : WordList) (column : ColumnPairs) (rank : ℕ) (room : IsRoomOf words.game column) (inside : rank < layouts words.game.checkers) (other_is : column.other ≡ layout_at column.layouts rank) (movers : AreLiveMovers column.layouts column.other column.movers) where
   here : rank < length column.layouts
   here = omega (arith, inside, room.layouts.many)
 

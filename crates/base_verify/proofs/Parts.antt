@@ -13,7 +13,7 @@ use Rattle.interval_words.specs.WordLists.{WordList}
 use Rattle.interval_words.proofs.Places.{state-same}
 use Rattle.base_verify.specs.declared.finding.Finding.{Finding}
 use Rattle.base_verify.specs.Findings.{WordHolds, HoldBetween, told_at, place_of_finding}
-use Rattle.base_verify.specs.Checks.{IsFindingOf, TellsBetween, IsFirstBetween, place_at}
+use Rattle.base_verify.specs.Checks.{IsFindingOf, TellsBetween, IsFirstBetween, word_place}
 
 add-mul-one : (n k : ℕ) → (n + 1) * k ≡ n * k + k
 add-mul-one n k = omega (arith, add-mul n 1 k)
@@ -82,14 +82,14 @@ module _ (words : WordList) where
         }
 
     -- one kind more of the position
-    pub kind-more : HoldBetween words (place_at words (live_rank_of p)) (word_of Lower (state_of (kinds_of words.game) p k)) → ((side : End) → WordHolds words side p k) → HoldBetween words (place_at words (live_rank_of p)) (word_of Lower (state_of (kinds_of words.game) p (k + 1)))
+    pub kind-more : HoldBetween words (word_place words (live_rank_of p)) (word_of Lower (state_of (kinds_of words.game) p k)) → ((side : End) → WordHolds words side p k) → HoldBetween words (word_place words (live_rank_of p)) (word_of Lower (state_of (kinds_of words.game) p (k + 1)))
     unfolding state_of
     kind-more held holds =
         let next : word_of Lower (state_of (kinds_of words.game) p k + 1) ≡ word_of Lower (state_of (kinds_of words.game) p (k + 1)) = omega arith in
-        subst (HoldBetween words (place_at words (live_rank_of p))) next (hold-more _ _ _ held (both-hold holds))
+        subst (HoldBetween words (word_place words (live_rank_of p))) next (hold-more _ _ _ held (both-hold holds))
 
     -- a finding of the position
-    pub kind-found : (f : Finding) → HoldBetween words (place_at words (live_rank_of p)) (word_of Lower (state_of (kinds_of words.game) p k)) → IsFindingOf words p k f → IsFirstBetween words (place_at words (live_rank_of p)) (place_at words (live_rank_of p + 1)) f
+    pub kind-found : (f : Finding) → HoldBetween words (word_place words (live_rank_of p)) (word_of Lower (state_of (kinds_of words.game) p k)) → IsFindingOf words p k f → IsFirstBetween words (word_place words (live_rank_of p)) (word_place words (live_rank_of p + 1)) f
     unfolding state_of
     kind-found f held is =
         let more : (live_rank_of p + 1) * kinds_of words.game ≡ live_rank_of p * kinds_of words.game + kinds_of words.game = add-mul-one (live_rank_of p) (kinds_of words.game) in
@@ -97,27 +97,27 @@ module _ (words : WordList) where
         (tells-after _ (word_of Lower (state_of (kinds_of words.game) p k)) _ (Some f) (omega arith) held (found-in f f.side is refl))
 
   -- no kind yet, and all kinds
-  pub no-kind : (p : Placement) → HoldBetween words (place_at words (live_rank_of p)) (word_of Lower (state_of (kinds_of words.game) p 0))
+  pub no-kind : (p : Placement) → HoldBetween words (word_place words (live_rank_of p)) (word_of Lower (state_of (kinds_of words.game) p 0))
   unfolding state_of
   no-kind p =
-      let same : place_at words (live_rank_of p) ≡ word_of Lower (state_of (kinds_of words.game) p 0) = omega arith in
-      subst (HoldBetween words (place_at words (live_rank_of p))) same (hold-none (place_at words (live_rank_of p)))
+      let same : word_place words (live_rank_of p) ≡ word_of Lower (state_of (kinds_of words.game) p 0) = omega arith in
+      subst (HoldBetween words (word_place words (live_rank_of p))) same (hold-none (word_place words (live_rank_of p)))
 
-  pub all-kinds : (p : Placement) (k : ℕ) → k ≡ kinds_of words.game → HoldBetween words (place_at words (live_rank_of p)) (word_of Lower (state_of (kinds_of words.game) p k)) → HoldBetween words (place_at words (live_rank_of p)) (place_at words (live_rank_of p + 1))
+  pub all-kinds : (p : Placement) (k : ℕ) → k ≡ kinds_of words.game → HoldBetween words (word_place words (live_rank_of p)) (word_of Lower (state_of (kinds_of words.game) p k)) → HoldBetween words (word_place words (live_rank_of p)) (word_place words (live_rank_of p + 1))
   unfolding state_of
   all-kinds p k all held =
       let more : (live_rank_of p + 1) * kinds_of words.game ≡ live_rank_of p * kinds_of words.game + kinds_of words.game = add-mul-one (live_rank_of p) (kinds_of words.game) in
-      let same : word_of Lower (state_of (kinds_of words.game) p k) ≡ place_at words (live_rank_of p + 1) = omega (arith, more, all) in
-      subst (HoldBetween words (place_at words (live_rank_of p))) same held
+      let same : word_of Lower (state_of (kinds_of words.game) p k) ≡ word_place words (live_rank_of p + 1) = omega (arith, more, all) in
+      subst (HoldBetween words (word_place words (live_rank_of p))) same held
 
   -- a later live rank has a later place
-  pub places-rise : (a b : ℕ) → a ≤ b → place_at words a ≤ place_at words b
+  pub places-rise : (a b : ℕ) → a ≤ b → word_place words a ≤ word_place words b
   places-rise a b le = let more : a * kinds_of words.game ≤ b * kinds_of words.game = mul-le-mul_right (kinds_of words.game) le in omega (arith, more)
 
   -- a finding of the next position
-  pub rank-found : (from rank to : ℕ) (p : Placement) (f : Finding) → live_rank_of p ≡ rank → from ≤ rank → rank < to → HoldBetween words (place_at words from) (place_at words rank)
-      → IsFirstBetween words (place_at words (live_rank_of p)) (place_at words (live_rank_of p + 1)) f → IsFirstBetween words (place_at words from) (place_at words to) f
+  pub rank-found : (from rank to : ℕ) (p : Placement) (f : Finding) → live_rank_of p ≡ rank → from ≤ rank → rank < to → HoldBetween words (word_place words from) (word_place words rank)
+      → IsFirstBetween words (word_place words (live_rank_of p)) (word_place words (live_rank_of p + 1)) f → IsFirstBetween words (word_place words from) (word_place words to) f
   rank-found from rank to p f is low high held told =
-      let here : IsFirstBetween words (place_at words rank) (place_at words (rank + 1)) f = subst (λ (r : ℕ). IsFirstBetween words (place_at words r) (place_at words (r + 1)) f) is told in
-      found-before (place_at words from) (place_at words (rank + 1)) (place_at words to) f (places-rise (rank + 1) to (omega (arith, high)))
-      (tells-after (place_at words from) (place_at words rank) (place_at words (rank + 1)) (Some f) (places-rise from rank low) held here)
+      let here : IsFirstBetween words (word_place words rank) (word_place words (rank + 1)) f = subst (λ (r : ℕ). IsFirstBetween words (word_place words r) (word_place words (r + 1)) f) is told in
+      found-before (word_place words from) (word_place words (rank + 1)) (word_place words to) f (places-rise (rank + 1) to (omega (arith, high)))
+      (tells-after (word_place words from) (word_place words rank) (word_place words (rank + 1)) (Some f) (places-rise from rank low) held here)

@@ -15,19 +15,19 @@ use Rattle.interval_words.specs.WordLists.{WordList, words_in_list}
 use Rattle.interval_words.proofs.Places.{state-in, state-same, word-same}
 use Rattle.base_verify.specs.declared.finding.Finding.{Finding}
 use Rattle.base_verify.specs.Findings.{WordHolds, HoldBetween, IsFinding, IsFirstFinding, IsLooser, told_at, place_of_finding, turn_over}
-use Rattle.base_verify.specs.Checks.{IsFirstBetween, place_at}
+use Rattle.base_verify.specs.Checks.{IsFirstBetween, word_place}
 
 module _ (words : WordList) where
   word-inside : (side : End) (p : Placement) (k n : ℕ) → state_of (kinds_of words.game) p k < n → told_at words side p k < word_of Lower n
   word-inside Lower p k n below = omega (arith, below)
   word-inside Upper p k n below = omega (arith, below)
 
-  pub all-hold : HoldBetween words (place_at words 0) (place_at words (live_positions words.game.checkers)) → AreConsistent words.game (words_in_list words)
+  pub all-hold : HoldBetween words (word_place words 0) (word_place words (live_positions words.game.checkers)) → AreConsistent words.game (words_in_list words)
   unfolding states_in
   all-hold held side p k state =
       held side p k state (omega arith) (word-inside side p k (live_positions words.game.checkers * kinds_of words.game) (state-in words.game.checkers (kinds_of words.game) p k state))
 
-  pub first-of-all : (to : ℕ) (f : Finding) → IsFirstBetween words (place_at words 0) to f → IsFirstFinding words f
+  pub first-of-all : (to : ℕ) (f : Finding) → IsFirstBetween words (word_place words 0) to f → IsFirstFinding words f
   first-of-all to f told = record {
     found = told.found;
     before = λ side p k state from below. told.before side p k state (omega arith) below;

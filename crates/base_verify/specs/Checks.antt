@@ -35,8 +35,8 @@ TellsBetween words from to None = HoldBetween words from to
 TellsBetween words from to (Some finding) = IsFirstBetween words from to finding
 
 -- where the words of the positions from this live rank on begin
-abbrev pub place_at : WordList → ℕ → ℕ
-place_at words rank = word_of Lower (rank * kinds_of words.game)
+abbrev pub word_place : WordList → ℕ → ℕ
+word_place words rank = word_of Lower (rank * kinds_of words.game)
 
 -- the first live rank of a part, where so many parts share all positions
 abbrev pub start_of : WordList → ℕ → ℕ → ℕ
@@ -47,11 +47,11 @@ pub record ArePartsTold (words : WordList) (parts : ℕ) (told : List (Option Fi
   pub many : length told ≡ parts
   pub each :
       (number : ℕ) → number < parts
-      → TellsBetween words (place_at words (start_of words parts number))
-      (place_at words (start_of words parts (number + 1)))
+      → TellsBetween words (word_place words (start_of words parts number))
+      (word_place words (start_of words parts (number + 1)))
       (slice_index_or told number None)
 
 -- nothing, where all words hold, else the first finding
 abbrev pub TellsAll : WordList → Option Finding → Type 0
 TellsAll words =
-    TellsBetween words (place_at words 0) (place_at words (live_positions words.game.checkers))
+    TellsBetween words (word_place words 0) (word_place words (live_positions words.game.checkers))

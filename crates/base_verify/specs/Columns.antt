@@ -4,14 +4,10 @@ use Rattle.std.specs.Global.{Global}
 use Rattle.position_rank.specs.Placement.{Placement}
 use Rattle.position_rank.specs.Ranks.{layouts, rank_of}
 use Rattle.directed_fixed.specs.declared.bounds.End.{End}
-use Rattle.directed_fixed.specs.Bounds.{Bounds}
-use Rattle.cube_actions.specs.Stakes.{nothing}
 use Rattle.hyper_outside.specs.declared.outside.NoMemory.{NoMemory}
 use Rattle.turn_rule.specs.Games.{kinds_of}
-use Rattle.turn_rule.specs.Layouts.{AreLayouts}
 use Rattle.turn_rule.specs.States.{IsState, pair_of}
-use Rattle.column_turns.specs.Columns.{ColumnPairs}
-use Rattle.column_turns.specs.Turns.{mover_at, place_in}
+use Rattle.column_turns.specs.Columns.{ColumnPairs, pair_in, position_in}
 use Rattle.interval_words.specs.WordLists.{WordList}
 use Rattle.base_verify.specs.Findings.{WordHolds, turn_over}
 
@@ -20,19 +16,6 @@ abbrev pub ColumnsHold : WordList → ℕ → ℕ → Type 0
 ColumnsHold words from to =
     (side : End) (p : Placement) (k : ℕ) → IsState words.game p k
     → from ≤ rank_of p.other → rank_of p.other < to → WordHolds words side p k
-
--- room for the columns of a list's game: all its layouts are at hand, and it has the game's kinds
-pub record HasRoomFor (words : WordList) (column : ColumnPairs) : Type 0 where
-  pub layouts : AreLayouts words.game.checkers column.layouts
-  pub kinds : column.kinds ≡ kinds_of words.game
-
--- one of a column's positions
-abbrev pub position_in : ColumnPairs → ℕ → Placement
-position_in column i = mover_at column.layouts column.other column.movers i
-
--- the pair of one of them in a kind
-abbrev pub pair_in : ColumnPairs → ℕ → ℕ → Bounds
-pair_in column i k = slice_index_or column.pairs (place_in column.kinds i k) nothing
 
 -- a column's position is a state in each kind, and its pairs are the turns over the words
 pub record IsPositionTurned (words : WordList) (column : ColumnPairs) (i : ℕ) : Type 0 where

@@ -1,7 +1,8 @@
 ghost use Rattle.std.specs.Prelude.{◌≡◌, ◌<◌, ◌+◌, ◌≤ℤ◌, IsTrue, length};
 ghost use Rattle.position_rank.specs.Ranks.{layouts};
 ghost use Rattle.turn_rule.specs.Games.{kinds_of};
-ghost use Rattle.base_verify.specs.Columns.{ColumnsHold, HasRoomFor, IsPositionTurned, PositionHolds, position_in};
+ghost use Rattle.base_verify.specs.Columns.{ColumnsHold, IsPositionTurned, PositionHolds};
+ghost use Rattle.column_turns.specs.Columns.{IsRoomOf, position_in};
 
 use column_turns::ColumnTurns;
 use directed_fixed::Pair;
@@ -35,9 +36,9 @@ fn position_holds(words: &Words, turns: &ColumnTurns, i: usize) -> bool
 
 /// Whether all words of a column hold, whose turns are worked out together.
 pub(crate) fn column_holds(words: &Words, turns: &mut ColumnTurns, other: usize) -> bool
-    requires room { HasRoomFor words.now turns.old }
+    requires room { IsRoomOf words.now.game turns.old }
     requires other { other < layouts words.now.game.checkers }
-    ensures room { HasRoomFor words.now turns.new }
+    ensures room { IsRoomOf words.now.game turns.new }
     ensures held { IsTrue result → ColumnsHold words.now other (other + 1) }
 {
     turns.fill(other, words.stakes(), &mut words.reader());

@@ -3,7 +3,7 @@ ghost use Rattle.position_rank.specs.LiveRanks.{live_positions, live_rank_of};
 ghost use Rattle.turn_rule.specs.Games.{kinds_of};
 ghost use Rattle.turn_rule.specs.States.{IsState, pair_of};
 ghost use Rattle.base_verify.specs.Findings.{turn_over};
-ghost use Rattle.base_verify.specs.Checks.{TellsState, TellsBetween, place_at};
+ghost use Rattle.base_verify.specs.Checks.{TellsState, TellsBetween, word_place};
 
 use crate::finding::Finding;
 use database_file::Base;
@@ -69,8 +69,8 @@ pub fn state_holds(
 /// The first finding in the states of a position, in their order.
 fn position_finding(words: &Words, ends: &RollEnds) -> Option<Finding>
     requires { (k : ℕ) → k < kinds_of words.now.game → IsState words.now.game ends.now k }
-    ensures { TellsBetween words.now (place_at words.now (live_rank_of ends.now))
-        (place_at words.now (live_rank_of ends.now + 1)) result }
+    ensures { TellsBetween words.now (word_place words.now (live_rank_of ends.now))
+        (word_place words.now (live_rank_of ends.now + 1)) result }
 {
     for kind in 0..words.stakes().kinds() {
         if let Some(finding) = state_finding(words, ends, kind) {
@@ -85,7 +85,7 @@ fn position_finding(words: &Words, ends: &RollEnds) -> Option<Finding>
 pub(crate) fn part_finding(words: &Words, from: u64, to: u64) -> Option<Finding>
     requires order { from ≤ to }
     requires inside { to ≤ live_positions words.now.game.checkers }
-    ensures { TellsBetween words.now (place_at words.now from) (place_at words.now to) result }
+    ensures { TellsBetween words.now (word_place words.now from) (word_place words.now to) result }
 {
     let mut list = PlayList::new();
     let mut ends = RollEnds::of(&Position::start(words.checkers()), &mut list);

@@ -14,9 +14,9 @@ use Rattle.turn_rule.specs.States.{IsState, pair_of}
 use Rattle.turn_rule.specs.Looks.{IsTurnPair, MayFollowTurn, all_told}
 use Rattle.turn_rule.proofs.Sure.{exact-pair}
 use Rattle.column_sums.specs.Leaps.{layout_at}
-use Rattle.column_turns.specs.Columns.{ColumnPairs}
+use Rattle.column_turns.specs.Columns.{ColumnPairs, IsRoomOf, pair_in, position_in}
 use Rattle.column_turns.specs.Turns.{AreLiveMovers, AreTurnsOf}
-use Rattle.best_reply.specs.Columns.{AreColumnsFilled, HasRoomFor, pair_in, position_in, source_by}
+use Rattle.best_reply.specs.Columns.{AreColumnsFilled, source_by}
 use Rattle.best_reply.specs.Tables.{IsBankOf, IsFilledTo, ArePairsPut, StatePairs, words_by}
 use Rattle.best_reply.proofs.Filling.{put-full, put-here, put-keeps}
 
@@ -26,7 +26,7 @@ pub record IsColumnPut (game : Game) (target : Words) (column : ColumnPairs) (ot
   pub before : (p : Placement) (k : ℕ) → IsState game p k → rank_of p.other < other → pair_of (words_by bank) p k ≡ pair_of target p k
   pub here : (i k : ℕ) → i < count → k < kinds_of game → pair_of (words_by bank) (position_in column i) k ≡ pair_of target (position_in column i) k
 
-module _ (game : Game) (column : ColumnPairs) (other : ℕ) (room : HasRoomFor game column) (inside : other < layouts game.checkers) (other_is : column.other ≡ layout_at column.layouts other) (movers : AreLiveMovers column.layouts column.other column.movers) where
+module _ (game : Game) (column : ColumnPairs) (other : ℕ) (room : IsRoomOf game column) (inside : other < layouts game.checkers) (other_is : column.other ≡ layout_at column.layouts other) (movers : AreLiveMovers column.layouts column.other column.movers) where
   there : other < length column.layouts
   there = omega (arith, inside, room.layouts.many)
 

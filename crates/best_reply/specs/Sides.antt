@@ -4,9 +4,8 @@ use Rattle.position_rank.specs.LiveRanks.{live_positions}
 use Rattle.turn_rule.specs.declared.game.Game.{Game}
 use Rattle.turn_rule.specs.Games.{IsGame}
 use Rattle.turn_rule.specs.Turn.{turn}
-use Rattle.column_turns.specs.Columns.{ColumnPairs}
+use Rattle.column_turns.specs.Columns.{ColumnPairs, IsRoomOf}
 use Rattle.interval_words.specs.WordLists.{WordList}
-use Rattle.best_reply.specs.Columns.{HasRoomFor}
 use Rattle.best_reply.specs.Outcomes.{IsAdvisedTo}
 use Rattle.best_reply.specs.declared.outcome.Outcome.{Outcome}
 use Rattle.best_reply.specs.declared.sweep.Banks.{Banks}
@@ -61,6 +60,6 @@ pub record IsReplyReady (words : WordList) (advice : List Outcome) (column : Col
     (now next : Banks) : Type 0 where
   pub game : IsGame words.game
   pub advised : IsAdvisedTo words (live_positions words.game.checkers) advice
-  pub columns : HasRoomFor words.game column
+  pub columns : IsRoomOf words.game column
   pub right : AreRightBanks words.game now
   pub room : AreBanksOf words.game next

@@ -3,7 +3,8 @@ ghost use Rattle.position_rank.specs.Ranks.{layouts};
 ghost use Rattle.position_rank.specs.LiveRanks.{live_positions};
 ghost use Rattle.turn_rule.specs.Turn.{turn};
 ghost use Rattle.best_reply.specs.Tables.{IsBankOf, IsFilledTo, ArePairsPut, IsRightBank, words_by};
-ghost use Rattle.best_reply.specs.Columns.{AreColumnsFilled, HasRoomFor, pair_in};
+ghost use Rattle.best_reply.specs.Columns.{AreColumnsFilled};
+ghost use Rattle.column_turns.specs.Columns.{IsRoomOf, pair_in};
 
 use crate::bank::Bank;
 use crate::bank_reader::BankReader;
@@ -26,11 +27,11 @@ fn put_pairs(rank: u64, turns: &ColumnTurns, i: usize, bank: &mut Bank)
 /// Gives each state of a column its turn over the other side's pairs.
 fn sweep_column(other: usize, words: &Words, turns: &mut ColumnTurns, old: &Bank, new: &mut Bank)
     requires other { other < layouts words.now.game.checkers }
-    requires room { HasRoomFor words.now.game turns.old }
+    requires room { IsRoomOf words.now.game turns.old }
     requires old { IsRightBank words.now.game old.now }
     requires before { AreColumnsFilled words.now.game
         (turn words.now.game.stakes (words_by old.now)) other new.old }
-    ensures room { HasRoomFor words.now.game turns.new }
+    ensures room { IsRoomOf words.now.game turns.new }
     ensures filled { AreColumnsFilled words.now.game
         (turn words.now.game.stakes (words_by old.now)) (other + 1) new.new }
 {
@@ -44,10 +45,10 @@ fn sweep_column(other: usize, words: &Words, turns: &mut ColumnTurns, old: &Bank
 
 /// Gives every state its turn over the other side's pairs, a column after the other.
 pub(crate) fn sweep_columns(words: &Words, turns: &mut ColumnTurns, old: &Bank, new: &mut Bank)
-    requires room { HasRoomFor words.now.game turns.old }
+    requires room { IsRoomOf words.now.game turns.old }
     requires old { IsRightBank words.now.game old.now }
     requires new { IsBankOf words.now.game new.old }
-    ensures room { HasRoomFor words.now.game turns.new }
+    ensures room { IsRoomOf words.now.game turns.new }
     ensures filled { IsFilledTo words.now.game (turn words.now.game.stakes (words_by old.now))
         (live_positions words.now.game.checkers) new.new }
 {

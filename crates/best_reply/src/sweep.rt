@@ -8,7 +8,7 @@ ghost use Rattle.turn_rule.specs.States.{IsState};
 ghost use Rattle.best_reply.specs.ReplyPairs.{turn_by};
 ghost use Rattle.best_reply.specs.Tables.{IsBankOf, IsFilledTo, ArePairsPut, IsRightBank, IsSmallSum, follow_sum, policy_of, sums_in, turn_from, words_by};
 ghost use Rattle.best_reply.specs.Outcomes.{IsAdvisedTo};
-ghost use Rattle.best_reply.specs.Columns.{HasRoomFor};
+ghost use Rattle.column_turns.specs.Columns.{IsRoomOf};
 ghost use Rattle.best_reply.specs.Sides.{AreBanksOf, AreRightBanks, AreSwept};
 
 use crate::advice::Advice;
@@ -120,10 +120,10 @@ pub(crate) fn sweep(
     new: &mut Banks,
 )
     requires advice { IsAdvisedTo words.now (live_positions words.now.game.checkers) advice.now }
-    requires room { HasRoomFor words.now.game turns.old }
+    requires room { IsRoomOf words.now.game turns.old }
     requires old { AreRightBanks words.now.game old.now }
     requires new { AreBanksOf words.now.game new.old }
-    ensures room { HasRoomFor words.now.game turns.new }
+    ensures room { IsRoomOf words.now.game turns.new }
     ensures swept { AreSwept words.now old.now new.new }
 {
     sweep_follower(words, advice, &old.reply, &mut new.follow);

@@ -5,7 +5,7 @@ use mathlib.Core.Option.{some, some-injective, some-ne-none}
 use Rattle.block_claims.specs.declared.views.Claim.{Claim}
 use Rattle.block_claims.specs.declared.views.ClaimView.{ClaimView}
 use Rattle.block_claims.specs.Views.{ClaimCore, often, fresh, AreKept}
-use Rattle.block_claims.specs.Events.{core, ClaimEvent, claims, splits, joins, LeadTo, start, more}
+use Rattle.block_claims.specs.Events.{claim_core, ClaimEvent, claims, splits, joins, LeadTo, start, more}
 use Rattle.block_claims.proofs.Keeps.{same_or, kept-claims, kept-splits, kept-joins}
 use Rattle.block_claims.proofs.Counting.{sum-parts, often-some}
 
@@ -19,7 +19,7 @@ long zero x = refl
 long (suc n) x = omega (arith, long n x)
 
 -- nobody has claimed anything
-pub kept-opening : (blocks : ℕ) → AreKept blocks (core (replicate blocks 0) (fresh ∷ []))
+pub kept-opening : (blocks : ℕ) → AreKept blocks (claim_core (replicate blocks 0) (fresh ∷ []))
 kept-opening blocks = record {
   many = long blocks 0;
   once = λ b r. omega arith;
@@ -31,12 +31,12 @@ kept-opening blocks = record {
   only zero w e = subst (λ (v : ClaimView). All (λ note. note.word ≤ get_or (replicate blocks 0) note.block 0) v.notes) (some-injective fresh w e) (λ i d h. absurd (omega (arith, h)))
   only (suc j) w e = absurd (some-ne-none w (sym e))
 
-pub kept-event : (blocks : ℕ) (words later : List ℕ) (views now : List ClaimView) → AreKept blocks (core words views) → ClaimEvent words views later now → AreKept blocks (core later now)
-kept-event blocks words later views now kept (claims seat view block round at inside low) = kept-claims blocks (core words views) seat view kept at block round (omega (arith, inside, kept.many)) low
-kept-event blocks words later views now kept (splits seat view at) = kept-splits blocks (core words views) seat view kept at
-kept-event blocks words later views now kept (joins seat other view taken at there apart) = kept-joins blocks (core words views) seat view kept at other taken there apart
+pub kept-event : (blocks : ℕ) (words later : List ℕ) (views now : List ClaimView) → AreKept blocks (claim_core words views) → ClaimEvent words views later now → AreKept blocks (claim_core later now)
+kept-event blocks words later views now kept (claims seat view block round at inside low) = kept-claims blocks (claim_core words views) seat view kept at block round (omega (arith, inside, kept.many)) low
+kept-event blocks words later views now kept (splits seat view at) = kept-splits blocks (claim_core words views) seat view kept at
+kept-event blocks words later views now kept (joins seat other view taken at there apart) = kept-joins blocks (claim_core words views) seat view kept at other taken there apart
 
-pub kept-reaches : (blocks : ℕ) (words : List ℕ) (views : List ClaimView) → LeadTo blocks words views → AreKept blocks (core words views)
+pub kept-reaches : (blocks : ℕ) (words : List ℕ) (views : List ClaimView) → LeadTo blocks words views → AreKept blocks (claim_core words views)
 kept-reaches blocks words views start = kept-opening blocks
 kept-reaches blocks words views (more before later were now reached event) = kept-event blocks before words were views (kept-reaches blocks before were reached) event
 

@@ -6,8 +6,8 @@ use Rattle.block_claims.specs.declared.views.ClaimView.{ClaimView}
 use Rattle.block_claims.specs.Views.{fresh, ClaimCore}
 use Rattle.block_claims.specs.Claiming.{after_claim, with_taken}
 
-abbrev pub core : List ℕ → List ClaimView → ClaimCore
-core words views = record { words = words; homes = []; views = views }
+abbrev pub claim_core : List ℕ → List ClaimView → ClaimCore
+claim_core words views = record { words = words; homes = []; views = views }
 
 -- the word of this block is the greater of itself and the round
 abbrev pub raised : List ℕ → ℕ → ℕ → List ℕ

@@ -4,15 +4,15 @@ ghost use mathlib.Core.Option.{some};
 ghost use Rattle.block_claims.specs.declared.views.Claim.{Claim};
 ghost use Rattle.block_claims.specs.declared.views.ClaimView.{ClaimView};
 ghost use Rattle.block_claims.specs.Views.{ClaimCore, AreKept, WasFound, WasClaimed};
-ghost use Rattle.block_claims.specs.Events.{core, ClaimEvent, LeadTo};
+ghost use Rattle.block_claims.specs.Events.{claim_core, ClaimEvent, LeadTo};
 
 /// Whatever events come, in any order, the rule of claims holds after them, and each event keeps it.
 pub fn claims_are_kept()
     ensures each { (blocks : ℕ) (words later : List ℕ) (views now : List ClaimView)
-        → AreKept blocks (core words views) → ClaimEvent words views later now
-        → AreKept blocks (core later now) }
+        → AreKept blocks (claim_core words views) → ClaimEvent words views later now
+        → AreKept blocks (claim_core later now) }
     ensures all { (blocks : ℕ) (words : List ℕ) (views : List ClaimView)
-        → LeadTo blocks words views → AreKept blocks (core words views) }
+        → LeadTo blocks words views → AreKept blocks (claim_core words views) }
 {}
 
 /// Where the rule holds, no two seats have the same claim.

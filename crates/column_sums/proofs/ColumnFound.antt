@@ -21,8 +21,8 @@ use Rattle.column_sums.specs.Cascade.{best_over, best_sum}
 use Rattle.column_sums.specs.Leaps.{layout_at}
 use Rattle.column_sums.specs.Cells.{cell_of}
 use Rattle.column_sums.specs.Tables.{IsRow}
-use Rattle.column_sums.specs.AfterHits.{AreDistinct, IsLayer, AreClosed}
-use Rattle.column_sums.specs.Values.{value_of}
+use Rattle.column_sums.specs.AfterHits.{AreDistinct, IsLayer, AreClosedByHits}
+use Rattle.column_sums.specs.Values.{cell_value}
 use Rattle.column_sums.specs.FoundCells.{placement_of, AreFoundCells}
 use Rattle.column_sums.proofs.RowValues.{row-values}
 use Rattle.column_sums.proofs.Found.{found-sum, all-best}
@@ -37,25 +37,25 @@ same-board m o q a b = ap (λ (x : List ℕ). record { mover = x; other = o }) a
 module _ (end : End) (s : Source) (stakes : Terms) (noted : Notes) (k : ℕ) (all others : List (List ℕ)) (row : List (Option ℤ)) (layouts-are : AreLayouts s.checkers all) (few : length all ≤ 3276) (eight : length others ≤ 8)
     (distinct : AreDistinct others) (is-row : IsRow row) (found : AreFoundCells end s noted (kind_at stakes k) all others row) where
   -- the value of the placement of a cell
-  cell-value : (layer rank : ℕ) → layer < length others → rank < length all → (x : ℤ) → get_or row (cell_of layer rank) None ≡ Some x → value_of others row (placement_of all others layer rank) ≡ x
+  cell-value : (layer rank : ℕ) → layer < length others → rank < length all → (x : ℤ) → get_or row (cell_of layer rank) None ≡ Some x → cell_value others row (placement_of all others layer rank) ≡ x
   unfolding best_over
   cell-value layer rank h r x e = some-is _ x _ e (row-values s.checkers all others row layouts-are few eight distinct is-row layer rank h r)
 
   end-found : (layer rank : ℕ) → layer < length others → rank < length all → (q : Placement) → placement_of all others layer rank ≡ q
-      → IsPosition q → LeavesState s (kind_at stakes k).next q → IsFound end s noted (IsLeft (kind_at stakes k).next q) s.bound (λ u. worth end (kind_at stakes k) u q) (value_of others row q)
+      → IsPosition q → LeavesState s (kind_at stakes k).next q → IsFound end s noted (IsLeft (kind_at stakes k).next q) s.bound (λ u. worth end (kind_at stakes k) u q) (cell_value others row q)
   end-found layer rank h r q is position leaves =
       let kind = kind_at stakes k in
       let leaves' : LeavesState s kind.next (placement_of all others layer rank) = subst (λ (b : Placement). LeavesState s kind.next b) (sym is) leaves in
       let here = found layer rank h r (subst IsPosition (sym is) position) leaves' in
       let value = cell-value layer rank h r here.0 here.1 in
       let at_cell = subst (λ (x : ℤ). IsFound end s noted (IsLeft kind.next (placement_of all others layer rank)) s.bound (λ u. worth end kind u (placement_of all others layer rank)) x) (sym value) here.2 in
-      subst (λ (b : Placement). IsFound end s noted (IsLeft kind.next b) s.bound (λ u. worth end kind u b) (value_of others row b)) is at_cell
+      subst (λ (b : Placement). IsFound end s noted (IsLeft kind.next b) s.bound (λ u. worth end kind u b) (cell_value others row b)) is at_cell
 
-  pub column-found : IsValid stakes → AreStakesOf s stakes → AreClosed others → (p : Placement) → IsStateOf s.checkers s.kinds p k → IsLayer others p.other
-      → IsFound end s noted (MayFollow stakes p k) (pos 36 *ℤ s.bound) (λ u. sum_over all_rolls (worth end (kind_at stakes k) u) p) (best_sum all_rolls (value_of others row) p)
+  pub column-found : IsValid stakes → AreStakesOf s stakes → AreClosedByHits others → (p : Placement) → IsStateOf s.checkers s.kinds p k → IsLayer others p.other
+      → IsFound end s noted (MayFollow stakes p k) (pos 36 *ℤ s.bound) (λ u. sum_over all_rolls (worth end (kind_at stakes k) u) p) (best_sum all_rolls (cell_value others row) p)
   column-found valid fits closed p state is =
-      subst (λ (x : ℤ). IsFound end s noted (MayFollow stakes p k) (pos 36 *ℤ s.bound) (λ u. sum_over all_rolls (worth end (kind_at stakes k) u) p) x) (all-best (value_of others row) p)
-      (found-sum end s stakes noted p k (value_of others row) (rw fits.bound (bound-positive stakes valid)) (λ roll q right m.
+      subst (λ (x : ℤ). IsFound end s noted (MayFollow stakes p k) (pos 36 *ℤ s.bound) (λ u. sum_over all_rolls (worth end (kind_at stakes k) u) p) x) (all-best (cell_value others row) p)
+      (found-sum end s stakes noted p k (cell_value others row) (rw fits.bound (bound-positive stakes valid)) (λ roll q right m.
       let legal = legal_ends-sound p roll q (Among-Contains q (legal_ends p roll) m) in
       let stays = legal_end-stays p roll q right state.position state.live legal in
       let layer = closed p roll q right is legal in

@@ -8,7 +8,7 @@ use Rattle.std.proofs.lemmas.Map.Steps.{length-le_from_distinct_below}
 use Rattle.std.proofs.lemmas.Map.Keys.{IsDistinct-from_apart}
 use Rattle.column_sums.specs.Cells.{IsCell, IsCellOrNone}
 use Rattle.column_sums.specs.declared.cells.Reach.{Reach}
-use Rattle.column_sums.specs.Listings.{IsListed, IsListing, AreKept, AreCells, IsListedOrNone, LeadsInto, AreUnmarked}
+use Rattle.column_sums.specs.Listings.{IsListed, IsListing, AreListedStill, AreCells, IsListedOrNone, LeadsInto, AreUnmarked}
 
 any-below : (xs : List ℕ) (n q : ℕ) → ((i : ℕ) → i < length xs → get_or xs i 0 < n) → list_any (eqb q) xs ≡ true → q < n
 any-below [] n q within e = absurd (grind arith)
@@ -128,17 +128,17 @@ unmark-more cells from i old now un h low = record {
   ];
 }
 
-pub kept-same : (cells : List ℕ) → AreKept cells cells
+pub kept-same : (cells : List ℕ) → AreListedStill cells cells
 kept-same cells = record { longer = omega arith; same = λ i h. refl }
 
-pub kept-again : (old now new : List ℕ) → AreKept old now → AreKept now new → AreKept old new
+pub kept-again : (old now new : List ℕ) → AreListedStill old now → AreListedStill now new → AreListedStill old new
 kept-again old now new a b = record { longer = omega (arith, a.longer, b.longer); same = λ i h. b.same i (omega (arith, h, a.longer)) ∙ a.same i h }
 
-pub listed-kept : (old new : List ℕ) (cell : ℕ) → AreKept old new → IsListedOrNone old cell → IsListedOrNone new cell
+pub listed-kept : (old new : List ℕ) (cell : ℕ) → AreListedStill old new → IsListedOrNone old cell → IsListedOrNone new cell
 listed-kept old new cell kept (inl none) = inl none
 listed-kept old new cell kept (inr (i, h, is)) = inr (i, omega (arith, h, kept.longer), kept.same i h ∙ is)
 
-pub into-kept : (old new : List ℕ) (reach : Reach) → AreKept old new → LeadsInto old reach → LeadsInto new reach
+pub into-kept : (old new : List ℕ) (reach : Reach) → AreListedStill old new → LeadsInto old reach → LeadsInto new reach
 into-kept old new reach kept into = record {
   first = listed-kept old new reach.first kept into.first;
   second = listed-kept old new reach.second kept into.second;
@@ -158,7 +158,7 @@ pub into-at : (reaches : List Reach) (i : ℕ) (d none : Reach) (cells : List �
     → IsListedOrNone cells (get_or reaches i d).first → IsListedOrNone cells (get_or reaches i d).second → IsListedOrNone cells (get_or reaches i d).third → LeadsInto cells (get_or reaches i none)
 into-at reaches i d none cells h a b c = subst (LeadsInto cells) (any-reach reaches i d none h) (record { first = a; second = b; third = c })
 
-pub listed-again : (old new : List ℕ) (cell : ℕ) → AreKept old new → IsListed old cell → IsListed new cell
+pub listed-again : (old new : List ℕ) (cell : ℕ) → AreListedStill old new → IsListed old cell → IsListed new cell
 listed-again old new cell kept (i, h, is) = (i, omega (arith, h, kept.longer), kept.same i h ∙ is)
 
 pub listed-some : (cells : List ℕ) (cell : ℕ) → cell < 4095 → IsListedOrNone cells cell → IsListed cells cell

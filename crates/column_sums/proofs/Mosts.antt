@@ -6,7 +6,7 @@ use Rattle.position_rank.specs.Placement.{Placement}
 use Rattle.move_rules.specs.Ends.{Line}
 use Rattle.move_rules.specs.Listing.{or_else}
 use Rattle.turn_rule.specs.Turn.{greatest}
-use Rattle.column_sums.specs.Cascade.{or_max, or_value, most}
+use Rattle.column_sums.specs.Cascade.{or_max, or_value, greatest_if_any}
 
 max_assoc : (a b c : ℤ) → int_max a (int_max b c) ≡ int_max (int_max a b) c
 max_assoc a b c = omega (arith, ints, clamps)
@@ -21,22 +21,22 @@ pub or_max-none : (a : Option ℤ) → or_max a None ≡ a
 or_max-none None = refl
 or_max-none (Some a) = refl
 
-pub most-append : (f : Placement → ℤ) (qs rs : List Placement) → most f (qs ++ rs) ≡ or_max (most f qs) (most f rs)
+pub most-append : (f : Placement → ℤ) (qs rs : List Placement) → greatest_if_any f (qs ++ rs) ≡ or_max (greatest_if_any f qs) (greatest_if_any f rs)
 most-append f [] rs = refl
-most-append f (q ∷ qs) rs = ap (λ (x : Option ℤ). or_max (Some (f q)) x) (most-append f qs rs) ∙ or_max-assoc (Some (f q)) (most f qs) (most f rs)
+most-append f (q ∷ qs) rs = ap (λ (x : Option ℤ). or_max (Some (f q)) x) (most-append f qs rs) ∙ or_max-assoc (Some (f q)) (greatest_if_any f qs) (greatest_if_any f rs)
 
 -- of a list that isn't empty
-pub most-greatest : (f : Placement → ℤ) (q : Placement) (qs : List Placement) → most f (q ∷ qs) ≡ Some (greatest f (q ∷ qs))
+pub most-greatest : (f : Placement → ℤ) (q : Placement) (qs : List Placement) → greatest_if_any f (q ∷ qs) ≡ Some (greatest f (q ∷ qs))
 most-greatest f q [] = refl
 most-greatest f q (r ∷ qs) = ap (λ (x : Option ℤ). or_max (Some (f q)) x) (most-greatest f r qs)
 
-pub most-is : (f : Placement → ℤ) (qs : List Placement) (x : ℤ) → most f qs ≡ Some x → greatest f qs ≡ x
+pub most-is : (f : Placement → ℤ) (qs : List Placement) (x : ℤ) → greatest_if_any f qs ≡ Some x → greatest f qs ≡ x
 most-is f [] x e = absurd (grind arith)
 most-is f (q ∷ qs) x e = grind (arith, most-greatest f q qs)
 
 -- the greatest value of the ends of some lines
 abbrev pub most_of : (Placement → ℤ) → List Line → Option ℤ
-most_of f lines = most f (map (λ (line : Line). line.1) lines)
+most_of f lines = greatest_if_any f (map (λ (line : Line). line.1) lines)
 
 pub most_of-append : (f : Placement → ℤ) (ls ms : List Line) → most_of f (ls ++ ms) ≡ or_max (most_of f ls) (most_of f ms)
 most_of-append f [] ms = refl

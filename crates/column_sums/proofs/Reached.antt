@@ -4,7 +4,7 @@ use Rattle.std.proofs.lemmas.Bool.{cases_lt}
 use Rattle.std.proofs.lemmas.List.{get_or_append_left, get_or-append-add}
 use Rattle.column_sums.specs.declared.cells.Reach.{Reach}
 use Rattle.column_sums.specs.Cells.{IsReach, IsCellOrNone}
-use Rattle.column_sums.specs.Listings.{AreKept, LeadsInto, LeadsToCells, IsListedOrNone}
+use Rattle.column_sums.specs.Listings.{AreListedStill, LeadsInto, LeadsToCells, IsListedOrNone}
 use Rattle.column_sums.specs.declared.moves.DieList.{DieList}
 use Rattle.column_sums.proofs.Listed.{kept-same, kept-again}
 use Rattle.column_sums.specs.MoveLists.{AreReaches, IsAmongOrNone, LeadsAmong, IsDieList}
@@ -30,7 +30,7 @@ reaches-push layouts others die cells reaches reach are h is cell = record {
 }
 
 -- more cells
-pub reaches-kept : (layouts others : List (List ℕ)) (die : ℕ) (old new : List ℕ) (reaches : List Reach) → AreKept old new → AreReaches layouts others die old reaches → AreReaches layouts others die new reaches
+pub reaches-kept : (layouts others : List (List ℕ)) (die : ℕ) (old new : List ℕ) (reaches : List Reach) → AreListedStill old new → AreReaches layouts others die old reaches → AreReaches layouts others die new reaches
 reaches-kept layouts others die old new reaches kept are = record {
   few = omega (arith, are.few, kept.longer);
   each = are.each;
@@ -41,7 +41,7 @@ pub leads-cells : (layouts others : List (List ℕ)) (die : ℕ) (cells : List �
 leads-cells layouts others die cells reaches are i none h = let is = are.each i none h in record { first = is.first; second = is.second; third = is.third }
 
 -- the first cells stay
-pub take-kept : (old new : List ℕ) → AreKept old new → take (length old) new ≡ old
+pub take-kept : (old new : List ℕ) → AreListedStill old new → take (length old) new ≡ old
 take-kept [] new kept = refl
 take-kept (x ∷ old) [] kept = absurd (omega (arith, kept.longer))
 take-kept (x ∷ old) (y ∷ new) kept =
@@ -51,7 +51,7 @@ take-kept (x ∷ old) (y ∷ new) kept =
 
 -- ---- the list of a die
 
-module _ (layouts others : List (List ℕ)) (die : ℕ) (cells last : List ℕ) (reaches : List Reach) (kept : AreKept cells last) (are : AreReaches layouts others die last reaches) (all : length reaches ≡ length last) where
+module _ (layouts others : List (List ℕ)) (die : ℕ) (cells last : List ℕ) (reaches : List Reach) (kept : AreListedStill cells last) (are : AreReaches layouts others die last reaches) (all : length reaches ≡ length last) where
   among : (cell : ℕ) → IsListedOrNone cells cell → IsAmongOrNone reaches (length cells) cell
   among cell (inl none) = inl none
   among cell (inr (i, h, is)) = inr (i, h, λ none. are.at i none (omega (arith, h, all, kept.longer)) ∙ (kept.same i h ∙ is))
@@ -60,7 +60,7 @@ module _ (layouts others : List (List ℕ)) (die : ℕ) (cells last : List ℕ) 
   leads-among reach into = record { first = among reach.first into.first; second = among reach.second into.second; third = among reach.third into.third }
 
 pub die-list : (layouts others : List (List ℕ)) (near one two : List ℕ) (die : ℕ) (r0 r1 r2 : List Reach) (list : DieList)
-    → AreKept near one → AreKept one two → length r0 ≤ length near → All (LeadsInto near) r0
+    → AreListedStill near one → AreListedStill one two → length r0 ≤ length near → All (LeadsInto near) r0
     → length r1 ≡ length near → ((i : ℕ) (none : Reach) → i < length r0 → get_or r1 i none ≡ get_or r0 i none) → All (LeadsInto one) r1
     → length r2 ≡ length one → ((i : ℕ) (none : Reach) → i < length r1 → get_or r2 i none ≡ get_or r1 i none) → All (LeadsInto two) r2
     → AreReaches layouts others die two list.reaches.items → length list.reaches.items ≡ length two → ((i : ℕ) (none : Reach) → i < length r2 → get_or list.reaches.items i none ≡ get_or r2 i none)

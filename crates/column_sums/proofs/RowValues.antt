@@ -8,7 +8,7 @@ use Rattle.column_sums.specs.Leaps.{layout_at}
 use Rattle.column_sums.specs.Cells.{cell_of, no_cell}
 use Rattle.column_sums.specs.Tables.{IsRow, IsTable}
 use Rattle.column_sums.specs.AfterHits.{AreDistinct}
-use Rattle.column_sums.specs.Values.{index_in, value_of}
+use Rattle.column_sums.specs.Values.{index_in, cell_value}
 
 distinct-rest : (x : List ℕ) (xs : List (List ℕ)) → AreDistinct (x ∷ xs) → AreDistinct xs
 distinct-rest x xs distinct i j h k = distinct (suc i) (suc j) (omega (arith, h)) (omega (arith, k))
@@ -28,7 +28,7 @@ filled_cell None x e = absurd (grind arith)
 filled_cell (Some y) x e = refl
 
 pub row-values : (checkers : ℕ) (layouts others : List (List ℕ)) (row : List (Option ℤ)) → AreLayouts checkers layouts → length layouts ≤ 3276 → length others ≤ 8 → AreDistinct others → IsRow row
-    → IsTable (value_of others row) [] layouts others row
+    → IsTable (cell_value others row) [] layouts others row
 unfolding best_over
 row-values checkers layouts others row all few eight distinct is layer rank h k =
     let some : cell_of layer rank ≢ no_cell = λ e. absurd (omega (arith, e, k, few)) in

@@ -5,7 +5,7 @@ use Rattle.position_rank.specs.Placement.{Placement}
 use Rattle.column_sums.specs.Cascade.{best_over}
 use Rattle.std.proofs.lemmas.List.{get_or-replicate, length-replicate}
 use Rattle.column_sums.specs.Cells.{no_cell, cell_of, IsCell, IsCellOrNone, cell_placement, best_from, IsReach}
-use Rattle.column_sums.specs.Tables.{IsRightAt, IsRightAfter, IsWithin, IsRow, IsTableOfCells, best_after}
+use Rattle.column_sums.specs.Tables.{IsRightAt, IsRightAfter, IsReachWithin, IsRow, IsTableOfCells, best_after}
 use Rattle.column_sums.specs.declared.cells.Reach.{Reach}
 use Rattle.column_sums.proofs.CellLemmas.{best-cell}
 
@@ -19,7 +19,7 @@ pub cell_or_none-low : (many layers cell : ℕ) → layers ≤ 8 → IsCellOrNon
 cell_or_none-low many layers cell few (inl none) = omega (arith, none)
 cell_or_none-low many layers cell few (inr is) = cell-low many layers cell few is
 
-pub reach-within : (layouts others : List (List ℕ)) (die : ℕ) (reach : Reach) → length layouts ≤ 3276 → length others ≤ 8 → IsReach layouts others die reach → IsWithin reach
+pub reach-within : (layouts others : List (List ℕ)) (die : ℕ) (reach : Reach) → length layouts ≤ 3276 → length others ≤ 8 → IsReach layouts others die reach → IsReachWithin reach
 reach-within layouts others die reach few layers is = record {
   cell = cell-low (length layouts) (length others) reach.cell layers is.cell;
   some = some-cell (length layouts) (length others) reach.cell few is.cell;

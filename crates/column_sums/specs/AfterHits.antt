@@ -26,8 +26,8 @@ abbrev pub IsLayer : List (List ℕ) → List ℕ → Type 0
 IsLayer others other = (layer : ℕ) × (layer < length others) × (layout_at others layer ≡ other)
 
 -- a legal play leaves the other side with one of the layers
-abbrev pub AreClosed : List (List ℕ) → Type 0
-AreClosed others = (p : Placement) (roll : Dice) (q : Placement) → IsRoll roll
+abbrev pub AreClosedByHits : List (List ℕ) → Type 0
+AreClosedByHits others = (p : Placement) (roll : Dice) (q : Placement) → IsRoll roll
     → IsLayer others p.other → IsLegalEnd p roll q → IsLayer others q.other
 
 -- among these layers, a single checker on one of the points below this one may be on the bar as well

@@ -53,9 +53,9 @@ best_of_roll value p roll = if roll.high == roll.low
     else best_pair value roll.high roll.low p
 
 -- the greatest value of some boards
-abbrev pub most : (Placement → ℤ) → List Placement → Option ℤ
-most value [] = None
-most value (q ∷ rest) = or_max (Some (value q)) (most value rest)
+abbrev pub greatest_if_any : (Placement → ℤ) → List Placement → Option ℤ
+greatest_if_any value [] = None
+greatest_if_any value (q ∷ rest) = or_max (Some (value q)) (greatest_if_any value rest)
 
 -- over some rolls, the sum of the best play's value, each roll as often as it comes
 abbrev pub best_sum : List (Dice × ℕ) → (Placement → ℤ) → Placement → ℤ
@@ -64,5 +64,5 @@ best_sum (roll ∷ rolls) value p =
     pos roll.1 *ℤ best_of_roll value p roll.0 +ℤ best_sum rolls value p
 
 -- the ends of some lines
-abbrev pub ends_of : List Line → List Placement
-ends_of lines = map (λ (line : Line). line.1) lines
+abbrev pub line_ends : List Line → List Placement
+line_ends lines = map (λ (line : Line). line.1) lines

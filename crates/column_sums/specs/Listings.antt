@@ -18,7 +18,7 @@ pub record IsListing (cells : List ℕ) (places : ℕ) (marks : List Bool) : Typ
   pub apart : (i j : ℕ) → i < j → j < length cells → slice_index cells i ≢ slice_index cells j
 
 -- the same cells at the same places, and more
-pub record AreKept (old new : List ℕ) : Type 0 where
+pub record AreListedStill (old new : List ℕ) : Type 0 where
   pub longer : length old ≤ length new
   pub same : (i : ℕ) → i < length old → slice_index new i ≡ slice_index old i
 

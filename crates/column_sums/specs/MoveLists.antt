@@ -49,13 +49,13 @@ pub record IsDieList (layouts others : List (List ℕ)) (near : List ℕ) (begun
       (slice_index_or list.reaches.items i none)
 
 -- room for what a die leads to from all cells
-abbrev pub HasRoom : DieList → Type 0
-HasRoom list = 32768 ≤ vec_capacity list.reaches
+abbrev pub HasListRoom : DieList → Type 0
+HasListRoom list = 32768 ≤ vec_capacity list.reaches
 
 -- six lists with room
 pub record AreRooms (lists : List DieList) : Type 0 where
   pub six : length lists ≡ 6
-  pub room : (i : ℕ) (none : DieList) → i < 6 → HasRoom (slice_index_or lists i none)
+  pub room : (i : ℕ) (none : DieList) → i < 6 → HasListRoom (slice_index_or lists i none)
 
 -- a turn begins in the first few of the cells, with the other side's layout of the first layer
 abbrev pub AreMovers : ℕ → List ℕ → ℕ → Type 0

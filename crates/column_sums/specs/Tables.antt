@@ -41,13 +41,13 @@ pub record IsRightAfter (value : Placement → ℤ) (dice : List ℕ) (layouts o
   pub third : IsRightAt value dice layouts others table reach.third
 
 -- the same in the cells of these
-abbrev pub AreRight : (Placement → ℤ) → List ℕ → List (List ℕ) → List (List ℕ) → List (Option ℤ)
+abbrev pub AreTableRight : (Placement → ℤ) → List ℕ → List (List ℕ) → List (List ℕ) → List (Option ℤ)
     → List Reach → Type 0
-AreRight value dice layouts others table reaches =
+AreTableRight value dice layouts others table reaches =
     All (λ reach. IsRightAt value dice layouts others table reach.cell) reaches
 
 -- these are within a table, and none of them is the missing cell
-pub record IsWithin (reach : Reach) : Type 0 where
+pub record IsReachWithin (reach : Reach) : Type 0 where
   pub cell : reach.cell < 32768
   pub some : reach.cell ≢ no_cell
   pub first : reach.first < 32768

@@ -12,6 +12,6 @@ index_in [] wanted = 0
 index_in (other ∷ others) wanted = if bytes_eq other wanted then 0 else suc (index_in others wanted)
 
 -- what the row of a column has for a placement, where the other side's checkers are one of these layers
-abbrev pub value_of : List (List ℕ) → List (Option ℤ) → Placement → ℤ
-value_of others row q =
+abbrev pub cell_value : List (List ℕ) → List (Option ℤ) → Placement → ℤ
+cell_value others row q =
     or_value (slice_index_or row (cell_of (index_in others q.other) (rank_of q.mover)) None) (pos 0)

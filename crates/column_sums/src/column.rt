@@ -2,7 +2,7 @@ ghost use Rattle.std.specs.Prelude.{◌≡◌, ◌<◌, ◌≤◌, ℕ, ℤ, All
 ghost use Rattle.position_rank.specs.Placement.{Placement};
 ghost use Rattle.roll_table.specs.Rolls.{all_rolls};
 ghost use Rattle.turn_rule.specs.Layouts.{AreLayouts};
-ghost use Rattle.column_sums.specs.AfterHits.{AreDistinct, AreClosed};
+ghost use Rattle.column_sums.specs.AfterHits.{AreDistinct, AreClosedByHits};
 ghost use Rattle.column_sums.specs.ColumnOf.{AreColumnSums};
 ghost use Rattle.column_sums.specs.Leaps.{layout_at};
 ghost use Rattle.column_sums.specs.Listings.{IsListed};
@@ -96,7 +96,7 @@ impl Column {
         ensures count { result ≡ length self.now.others }
         ensures few { result ≤ 8 }
         ensures distinct { AreDistinct self.now.others }
-        ensures closed { AreClosed self.now.others }
+        ensures closed { AreClosedByHits self.now.others }
     {
         self.moves.layers.count()
     }

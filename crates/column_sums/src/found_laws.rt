@@ -9,11 +9,11 @@ ghost use Rattle.turn_rule.specs.Looks.{Source, Notes, AreStakesOf};
 ghost use Rattle.turn_rule.specs.States.{IsStateOf};
 ghost use Rattle.turn_rule.specs.Found.{IsFoundOf, of_play, of_sum};
 ghost use Rattle.turn_rule.specs.Layouts.{AreLayouts};
-ghost use Rattle.column_sums.specs.AfterHits.{AreDistinct, AreClosed, IsLayer};
+ghost use Rattle.column_sums.specs.AfterHits.{AreDistinct, AreClosedByHits, IsLayer};
 ghost use Rattle.column_sums.specs.Cascade.{best_sum};
 ghost use Rattle.column_sums.specs.FoundCells.{AreFoundCells};
 ghost use Rattle.column_sums.specs.Tables.{IsRow};
-ghost use Rattle.column_sums.specs.Values.{value_of};
+ghost use Rattle.column_sums.specs.Values.{cell_value};
 
 /// What was found of the ends of all rolls, each as it was looked up, makes the sum over the rolls found.
 pub fn found_ends_give_the_sum()
@@ -31,9 +31,9 @@ pub fn found_cells_give_the_sum()
         (layouts others : List (List ℕ)) (row : List (Option ℤ)) → IsValid stakes
         → AreStakesOf source stakes
         → AreLayouts source.checkers layouts → length layouts ≤ 3276 → length others ≤ 8
-        → AreDistinct others → AreClosed others → IsRow row
+        → AreDistinct others → AreClosedByHits others → IsRow row
         → AreFoundCells end source noted (kind_at stakes k) layouts others row
         → (p : Placement) → IsStateOf source.checkers source.kinds p k → IsLayer others p.other
         → IsFoundOf end (of_sum stakes p k) source noted
-        (best_sum all_rolls (value_of others row) p) }
+        (best_sum all_rolls (cell_value others row) p) }
 {}

@@ -6,15 +6,15 @@ ghost use Rattle.move_rules.specs.Listing.{full};
 ghost use Rattle.turn_rule.specs.Turn.{greatest, sum_over};
 ghost use Rattle.turn_rule.specs.Layouts.{AreLayouts};
 ghost use Rattle.column_sums.specs.AfterHits.{AreDistinct};
-ghost use Rattle.column_sums.specs.Cascade.{over_places, best_over, best_of_roll, best_sum, most, ends_of};
+ghost use Rattle.column_sums.specs.Cascade.{over_places, best_over, best_of_roll, best_sum, greatest_if_any, line_ends};
 ghost use Rattle.column_sums.specs.Columns.{Step, step_from, landed_if, steps_from, over_steps, AreStruck};
 ghost use Rattle.column_sums.specs.Tables.{IsRow, IsTable};
-ghost use Rattle.column_sums.specs.Values.{value_of};
+ghost use Rattle.column_sums.specs.Values.{cell_value};
 
 /// What is found die by die is the greatest value of the ends of the lines that use these dice, or missing where there is none.
 pub fn lines_are_searched()
     ensures { (value : Placement → ℤ) (dice : List ℕ) (p : Placement)
-        → most value (ends_of (full dice [] p)) ≡ best_over value dice p }
+        → greatest_if_any value (line_ends (full dice [] p)) ≡ best_over value dice p }
 {}
 
 /// Whether a value is missing doesn't depend on the values.
@@ -65,5 +65,5 @@ pub fn rows_have_values()
     ensures { (checkers : ℕ) (layouts others : List (List ℕ)) (row : List (Option ℤ))
         → AreLayouts checkers layouts → length layouts ≤ 3276 → length others ≤ 8
         → AreDistinct others → IsRow row
-        → IsTable (value_of others row) [] layouts others row }
+        → IsTable (cell_value others row) [] layouts others row }
 {}

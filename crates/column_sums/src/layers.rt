@@ -1,7 +1,7 @@
 ghost use Rattle.std.specs.Prelude.{◌≡◌, ◌≢◌, ◌<◌, ◌≤◌, ◌↔◌, ◌+◌, ℕ, IsTrue, IfOk, [], length, slice_index, vec_capacity};
 ghost use Rattle.position_rank.specs.Placement.{IsLayout, moved};
 ghost use Rattle.column_sums.specs.Leaps.{layout_at, IsNext, AreNext, AreNextTo};
-ghost use Rattle.column_sums.specs.AfterHits.{AreLayers, AreDistinct, AreClosed, AreHits, AreHitOn, AreHitBelow, AreMore, IsLayer};
+ghost use Rattle.column_sums.specs.AfterHits.{AreLayers, AreDistinct, AreClosedByHits, AreHits, AreHitOn, AreHitBelow, AreMore, IsLayer};
 
 use hyper_outside::NoMemory;
 use position_rank::Layout;
@@ -63,7 +63,7 @@ impl Layers {
         ensures count { result ≡ length self.now }
         ensures few { result ≤ 8 }
         ensures distinct { AreDistinct self.now }
-        ensures closed { AreClosed self.now }
+        ensures closed { AreClosedByHits self.now }
     {
         self.others.len()
     }

@@ -1,6 +1,6 @@
 ghost use Rattle.std.specs.Prelude.{◌≡◌, ◌≢◌, ◌⊎◌, ◌<◌, ◌≤◌, ℕ, All, [], IfOk, length, replicate, take, slice_index, false};
 ghost use Rattle.column_sums.specs.Cells.{IsCellOrNone};
-ghost use Rattle.column_sums.specs.Listings.{AreKept, AreCells, AreUnmarked, IsListed, IsListedOrNone, LeadsInto, LeadsToCells};
+ghost use Rattle.column_sums.specs.Listings.{AreListedStill, AreCells, AreUnmarked, IsListed, IsListedOrNone, LeadsInto, LeadsToCells};
 
 use crate::cells::{CELLS, NO_CELL, Reach};
 use hyper_outside::NoMemory;
@@ -60,7 +60,7 @@ impl Listing {
     #[inline]
     pub(crate) fn add(&mut self, cell: u16)
         requires { cell < 32768 }
-        ensures kept { AreKept self.old self.new }
+        ensures kept { AreListedStill self.old self.new }
         ensures listed { IsListedOrNone self.new cell }
         ensures only { (i : ℕ) → i < length self.new
             → IsListed self.old (slice_index self.new i) ⊎ (slice_index self.new i ≡ cell) }
@@ -77,7 +77,7 @@ impl Listing {
     /// Lists the cells that these lead to, unless they are listed.
     pub(crate) fn add_after(&mut self, reaches: &[Reach])
         requires { All (LeadsToCells 4095 8) reaches.now }
-        ensures kept { AreKept self.old self.new }
+        ensures kept { AreListedStill self.old self.new }
         ensures listed { All (LeadsInto self.new) reaches.now }
         ensures cells { (many layers : ℕ) → AreCells many layers self.old
             → All (LeadsToCells many layers) reaches.now → AreCells many layers self.new }

@@ -1,8 +1,8 @@
 ghost use Rattle.std.specs.Prelude.{◌≡◌, ◌+◌, ◌-◌, ◌<◌, ◌≤◌, ℕ, All, IfOk, [], length, slice_index, slice_index_or, vec_capacity};
 ghost use Rattle.turn_rule.specs.Layouts.{AreLayouts};
 ghost use Rattle.column_sums.specs.Leaps.{layout_at};
-ghost use Rattle.column_sums.specs.Listings.{IsListed, AreKept, AreCells, LeadsInto, LeadsToCells};
-ghost use Rattle.column_sums.specs.MoveLists.{AreReaches, AreReady, AreRooms, AreBegun, AreDieLists, IsEmpty, IsMover, HasRoom, IsDieList};
+ghost use Rattle.column_sums.specs.Listings.{IsListed, AreListedStill, AreCells, LeadsInto, LeadsToCells};
+ghost use Rattle.column_sums.specs.MoveLists.{AreReaches, AreReady, AreRooms, AreBegun, AreDieLists, IsEmpty, IsMover, HasListRoom, IsDieList};
 ghost use Rattle.column_sums.specs.declared.cells.Reach.{Reach as ReachData};
 ghost use Rattle.column_sums.specs.declared.moves.DieList.{DieList as DieListData};
 
@@ -94,7 +94,7 @@ fn list_one_die(listing: &mut Listing, lists: &[DieList; 6])
     requires six { length lists.now ≡ 6 }
     requires cells { (i : ℕ) (none : DieListData) → i < 6
         → All (LeadsToCells 4095 8) (slice_index_or lists.now i none).reaches.items }
-    ensures kept { AreKept listing.old listing.new }
+    ensures kept { AreListedStill listing.old listing.new }
     ensures listed { (i : ℕ) (none : DieListData) → i < 6
         → All (LeadsInto listing.new) (slice_index_or lists.now i none).reaches.items }
     ensures cells { (many layers : ℕ) → AreCells many layers listing.old
@@ -114,11 +114,11 @@ fn finish(steps: &Steps, layers: &Layers, die: u8, listing: &mut Listing, list: 
     requires few { length steps.now ≤ 3276 }
     requires layers { length layers.now ≤ 8 }
     requires cells { AreCells (length steps.now) (length layers.now) listing.old }
-    requires room { HasRoom list.old }
+    requires room { HasListRoom list.old }
     requires begun { AreReaches steps.now layers.now die listing.old list.old.reaches.items }
     requires listed { All (LeadsInto listing.old) list.old.reaches.items }
     ensures same { listing.new ≡ listing.old }
-    ensures room { HasRoom list.new }
+    ensures room { HasListRoom list.new }
     ensures list { IsDieList steps.now layers.now listing.old
         (length list.old.reaches.items) die list.new }
 {
@@ -204,7 +204,7 @@ impl Moves {
 
 /// A list with nothing in it, and room for all cells.
 fn empty_list(alloc: Global) -> Result<DieList, NoMemory>
-    ensures room { IfOk result HasRoom }
+    ensures room { IfOk result HasListRoom }
     ensures empty { IfOk result IsEmpty }
 {
     let reaches = Vec::with_capacity(alloc, CELLS)?;

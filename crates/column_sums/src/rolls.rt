@@ -4,7 +4,7 @@ ghost use Rattle.directed_fixed.specs.Bounds.{IsWithinUnits};
 ghost use Rattle.column_sums.specs.Cascade.{best_pair, best_double};
 ghost use Rattle.column_sums.specs.Cells.{IsReach, cell_placement};
 ghost use Rattle.column_sums.specs.Rolls.{IsPairReady, IsDoubleReady, fewer_of_pair, fewer_of_double};
-ghost use Rattle.column_sums.specs.Tables.{IsWithin};
+ghost use Rattle.column_sums.specs.Tables.{IsReachWithin};
 
 use crate::best::Best;
 use crate::cells::Reach;
@@ -36,8 +36,8 @@ pub(crate) fn best_pair(
     after_high: &[Best],
     after_low: &[Best],
 ) -> Fixed
-    requires high { IsWithin high.now }
-    requires low { IsWithin low.now }
+    requires high { IsReachWithin high.now }
+    requires low { IsReachWithin low.now }
     requires row { length row.now ≡ 32768 }
     requires after_high { length after_high.now ≡ 32768 }
     requires after_low { length after_low.now ≡ 32768 }
@@ -83,7 +83,7 @@ pub(crate) fn best_double(
     two: &[Best],
     three: &[Best],
 ) -> Fixed
-    requires reach { IsWithin reach.now }
+    requires reach { IsReachWithin reach.now }
     requires row { length row.now ≡ 32768 }
     requires one { length one.now ≡ 32768 }
     requires two { length two.now ≡ 32768 }

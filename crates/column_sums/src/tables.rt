@@ -2,7 +2,7 @@ ghost use Rattle.std.specs.Prelude.{◌≡◌, ◌^◌, ◌<◌, ◌≤◌, ℕ,
 ghost use Rattle.position_rank.specs.Placement.{Placement};
 ghost use Rattle.directed_fixed.specs.Bounds.{IsWithinUnits};
 ghost use Rattle.column_sums.specs.Cells.{IsReach, cell_of, no_cell};
-ghost use Rattle.column_sums.specs.Tables.{IsRow, IsTableOfCells, IsWithin, IsRightAfter, AreRight, best_after};
+ghost use Rattle.column_sums.specs.Tables.{IsRow, IsTableOfCells, IsReachWithin, IsRightAfter, AreTableRight, best_after};
 
 use crate::best::Best;
 use crate::cells::{CELLS, NO_CELL, Reach};
@@ -98,12 +98,12 @@ impl Table {
     /// One die more: in each of these cells, the best of the cells that it leads to in a table of the dice after it.
     pub(crate) fn fill(&mut self, reaches: &[Reach], from: &[Best])
         requires from { length from.now ≡ 32768 }
-        requires reaches { All IsWithin reaches.now }
+        requires reaches { All IsReachWithin reaches.now }
         ensures filled { (value : Placement
             → ℤ) (dice : List ℕ) (layouts others : List (List ℕ)) (die : ℕ)
             → length layouts ≤ 3276 → All (IsReach layouts others die) reaches.now
             → All (IsRightAfter value dice layouts others from.now) reaches.now
-            → AreRight value (die ∷ dice) layouts others self.new reaches.now }
+            → AreTableRight value (die ∷ dice) layouts others self.new reaches.now }
     {
         fill_cells(reaches, from, &mut self.cells);
     }
@@ -121,7 +121,7 @@ fn cells_of(alloc: Global, value: Best, count: usize) -> Result<Vec<Best>, NoMem
 #[inline]
 pub(crate) fn best_after(table: &[Best], reach: &Reach) -> Best
     requires table { length table.now ≡ 32768 }
-    requires reach { IsWithin reach.now }
+    requires reach { IsReachWithin reach.now }
     ensures { result ≡ best_after table.now reach.now }
 {
     let first = table[usize::from(reach.first)];
@@ -134,13 +134,13 @@ pub(crate) fn best_after(table: &[Best], reach: &Reach) -> Best
 fn fill_cells(reaches: &[Reach], from: &[Best], to: &mut [Best])
     requires from { length from.now ≡ 32768 }
     requires to { length to.old ≡ 32768 }
-    requires reaches { All IsWithin reaches.now }
+    requires reaches { All IsReachWithin reaches.now }
     ensures missing { slice_index_or to.new no_cell None ≡ slice_index_or to.old no_cell None }
     ensures filled { (value : Placement
         → ℤ) (dice : List ℕ) (layouts others : List (List ℕ)) (die : ℕ)
         → length layouts ≤ 3276 → All (IsReach layouts others die) reaches.now
         → All (IsRightAfter value dice layouts others from.now) reaches.now
-        → AreRight value (die ∷ dice) layouts others to.new reaches.now }
+        → AreTableRight value (die ∷ dice) layouts others to.new reaches.now }
 {
     for reach in reaches {
         to[usize::from(reach.cell)] = best_after(from, reach);

@@ -8,11 +8,11 @@ use Rattle.cube_actions.specs.Stakes.{Terms, kind_at, IsValid}
 use Rattle.turn_rule.specs.Looks.{Source, Notes, AreStakesOf}
 use Rattle.turn_rule.specs.Found.{IsFoundOf, of_sum}
 use Rattle.column_sums.specs.Leaps.{layout_at}
-use Rattle.column_sums.specs.AfterHits.{AreDistinct, AreClosed}
+use Rattle.column_sums.specs.AfterHits.{AreDistinct, AreClosedByHits}
 use Rattle.column_sums.specs.Tables.{IsTable, IsRow}
 use Rattle.column_sums.specs.ColumnOf.{ColumnOf, AreColumnSums}
 use Rattle.column_sums.specs.FoundCells.{AreFoundCells}
-use Rattle.column_sums.specs.Values.{value_of}
+use Rattle.column_sums.specs.Values.{cell_value}
 use Rattle.turn_rule.proofs.Within.{bound-positive, bound-small}
 use Rattle.turn_rule.proofs.RollSums.{sum-small}
 use Rattle.column_sums.proofs.RowValues.{row-values}
@@ -21,7 +21,7 @@ use Rattle.column_turns.specs.Rows.{AreFoundLayers}
 use Rattle.column_turns.specs.Turns.{mover_at, IsColumnOf}
 
 module _ (end : End) (s : Source) (stakes : Terms) (noted : Notes) (k : ℕ) (column : ColumnOf) (row : List (Option ℤ)) (one : List ℤ) where
-  pub sums-found : IsValid stakes → AreStakesOf s stakes → IsColumnOf s column.layouts column.others column.movers → length column.others ≤ 8 → AreDistinct column.others → AreClosed column.others → IsRow row → k < length stakes.kinds
+  pub sums-found : IsValid stakes → AreStakesOf s stakes → IsColumnOf s column.layouts column.others column.movers → length column.others ≤ 8 → AreDistinct column.others → AreClosedByHits column.others → IsRow row → k < length stakes.kinds
       → AreFoundLayers end s noted (kind_at stakes k) column.layouts column.others row (length column.others)
       → ((value : Placement → ℤ) → IsTable value [] column.layouts column.others row → AreColumnSums value column all_rolls one)
       → (i : ℕ) → i < length column.movers → IsFoundOf end (of_sum stakes (mover_at column.layouts (layout_at column.others 0) column.movers i) k) s noted (get_or one i (pos 0))
@@ -30,7 +30,7 @@ module _ (end : End) (s : Source) (stakes : Terms) (noted : Notes) (k : ℕ) (co
       let others = column.others in
       let p = mover_at layouts (layout_at others 0) column.movers i in
       let cells : AreFoundCells end s noted (kind_at stakes k) layouts others row = λ layer rank l r. found layer l rank r in
-      subst (IsFoundOf end (of_sum stakes p k) s noted) (sym (sums (value_of others row) (row-values s.checkers layouts others row is.all is.few few distinct right) i below))
+      subst (IsFoundOf end (of_sum stakes p k) s noted) (sym (sums (cell_value others row) (row-values s.checkers layouts others row is.all is.few few distinct right) i below))
       (column-found end s stakes noted k layouts others row is.all is.few few distinct right cells valid fits closed p (is.states i k below (rw fits.kinds here)) (0, is.some, refl))
 
   -- it is small

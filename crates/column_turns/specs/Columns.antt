@@ -1,9 +1,13 @@
 -- A column's pairs, and the room in which they are worked out.
-use Rattle.std.specs.Prelude.{◌≡◌, ◌≤◌, ◌*◌, ◌^◌, ℕ, ℤ, pos, All, List, Option, length, sum}
-use Rattle.position_rank.specs.Placement.{IsLayout}
+use Rattle.std.specs.Prelude.{◌≡◌, ◌≤◌, ◌*◌, ◌^◌, ℕ, ℤ, pos, All, List, Option, length, slice_index_or, sum}
+use Rattle.position_rank.specs.Placement.{IsLayout, Placement}
 use Rattle.directed_fixed.specs.Bounds.{Bounds, IsWithinUnits}
+use Rattle.cube_actions.specs.Stakes.{nothing}
+use Rattle.turn_rule.specs.declared.game.Game.{Game}
+use Rattle.turn_rule.specs.Games.{kinds_of}
 use Rattle.turn_rule.specs.Layouts.{AreLayouts}
 use Rattle.column_sums.specs.Tables.{IsRow}
+use Rattle.column_turns.specs.Turns.{mover_at, place_in}
 
 -- The layouts of a game's checkers and how many kinds it has, the layout of the other side in the column, the ranks of its movers, and a pair
 -- for each of them in each kind.
@@ -13,6 +17,19 @@ pub record ColumnPairs : Type 0 where
   pub other : List ℕ
   pub movers : List ℕ
   pub pairs : List Bounds
+
+-- room for the columns of a game: all its layouts are at hand, and it has the game's kinds
+pub record IsRoomOf (game : Game) (column : ColumnPairs) : Type 0 where
+  pub layouts : AreLayouts game.checkers column.layouts
+  pub kinds : column.kinds ≡ kinds_of game
+
+-- one of the column's positions
+abbrev pub position_in : ColumnPairs → ℕ → Placement
+position_in column i = mover_at column.layouts column.other column.movers i
+
+-- the pair of one of them in a kind
+abbrev pub pair_in : ColumnPairs → ℕ → ℕ → Bounds
+pair_in column i k = slice_index_or column.pairs (place_in column.kinds i k) nothing
 
 -- there is room for a value of each layout in each kind
 pub record HasRoom (layouts : List (List ℕ)) (kinds : ℕ) (sums : List ℤ) : Type 0 where

@@ -3,8 +3,8 @@ use Rattle.std.proofs.Common.{◌≡◌, ◌≤◌, ◌<◌, ◌+◌, ◌*◌, �
 use Rattle.std.specs.Prelude.{if◌then◌else◌}
 use Rattle.std.specs.List.{onto_first}
 use Rattle.std.proofs.lemmas.List.{drop_more}
-use Rattle.position_rank.specs.TextParts.{add_word}
-use Rattle.position_rank.specs.Text.{words}
+use Rattle.position_text.specs.TextParts.{add_word}
+use Rattle.position_text.specs.Text.{words}
 use Rattle.command_line.specs.Plain.{whole_place, add_place}
 
 -- a space before each word, and at most two signs more

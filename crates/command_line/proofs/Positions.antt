@@ -10,10 +10,10 @@ use Rattle.std.proofs.lemmas.List.FromFn.{length-range_with_len, get_or-range_wi
 use Rattle.position_rank.specs.Placement.{Placement, IsLayout, IsPosition, IsLive, AreApart}
 use Rattle.position_rank.specs.Packed.{counts_of}
 use Rattle.position_rank.specs.PackedLaws.{length-counts_of, sum-counts_of}
-use Rattle.position_rank.specs.Text.{place, read_placement, read_places, read_position, read_words, share_point, words}
-use Rattle.position_rank.specs.declared.text.BadPosition.{BadPosition}
-use Rattle.position_rank.specs.declared.text.BadPosition.TheVariants.{Shape, Place}
-use Rattle.position_rank.proofs.PlaceTexts.{place-text}
+use Rattle.position_text.specs.Text.{place, read_placement, read_places, read_position, read_words, share_point, words}
+use Rattle.position_text.specs.declared.text.BadPosition.{BadPosition}
+use Rattle.position_text.specs.declared.text.BadPosition.TheVariants.{Shape, Place}
+use Rattle.position_text.proofs.PlaceTexts.{place-text}
 use Rattle.base64.specs.Engines.{standard_no_pad}
 use Rattle.base64.specs.GeneralPurpose.{decode_of}
 use Rattle.base64.specs.declared.decode.DecodeError.{DecodeError}

@@ -12,7 +12,7 @@ use Rattle.roll_table.specs.Rolls.{Dice, IsRoll}
 use Rattle.cube_actions.specs.Scores.{MatchScore}
 use Rattle.cube_actions.specs.declared.name.StakesName.{StakesName}
 use Rattle.cube_actions.specs.declared.name.StakesName.TheVariants.{Jacoby, Match}
-use Rattle.word_forms.specs.Form.{Bytes, Values}
+use Rattle.word_forms.specs.Form.{Bytes, GivenValues}
 use Rattle.command_line.specs.declared.command.Command.{Command}
 use Rattle.command_line.specs.declared.command.CommandName.{CommandName}
 use Rattle.command_line.specs.declared.command.CommandName.TheVariants as name
@@ -23,7 +23,7 @@ use Rattle.command_line.specs.declared.away.Away.{Away}
 use Rattle.cube_actions.specs.Scores.{IsScore}
 use Rattle.command_line.specs.Away.{away_given}
 use Rattle.command_line.proofs.AwayScores.{away-is, name-at}
-use Rattle.command_line.specs.Commands.{Asked, checked, read, command_values}
+use Rattle.command_line.specs.Commands.{Asked, value_checked, value_read, command_values}
 use Rattle.command_line.specs.Words.{reading}
 use Rattle.command_line.specs.Reading.{Gives}
 use Rattle.command_line.specs.Right.{IsName, IsPrefix, IsWidth, IsRightShown, IsRightCommand}
@@ -39,13 +39,13 @@ option-right : {X : Type 0} (value : Option X) (next : X → Asked) (none : Aske
 option-right None next none each last = last
 option-right (Some x) next none each last = each x
 
-within-right : (number most : ℕ) (given : Option Bytes) (next : ℕ → Asked) → ((n : ℕ) → 1 ≤ n → n ≤ most → Right (next n)) → Right (checked number (number_given most given) next)
+within-right : (number most : ℕ) (given : Option Bytes) (next : ℕ → Asked) → ((n : ℕ) → 1 ≤ n → n ≤ most → Right (next n)) → Right (value_checked number (number_given most given) next)
 within-right number most given next each = grind (arith, nat_tests)
 
-or-right : (number most usual : ℕ) (given : Option Bytes) (next : ℕ → Asked) → (nat_le 1 usual && nat_le usual most) ≡ true → ((n : ℕ) → 1 ≤ n → n ≤ most → Right (next n)) → Right (checked number (number_or most usual given) next)
+or-right : (number most usual : ℕ) (given : Option Bytes) (next : ℕ → Asked) → (nat_le 1 usual && nat_le usual most) ≡ true → ((n : ℕ) → 1 ≤ n → n ≤ most → Right (next n)) → Right (value_checked number (number_or most usual given) next)
 or-right number most usual given next is each = grind (arith, nat_tests)
 
-rounds-right : (number : ℕ) (width given : Option Bytes) (next : ℕ → Asked) → ((n : ℕ) → 1 ≤ n → n ≤ 4096 → Right (next n)) → Right (checked number (number_or 4096 (usual_rounds width) given) next)
+rounds-right : (number : ℕ) (width given : Option Bytes) (next : ℕ → Asked) → ((n : ℕ) → 1 ≤ n → n ≤ 4096 → Right (next n)) → Right (value_checked number (number_or 4096 (usual_rounds width) given) next)
 rounds-right number None given next each = or-right number 4096 64 given next refl each
 rounds-right number (Some word) given next each = or-right number 4096 4096 given next refl each
 
@@ -53,47 +53,47 @@ width-is : (n : ℕ) → 1 ≤ n → n ≤ 64000000 → IsWidth (pos (n * 2 ^ 32
 width-is n some few = record { above = omega (arith, ints); within = omega (arith, ints) }
 
 some-width : (number n : ℕ) (next : Option ℤ → Asked) → ((width : Option ℤ) → IfSome width IsWidth → Right (next width))
-    → Right (checked number (option_map (λ width. Some width) (if nat_le 1 n && nat_le n 64000000 then Some (pos (n * 2 ^ 32 / 1000000)) else None)) next)
+    → Right (value_checked number (option_map (λ width. Some width) (if nat_le 1 n && nat_le n 64000000 then Some (pos (n * 2 ^ 32 / 1000000)) else None)) next)
 some-width number n next each = grind (arith, nat_tests, width-is n, each (Some (pos (n * 2 ^ 32 / 1000000))))
 
-width-right : (number : ℕ) (given : Option Bytes) (next : Option ℤ → Asked) → ((width : Option ℤ) → IfSome width IsWidth → Right (next width)) → Right (checked number (width_given given) next)
+width-right : (number : ℕ) (given : Option Bytes) (next : Option ℤ → Asked) → ((width : Option ℤ) → IfSome width IsWidth → Right (next width)) → Right (value_checked number (width_given given) next)
 width-right number None next each = each None tt
 width-right number (Some word) next each = width-of number (millionths_of word) next each where
   width-of : (number : ℕ) (n : Option ℕ) (next : Option ℤ → Asked) → ((width : Option ℤ) → IfSome width IsWidth → Right (next width))
-      → Right (checked number (option_map (λ width. Some width) (option_and_then (λ n. if nat_le 1 n && nat_le n 64000000 then Some (pos (n * 2 ^ 32 / 1000000)) else None) n)) next)
+      → Right (value_checked number (option_map (λ width. Some width) (option_and_then (λ n. if nat_le 1 n && nat_le n 64000000 then Some (pos (n * 2 ^ 32 / 1000000)) else None) n)) next)
   width-of number None next each = record { is = tt }
   width-of number (Some n) next each = some-width number n next each
 
-long-right : (number : ℕ) (given : Option Bytes) (next : ℕ → Asked) → ((n : ℕ) → n < 2 ^ 64 → Right (next n)) → Right (checked number (long_number_given given) next)
+long-right : (number : ℕ) (given : Option Bytes) (next : ℕ → Asked) → ((n : ℕ) → n < 2 ^ 64 → Right (next n)) → Right (value_checked number (long_number_given given) next)
 long-right number given next each = grind (arith, nat_tests)
 
-stakes-right : (number : ℕ) (given : Option Bytes) (next : StakesName → Asked) → ((stakes : StakesName) → ((score : MatchScore) → stakes ≢ Match score) → Right (next stakes)) → Right (checked number (stakes_or Jacoby given) next)
+stakes-right : (number : ℕ) (given : Option Bytes) (next : StakesName → Asked) → ((stakes : StakesName) → ((score : MatchScore) → stakes ≢ Match score) → Right (next stakes)) → Right (value_checked number (stakes_or Jacoby given) next)
 stakes-right number given next each = grind arith
 
-name-right : (number : ℕ) (given : Option Bytes) (next : Bytes → Asked) → ((name : Bytes) → IsName name → Right (next name)) → Right (checked number (file_name given) next)
+name-right : (number : ℕ) (given : Option Bytes) (next : Bytes → Asked) → ((name : Bytes) → IsName name → Right (next name)) → Right (value_checked number (file_name given) next)
 name-right number given next each = grind (arith, nat_tests)
 
-prefix-right : (number : ℕ) (given : Option Bytes) (next : Bytes → Asked) → ((name : Bytes) → IsPrefix name → Right (next name)) → Right (checked number (prefix given) next)
+prefix-right : (number : ℕ) (given : Option Bytes) (next : Bytes → Asked) → ((name : Bytes) → IsPrefix name → Right (next name)) → Right (value_checked number (prefix given) next)
 prefix-right number given next each = grind (arith, nat_tests)
 
-other-right : (number : ℕ) (old : Bytes) (given : Option Bytes) (next : Bytes → Asked) → ((new : Bytes) → IsName new → old ≢ new → Right (next new)) → Right (checked number (other_name old given) next)
+other-right : (number : ℕ) (old : Bytes) (given : Option Bytes) (next : Bytes → Asked) → ((new : Bytes) → IsName new → old ≢ new → Right (next new)) → Right (value_checked number (other_name old given) next)
 other-right number old given next each = grind (arith, nat_tests, bytes_eq-Decides)
 
-position-right : (word : Bytes) (next : Placement → Asked) → ((p : Placement) → IsPosition p → IsLive p → Right (next p)) → Right (read (position_given word) next)
+position-right : (word : Bytes) (next : Placement → Asked) → ((p : Placement) → IsPosition p → IsLive p → Right (next p)) → Right (value_read (position_given word) next)
 position-right word next each = grind (arith, given-live word)
 
-roll-right : (given : Option Bytes) (next : Option Dice → Asked) → ((roll : Option Dice) → IfSome roll IsRoll → Right (next roll)) → Right (read (roll_given given) next)
+roll-right : (given : Option Bytes) (next : Option Dice → Asked) → ((roll : Option Dice) → IfSome roll IsRoll → Right (next roll)) → Right (value_read (roll_given given) next)
 roll-right given next each = grind (arith, nat_tests)
 
-shown-right : (number : ℕ) (full : Bool) (given : Option Bytes) (next : Shown → Asked) → ((shown : Shown) → IsRightShown shown → Right (next shown)) → Right (checked number (shown_given full given) next)
+shown-right : (number : ℕ) (full : Bool) (given : Option Bytes) (next : Shown → Asked) → ((shown : Shown) → IsRightShown shown → Right (next shown)) → Right (value_checked number (shown_given full given) next)
 shown-right number true None next each = each _ tt
 shown-right number false None next each = each _ tt
 shown-right number true (Some word) next each = record { is = tt }
 shown-right number false (Some word) next each = grind (arith, nat_tests)
 
-away-right : (number : ℕ) (given : Option Bytes) (crawford post : Bool) (next : Away → Asked) → ((away : Away) → IsScore away.score → Right (next away)) → Right (checked number (away_given given crawford post) next)
+away-right : (number : ℕ) (given : Option Bytes) (crawford post : Bool) (next : Away → Asked) → ((away : Away) → IsScore away.score → Right (next away)) → Right (value_checked number (away_given given crawford post) next)
 away-right number given crawford post next each = kept (away_given given crawford post) (away-is given crawford post) where
-  kept : (away : Option Away) → IfSome away (λ away. IsScore away.score) → Right (checked number away next)
+  kept : (away : Option Away) → IfSome away (λ away. IsScore away.score) → Right (value_checked number away next)
   kept None is = record { is = tt }
   kept (Some away) is = each away is
 
@@ -121,7 +121,7 @@ seen-live false p live = live
 -- one value after another, and then the command
 ruleset steps = (name-right, prefix-right, other-right, within-right, or-right, long-right, stakes-right, position-right, roll-right, option-right, ok-right, seen-right, seen-live, rounds-right, shown-right, width-right, away-right, name-at)
 
-values-right : (command : CommandName) (given : Values) → Right (command_values command given)
+values-right : (command : CommandName) (given : GivenValues) → Right (command_values command given)
 values-right name.Bound given = search steps depth 9
 values-right name.Race given = search steps depth 9
 values-right name.Solve given = search steps depth 9

@@ -1,7 +1,7 @@
 -- A match score as players say it, and where the cube stands, both seen by the side that asks.
 use Rattle.std.specs.Prelude.{ℕ, ◌-◌, ◌==◌, nat_lt, nat_le, max, min, Bool, ◌&&◌, ◌||◌, [], ◌∷◌, ◌++◌, codes, Option, Some, None, if◌then◌else◌, option_and_then, option_map}
 use Rattle.std.specs.Str.{bytes_eq}
-use Rattle.cube_actions.specs.Names.{score_text}
+use Rattle.cube_text.specs.Texts.{score_text}
 use Rattle.cube_actions.specs.Scores.{MatchScore, other_side}
 use Rattle.cube_actions.specs.declared.name.KindName.{KindName}
 use Rattle.cube_actions.specs.declared.name.KindName.TheVariants.{InMatch}
@@ -70,8 +70,8 @@ value_given (Some owner) (Some word) =
 abbrev pub mover_of : Bool → Side → Side
 mover_of take side = if take then other_side side else side
 
-abbrev pub kind_at : Bool → Side → ℕ → Option Side → KindName
-kind_at take side value owner = InMatch (mover_of take side) value owner
+abbrev pub kind_asked : Bool → Side → ℕ → Option Side → KindName
+kind_asked take side value owner = InMatch (mover_of take side) value owner
 
 -- the file of the score
 abbrev pub file_at : Bytes → MatchScore → Bytes

@@ -5,7 +5,7 @@ use Rattle.std.specs.Str.{bytes_eq}
 use Rattle.hyper_outside.specs.declared.outside.WordsKind.{WordsKind}
 use Rattle.hyper_outside.specs.declared.outside.WordsKind.TheVariants.{Value}
 use Rattle.cube_actions.specs.declared.name.StakesName.TheVariants.{Jacoby}
-use Rattle.word_forms.specs.Form.{Bytes, Form, Values, value_of, is_set}
+use Rattle.word_forms.specs.Form.{Bytes, Form, GivenValues, given_value, is_set}
 use Rattle.command_line.specs.declared.command.Command.{Command}
 use Rattle.command_line.specs.declared.command.Command.TheVariants.{Bound, Race, Solve, Show, ShowList, Migrate, Advise, AdviseList, Verify, Ladder, Analyse, Study, Make, Plan, Scan, Reply, Board}
 use Rattle.command_line.specs.declared.command.CommandName.{CommandName}
@@ -13,7 +13,7 @@ use Rattle.command_line.specs.declared.command.CommandName.TheVariants as name
 use Rattle.command_line.specs.declared.stop.WordsFault.{WordsFault}
 use Rattle.command_line.specs.declared.stop.WordsFault.TheVariants.{Words}
 use Rattle.command_line.specs.Values.{long_number_given, number_given, number_or, stakes_or, kind_given, file_name, other_name, prefix, position_given, roll_given, seen_by_doubler, shown_given, take_given, usual_rounds, width_given}
-use Rattle.command_line.specs.Away.{away_given, file_at, kind_at, owner_given, value_given}
+use Rattle.command_line.specs.Away.{away_given, file_at, kind_asked, owner_given, value_given}
 
 -- what words ask for, or why for nothing
 abbrev pub Asked : Type 0
@@ -23,13 +23,13 @@ abbrev pub refused : WordsKind → ℕ → Asked
 refused kind place = Err (Words (record { kind = kind; place = place }))
 
 -- with the value of this number, which is refused where it is out of its form
-abbrev pub checked : {X : Type 0} → ℕ → Option X → (X → Asked) → Asked
-checked number value next = option_map_or next value (refused Value number)
+abbrev pub value_checked : {X : Type 0} → ℕ → Option X → (X → Asked) → Asked
+value_checked number value next = option_map_or next value (refused Value number)
 
 -- with what a text was read as, unless that was refused
-abbrev pub read : {X : Type 0} → Result X WordsFault → (X → Asked) → Asked
-read (Ok value) next = next value
-read (Err fault) next = Err fault
+abbrev pub value_read : {X : Type 0} → Result X WordsFault → (X → Asked) → Asked
+value_read (Ok value) next = next value
+value_read (Err fault) next = Err fault
 
 -- ---- each command: its form, and its values in the order of their numbers; then its position, then
 -- its roll. Behind `number_or` stand the limit and the number that is taken where none is given. There
@@ -42,12 +42,12 @@ bound_form = record {
   flags = codes "board" ∷ [];
 }
 
-abbrev pub bound_values : Values → Asked
+abbrev pub bound_values : GivenValues → Asked
 bound_values given =
-    checked 1 (number_given 3 (value_of (codes "CHECKERS") given)) (λ checkers.
-    checked 2 (number_given 4096 (value_of (codes "ROUNDS") given)) (λ rounds.
-    checked 3 (value_of (codes "POSITION") given) (λ text.
-    read (position_given text) (λ position.
+    value_checked 1 (number_given 3 (given_value (codes "CHECKERS") given)) (λ checkers.
+    value_checked 2 (number_given 4096 (given_value (codes "ROUNDS") given)) (λ rounds.
+    value_checked 3 (given_value (codes "POSITION") given) (λ text.
+    value_read (position_given text) (λ position.
     Ok (Bound (record {
       checkers = checkers;
       rounds = rounds;
@@ -62,11 +62,11 @@ race_form = record {
   flags = codes "board" ∷ [];
 }
 
-abbrev pub race_values : Values → Asked
+abbrev pub race_values : GivenValues → Asked
 race_values given =
-    checked 1 (number_given 3 (value_of (codes "CHECKERS") given)) (λ checkers.
-    checked 2 (value_of (codes "POSITION") given) (λ text.
-    read (position_given text) (λ position.
+    value_checked 1 (number_given 3 (given_value (codes "CHECKERS") given)) (λ checkers.
+    value_checked 2 (given_value (codes "POSITION") given) (λ text.
+    value_read (position_given text) (λ position.
     Ok (Race (record {
       checkers = checkers;
       position = position;
@@ -81,15 +81,15 @@ solve_form = record {
   flags = [];
 }
 
-abbrev pub solve_values : Values → Asked
+abbrev pub solve_values : GivenValues → Asked
 solve_values given =
-    checked 1 (file_name (value_of (codes "FILE") given)) (λ file.
-    checked 2 (number_or 3 3 (value_of (codes "checkers") given)) (λ checkers.
-    checked 3 (stakes_or Jacoby (value_of (codes "stakes") given)) (λ stakes.
-    checked 4 (number_or 4096 (usual_rounds (value_of (codes "width") given))
-    (value_of (codes "rounds") given)) (λ rounds.
-    checked 5 (number_or 64 1 (value_of (codes "workers") given)) (λ workers.
-    checked 6 (width_given (value_of (codes "width") given)) (λ width.
+    value_checked 1 (file_name (given_value (codes "FILE") given)) (λ file.
+    value_checked 2 (number_or 3 3 (given_value (codes "checkers") given)) (λ checkers.
+    value_checked 3 (stakes_or Jacoby (given_value (codes "stakes") given)) (λ stakes.
+    value_checked 4 (number_or 4096 (usual_rounds (given_value (codes "width") given))
+    (given_value (codes "rounds") given)) (λ rounds.
+    value_checked 5 (number_or 64 1 (given_value (codes "workers") given)) (λ workers.
+    value_checked 6 (width_given (given_value (codes "width") given)) (λ width.
     Ok (Solve (record {
       file = file;
       checkers = checkers;
@@ -106,11 +106,11 @@ show_form = record {
   flags = codes "board" ∷ codes "id" ∷ [];
 }
 
-abbrev pub show_values : Values → Asked
+abbrev pub show_values : GivenValues → Asked
 show_values given =
-    checked 1 (file_name (value_of (codes "FILE") given)) (λ file.
-    checked 2 (value_of (codes "POSITION") given) (λ text.
-    read (position_given text) (λ position.
+    value_checked 1 (file_name (given_value (codes "FILE") given)) (λ file.
+    value_checked 2 (given_value (codes "POSITION") given) (λ text.
+    value_read (position_given text) (λ position.
     Ok (Show (record {
       file = file;
       position = position;
@@ -125,11 +125,11 @@ show_list_form = record {
   flags = [];
 }
 
-abbrev pub show_list_values : Values → Asked
+abbrev pub show_list_values : GivenValues → Asked
 show_list_values given =
-    checked 1 (file_name (value_of (codes "FILE") given)) (λ file.
-    checked 2 (file_name (value_of (codes "positions") given)) (λ list.
-    checked 3 (number_or 64 1 (value_of (codes "workers") given)) (λ workers.
+    value_checked 1 (file_name (given_value (codes "FILE") given)) (λ file.
+    value_checked 2 (file_name (given_value (codes "positions") given)) (λ list.
+    value_checked 3 (number_or 64 1 (given_value (codes "workers") given)) (λ workers.
     Ok (ShowList (record { file = file; list = list; workers = workers })))))
 
 -- A match is asked by its score and the names that its files begin with. The score is the side's that
@@ -141,12 +141,12 @@ show_match_form = record {
   flags = codes "crawford" ∷ codes "post" ∷ codes "board" ∷ codes "id" ∷ [];
 }
 
-abbrev pub show_at_score : (crawford post board id : Bool) → Values → Asked
+abbrev pub show_at_score : (crawford post board id : Bool) → GivenValues → Asked
 show_at_score crawford post board id given =
-    checked 1 (prefix (value_of (codes "PREFIX") given)) (λ prefix.
-    checked 2 (value_of (codes "POSITION") given) (λ text.
-    checked 3 (away_given (value_of (codes "away") given) crawford post) (λ away.
-    read (position_given text) (λ position.
+    value_checked 1 (prefix (given_value (codes "PREFIX") given)) (λ prefix.
+    value_checked 2 (given_value (codes "POSITION") given) (λ text.
+    value_checked 3 (away_given (given_value (codes "away") given) crawford post) (λ away.
+    value_read (position_given text) (λ position.
     Ok (Show (record {
       file = file_at prefix away.score;
       position = position;
@@ -154,7 +154,7 @@ show_at_score crawford post board id given =
       id = id;
     }))))))
 
-abbrev pub show_match_values : Values → Asked
+abbrev pub show_match_values : GivenValues → Asked
 show_match_values given = show_at_score (is_set (codes "crawford") given)
     (is_set (codes "post") given) (is_set (codes "board") given) (is_set (codes "id") given) given
 
@@ -166,11 +166,11 @@ migrate_form = record {
 }
 
 -- the new name is another one
-abbrev pub migrate_values : Values → Asked
+abbrev pub migrate_values : GivenValues → Asked
 migrate_values given =
-    checked 1 (file_name (value_of (codes "OLD") given)) (λ old.
-    checked 2 (other_name old (value_of (codes "NEW") given)) (λ new.
-    checked 3 (number_or 64 1 (value_of (codes "workers") given)) (λ workers.
+    value_checked 1 (file_name (given_value (codes "OLD") given)) (λ old.
+    value_checked 2 (other_name old (given_value (codes "NEW") given)) (λ new.
+    value_checked 3 (number_or 64 1 (given_value (codes "workers") given)) (λ workers.
     Ok (Migrate (record { old = old; new = new; workers = workers })))))
 
 abbrev pub advise_form : Form
@@ -181,15 +181,15 @@ advise_form = record {
 }
 
 -- Who asks whether to take gives the position as the side sees it that was doubled, and no roll.
-abbrev pub advise_values : Values → Asked
+abbrev pub advise_values : GivenValues → Asked
 advise_values given =
-    let roll = value_of (codes "roll") given in
-    checked 1 (file_name (value_of (codes "FILE") given)) (λ file.
-    checked 2 (value_of (codes "POSITION") given) (λ text.
-    checked 3 (kind_given (value_of (codes "kind") given)) (λ kind.
-    checked 4 (take_given (is_set (codes "take") given) roll) (λ take.
-    read (position_given text) (λ position.
-    read (roll_given roll) (λ roll.
+    let roll = given_value (codes "roll") given in
+    value_checked 1 (file_name (given_value (codes "FILE") given)) (λ file.
+    value_checked 2 (given_value (codes "POSITION") given) (λ text.
+    value_checked 3 (kind_given (given_value (codes "kind") given)) (λ kind.
+    value_checked 4 (take_given (is_set (codes "take") given) roll) (λ take.
+    value_read (position_given text) (λ position.
+    value_read (roll_given roll) (λ roll.
     Ok (Advise (record {
       file = file;
       position = seen_by_doubler take position;
@@ -206,12 +206,12 @@ advise_list_form = record {
   flags = [];
 }
 
-abbrev pub advise_list_values : Values → Asked
+abbrev pub advise_list_values : GivenValues → Asked
 advise_list_values given =
-    checked 1 (file_name (value_of (codes "FILE") given)) (λ file.
-    checked 2 (file_name (value_of (codes "rolls") given)) (λ list.
-    checked 3 (kind_given (value_of (codes "kind") given)) (λ kind.
-    checked 4 (number_or 64 1 (value_of (codes "workers") given)) (λ workers.
+    value_checked 1 (file_name (given_value (codes "FILE") given)) (λ file.
+    value_checked 2 (file_name (given_value (codes "rolls") given)) (λ list.
+    value_checked 3 (kind_given (given_value (codes "kind") given)) (λ kind.
+    value_checked 4 (number_or 64 1 (given_value (codes "workers") given)) (λ workers.
     Ok (AdviseList (record { file = file; list = list; kind = kind; workers = workers }))))))
 
 abbrev pub advise_match_form : Form
@@ -221,37 +221,37 @@ advise_match_form = record {
   flags = codes "crawford" ∷ codes "post" ∷ codes "board" ∷ codes "take" ∷ [];
 }
 
-abbrev pub advise_at_score : (crawford post board take : Bool) → Values → Asked
+abbrev pub advise_at_score : (crawford post board take : Bool) → GivenValues → Asked
 advise_at_score crawford post board take given =
-    let roll = value_of (codes "roll") given in
-    checked 1 (prefix (value_of (codes "PREFIX") given)) (λ prefix.
-    checked 2 (value_of (codes "POSITION") given) (λ text.
-    checked 3 (away_given (value_of (codes "away") given) crawford post) (λ away.
-    checked 4 (owner_given away.side (value_of (codes "cube") given)) (λ owner.
-    checked 5 (value_given owner (value_of (codes "value") given)) (λ value.
-    checked 6 (take_given take roll) (λ take.
-    read (position_given text) (λ position.
-    read (roll_given roll) (λ roll.
+    let roll = given_value (codes "roll") given in
+    value_checked 1 (prefix (given_value (codes "PREFIX") given)) (λ prefix.
+    value_checked 2 (given_value (codes "POSITION") given) (λ text.
+    value_checked 3 (away_given (given_value (codes "away") given) crawford post) (λ away.
+    value_checked 4 (owner_given away.side (given_value (codes "cube") given)) (λ owner.
+    value_checked 5 (value_given owner (given_value (codes "value") given)) (λ value.
+    value_checked 6 (take_given take roll) (λ take.
+    value_read (position_given text) (λ position.
+    value_read (roll_given roll) (λ roll.
     Ok (Advise (record {
       file = file_at prefix away.score;
       position = seen_by_doubler take position;
-      kind = Some (kind_at take away.side value owner);
+      kind = Some (kind_asked take away.side value owner);
       roll = roll;
       take = take;
       board = board;
     }))))))))))
 
-abbrev pub advise_match_values : Values → Asked
+abbrev pub advise_match_values : GivenValues → Asked
 advise_match_values given = advise_at_score (is_set (codes "crawford") given)
     (is_set (codes "post") given) (is_set (codes "board") given) (is_set (codes "take") given) given
 
 abbrev pub verify_form : Form
 verify_form = record { arguments = codes "FILE" ∷ []; options = codes "workers" ∷ []; flags = [] }
 
-abbrev pub verify_values : Values → Asked
+abbrev pub verify_values : GivenValues → Asked
 verify_values given =
-    checked 1 (file_name (value_of (codes "FILE") given)) (λ file.
-    checked 2 (number_or 64 1 (value_of (codes "workers") given)) (λ workers.
+    value_checked 1 (file_name (given_value (codes "FILE") given)) (λ file.
+    value_checked 2 (number_or 64 1 (given_value (codes "workers") given)) (λ workers.
     Ok (Verify (record { file = file; workers = workers }))))
 
 abbrev pub ladder_form : Form
@@ -261,13 +261,13 @@ ladder_form = record {
   flags = [];
 }
 
-abbrev pub ladder_values : Values → Asked
+abbrev pub ladder_values : GivenValues → Asked
 ladder_values given =
-    checked 1 (prefix (value_of (codes "PREFIX") given)) (λ prefix.
-    checked 2 (number_or 3 3 (value_of (codes "checkers") given)) (λ checkers.
-    checked 3 (number_or 5 3 (value_of (codes "length") given)) (λ points.
-    checked 4 (number_or 4096 64 (value_of (codes "rounds") given)) (λ rounds.
-    checked 5 (number_or 64 1 (value_of (codes "workers") given)) (λ workers.
+    value_checked 1 (prefix (given_value (codes "PREFIX") given)) (λ prefix.
+    value_checked 2 (number_or 3 3 (given_value (codes "checkers") given)) (λ checkers.
+    value_checked 3 (number_or 5 3 (given_value (codes "length") given)) (λ points.
+    value_checked 4 (number_or 4096 64 (given_value (codes "rounds") given)) (λ rounds.
+    value_checked 5 (number_or 64 1 (given_value (codes "workers") given)) (λ workers.
     Ok (Ladder (record {
       prefix = prefix;
       checkers = checkers;
@@ -283,11 +283,11 @@ analyse_form = record {
   flags = codes "full" ∷ [];
 }
 
-abbrev pub analyse_values : Values → Asked
+abbrev pub analyse_values : GivenValues → Asked
 analyse_values given =
-    checked 1 (file_name (value_of (codes "BASE") given)) (λ base.
-    checked 2 (file_name (value_of (codes "RECORD") given)) (λ rec.
-    checked 3 (shown_given (is_set (codes "full") given) (value_of (codes "worst") given)) (λ shown.
+    value_checked 1 (file_name (given_value (codes "BASE") given)) (λ base.
+    value_checked 2 (file_name (given_value (codes "RECORD") given)) (λ rec.
+    value_checked 3 (shown_given (is_set (codes "full") given) (given_value (codes "worst") given)) (λ shown.
     Ok (Analyse (record { base = base; rec = rec; shown = shown })))))
 
 abbrev pub study_form : Form
@@ -297,12 +297,12 @@ study_form = record {
   flags = codes "full" ∷ [];
 }
 
-abbrev pub study_values : Values → Asked
+abbrev pub study_values : GivenValues → Asked
 study_values given =
-    checked 1 (file_name (value_of (codes "RECORD") given)) (λ rec.
-    checked 2 (number_or 4096 64 (value_of (codes "rounds") given)) (λ rounds.
-    checked 3 (number_or 64 1 (value_of (codes "workers") given)) (λ workers.
-    checked 4 (shown_given (is_set (codes "full") given) (value_of (codes "worst") given)) (λ shown.
+    value_checked 1 (file_name (given_value (codes "RECORD") given)) (λ rec.
+    value_checked 2 (number_or 4096 64 (given_value (codes "rounds") given)) (λ rounds.
+    value_checked 3 (number_or 64 1 (given_value (codes "workers") given)) (λ workers.
+    value_checked 4 (shown_given (is_set (codes "full") given) (given_value (codes "worst") given)) (λ shown.
     Ok (Study (record { rec = rec; rounds = rounds; workers = workers; shown = shown }))))))
 
 abbrev pub make_form : Form
@@ -313,20 +313,20 @@ make_form = record {
 }
 
 -- any number of 64 bits names a record, 0 too
-abbrev pub make_values : Values → Asked
+abbrev pub make_values : GivenValues → Asked
 make_values given =
-    checked 1 (long_number_given (value_of (codes "NUMBER") given)) (λ number.
-    checked 2 (number_given 1000 (value_of (codes "GAMES") given)) (λ games.
-    checked 3 (file_name (value_of (codes "FILE") given)) (λ file.
+    value_checked 1 (long_number_given (given_value (codes "NUMBER") given)) (λ number.
+    value_checked 2 (number_given 1000 (given_value (codes "GAMES") given)) (λ games.
+    value_checked 3 (file_name (given_value (codes "FILE") given)) (λ file.
     Ok (Make (record { number = number; games = games; file = file })))))
 
 abbrev pub plan_form : Form
 plan_form = record { arguments = codes "PREFIX" ∷ []; options = codes "length" ∷ []; flags = [] }
 
-abbrev pub plan_values : Values → Asked
+abbrev pub plan_values : GivenValues → Asked
 plan_values given =
-    checked 1 (prefix (value_of (codes "PREFIX") given)) (λ prefix.
-    checked 2 (number_or 5 3 (value_of (codes "length") given)) (λ points.
+    value_checked 1 (prefix (given_value (codes "PREFIX") given)) (λ prefix.
+    value_checked 2 (number_or 5 3 (given_value (codes "length") given)) (λ points.
     Ok (Plan (record { prefix = prefix; match_length = points }))))
 
 abbrev pub scan_form : Form
@@ -337,11 +337,11 @@ scan_form = record {
 }
 
 -- a condition has no form here
-abbrev pub scan_values : Values → Asked
+abbrev pub scan_values : GivenValues → Asked
 scan_values given =
-    checked 1 (file_name (value_of (codes "FILE") given)) (λ file.
-    checked 2 (value_of (codes "CONDITION") given) (λ condition.
-    checked 3 (number_or 64 1 (value_of (codes "workers") given)) (λ workers.
+    value_checked 1 (file_name (given_value (codes "FILE") given)) (λ file.
+    value_checked 2 (given_value (codes "CONDITION") given) (λ condition.
+    value_checked 3 (number_or 64 1 (given_value (codes "workers") given)) (λ workers.
     Ok (Scan (record { file = file; condition = condition; workers = workers })))))
 
 abbrev pub reply_form : Form
@@ -351,22 +351,22 @@ reply_form = record {
   flags = [];
 }
 
-abbrev pub reply_values : Values → Asked
+abbrev pub reply_values : GivenValues → Asked
 reply_values given =
-    checked 1 (file_name (value_of (codes "FILE") given)) (λ file.
-    checked 2 (value_of (codes "POSITION") given) (λ text.
-    checked 3 (kind_given (value_of (codes "kind") given)) (λ kind.
-    checked 4 (number_or 4096 16 (value_of (codes "rounds") given)) (λ rounds.
-    read (position_given text) (λ position.
+    value_checked 1 (file_name (given_value (codes "FILE") given)) (λ file.
+    value_checked 2 (given_value (codes "POSITION") given) (λ text.
+    value_checked 3 (kind_given (given_value (codes "kind") given)) (λ kind.
+    value_checked 4 (number_or 4096 16 (given_value (codes "rounds") given)) (λ rounds.
+    value_read (position_given text) (λ position.
     Ok (Reply (record { file = file; position = position; kind = kind; rounds = rounds })))))))
 
 abbrev pub board_form : Form
 board_form = record { arguments = codes "POSITION" ∷ []; options = []; flags = codes "id" ∷ [] }
 
-abbrev pub board_values : Values → Asked
+abbrev pub board_values : GivenValues → Asked
 board_values given =
-    checked 1 (value_of (codes "POSITION") given) (λ text.
-    read (position_given text) (λ position.
+    value_checked 1 (given_value (codes "POSITION") given) (λ text.
+    value_read (position_given text) (λ position.
     Ok (Board (record { position = position; id = is_set (codes "id") given }))))
 
 -- ---- all of them
@@ -410,7 +410,7 @@ command_form name.Scan = scan_form
 command_form name.Reply = reply_form
 command_form name.Board = board_form
 
-abbrev pub command_values : CommandName → Values → Asked
+abbrev pub command_values : CommandName → GivenValues → Asked
 command_values name.Bound given = bound_values given
 command_values name.Race given = race_values given
 command_values name.Solve given = solve_values given

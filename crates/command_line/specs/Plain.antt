@@ -5,10 +5,10 @@ use Rattle.std.specs.Char.{to_ascii_lowercase}
 use Rattle.std.specs.Option.{option_map_or}
 use Rattle.std.specs.Str.{bytes_eq}
 use Rattle.position_rank.specs.Placement.{Placement}
-use Rattle.position_rank.specs.Text.{read_position, words}
-use Rattle.position_rank.specs.TextParts.{add_word}
-use Rattle.position_rank.specs.declared.text.BadPosition.{BadPosition}
-use Rattle.position_rank.specs.declared.text.BadPosition.TheVariants.{Place}
+use Rattle.position_text.specs.Text.{read_position, words}
+use Rattle.position_text.specs.TextParts.{add_word}
+use Rattle.position_text.specs.declared.text.BadPosition.{BadPosition}
+use Rattle.position_text.specs.declared.text.BadPosition.TheVariants.{Place}
 use Rattle.word_forms.specs.Form.{Bytes}
 
 -- a slash stands apart, a tab is a space, and a capital letter a small one

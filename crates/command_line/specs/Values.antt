@@ -6,14 +6,14 @@ use Rattle.std.specs.Str.{bytes_eq, all_ascii_digits}
 use Rattle.std.specs.Str.Parse.{digits_value}
 use Rattle.position_id.specs.Readings.{has_id_form, read_id}
 use Rattle.position_rank.specs.Placement.{Placement, swap}
-use Rattle.position_rank.specs.declared.text.BadPosition.{BadPosition}
+use Rattle.position_text.specs.declared.text.BadPosition.{BadPosition}
 use Rattle.roll_table.specs.Rolls.{Dice}
 use Rattle.roll_table.specs.Text.{read_roll}
 use Rattle.word_forms.specs.Form.{Bytes}
 use Rattle.cube_actions.specs.declared.name.KindName.{KindName}
 use Rattle.cube_actions.specs.declared.name.StakesName.{StakesName}
 use Rattle.cube_actions.specs.declared.name.StakesName.TheVariants.{Cubeless, Money, Jacoby, MoneyBeavers, JacobyBeavers}
-use Rattle.cube_actions.specs.Names.{read_name}
+use Rattle.cube_text.specs.Texts.{read_name}
 use Rattle.command_line.specs.declared.command.Shown.{Shown}
 use Rattle.command_line.specs.declared.command.Shown.TheVariants.{Losses, Full, Worst}
 use Rattle.command_line.specs.Plain.{plain_roll, read_plain_position}
@@ -26,18 +26,18 @@ is_number digits = nat_lt 0 (length digits) && all_ascii_digits digits
     && (not (slice_index digits 0 == 48) || length digits == 1)
 
 -- the number that a word writes
-abbrev pub number_of : Bytes → Option ℕ
-number_of word = if is_number word then Some (digits_value 10 word) else None
+abbrev pub number_in_word : Bytes → Option ℕ
+number_in_word word = if is_number word then Some (digits_value 10 word) else None
 
 -- a number from 1 to this limit
 abbrev pub number_within : ℕ → Bytes → Option ℕ
 number_within most word =
-    option_and_then (λ n. if nat_le 1 n && nat_le n most then Some n else None) (number_of word)
+    option_and_then (λ n. if nat_le 1 n && nat_le n most then Some n else None) (number_in_word word)
 
 -- a number of at most 64 bits
 abbrev pub long_number : Bytes → Option ℕ
 long_number word =
-    option_and_then (λ n. if nat_lt n (2 ^ 64) then Some n else None) (number_of word)
+    option_and_then (λ n. if nat_lt n (2 ^ 64) then Some n else None) (number_in_word word)
 
 abbrev pub long_number_given : Option Bytes → Option ℕ
 long_number_given given = option_and_then long_number given
@@ -58,7 +58,7 @@ usual_rounds (Some width) = 4096
 
 -- a number from 0 to 64
 abbrev pub points_of : Bytes → Option ℕ
-points_of word = option_and_then (λ n. if nat_le n 64 then Some n else None) (number_of word)
+points_of word = option_and_then (λ n. if nat_le n 64 then Some n else None) (number_in_word word)
 
 -- the millionths that one to six digits write behind a point
 abbrev pub millionths_behind : Bytes → Option ℕ
@@ -93,8 +93,8 @@ abbrev pub width_given : Option Bytes → Option (Option ℤ)
 width_given None = Some None
 width_given (Some word) = option_map (λ width. Some width) (width_of word)
 
-abbrev pub stakes_named : Bytes → Option StakesName
-stakes_named word =
+abbrev pub stakes_of_word : Bytes → Option StakesName
+stakes_of_word word =
     if bytes_eq word (codes "cubeless") then Some Cubeless
     else (if bytes_eq word (codes "money") then Some Money
     else (if bytes_eq word (codes "jacoby") then Some Jacoby
@@ -104,7 +104,7 @@ stakes_named word =
 -- the stakes that are given, or the usual ones where none are
 abbrev pub stakes_or : StakesName → Option Bytes → Option StakesName
 stakes_or usual None = Some usual
-stakes_or usual (Some word) = stakes_named word
+stakes_or usual (Some word) = stakes_of_word word
 
 -- the kind of state that is given, if one is; a word that is no kind's text is out of its form
 abbrev pub kind_given : Option Bytes → Option (Option KindName)

@@ -5,6 +5,7 @@ ghost use Rattle.command_line.specs.Away.{phase_given, side_needing, away_of, aw
 use crate::text::Text;
 use arrayvec::ArrayString;
 use cube_actions::{Phase, Score, Side};
+use cube_text::print_score;
 use hyper_outside::NoMemory;
 use std::alloc::Global;
 
@@ -126,6 +127,6 @@ pub(crate) fn file_at(alloc: Global, prefix: &str, score: Score) -> Result<Text,
     let mut name: ArrayString<255> = ArrayString::new();
     name.push_str(prefix);
     name.push('.');
-    name.push_str(score.print().as_str());
+    name.push_str(print_score(score).as_str());
     Text::new(alloc, name.as_str())
 }

@@ -1,12 +1,13 @@
 ghost use Rattle.std.specs.Prelude.{◌≡◌, ◌≤◌, ◌+◌, ◌*◌, [], IfOk, false, nat_lt, length, fold, option_map};
 ghost use Rattle.std.specs.List.{flat_map, list_any};
 ghost use Rattle.position_rank.specs.Placement.{IsPosition, IsLive};
-ghost use Rattle.position_rank.specs.Text.{words};
+ghost use Rattle.position_text.specs.Text.{words};
 ghost use Rattle.roll_table.specs.Text.{read_roll};
 ghost use Rattle.command_line.specs.Plain.{plain_signs, whole_place, add_place, has_plain_form, plain_form, read_plain_position, higher_first, plain_roll};
 
 use arrayvec::ArrayString;
-use position_rank::{BadPosition, Position, push_word, read_position};
+use position_rank::Position;
+use position_text::{BadPosition, push_word, read_position};
 use roll_table::{BadRoll, Roll};
 
 /// The most bytes of a position's text.

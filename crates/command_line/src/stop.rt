@@ -2,7 +2,7 @@ ghost use Rattle.std.specs.Prelude.{◌≡◌};
 ghost use Rattle.command_line.specs.Stops.{form_refusal};
 
 use hyper_outside::{BadWords, NoMemory, WordsKind};
-use position_rank::BadPosition;
+use position_text::BadPosition;
 use roll_table::BadRoll;
 use word_forms::FormStop;
 

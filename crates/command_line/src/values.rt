@@ -1,7 +1,7 @@
 ghost use Rattle.std.specs.Prelude.{◌≡◌, ◌==◌, ℕ, ◌≤◌, IfOk, IfSome, length, option_map, ◌<◌};
 ghost use Rattle.std.specs.List.{list_any};
 ghost use Rattle.position_rank.specs.Placement.{IsPosition, IsLive};
-ghost use Rattle.command_line.specs.Values.{number_within, long_number, long_number_given, number_given, number_or, stakes_named, stakes_or, kind_given, is_name_within, name_within, file_name, other_name, prefix, position_given, read_given, roll_given, seen_by_doubler, shown_given, take_given, points_of, millionths_behind, millionths_of, width_of, width_given, usual_rounds, roll_named};
+ghost use Rattle.command_line.specs.Values.{number_within, long_number, long_number_given, number_given, number_or, stakes_of_word, stakes_or, kind_given, is_name_within, name_within, file_name, other_name, prefix, position_given, read_given, roll_given, seen_by_doubler, shown_given, take_given, points_of, millionths_behind, millionths_of, width_of, width_given, usual_rounds, roll_named};
 ghost use Rattle.roll_table.specs.Rolls.{IsRoll};
 ghost use Rattle.command_line.specs.Words.{is_option, is_option_named, is_faulty};
 
@@ -9,9 +9,11 @@ use crate::command::Shown;
 use crate::plain::{read_plain_position, read_plain_roll};
 use crate::stop::WordsFault;
 use cube_actions::{KindName, StakesName};
+use cube_text::read_kind;
 use directed_fixed::Fixed;
 use position_id::{has_id_form, read_id};
-use position_rank::{BadPosition, Position};
+use position_rank::Position;
+use position_text::BadPosition;
 use roll_table::Roll;
 
 /// The most rounds.
@@ -176,7 +178,7 @@ pub(crate) fn width_given(word: Option<&str>) -> Option<Option<Fixed>>
 }
 
 fn stakes_named(word: &str) -> Option<StakesName>
-    ensures { result ≡ stakes_named word.now }
+    ensures { result ≡ stakes_of_word word.now }
 {
     match word {
         "cubeless" => Some(StakesName::Cubeless),
@@ -203,7 +205,7 @@ pub(crate) fn kind_given(word: Option<&str>) -> Option<Option<KindName>>
     ensures { result ≡ kind_given (option_map (λ w. w.now) word.entry) }
 {
     match word {
-        Some(word) => KindName::read(word).map(Some),
+        Some(word) => read_kind(word).map(Some),
         None => Some(None),
     }
 }

@@ -3,6 +3,5 @@ mod LadderOfFive
 mod MatchTerms
 mod NamesDistinct
 mod NamesKnown
-mod NamesRead
-mod FirstPassing
+pub mod FirstPassing
 mod WinsLeadDown

@@ -14,7 +14,7 @@ use Rattle.cube_actions.specs.declared.side.Side.{Side}
 use Rattle.cube_actions.specs.Stakes.{Terms, IsValid, IsRightKind, IsRightDouble, IsRightAnswer, exactly, point_units, nothing}
 use Rattle.cube_actions.specs.Scores.{MatchScore, last_game, same_score, needs, other_side}
 use Rattle.cube_actions.specs.Ladder.{ladder, in_order}
-use Rattle.cube_actions.specs.MatchKinds.{match_kinds, every_kind, can_come, number_in, after_play, after_take, may_double}
+use Rattle.cube_actions.specs.MatchKinds.{match_kinds, every_kind, can_come, number_in, kind_after_play, after_take, kind_may_double}
 use Rattle.cube_actions.specs.Starts.{StartPairs, AreStarts, ladder_place, start_pair}
 use Rattle.cube_actions.specs.Matches.{terms_of, match_kind, value_of_win, next_value, next_score, stays_near}
 use Rattle.cube_actions.proofs.LadderOfFive.{one_to_five, filter_few}
@@ -24,8 +24,8 @@ use Rattle.cube_actions.proofs.WinsLeadDown.{same_score-true}
 -- the numbers that a kind names are those of kinds
 number_fits : MatchScore → MatchKind → Bool
 number_fits score kind =
-    nat_lt (number_in score (after_play kind)) (length (match_kinds score))
-    && (not (may_double score kind) || nat_lt (number_in score (after_take kind)) (length (match_kinds score)))
+    nat_lt (number_in score (kind_after_play kind)) (length (match_kinds score))
+    && (not (kind_may_double score kind) || nat_lt (number_in score (after_take kind)) (length (match_kinds score)))
     && nat_le 1 kind.cube && nat_le kind.cube 8
 
 tried : (n : ℕ) → 1 ≤ n → n ≤ 5 → list_all (λ score. list_all (number_fits score) (match_kinds score)) (ladder n) ≡ true
@@ -87,11 +87,11 @@ win_within starts score winner won valid =
       | false ↦ next_within starts score.phase winner (own - won) others valid
     ]
 
-fits_next : (score : MatchScore) (kind : MatchKind) → number_fits score kind ≡ true → number_in score (after_play kind) < length (match_kinds score)
+fits_next : (score : MatchScore) (kind : MatchKind) → number_fits score kind ≡ true → number_in score (kind_after_play kind) < length (match_kinds score)
 unfolding number_fits
 fits_next score kind h = grind (arith, nat_tests)
 
-fits_take : (score : MatchScore) (kind : MatchKind) → number_fits score kind ≡ true → may_double score kind ≡ true → number_in score (after_take kind) < length (match_kinds score)
+fits_take : (score : MatchScore) (kind : MatchKind) → number_fits score kind ≡ true → kind_may_double score kind ≡ true → number_in score (after_take kind) < length (match_kinds score)
 unfolding number_fits
 fits_take score kind h may = grind (arith, nat_tests)
 
@@ -108,7 +108,7 @@ right_kind score starts kind valid fits =
     record {
       next = omega (arith, many, fits_next score kind fits);
       wins = All-map (IsWithin (point_units 1)) (λ times. value_of_win starts score kind.mover (times * kind.cube)) (1 ∷ 2 ∷ 3 ∷ []) (λ k d within. win_within starts score kind.mover (get_or (1 ∷ 2 ∷ 3 ∷ []) k d * kind.cube) valid);
-      double = right_if (terms_of score starts) (may_double score kind) _ (λ may. record {
+      double = right_if (terms_of score starts) (kind_may_double score kind) _ (λ may. record {
         pass = win_within starts score kind.mover kind.cube valid;
         some = omega arith;
         answers = All-cons (IsRightAnswer (terms_of score starts)) _ [] (record { kind = omega (arith, many, fits_take score kind fits may); factor = inl refl }) (All-nil (IsRightAnswer (terms_of score starts)));

@@ -68,8 +68,8 @@ abbrev pub number_in : MatchScore → MatchKind → ℕ
 number_in score kind = position_or_len (same_kind kind) (match_kinds score)
 
 -- the kind after the mover's play, in which the other side moves
-abbrev pub after_play : MatchKind → MatchKind
-after_play kind = record kind { mover = other_side kind.mover }
+abbrev pub kind_after_play : MatchKind → MatchKind
+kind_after_play kind = record kind { mover = other_side kind.mover }
 
 -- the kind after the mover has doubled and the other side has taken: the cube is the other side's, and the mover still has to move
 abbrev pub after_take : MatchKind → MatchKind
@@ -85,6 +85,6 @@ may_turn side None = true
 may_turn side (Some owner) = same_side side owner
 
 -- The mover may double in all games but the Crawford game, where he may turn the cube and needs more points than it shows.
-abbrev pub may_double : MatchScore → MatchKind → Bool
-may_double score kind = not (is_crawford score.phase) && may_turn kind.mover kind.owner
+abbrev pub kind_may_double : MatchScore → MatchKind → Bool
+kind_may_double score kind = not (is_crawford score.phase) && may_turn kind.mover kind.owner
     && nat_lt kind.cube (needs score kind.mover)

@@ -13,7 +13,7 @@ use Rattle.cube_actions.specs.declared.side.Side.{Side}
 use Rattle.cube_actions.specs.declared.side.Side.TheVariants.{Near, Far}
 use Rattle.cube_actions.specs.Stakes.{Terms, exactly, point_units}
 use Rattle.cube_actions.specs.Scores.{MatchScore, other_side, needs}
-use Rattle.cube_actions.specs.MatchKinds.{match_kinds, number_in, after_play, after_take, may_double}
+use Rattle.cube_actions.specs.MatchKinds.{match_kinds, number_in, kind_after_play, after_take, kind_may_double}
 use Rattle.cube_actions.specs.Starts.{StartPairs, start_pair}
 
 -- the phase of the next game, after which the two sides need so many points: the first game at which a side needs one is the Crawford game
@@ -52,7 +52,7 @@ value_of_win starts score winner won =
 -- A pass wins the cube's value before the double. After a take the cube shows twice as much, in which wins are counted already.
 abbrev pub right_to_double : StartPairs → MatchScore → MatchKind → Option Double
 right_to_double starts score kind =
-    if may_double score kind
+    if kind_may_double score kind
     then Some (record {
       pass = value_of_win starts score kind.mover kind.cube;
       answers =
@@ -63,7 +63,7 @@ right_to_double starts score kind =
 -- a single game wins as many points as the cube shows, a gammon twice and a backgammon three times as many
 abbrev pub match_kind : StartPairs → MatchScore → MatchKind → Kind
 match_kind starts score kind = record {
-  next = number_in score (after_play kind);
+  next = number_in score (kind_after_play kind);
   win = map (λ times. value_of_win starts score kind.mover (times * kind.cube)) (1 ∷ 2 ∷ 3 ∷ []);
   double = right_to_double starts score kind;
 }

@@ -1,17 +1,11 @@
--- Names of kinds of state, and texts of names and scores.
-use Rattle.std.specs.Prelude.{◌≡◌, ℕ, ◌==◌, nat_eq, Bool, true, false, ◌&&◌, ◌||◌, List, [], ◌∷◌, ◌++◌, length, map, find, codes, decimal, Option, Some, None}
-use Rattle.std.specs.Cmp.Lexicographic.{pointwise}
+-- Names of kinds of state.
+use Rattle.std.specs.Prelude.{◌≡◌, ◌==◌, Bool, true, false, ◌&&◌, ◌||◌, List, [], ◌∷◌, length, map, Some, None}
 use Rattle.cube_actions.specs.declared.match_kind.MatchKind.{MatchKind}
-use Rattle.cube_actions.specs.declared.phase.Phase.{Phase}
-use Rattle.cube_actions.specs.declared.phase.Phase.TheVariants.{Normal, Crawford, Post}
-use Rattle.cube_actions.specs.declared.side.Side.{Side}
-use Rattle.cube_actions.specs.declared.side.Side.TheVariants.{Near, Far}
 use Rattle.cube_actions.specs.declared.name.KindName.{KindName}
 use Rattle.cube_actions.specs.declared.name.KindName.TheVariants.{Alone, Centred, Mine, Theirs, InMatch}
 use Rattle.cube_actions.specs.declared.name.StakesName.{StakesName}
 use Rattle.cube_actions.specs.declared.name.StakesName.TheVariants.{Cubeless, Money, Jacoby, MoneyBeavers, JacobyBeavers, Match}
 use Rattle.cube_actions.specs.Stakes.{Terms, IsValid}
-use Rattle.cube_actions.specs.Scores.{MatchScore}
 use Rattle.cube_actions.specs.MatchKinds.{every_kind, match_kinds, same_side, same_owner}
 
 abbrev pub name_of : MatchKind → KindName
@@ -37,40 +31,9 @@ same_name Theirs Theirs = true
 same_name (InMatch a b c) (InMatch d e f) = same_side a d && b == e && same_owner c f
 same_name _ _ = false
 
-abbrev pub side_text : Side → List ℕ
-side_text Near = codes "near"
-side_text Far = codes "far"
-
-abbrev pub owner_text : Option Side → List ℕ
-owner_text None = codes "centred"
-owner_text (Some side) = side_text side
-
--- the text of a name: in a match the mover, what the cube shows, and its owner
-abbrev pub kind_text : KindName → List ℕ
-kind_text Alone = codes "alone"
-kind_text Centred = codes "centred"
-kind_text Mine = codes "mine"
-kind_text Theirs = codes "theirs"
-kind_text (InMatch mover cube owner) =
-    side_text mover ++ codes ":" ++ decimal cube ++ codes ":" ++ owner_text owner
-
 -- the names of all kinds: the centred cube shows 1, and an owned one 2, 4 or 8
 unfoldable pub every_name : List KindName
 every_name = Alone ∷ Centred ∷ Mine ∷ Theirs ∷ map name_of every_kind
-
--- the name with this text
-abbrev pub read_name : List ℕ → Option KindName
-read_name text = find (λ name. pointwise nat_eq (kind_text name) text) every_name
-
-abbrev pub letter : Phase → List ℕ
-letter Normal = codes "n"
-letter Crawford = codes "c"
-letter Post = codes "p"
-
--- the points that the sides need, and a letter for the phase
-abbrev pub score_text : MatchScore → List ℕ
-score_text score =
-    decimal score.near ++ codes "." ++ decimal score.far ++ codes "." ++ letter score.phase
 
 -- valid stakes, with a name for each kind
 pub record AreStakes (stakes : Terms) : Type 0 where

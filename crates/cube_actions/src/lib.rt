@@ -22,7 +22,8 @@ pub use match_laws::{
     match_examples, wins_lead_down_the_ladder,
 };
 pub use name::{KindName, StakesName};
-pub use name_laws::{names_tell_kinds, printed_kinds_are_read, read_kinds_are_printed};
+pub use name_laws::names_tell_kinds;
+pub use names::every_name;
 pub use phase::Phase;
 pub use score::{BadScore, Score};
 pub use score_order::ladder;

@@ -1,7 +1,7 @@
 ghost use Rattle.std.specs.Prelude.{◌≡◌, ◌≤◌, None};
 ghost use Rattle.std.specs.List.{position_or_len};
 ghost use Rattle.cube_actions.specs.declared.side.Side.TheVariants.{Near};
-ghost use Rattle.cube_actions.specs.MatchKinds.{every_kind, match_kinds, same_kind, after_play, after_take, may_double, can_come, can_own};
+ghost use Rattle.cube_actions.specs.MatchKinds.{every_kind, match_kinds, same_kind, kind_after_play, after_take, kind_may_double, can_come, can_own};
 
 use crate::phase::Phase;
 use crate::score::Score;
@@ -80,7 +80,7 @@ pub(crate) fn number_in(kinds: &[MatchKind], kind: MatchKind) -> usize
 impl MatchKind {
     /// The kind after the mover's play.
     pub(crate) fn after_play(self) -> MatchKind
-        ensures { result ≡ after_play self }
+        ensures { result ≡ kind_after_play self }
     {
         MatchKind {
             mover: self.mover.other(),
@@ -103,7 +103,7 @@ impl MatchKind {
 
     /// Whether the mover may double at this score.
     pub(crate) fn may_double(self, score: Score) -> bool
-        ensures { result ≡ may_double score self }
+        ensures { result ≡ kind_may_double score self }
     {
         let may_turn = match self.owner {
             None => true,

@@ -8,18 +8,3 @@ pub enum Phase {
     /// After the Crawford game.
     Post,
 }
-
-impl Phase {
-    ghost use Rattle.std.specs.Prelude.{◌≡◌};
-    ghost use Rattle.cube_actions.specs.Names.{letter};
-
-    pub(crate) fn letter(self) -> &'static str
-        ensures { result.now ≡ letter self }
-    {
-        match self {
-            Phase::Normal => "n",
-            Phase::Crawford => "c",
-            Phase::Post => "p",
-        }
-    }
-}

@@ -3,8 +3,6 @@ ghost use Rattle.cube_actions.specs.Scores.{AreNeeds, IsPhaseOf, IsScore, last_g
 
 use crate::phase::Phase;
 use crate::side::Side;
-use arrayvec::ArrayString;
-use itoa::Buffer;
 use std::marker::Model;
 
 /// The points that the two sides of a match still need, 1 to 5, the smaller number first.
@@ -50,8 +48,6 @@ impl Default for Score {
 }
 
 impl Score {
-    ghost use Rattle.cube_actions.specs.Names.{score_text};
-
     /// Both sides need two points or more before the Crawford game, one side one and the other more in it, one side one after it.
     pub fn new(near: u8, far: u8, phase: Phase) -> Result<Score, BadScore>
         ensures ok { IsOk result ↔ (AreNeeds near far × IsPhaseOf near far phase) }
@@ -90,18 +86,5 @@ impl Score {
         ensures { result ≡ same_score self other }
     {
         self == other
-    }
-
-    /// The points needed and a letter for the phase, `n`, `c` or `p`, as `1.3.c`.
-    pub fn print(&self) -> ArrayString<8>
-        ensures { result.bytes ≡ score_text self.now }
-    {
-        let mut text = ArrayString::new();
-        text.push_str(Buffer::new().format(self.near));
-        text.push('.');
-        text.push_str(Buffer::new().format(self.far));
-        text.push('.');
-        text.push_str(self.phase.letter());
-        text
     }
 }

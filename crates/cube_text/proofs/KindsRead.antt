@@ -11,7 +11,8 @@ use Rattle.cube_actions.specs.declared.side.Side.{Side}
 use Rattle.cube_actions.specs.declared.side.Side.TheVariants.{Near, Far}
 use Rattle.cube_actions.specs.declared.name.KindName.{KindName}
 use Rattle.cube_actions.specs.declared.name.KindName.TheVariants.{Alone, Centred, Mine, Theirs, InMatch}
-use Rattle.cube_actions.specs.Names.{every_name, is_kind_name, kind_text, read_name}
+use Rattle.cube_actions.specs.Names.{every_name, is_kind_name}
+use Rattle.cube_text.specs.Texts.{kind_text, read_name}
 use Rattle.cube_actions.proofs.FirstPassing.{either, found_at, passed_at}
 
 IsRead : KindName → Type 0

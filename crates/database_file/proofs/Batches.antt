@@ -7,7 +7,7 @@ use Rattle.std.proofs.lemmas.Bool.{cases_lt, leb-true}
 use Rattle.std.proofs.lemmas.List.{drop-drop, drop-take, take-take, take_all, take_min}
 use Rattle.outside_log.specs.Files.{Fills, bytes_from}
 use Rattle.word_pages.specs.declared.flaws.Flaw.{Flaw}
-use Rattle.word_pages.specs.Words.{words_of}
+use Rattle.word_pages.specs.Words.{words_in_bytes}
 use Rattle.word_pages.specs.Pages.{page_size, page_flaw}
 use Rattle.word_pages.proofs.PageFlaws.{page_flaw-take}
 use Rattle.word_pages.proofs.Texts.{length-words_of, words_of-take}
@@ -30,10 +30,10 @@ flaw-on_page pages page bytes all are =
     sym (page_flaw-take pages.version (binding_on pages page) pages.bound n at bytes) ∙ ap (page_flaw pages.version (binding_on pages page) pages.bound n at) are
     ∙ page_flaw-take pages.version (binding_on pages page) pages.bound n at (drop (page * whole_page pages) all)
 
-pub words-on_page : (pages : Pages) (page : ℕ) (bytes all : List ℕ) → AreOnPage pages page bytes all → words_of pages.version (words_on pages page) bytes ≡ page_words pages all page
+pub words-on_page : (pages : Pages) (page : ℕ) (bytes all : List ℕ) → AreOnPage pages page bytes all → words_in_bytes pages.version (words_on pages page) bytes ≡ page_words pages all page
 words-on_page pages page bytes all are =
     let n = words_on pages page in
-    sym (words_of-take pages.version n (size_on pages page) bytes (omega arith)) ∙ ap (words_of pages.version n) are
+    sym (words_of-take pages.version n (size_on pages page) bytes (omega arith)) ∙ ap (words_in_bytes pages.version n) are
     ∙ words_of-take pages.version n (size_on pages page) (drop (page * whole_page pages) all) (omega arith)
 
 -- what was written over a whole list
@@ -57,12 +57,12 @@ page_wrong pages page n at binding bytes all flaw (Err given) count place bound 
 
 -- and where it is right
 pub page_right : (pages : Pages) (page n at len : ℕ) (binding bytes all cells items : List ℕ) → n ≡ words_on pages page → at ≡ place_of pages page → binding ≡ binding_on pages page → len ≡ length items → length items ≡ n
-    → AreOnPage pages page bytes all → None ≡ page_flaw pages.version binding pages.bound n at bytes → cells ≡ words_of pages.version n bytes
+    → AreOnPage pages page bytes all → None ≡ page_flaw pages.version binding pages.bound n at bytes → cells ≡ words_in_bytes pages.version n bytes
     → (flaw_on pages all page ≡ None) × (take len (cells ++ drop (length cells) items) ≡ page_words pages all page)
 page_right pages page n at len binding bytes all cells items count place bound is many are told read =
     let whole : len ≡ length cells = is ∙ many ∙ sym (length-words_of pages.version n bytes) ∙ sym (ap (λ (words : List ℕ). length words) read) in (
       looked_for pages page n at binding bytes all count place bound are ∙ sym told,
-      written len cells items whole ∙ read ∙ ap (λ n. words_of pages.version n bytes) count ∙ words-on_page pages page bytes all are,
+      written len cells items whole ∙ read ∙ ap (λ n. words_in_bytes pages.version n bytes) count ∙ words-on_page pages page bytes all are,
     )
 
 -- ---- a page of a batch

@@ -12,7 +12,7 @@ use Rattle.turn_rule.specs.declared.game.Game.{Game}
 use Rattle.word_pages.specs.declared.flaws.Flaw.{Flaw}
 use Rattle.word_pages.specs.declared.version.Version.{Version}
 use Rattle.word_pages.specs.declared.version.Version.TheVariants.{One, Two, Three}
-use Rattle.word_pages.specs.Flaws.{AreWithin}
+use Rattle.word_pages.specs.Flaws.{ArePairsWithin}
 use Rattle.word_pages.specs.Pages.{AreBytes, pages_in, pages_text}
 use Rattle.word_pages.specs.Words.{Fits, word_size}
 use Rattle.word_pages.proofs.PageTexts.{length-pages}
@@ -30,7 +30,7 @@ use Rattle.base_head.proofs.FrontTexts.{digest-read, front-of, front-right, head
 use Rattle.database_file.specs.Bases.{IsBaseFrom, base_with, words_of_file}
 use Rattle.database_file.specs.Faults.{ends_before, fault_from, front_fault_from, header_of_file, pages_behind, pages_in_file, short_fault, starts_wrong, whole}
 use Rattle.database_file.specs.FileBases.{FileBase}
-use Rattle.database_file.specs.Pages.{flaw_in, words_in}
+use Rattle.database_file.specs.Pages.{flaw_in, words_listed}
 use Rattle.database_file.specs.Texts.{IsText, game_in, words_a_page}
 use Rattle.database_file.proofs.Bases.{bound-named, pages-valid, words-many}
 use Rattle.database_file.proofs.FrontBytes.{header_of-front, none-before}
@@ -99,7 +99,7 @@ record TextPages (version : Version) (head : FileHead) (list : List ℕ) : Type 
   some : 0 < words_a_page (header_of version head).kinds
   many : length list ≡ 2 * (header_of version head).kinds * (header_of version head).positions
   fit : All (Fits version) list
-  within : AreWithin (bound_of head.name) list
+  within : ArePairsWithin (bound_of head.name) list
 
 text-pages : (version : Version) (head : FileHead) (words : WordList) (bytes : List ℕ) → IsText version head words bytes → TextPages version head words.list
 text-pages version head words bytes is =
@@ -109,8 +109,8 @@ text-pages version head words bytes is =
     let same = head-read version head bytes (begins-with version head words bytes is).0 in
     let count : length words.list ≡ 2 * h.kinds * h.positions =
     is.right.long ∙ ap core.words_in (is.fitting.game ∙ ap game_in (sym same)) ∙ sym (words-many h bytes valid) in
-    let within : AreWithin (bound_of head.name) words.list =
-    subst (λ (bound : ℤ). AreWithin bound words.list) (ap (λ (game : Game). game.stakes.bound) is.fitting.game ∙ bound-named head.name head.starts) (right-within words is.right) in
+    let within : ArePairsWithin (bound_of head.name) words.list =
+    subst (λ (bound : ℤ). ArePairsWithin bound words.list) (ap (λ (game : Game). game.stakes.bound) is.fitting.game ∙ bound-named head.name head.starts) (right-within words is.right) in
     record {
       valid = valid;
       some = pages.some;
@@ -156,9 +156,9 @@ pages-read version head words bytes is =
     let text : List ℕ = pages_text version digest (words_a_page h.kinds) words.list in
     let there : drop (front_length h) bytes ≡ text ++ [] = begins.1 ∙ sym (append-nil text) in
     let read = pages-right (pages_behind h digest) (h.kinds * 1024) words.list [] pages.some (mul_assoc 2 h.kinds 1024) pages.many pages.fit pages.within in
-    subst (λ (h : Header). (flaw_in (pages_behind h (digest_in h bytes)) (drop (front_length h) bytes) ≡ None) × (words_in (pages_behind h (digest_in h bytes)) (drop (front_length h) bytes) ≡ words.list)) (sym (header-read version head bytes begins.0))
-    (subst (λ (digest : List ℕ). (flaw_in (pages_behind h digest) (drop (front_length h) bytes) ≡ None) × (words_in (pages_behind h digest) (drop (front_length h) bytes) ≡ words.list)) (sym (digest-read version head bytes begins.0))
-    (subst (λ (bytes : List ℕ). (flaw_in (pages_behind h digest) bytes ≡ None) × (words_in (pages_behind h digest) bytes ≡ words.list)) (sym there) read))
+    subst (λ (h : Header). (flaw_in (pages_behind h (digest_in h bytes)) (drop (front_length h) bytes) ≡ None) × (words_listed (pages_behind h (digest_in h bytes)) (drop (front_length h) bytes) ≡ words.list)) (sym (header-read version head bytes begins.0))
+    (subst (λ (digest : List ℕ). (flaw_in (pages_behind h digest) (drop (front_length h) bytes) ≡ None) × (words_listed (pages_behind h digest) (drop (front_length h) bytes) ≡ words.list)) (sym (digest-read version head bytes begins.0))
+    (subst (λ (bytes : List ℕ). (flaw_in (pages_behind h digest) bytes ≡ None) × (words_listed (pages_behind h digest) bytes ≡ words.list)) (sym there) read))
 
 -- what a file with a text holds
 pub base-of : (oldest version : Version) (head : FileHead) (words : WordList) (bytes : List ℕ) → IsSince oldest version → IsText version head words bytes → IsBaseFrom oldest (whole bytes) (record { head = head; words = words })

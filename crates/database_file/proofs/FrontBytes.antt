@@ -12,7 +12,7 @@ use Rattle.byteorder.specs.Numbers.{big_from-take}
 use Rattle.word_pages.specs.declared.version.Version.{Version}
 use Rattle.word_pages.specs.Sealed.{is_sealed}
 use Rattle.word_pages.specs.Flaws.{pairs_flaw}
-use Rattle.word_pages.specs.Words.{word_size, words_of}
+use Rattle.word_pages.specs.Words.{word_size, words_in_bytes}
 use Rattle.word_pages.proofs.Texts.{words_of-take}
 use Rattle.cube_actions.specs.Stakes.{point_units}
 use Rattle.base_head.specs.declared.fault.BadFile.{BadFile}
@@ -71,8 +71,8 @@ start_words-front : (header : Header) (n : ℕ) (bytes : List ℕ) → front_len
 start_words-front header n bytes room =
     let split : 64 + (n - 64) ≡ n = omega (arith, room) in
     let words : word_size header.version * (2 * header.starts) ≡ pair_size header.version * header.starts = mul_left_comm (word_size header.version) 2 header.starts ∙ sym (mul_assoc 2 (word_size header.version) header.starts) in
-    ap (λ k. words_of header.version (2 * header.starts) (drop 64 (take k bytes))) (sym split)
-    ∙ ap (words_of header.version (2 * header.starts)) (drop-take 64 (n - 64) bytes)
+    ap (λ k. words_in_bytes header.version (2 * header.starts) (drop 64 (take k bytes))) (sym split)
+    ∙ ap (words_in_bytes header.version (2 * header.starts)) (drop-take 64 (n - 64) bytes)
     ∙ words_of-take header.version (2 * header.starts) (n - 64) (drop 64 bytes) (omega (arith, room, words))
 
 -- their fault, and the head

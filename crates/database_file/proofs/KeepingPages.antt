@@ -1,16 +1,16 @@
 -- Pages that are kept as they are read together.
-use Rattle.std.proofs.Common.{◌≡◌, ◌∙◌, ℕ, ◌*◌, ◌+◌, ◌<◌, ◌≤◌, ◌++◌, Bool, IsTrue, List, length, slice_index_or, Option, None, Result, Ok, Err, Contains, Vec, Global, ◌⊎◌, inl, inr, sym, ap, subst, arith}
+use Rattle.std.proofs.Common.{◌≡◌, ◌∙◌, ℕ, ◌*◌, ◌+◌, ◌<◌, ◌≤◌, ◌++◌, Bool, List, length, slice_index_or, Option, Result, Ok, Err, Contains, Vec, Global, ◌⊎◌, inl, inr, sym, ap, subst, arith}
 use Rattle.std.proofs.lemmas.List.{length-replicate}
 use Rattle.std.proofs.Math.ListN.{replicate}
 use Rattle.outside_log.specs.Files.{bytes_from}
-use Rattle.word_pages.specs.Flaws.{AreWithin}
+use Rattle.word_pages.specs.Flaws.{ArePairsWithin}
 use Rattle.word_pages.proofs.Texts.{length-words_of}
 use Rattle.database_file.specs.declared.batch.Batch.{Batch}
 use Rattle.database_file.specs.declared.pages.Pages.{Pages}
 use Rattle.database_file.specs.declared.pages.PagesStop.{PagesStop}
 use Rattle.database_file.specs.declared.pages.PagesStop.TheVariants.{NoMemory}
 use Rattle.database_file.specs.Batches.{AnswersEach, AnswersOn, HasReadBatch, batch_size}
-use Rattle.database_file.specs.Pages.{flaw_on, page_words, whole_page, words_on}
+use Rattle.database_file.specs.Pages.{whole_page, words_on}
 use Rattle.database_file.specs.Paged.{AreOfFile, ArePagesKept, IsPage, IsPageOf, KeepsRead, Kept}
 use Rattle.database_file.proofs.Batches.{is_part}
 use Rattle.database_file.proofs.PageLists.{page-within}
@@ -39,7 +39,7 @@ module _ (pages : Pages) (batch : Batch) (read : List Found) (old new : Kept) (k
           let told = subst (λ (found : Found). AnswersOn pages (batch.first + number) all found) is (answers.each number (omega (arith, here, answers.many)) all (is_part pages batch before bytes long few)) in
           subst (λ (n : ℕ). IsPage pages n page.1.items) (sym at) (record {
             long = ap (λ (words : List ℕ). length words) told.1 ∙ length-words_of pages.version (words_on pages (batch.first + number)) _;
-            within = subst (AreWithin pages.bound) (sym told.1) (page-within pages all (batch.first + number) told.0);
+            within = subst (ArePairsWithin pages.bound) (sym told.1) (page-within pages all (batch.first + number) told.0);
           })
     ]
 

@@ -8,7 +8,7 @@ use Rattle.outside_log.specs.Files.{bytes_from}
 use Rattle.cube_actions.specs.Stakes.{bound_of}
 use Rattle.word_pages.specs.declared.version.Version.{Version}
 use Rattle.word_pages.specs.declared.flaws.Flaw.{Flaw}
-use Rattle.word_pages.specs.Flaws.{AreWithin}
+use Rattle.word_pages.specs.Flaws.{ArePairsWithin}
 use Rattle.interval_words.specs.Core as core
 use Rattle.base_head.specs.declared.header.Header.{Header}
 use Rattle.base_head.specs.Fronts.{bad_of, digest_in, head_in, starts_fault}
@@ -21,7 +21,7 @@ use Rattle.database_file.specs.declared.pages.PagesStop.{PagesStop}
 use Rattle.database_file.specs.declared.pages.PagesStop.TheVariants as stops
 use Rattle.database_file.specs.declared.stop.LoadStop.{LoadStop}
 use Rattle.database_file.specs.declared.stop.LoadStop.TheVariants.{BadFile as Bad, Missing, NoMemory, ReadFault}
-use Rattle.database_file.specs.Pages.{AnswersPages, flaw_in, words_in}
+use Rattle.database_file.specs.Pages.{AnswersPages, flaw_in, words_listed}
 use Rattle.database_file.specs.Texts.{game_in}
 use Rattle.database_file.specs.Faults.{AnswersFront, IsFrontFrom, Read, header_of_file, pages_behind, short_fault, starts_wrong, whole}
 use Rattle.database_file.specs.FileBases.{FileBase}
@@ -84,14 +84,14 @@ pages-stopped oldest file front stop (Err given) told pages same = subst (λ (st
         ∙ ap (λ (flaw : Option Flaw). option_map bad_of flaw) pages
 
 base-loaded : (oldest : Version) (file : Read) (front : Front) (list : List ℕ) → IsFrontFrom oldest file front
-    → (flaw_in (pages_behind front.header front.digest) (drop (front_length front.header) file.bytes) ≡ None) × (list ≡ words_in (pages_behind front.header front.digest) (drop (front_length front.header) file.bytes))
+    → (flaw_in (pages_behind front.header front.digest) (drop (front_length front.header) file.bytes) ≡ None) × (list ≡ words_listed (pages_behind front.header front.digest) (drop (front_length front.header) file.bytes))
     → IsBaseFrom oldest file (base_with front.head list)
 base-loaded oldest file front list told pages = record {
   right = or_next _ _ told.right
       ∙ ap₂ (λ (h : Header) (digest : List ℕ). option_map bad_of (flaw_in (pages_behind h digest) (drop (front_length h) file.bytes))) (sym told.header) (sym told.digest)
       ∙ ap (λ (flaw : Option Flaw). option_map bad_of flaw) pages.0;
   holds = ap (λ (head : FileHead). base_with head list) told.head
-      ∙ ap (base_with (head_in (header_of_file file.bytes) file.bytes)) (pages.1 ∙ ap₂ (λ (h : Header) (digest : List ℕ). words_in (pages_behind h digest) (drop (front_length h) file.bytes)) told.header told.digest);
+      ∙ ap (base_with (head_in (header_of_file file.bytes) file.bytes)) (pages.1 ∙ ap₂ (λ (h : Header) (digest : List ℕ). words_listed (pages_behind h digest) (drop (front_length h) file.bytes)) told.header told.digest);
 }
 
 -- ---- what was read
@@ -122,14 +122,14 @@ pages-read oldest (Some file) front bytes stop result told pages same =
     )
 
 pub base-read : (oldest : Version) (file : Option Read) (front : Front) (bytes list : List ℕ) (base : FileBase) → AnswersFront oldest file (Ok front)
-    → (flaw_in (pages_behind front.header front.digest) bytes ≡ None) × (list ≡ words_in (pages_behind front.header front.digest) bytes) → base ≡ base_with front.head list → (file : Option Read) × AnswersFrom oldest file (Ok base)
+    → (flaw_in (pages_behind front.header front.digest) bytes ≡ None) × (list ≡ words_listed (pages_behind front.header front.digest) bytes) → base ≡ base_with front.head list → (file : Option Read) × AnswersFrom oldest file (Ok base)
 base-read oldest None front bytes list base told pages is = absurd told
 base-read oldest (Some file) front bytes list base told pages is =
     let all = front-joined oldest file.size file.bytes bytes front told in
     let read : Read = record { size = file.size; bytes = take (front_length front.header) file.bytes ++ bytes } in (
       Some read,
       subst (IsBaseFrom oldest read) (sym is) (base-loaded oldest read front list all.0
-          (subst (λ (bytes : List ℕ). (flaw_in (pages_behind front.header front.digest) bytes ≡ None) × (list ≡ words_in (pages_behind front.header front.digest) bytes)) (sym all.1) pages)),
+          (subst (λ (bytes : List ℕ). (flaw_in (pages_behind front.header front.digest) bytes ≡ None) × (list ≡ words_listed (pages_behind front.header front.digest) bytes)) (sym all.1) pages)),
     )
 
 -- where the files tell, it is the file's
@@ -140,24 +140,24 @@ pages-told oldest (Some bytes) there front at stop result same is told pages giv
     pages-stopped oldest (whole bytes) front stop result told (subst (λ (bytes : List ℕ). AnswersPages (pages_behind front.header front.digest) bytes (Err stop)) (ap (bytes_from at) same ∙ ap (λ at. drop at bytes) is) pages) given
 
 pub base-told : (oldest : Version) (held there : Option (List ℕ)) (front : Front) (at : ℕ) (list : List ℕ) (base : FileBase) → there ≡ held → at ≡ front_length front.header → AnswersFront oldest (option_map whole held) (Ok front)
-    → (flaw_in (pages_behind front.header front.digest) (bytes_from at there) ≡ None) × (list ≡ words_in (pages_behind front.header front.digest) (bytes_from at there)) → base ≡ base_with front.head list → AnswersFrom oldest (option_map whole held) (Ok base)
+    → (flaw_in (pages_behind front.header front.digest) (bytes_from at there) ≡ None) × (list ≡ words_listed (pages_behind front.header front.digest) (bytes_from at there)) → base ≡ base_with front.head list → AnswersFrom oldest (option_map whole held) (Ok base)
 base-told oldest None there front at list base same is told pages given = absurd told
 base-told oldest (Some bytes) there front at list base same is told pages given =
     subst (IsBaseFrom oldest (whole bytes)) (sym given) (base-loaded oldest (whole bytes) front list told
-    (subst (λ (bytes : List ℕ). (flaw_in (pages_behind front.header front.digest) bytes ≡ None) × (list ≡ words_in (pages_behind front.header front.digest) bytes)) (ap (bytes_from at) same ∙ ap (λ at. drop at bytes) is) pages))
+    (subst (λ (bytes : List ℕ). (flaw_in (pages_behind front.header front.digest) bytes ≡ None) × (list ≡ words_listed (pages_behind front.header front.digest) bytes)) (ap (bytes_from at) same ∙ ap (λ at. drop at bytes) is) pages))
 
 -- ---- the words of the pages are those of the head's game
 
 pub list-fits : (oldest : Version) (file : Option Read) (front : Front) (bytes list : List ℕ) → IsHeader front.header → AnswersFront oldest file (Ok front)
-    → (flaw_in (pages_behind front.header front.digest) bytes ≡ None) × (list ≡ words_in (pages_behind front.header front.digest) bytes)
-    → (length list ≡ core.words_in (game_in front.head)) × AreWithin (bound_of front.head.name) list
+    → (flaw_in (pages_behind front.header front.digest) bytes ≡ None) × (list ≡ words_listed (pages_behind front.header front.digest) bytes)
+    → (length list ≡ core.words_in (game_in front.head)) × ArePairsWithin (bound_of front.head.name) list
 list-fits oldest None front bytes list valid told pages = absurd told
 list-fits oldest (Some file) front bytes list valid told pages =
     let h = front.header in
     let head : front.head ≡ head_in h file.bytes = told.head ∙ ap (λ (h : Header). head_in h file.bytes) (sym told.header) in
     let some = (pages-valid h front.digest valid).some in (
       ap (λ (list : List ℕ). length list) pages.1 ∙ length-words_in (pages_behind h front.digest) bytes some ∙ words-many h file.bytes valid ∙ ap (λ (head : FileHead). core.words_in (game_in head)) (sym head),
-      subst (λ bound. AreWithin bound list) (ap (λ (head : FileHead). bound_of head.name) (sym head)) (subst (AreWithin (bound_of h.name)) (sym pages.1)
+      subst (λ bound. ArePairsWithin bound list) (ap (λ (head : FileHead). bound_of head.name) (sym head)) (subst (ArePairsWithin (bound_of h.name)) (sym pages.1)
           (words-within (pages_behind h front.digest) bytes (h.kinds * 1024) (h.kinds * h.positions) (mul_assoc 2 h.kinds 1024) (mul_assoc 2 h.kinds h.positions) pages.0)),
     )
 

@@ -9,7 +9,7 @@ use Rattle.outside_log.specs.Files.{bytes_from}
 use Rattle.word_pages.specs.declared.flaws.Flaw.{Flaw}
 use Rattle.word_pages.specs.declared.load.PageStop.{PageStop}
 use Rattle.word_pages.specs.declared.load.PageStop.TheVariants as reading
-use Rattle.word_pages.specs.Words.{word_size, words_of}
+use Rattle.word_pages.specs.Words.{word_size, words_in_bytes}
 use Rattle.word_pages.specs.Pages.{page_size, page_flaw}
 use Rattle.word_pages.specs.Loads.{AnswersPage}
 use Rattle.word_pages.proofs.PageFlaws.{page_flaw-take}
@@ -48,11 +48,11 @@ stops T {U = U} pages page n at binding bytes there cells old stop (Err given) c
 -- where it is right, its words are added
 pub adds : (pages : Pages) (page n at : ℕ) (binding bytes there cells old new : List ℕ)
     → n ≡ words_on pages page → at ≡ place_of pages page → binding ≡ binding_on pages page → there ≡ drop (page * whole_page pages) bytes
-    → (page_flaw pages.version binding pages.bound n at there ≡ None) × (cells ≡ words_of pages.version n there) → new ≡ old ++ cells
+    → (page_flaw pages.version binding pages.bound n at there ≡ None) × (cells ≡ words_in_bytes pages.version n there) → new ≡ old ++ cells
     → (flaw_on pages bytes page ≡ None) × (new ≡ old ++ page_words pages bytes page)
 adds pages page n at binding bytes there cells old new count place bound is read added = (
   same-flaw pages page n at binding bytes there count place bound is ∙ read.0,
-  added ∙ ap (λ (words : List ℕ). old ++ words) (read.1 ∙ ap₂ (λ (n : ℕ) (bytes : List ℕ). words_of pages.version n bytes) count is),
+  added ∙ ap (λ (words : List ℕ). old ++ words) (read.1 ∙ ap₂ (λ (n : ℕ) (bytes : List ℕ). words_in_bytes pages.version n bytes) count is),
 )
 
 -- what stands behind the pages before
@@ -90,8 +90,8 @@ page-front pages page bytes more long =
     let same : take size (there ++ more) ≡ take size there = take-append-le size there more ends in (
       ap (page_flaw pages.version (binding_on pages page) pages.bound n at) split
           ∙ sym (page_flaw-take pages.version (binding_on pages page) pages.bound n at (there ++ more)) ∙ ap (page_flaw pages.version (binding_on pages page) pages.bound n at) same ∙ page_flaw-take pages.version (binding_on pages page) pages.bound n at there,
-      ap (words_of pages.version n) split
-          ∙ sym (words_of-take pages.version n size (there ++ more) (omega arith)) ∙ ap (words_of pages.version n) same ∙ words_of-take pages.version n size there (omega arith),
+      ap (words_in_bytes pages.version n) split
+          ∙ sym (words_of-take pages.version n size (there ++ more) (omega arith)) ∙ ap (words_in_bytes pages.version n) same ∙ words_of-take pages.version n size there (omega arith),
     )
 
 -- nor for those before it

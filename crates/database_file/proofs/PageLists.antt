@@ -9,9 +9,8 @@ use Rattle.std.proofs.lemmas.List.Elements.{All-drop, All-take}
 use Rattle.directed_fixed.specs.declared.word.TheConstants.{WORD_OFFSET}
 use Rattle.directed_fixed.specs.Bounds.{IsWithin}
 use Rattle.sha2.specs.Sha256.{sha256}
-use Rattle.word_pages.specs.Sealed.{binding_of}
-use Rattle.word_pages.specs.Words.{Fits, word_size, words_of, words_text}
-use Rattle.word_pages.specs.Flaws.{AreWithin, pair_of, value_of}
+use Rattle.word_pages.specs.Words.{Fits, word_size, words_in_bytes, words_bytes}
+use Rattle.word_pages.specs.Flaws.{ArePairsWithin, pair_in_words, word_value}
 use Rattle.word_pages.specs.Pages.{AreBytes, first_pages, page_flaw, page_size, page_text, pages_from, pages_in, pages_text}
 use Rattle.word_pages.proofs.Back.{words_of-text}
 use Rattle.word_pages.proofs.PageFlaws.{page_flaw-take}
@@ -19,7 +18,7 @@ use Rattle.word_pages.proofs.PageTexts.{length-pages, page-exactly, page-right, 
 use Rattle.word_pages.proofs.Texts.{length-words_of, words_of-take}
 use Rattle.word_pages.proofs.Within.{is_well, none_or, none-within, or_none, within-fit}
 use Rattle.database_file.specs.declared.pages.Pages.{Pages}
-use Rattle.database_file.specs.Pages.{binding_on, first_flaw, first_words, flaw_in, flaw_on, page_count, page_words, place_of, whole_page, words_in, words_on}
+use Rattle.database_file.specs.Pages.{binding_on, first_flaw, first_words, flaw_in, flaw_on, page_count, page_words, place_of, whole_page, words_listed, words_on}
 use Rattle.database_file.proofs.Writing.{next_page}
 
 -- ---- the words
@@ -56,21 +55,21 @@ pages_cover pages some =
     let cover = lt-div-mul-add {a = pages.count + (pages.size - 1)} {b = pages.size} some in
     omega (arith, cover, some)
 
-pub length-words_in : (pages : Pages) (bytes : List ℕ) → 0 < pages.size → length (words_in pages bytes) ≡ pages.count
+pub length-words_in : (pages : Pages) (bytes : List ℕ) → 0 < pages.size → length (words_listed pages bytes) ≡ pages.count
 length-words_in pages bytes some = omega (arith, length-first_words pages bytes (page_count pages), pages_cover pages some)
 
 -- the words of a page among all
-pub page-part : (pages : Pages) (bytes : List ℕ) (page : ℕ) → 0 < pages.size → page < page_count pages → take pages.size (drop (page * pages.size) (words_in pages bytes)) ≡ page_words pages bytes page
+pub page-part : (pages : Pages) (bytes : List ℕ) (page : ℕ) → 0 < pages.size → page < page_count pages → take pages.size (drop (page * pages.size) (words_listed pages bytes)) ≡ page_words pages bytes page
 page-part pages bytes page some there =
     let before : List ℕ = first_words pages bytes page in
     let words : List ℕ = page_words pages bytes page in
     let (rest, is) = behind pages bytes (suc page) (page_count pages - suc page) in
     let count : (page_count pages - suc page) + suc page ≡ page_count pages = omega (arith, there) in
-    let all : words_in pages bytes ≡ before ++ (words ++ rest) = ap (first_words pages bytes) (sym count) ∙ is ∙ append_assoc before words rest in
+    let all : words_listed pages bytes ≡ before ++ (words ++ rest) = ap (first_words pages bytes) (sym count) ∙ is ∙ append_assoc before words rest in
     let begins = page_begins pages page some there in
     let start : length before ≡ page * pages.size = omega (arith, length-first_words pages bytes page, begins) in
-    let from : drop (page * pages.size) (words_in pages bytes) ≡ words ++ rest = ap₂ (λ (n : ℕ) (words : List ℕ). drop n words) (sym start) all ∙ drop-append_seam before (words ++ rest) in
-    let left : length (words ++ rest) ≡ pages.count - page * pages.size = sym (ap (λ (words : List ℕ). length words) from) ∙ length-drop (page * pages.size) (words_in pages bytes) ∙ ap (λ n. n - page * pages.size) (length-words_in pages bytes some) in
+    let from : drop (page * pages.size) (words_listed pages bytes) ≡ words ++ rest = ap₂ (λ (n : ℕ) (words : List ℕ). drop n words) (sym start) all ∙ drop-append_seam before (words ++ rest) in
+    let left : length (words ++ rest) ≡ pages.count - page * pages.size = sym (ap (λ (words : List ℕ). length words) from) ∙ length-drop (page * pages.size) (words_listed pages bytes) ∙ ap (λ n. n - page * pages.size) (length-words_in pages bytes some) in
     let many : min pages.size (length (words ++ rest)) ≡ length words = ap (λ n. min pages.size n) left ∙ sym (length-words_of pages.version (words_on pages page) (drop (page * whole_page pages) bytes)) in
     ap (take pages.size) from ∙ sym (take_min pages.size (words ++ rest)) ∙ ap (λ n. take n (words ++ rest)) many ∙ take-append_seam words rest
 
@@ -100,7 +99,7 @@ AreBytes-take n bytes are k = by_place (cases_lt k n)
 
 -- a page without a flaw is the page of its words, which lie within the bound
 page-back : (pages : Pages) (bytes : List ℕ) (page : ℕ) → AreBytes bytes → flaw_on pages bytes page ≡ None
-    → (take (page_size pages.version (words_on pages page)) (drop (page * whole_page pages) bytes) ≡ page_text pages.version (binding_on pages page) (page_words pages bytes page)) × AreWithin pages.bound (page_words pages bytes page)
+    → (take (page_size pages.version (words_on pages page)) (drop (page * whole_page pages) bytes) ≡ page_text pages.version (binding_on pages page) (page_words pages bytes page)) × ArePairsWithin pages.bound (page_words pages bytes page)
 page-back pages bytes page are right =
     let n = words_on pages page in
     let size = page_size pages.version n in
@@ -109,7 +108,7 @@ page-back pages bytes page are right =
     let same = words_of-take pages.version n size there (omega arith) in
     let back = (page-exactly pages.version (binding_on pages page) pages.bound n (pages.at + page * whole_page pages) (take size there) (AreBytes-take size there (AreBytes-drop (page * whole_page pages) bytes are)) (length-take-le size there long)).0
     (page_flaw-take pages.version (binding_on pages page) pages.bound n (pages.at + page * whole_page pages) there ∙ right) in
-    (back.0 ∙ ap (page_text pages.version (binding_on pages page)) same, subst (AreWithin pages.bound) same back.1)
+    (back.0 ∙ ap (page_text pages.version (binding_on pages page)) same, subst (ArePairsWithin pages.bound) same back.1)
 
 -- how many bytes the first n pages have
 abbrev pub first_length : Pages → ℕ → ℕ
@@ -141,11 +140,11 @@ first_length-all pages some =
 
 -- the first pages are the pages of the words
 text-first : (pages : Pages) (bytes : List ℕ) (n : ℕ) → 0 < pages.size → AreBytes bytes → flaw_in pages bytes ≡ None → n ≤ page_count pages
-    → first_pages pages.version pages.digest pages.size 0 n (words_in pages bytes) ≡ take (first_length pages n) bytes
+    → first_pages pages.version pages.digest pages.size 0 n (words_listed pages bytes) ≡ take (first_length pages n) bytes
 text-first pages bytes zero some are right within = ap (λ n. take n bytes) (sym (first_length-zero pages))
 text-first pages bytes (suc n) some are right within =
     let there : n < page_count pages = omega (arith, within) in
-    let words = words_in pages bytes in
+    let words = words_listed pages bytes in
     let size = page_size pages.version (words_on pages n) in
     let before = text-first pages bytes n some are right (omega (arith, within)) in
     let page = (page-back pages bytes n are (each_right pages bytes (page_count pages) right n there)).0 in
@@ -161,22 +160,22 @@ text-first pages bytes (suc n) some are right within =
     one n = omega arith
 
 pub pages-back : (pages : Pages) (bytes : List ℕ) → 0 < pages.size → AreBytes bytes → length bytes ≡ word_size pages.version * pages.count + 32 * page_count pages
-    → flaw_in pages bytes ≡ None → bytes ≡ pages_text pages.version pages.digest pages.size (words_in pages bytes)
+    → flaw_in pages bytes ≡ None → bytes ≡ pages_text pages.version pages.digest pages.size (words_listed pages bytes)
 pages-back pages bytes some are long right =
-    let words = words_in pages bytes in
+    let words = words_listed pages bytes in
     sym (ap (λ n. first_pages pages.version pages.digest pages.size 0 (pages_in pages.size n) words) (length-words_in pages bytes some)
     ∙ text-first pages bytes (page_count pages) some are right (omega arith)
     ∙ take_all (first_length pages (page_count pages)) bytes (omega (arith, long, first_length-all pages some)))
 
 -- ---- pairs within the bound
 
-pair-of : (words others : List ℕ) (k j : ℕ) → slice_index words (2 * k) ≡ slice_index others (2 * j) → slice_index words (2 * k + 1) ≡ slice_index others (2 * j + 1) → pair_of words k ≡ pair_of others j
-pair-of words others k j lower upper = ap₂ (λ (lower : ℕ) (upper : ℕ). record { lower = value_of lower; upper = value_of upper }) lower upper
+pair-of : (words others : List ℕ) (k j : ℕ) → slice_index words (2 * k) ≡ slice_index others (2 * j) → slice_index words (2 * k + 1) ≡ slice_index others (2 * j + 1) → pair_in_words words k ≡ pair_in_words others j
+pair-of words others k j lower upper = ap₂ (λ (lower : ℕ) (upper : ℕ). record { lower = word_value lower; upper = word_value upper }) lower upper
 
-within-append : (bound : ℤ) (m : ℕ) (words others : List ℕ) → length words ≡ 2 * m → AreWithin bound words → AreWithin bound others → AreWithin bound (words ++ others)
+within-append : (bound : ℤ) (m : ℕ) (words others : List ℕ) → length words ≡ 2 * m → ArePairsWithin bound words → ArePairsWithin bound others → ArePairsWithin bound (words ++ others)
 within-append bound m words others even first then k there = by_place (cases_lt (2 * k + 1) (length words))
   where
-    by_place : (2 * k + 1 < length words) ⊎ (length words ≤ 2 * k + 1) → IsWithin bound (pair_of (words ++ others) k)
+    by_place : (2 * k + 1 < length words) ⊎ (length words ≤ 2 * k + 1) → IsWithin bound (pair_in_words (words ++ others) k)
     by_place (inl inside) = subst (IsWithin bound) (sym (pair-of (words ++ others) words k k (get_or-append words others 0 (2 * k) (omega (arith, inside))) (get_or-append words others 0 (2 * k + 1) inside))) (first k inside)
     by_place (inr behind) =
         let j = k - m in
@@ -189,23 +188,23 @@ even-before : (pages : Pages) (bytes : List ℕ) (half all n : ℕ) → pages.si
 even-before pages bytes half all n size count =
     omega (arith, length-first_words pages bytes n, count, ap (λ size. n * size) size ∙ mul_left_comm n 2 half)
 
-first-within : (pages : Pages) (bytes : List ℕ) (half all n : ℕ) → pages.size ≡ 2 * half → pages.count ≡ 2 * all → ((page : ℕ) → page < n → AreWithin pages.bound (page_words pages bytes page)) → AreWithin pages.bound (first_words pages bytes n)
+first-within : (pages : Pages) (bytes : List ℕ) (half all n : ℕ) → pages.size ≡ 2 * half → pages.count ≡ 2 * all → ((page : ℕ) → page < n → ArePairsWithin pages.bound (page_words pages bytes page)) → ArePairsWithin pages.bound (first_words pages bytes n)
 first-within pages bytes half all zero size count each = λ k there. absurd (omega (arith, there))
 first-within pages bytes half all (suc n) size count each =
     within-append pages.bound (min (n * half) all) (first_words pages bytes n) (page_words pages bytes n) (even-before pages bytes half all n size count)
     (first-within pages bytes half all n size count (λ page there. each page (omega (arith, there)))) (each n (omega arith))
 
 -- the words of pages without a flaw lie within the bound
-pub page-within : (pages : Pages) (bytes : List ℕ) (page : ℕ) → flaw_on pages bytes page ≡ None → AreWithin pages.bound (page_words pages bytes page)
+pub page-within : (pages : Pages) (bytes : List ℕ) (page : ℕ) → flaw_on pages bytes page ≡ None → ArePairsWithin pages.bound (page_words pages bytes page)
 page-within pages bytes page right = none-within pages.version pages.bound (place_of pages page) (page_words pages bytes page) (none_or _ _ (none_or _ _ right).1).1
 
-pub words-within : (pages : Pages) (bytes : List ℕ) (half all : ℕ) → pages.size ≡ 2 * half → pages.count ≡ 2 * all → flaw_in pages bytes ≡ None → AreWithin pages.bound (words_in pages bytes)
+pub words-within : (pages : Pages) (bytes : List ℕ) (half all : ℕ) → pages.size ≡ 2 * half → pages.count ≡ 2 * all → flaw_in pages bytes ≡ None → ArePairsWithin pages.bound (words_listed pages bytes)
 words-within pages bytes half all size count right =
     first-within pages bytes half all (page_count pages) size count (λ page there. page-within pages bytes page (each_right pages bytes (page_count pages) right page there))
 
 -- ---- the pages of words
 
-within-part : (bound : ℤ) (m n : ℕ) (words : List ℕ) → AreWithin bound words → AreWithin bound (take n (drop (2 * m) words))
+within-part : (bound : ℤ) (m n : ℕ) (words : List ℕ) → ArePairsWithin bound words → ArePairsWithin bound (take n (drop (2 * m) words))
 within-part bound m n words within k there =
     let long = length-take n (drop (2 * m) words) in
     let rest = length-drop (2 * m) words in
@@ -216,7 +215,7 @@ within-part bound m n words within k there =
     subst (IsWithin bound) (sym (pair-of (take n (drop (2 * m) words)) words k (m + k) lower upper)) (within (m + k) (omega (arith, there, long, rest)))
 
 -- a page of words that fit and lie within the bound has no flaw, and these are its words
-page-of : (pages : Pages) (half : ℕ) (words rest : List ℕ) (page : ℕ) → 0 < pages.size → pages.size ≡ 2 * half → length words ≡ pages.count → All (Fits pages.version) words → AreWithin pages.bound words → page < page_count pages
+page-of : (pages : Pages) (half : ℕ) (words rest : List ℕ) (page : ℕ) → 0 < pages.size → pages.size ≡ 2 * half → length words ≡ pages.count → All (Fits pages.version) words → ArePairsWithin pages.bound words → page < page_count pages
     → (flaw_on pages (pages_text pages.version pages.digest pages.size words ++ rest) page ≡ None) × (page_words pages (pages_text pages.version pages.digest pages.size words ++ rest) page ≡ take pages.size (drop (page * pages.size) words))
 page-of pages half words rest page some even count fit within there =
     let version = pages.version in
@@ -235,16 +234,16 @@ page-of pages half words rest page some even count fit within there =
     drop-append-le (page * whole_page pages) text rest room ∙ ap (λ bytes. bytes ++ rest) (page-stands version pages.digest pages.size words page some last) ∙ append_assoc (page_text version binding part) others rest in
     let fits = All-take (Fits version) pages.size (drop (page * pages.size) words) (All-drop (Fits version) (page * pages.size) words fit) in
     let place : page * pages.size ≡ 2 * (page * half) = ap (λ size. page * size) even ∙ mul_left_comm page 2 half in
-    let inside : AreWithin pages.bound part = subst (λ at. AreWithin pages.bound (take pages.size (drop at words))) (sym place) (within-part pages.bound (page * half) pages.size words within) in (
+    let inside : ArePairsWithin pages.bound part = subst (λ at. ArePairsWithin pages.bound (take pages.size (drop at words))) (sym place) (within-part pages.bound (page * half) pages.size words within) in (
       ap₂ (λ (n : ℕ) (bytes : List ℕ). page_flaw version binding pages.bound n (pages.at + page * whole_page pages) bytes) (sym n) stands ∙ page-right version binding pages.bound (pages.at + page * whole_page pages) part (others ++ rest) fits inside,
-      ap₂ (λ (n : ℕ) (bytes : List ℕ). words_of version n bytes) (sym n) stands
-          ∙ ap (words_of version (length part)) (append_assoc (words_text version part) (sha256 (binding ++ words_text version part)) (others ++ rest)) ∙ words_of-text version part (sha256 (binding ++ words_text version part) ++ (others ++ rest)) fits,
+      ap₂ (λ (n : ℕ) (bytes : List ℕ). words_in_bytes version n bytes) (sym n) stands
+          ∙ ap (words_in_bytes version (length part)) (append_assoc (words_bytes version part) (sha256 (binding ++ words_bytes version part)) (others ++ rest)) ∙ words_of-text version part (sha256 (binding ++ words_bytes version part) ++ (others ++ rest)) fits,
     )
   where
     le_min : (a b : ℕ) → min a b ≤ b
     le_min a b = omega arith
 
-pages-of : (pages : Pages) (half : ℕ) (words rest : List ℕ) (n : ℕ) → 0 < pages.size → pages.size ≡ 2 * half → length words ≡ pages.count → All (Fits pages.version) words → AreWithin pages.bound words → n ≤ page_count pages
+pages-of : (pages : Pages) (half : ℕ) (words rest : List ℕ) (n : ℕ) → 0 < pages.size → pages.size ≡ 2 * half → length words ≡ pages.count → All (Fits pages.version) words → ArePairsWithin pages.bound words → n ≤ page_count pages
     → (first_flaw pages (pages_text pages.version pages.digest pages.size words ++ rest) n ≡ None) × (first_words pages (pages_text pages.version pages.digest pages.size words ++ rest) n ≡ take (n * pages.size) words)
 pages-of pages half words rest zero some even count fit within there = (refl, ap (λ n. take n words) (none pages.size))
   where
@@ -259,8 +258,8 @@ pages-of pages half words rest (suc n) some even count fit within there =
     )
 
 -- so are all pages of such words
-pub pages-right : (pages : Pages) (half : ℕ) (words rest : List ℕ) → 0 < pages.size → pages.size ≡ 2 * half → length words ≡ pages.count → All (Fits pages.version) words → AreWithin pages.bound words
-    → (flaw_in pages (pages_text pages.version pages.digest pages.size words ++ rest) ≡ None) × (words_in pages (pages_text pages.version pages.digest pages.size words ++ rest) ≡ words)
+pub pages-right : (pages : Pages) (half : ℕ) (words rest : List ℕ) → 0 < pages.size → pages.size ≡ 2 * half → length words ≡ pages.count → All (Fits pages.version) words → ArePairsWithin pages.bound words
+    → (flaw_in pages (pages_text pages.version pages.digest pages.size words ++ rest) ≡ None) × (words_listed pages (pages_text pages.version pages.digest pages.size words ++ rest) ≡ words)
 pages-right pages half words rest some even count fit within =
     let all = pages-of pages half words rest (page_count pages) some even count fit within (omega arith) in
     (all.0, all.1 ∙ take_all (page_count pages * pages.size) words (omega (arith, count, pages_cover pages some)))
@@ -268,11 +267,11 @@ pages-right pages half words rest some even count fit within =
 -- pages have no flaw exactly where they are those of their words, which lie within the bound
 pub pages-exactly : (pages : Pages) (half all : ℕ) (bytes : List ℕ) → 0 < pages.size → pages.size ≡ 2 * half → pages.count ≡ 2 * all → AreBytes bytes
     → length bytes ≡ word_size pages.version * pages.count + 32 * page_count pages → pages.bound ≤ℤ WORD_OFFSET
-    → (flaw_in pages bytes ≡ None) ↔ ((bytes ≡ pages_text pages.version pages.digest pages.size (words_in pages bytes)) × AreWithin pages.bound (words_in pages bytes))
+    → (flaw_in pages bytes ≡ None) ↔ ((bytes ≡ pages_text pages.version pages.digest pages.size (words_listed pages bytes)) × ArePairsWithin pages.bound (words_listed pages bytes))
 pages-exactly pages half all bytes some size count are long bound = (
   λ right. (pages-back pages bytes some are long right, words-within pages bytes half all size count right),
   λ text.
-      let words = words_in pages bytes in
+      let words = words_listed pages bytes in
       let many = length-words_in pages bytes some in
       let fit = within-fit pages.version pages.bound all words bound (many ∙ count) text.1 in
       ap (flaw_in pages) (text.0 ∙ sym (append-nil (pages_text pages.version pages.digest pages.size words))) ∙ (pages-right pages half words [] some size many fit text.1).0,

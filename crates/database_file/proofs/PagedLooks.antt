@@ -22,7 +22,7 @@ use Rattle.database_file.specs.declared.pages.PagesStop.{PagesStop}
 use Rattle.database_file.specs.declared.pages.PagesStop.TheVariants as pages
 use Rattle.database_file.specs.Stops.{looking_stopped}
 use Rattle.database_file.specs.PagedFiles.{PagedFile}
-use Rattle.database_file.specs.Paged.{AnswersLook, AnswersWord, AreOfFile, Kept, bound_end, damage_of, flaw_at, notes_of, page_bytes, pages_told, paged_source, source_of, spot_of, told_unless, told_words, word_at, words_of_pages}
+use Rattle.database_file.specs.Paged.{AnswersLook, AnswersWord, AreOfFile, Kept, bound_end, damage_of, flaw_at, notes_of, page_bytes, pages_told, paged_source, paged_source_of, spot_of, told_unless, told_words, word_at, words_of_pages}
 
 -- a value is no looser than itself
 no-looser : (end : End) (a b : ℤ) → a ≡ b → IsNoLooser end a b
@@ -37,12 +37,12 @@ module _ (old new : PagedFile) (held : Contents) (kept : new ≡ record old { ke
   words-same : words_of_pages new held ≡ words_of_pages old held
   words-same = λ i. told_words (kept i).header (held (kept i).name)
 
-  pub source-same : source_of new held ≡ source_of old held
+  pub source-same : paged_source_of new held ≡ paged_source_of old held
   source-same = λ i. paged_source (kept i).header (held (kept i).name)
 
   module _ (tells now : Bool) (before-told : IsTrue now → IsTrue tells) (end : End) (p : Placement) (k before later : ℕ) where
     answer : (result : Result ℤ LookStop) → IfOk result (IsWithinUnits (bound_of old.header.name)) → (IsTrue now → AnswersLook old.header (held old.name) end p k result)
-        → IfOk result (IsAnswer end (source_of old held) (notes_of new now held) p k)
+        → IfOk result (IsAnswer end (paged_source_of old held) (notes_of new now held) p k)
     answer (Ok value) within answers =
         let told = λ (told : IsTrue now).
         let found = answers told in
@@ -56,7 +56,7 @@ module _ (old new : PagedFile) (held : Contents) (kept : new ≡ record old { ke
     answer (Err stop) within answers = tt
 
     stop : (result : Result ℤ LookStop) → (result ≡ Err ReadFault → Rose before later) → (IsTrue now → AnswersLook old.header (held old.name) end p k result)
-        → IfErr result (MayStop (source_of old held) (notes_of new now held) before later (λ damage. (source_of old held).damage p k ≡ Some damage))
+        → IfErr result (MayStop (paged_source_of old held) (notes_of new now held) before later (λ damage. (paged_source_of old held).damage p k ≡ Some damage))
     stop (Ok value) cause answers = tt
     stop (Err ReadFault) cause answers = (refl, cause refl)
     stop (Err (BadPage fault at)) cause answers = (refl, λ told. ap (option_map damage_of) (answers told))
@@ -64,7 +64,7 @@ module _ (old new : PagedFile) (held : Contents) (kept : new ≡ record old { ke
 
     pub looked : (result : Result ℤ LookStop) → before ≤ later → (result ≡ Err ReadFault → Rose before later) → IfOk result (IsWithinUnits (bound_of old.header.name))
         → (IsTrue now → AnswersLook old.header (held old.name) end p k result)
-        → FindsWord end p k (record { source = source_of old held; notes = notes_of old tells held; faults = before }) (record { source = source_of new held; notes = notes_of new now held; faults = later }) result
+        → FindsWord end p k (record { source = paged_source_of old held; notes = notes_of old tells held; faults = before }) (record { source = paged_source_of new held; notes = notes_of new now held; faults = later }) result
     looked result rises cause within answers = record {
       later = rises;
       notes = record { told = before-told; words = λ is end p k state. no-looser end _ _ (ap (λ (words : Words). words end p k) words-same) };

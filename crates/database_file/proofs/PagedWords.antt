@@ -19,7 +19,7 @@ use Rattle.base_head.specs.declared.header.Header.{Header}
 use Rattle.base_head.specs.Headers.{IsHeader}
 use Rattle.database_file.specs.Pages.{page_count, whole_page, words_on}
 use Rattle.database_file.specs.Faults.{pages_behind}
-use Rattle.database_file.specs.Paged.{IsPagedFile, IsSourceOfHead, bound_end, digest_told, flaw_at, page_bytes, page_of, pages_told, source_of, state_on_page, told_unless, told_words, word_at}
+use Rattle.database_file.specs.Paged.{IsPagedFile, IsSourceOfHead, bound_end, digest_told, flaw_at, page_bytes, page_of, pages_told, paged_source_of, state_on_page, told_unless, told_words, word_at}
 use Rattle.database_file.specs.PagedFiles.{PagedFile}
 use Rattle.database_file.proofs.Bases.{bound-named, kinds-named, pages-valid}
 use Rattle.database_file.proofs.PageLists.{page-within}
@@ -79,7 +79,7 @@ told-within header file valid p k is = by_flaw (flaw_at header file p) refl
         record { from = omega (arith, ints); in_order = omega (arith, ints, from); to = omega (arith, ints) }
 
 -- the words of the head's game are looked up in its file
-pub source-of-head : (base : PagedFile) (index : ℕ) (held : Contents) → IsPagedFile base.header base.head base.digest index base.kept → IsSourceOfHead (source_of base held) base.head
+pub source-of-head : (base : PagedFile) (index : ℕ) (held : Contents) → IsPagedFile base.header base.head base.digest index base.kept → IsSourceOfHead (paged_source_of base held) base.head
 source-of-head base index held is = record {
   checkers = sym is.checkers;
   stakes = record {

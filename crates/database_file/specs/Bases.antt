@@ -8,7 +8,7 @@ use Rattle.base_head.specs.Heads.{FileHead}
 use Rattle.base_head.specs.Headers.{front_length}
 use Rattle.database_file.specs.declared.stop.LoadStop.{LoadStop}
 use Rattle.database_file.specs.declared.stop.LoadStop.TheVariants.{Missing, BadFile as Bad, ReadFault}
-use Rattle.database_file.specs.Pages.{words_in}
+use Rattle.database_file.specs.Pages.{words_listed}
 use Rattle.database_file.specs.Texts.{game_in}
 use Rattle.database_file.specs.FileBases.{FileBase}
 use Rattle.database_file.specs.Faults.{Read, fault_from, header_of_file, pages_in_file}
@@ -20,7 +20,7 @@ base_with head list = record { head = head; words = list_of (game_in head) head.
 -- the words behind the starts
 abbrev pub words_of_file : List ℕ → List ℕ
 words_of_file bytes =
-    words_in (pages_in_file bytes) (drop (front_length (header_of_file bytes)) bytes)
+    words_listed (pages_in_file bytes) (drop (front_length (header_of_file bytes)) bytes)
 
 -- nothing is wrong, where the versions from `oldest` on are read, and this is what the file holds
 pub record IsBaseFrom (oldest : Version) (file : Read) (base : FileBase) : Type 0 where

@@ -5,7 +5,7 @@ use Rattle.std.specs.Option.{option_or}
 use Rattle.word_pages.specs.declared.flaws.Flaw.{Flaw}
 use Rattle.word_pages.specs.declared.load.PageStop.{PageStop}
 use Rattle.word_pages.specs.declared.load.PageStop.TheVariants as pages
-use Rattle.word_pages.specs.Words.{words_of}
+use Rattle.word_pages.specs.Words.{words_in_bytes}
 use Rattle.word_pages.specs.Sealed.{binding_of}
 use Rattle.word_pages.specs.Pages.{page_size, page_flaw, pages_in}
 use Rattle.database_file.specs.declared.pages.Pages.{Pages}
@@ -36,7 +36,7 @@ place_of pages page = pages.at + page * whole_page pages
 -- its words, where these are the bytes of the pages
 abbrev pub page_words : Pages → List ℕ → ℕ → List ℕ
 page_words pages bytes page =
-    words_of pages.version (words_on pages page) (drop (page * whole_page pages) bytes)
+    words_in_bytes pages.version (words_on pages page) (drop (page * whole_page pages) bytes)
 
 -- what it is bound to
 abbrev pub binding_on : Pages → ℕ → List ℕ
@@ -58,8 +58,8 @@ first_flaw pages bytes zero = None
 first_flaw pages bytes (suc n) = option_or (first_flaw pages bytes n) (flaw_on pages bytes n)
 
 -- the words of all pages, and their first flaw
-abbrev pub words_in : Pages → List ℕ → List ℕ
-words_in pages bytes = first_words pages bytes (page_count pages)
+abbrev pub words_listed : Pages → List ℕ → List ℕ
+words_listed pages bytes = first_words pages bytes (page_count pages)
 
 abbrev pub flaw_in : Pages → List ℕ → Option Flaw
 flaw_in pages bytes = first_flaw pages bytes (page_count pages)
@@ -85,6 +85,6 @@ AddsPage pages page bytes old new (Err _) = ⊤
 -- where these are the bytes of the pages, these are their words and they have no flaw, or this is their first flaw
 abbrev pub AnswersPages : Pages → List ℕ → Result (Vec ℕ Global) PagesStop → Type 0
 AnswersPages pages bytes (Ok words) =
-    (flaw_in pages bytes ≡ None) × (words.items ≡ words_in pages bytes)
+    (flaw_in pages bytes ≡ None) × (words.items ≡ words_listed pages bytes)
 AnswersPages pages bytes (Err (BadPage flaw)) = flaw_in pages bytes ≡ Some flaw
 AnswersPages pages bytes (Err _) = ⊤

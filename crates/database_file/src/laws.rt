@@ -4,7 +4,7 @@ ghost use Rattle.word_pages.specs.declared.version.Version.{Version};
 ghost use Rattle.word_pages.specs.declared.version.Version.TheVariants.{Three};
 ghost use Rattle.word_pages.specs.Sealed.{AreTwins};
 ghost use Rattle.word_pages.specs.Words.{Fits, word_size};
-ghost use Rattle.word_pages.specs.Flaws.{AreWithin};
+ghost use Rattle.word_pages.specs.Flaws.{ArePairsWithin};
 ghost use Rattle.word_pages.specs.Pages.{AreBytes, pages_text};
 ghost use Rattle.interval_words.specs.WordLists.{AreRight, WordList, list_of};
 ghost use Rattle.base_head.specs.Fronts.{digest_in, head_in};
@@ -23,8 +23,8 @@ ghost use Rattle.turn_rule.specs.Looks.{Damage, IsAnswer};
 ghost use Rattle.turn_rule.specs.States.{IsStateOf};
 ghost use Rattle.interval_words.specs.Numbers.{words_of};
 ghost use Rattle.base_head.specs.declared.header.Header.{Header};
-ghost use Rattle.database_file.specs.Pages.{flaw_in, page_count, words_in};
-ghost use Rattle.database_file.specs.Paged.{flaw_at, notes_of, source_of, word_at};
+ghost use Rattle.database_file.specs.Pages.{flaw_in, page_count, words_listed};
+ghost use Rattle.database_file.specs.Paged.{flaw_at, notes_of, paged_source_of, word_at};
 ghost use Rattle.database_file.specs.PagedFiles.{PagedFile};
 
 /// Bytes of the length of all pages have no flaw exactly where they are the pages of the words that they hold, and these lie within
@@ -35,13 +35,13 @@ pub fn right_pages_are_their_words()
         → length bytes ≡ word_size pages.version * pages.count + 32 * page_count pages
         → pages.bound ≤ℤ pos (2 ^ 36)
         → (flaw_in pages bytes ≡ None)
-        ↔ ((bytes ≡ pages_text pages.version pages.digest pages.size (words_in pages bytes))
-        × AreWithin pages.bound (words_in pages bytes)) }
+        ↔ ((bytes ≡ pages_text pages.version pages.digest pages.size (words_listed pages bytes))
+        × ArePairsWithin pages.bound (words_listed pages bytes)) }
     ensures pages { (pages : Pages) (half : ℕ) (words rest : List ℕ) → 0 < half
         → pages.size ≡ 2 * half → length words ≡ pages.count
-        → All (Fits pages.version) words → AreWithin pages.bound words
+        → All (Fits pages.version) words → ArePairsWithin pages.bound words
         → (flaw_in pages (pages_text pages.version pages.digest pages.size words ++ rest) ≡ None)
-        × (words_in pages (pages_text pages.version pages.digest pages.size words ++ rest)
+        × (words_listed pages (pages_text pages.version pages.digest pages.size words ++ rest)
         ≡ words) }
 {}
 
@@ -112,16 +112,16 @@ pub fn pages_have_their_places()
 pub fn look_ups_tell_the_words_of_the_file()
     ensures exact { (base : PagedFile) (held : Contents) (end : End) (p : Placement) (k : ℕ)
         (value : ℤ)
-        → IsAnswer end (source_of base held) (notes_of base true held) p k value
+        → IsAnswer end (paged_source_of base held) (notes_of base true held) p k value
         → (flaw_at base.header (held base.name) p ≡ None)
         × (value ≡ word_at base.header (held base.name) end p k) }
     ensures damaged { (base : PagedFile) (held : Contents) (p : Placement) (k : ℕ) (damage : Damage)
-        → (source_of base held).damage p k ≡ Some damage
+        → (paged_source_of base held).damage p k ≡ Some damage
         → flaw_at base.header (held base.name) p
         ≡ Some (record { fault = damage.fault; at = damage.at }) }
     ensures among { (header : Header) (bytes : List ℕ) (end : End) (p : Placement) (k : ℕ)
         → IsHeader header → IsStateOf header.checkers header.kinds p k
         → word_at header (Some bytes) end p k ≡ words_of header.kinds
-        (words_in (pages_behind header (digest_in header bytes))
+        (words_listed (pages_behind header (digest_in header bytes))
         (drop (front_length header) bytes)) end p k }
 {}

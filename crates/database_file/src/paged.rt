@@ -11,7 +11,7 @@ ghost use Rattle.turn_rule.specs.States.{IsStateOf};
 ghost use Rattle.base_head.specs.Headers.{IsHeader};
 ghost use Rattle.database_file.specs.Faults.{pages_behind};
 ghost use Rattle.database_file.specs.Pages.{page_count, words_on};
-ghost use Rattle.database_file.specs.Paged.{AnswersLook, IsPagedFile, IsSourceOfHead, KeepsPagesOf, page_of, source_of, spot_of, words_of_pages};
+ghost use Rattle.database_file.specs.Paged.{AnswersLook, IsPagedFile, IsSourceOfHead, KeepsPagesOf, page_of, paged_source_of, spot_of, words_of_pages};
 
 use crate::front::Front;
 use crate::keeping::keep_all;
@@ -114,7 +114,7 @@ impl PagedBase {
         ensures files { result.files.now ≡ files.old }
         ensures same_files { result.files.ghost_name ≡ files.entry.ghost_name }
         ensures game { IsSourceOfHead
-            (source_of self.old (standing (F.log files.old))) self.old.head }
+            (paged_source_of self.old (standing (F.log files.old))) self.old.head }
         ensures from { result.from.events ≡ F.log files.old }
     {
         // A look at the front shows that it goes with the head.
@@ -215,7 +215,7 @@ pub struct PagedReader<'a, F: Files> {
     from: Log,
     ghost reads: { ReadsOn from.events (F.log files.now) } by { one from.events (F.log files.now) },
     ghost of_file: { KeepsPagesOf base.now (F.log files.now) },
-    ghost within: { AreSourceWords (source_of base.now (standing from.events))
+    ghost within: { AreSourceWords (paged_source_of base.now (standing from.events))
         (words_of_pages base.now (standing from.events)) },
 }
 
@@ -229,7 +229,7 @@ impl<F: Files> PagedReader<'_, F> {
 }
 
 impl<'a, F: Files> Pairs for PagedReader<'a, F> {
-    ghost use Rattle.database_file.specs.Paged.{PagedStays, notes_of, source_of};
+    ghost use Rattle.database_file.specs.Paged.{PagedStays, notes_of, paged_source_of};
 
     ghost Stays = { PagedStays };
 
@@ -245,7 +245,7 @@ impl<'a, F: Files> Pairs for PagedReader<'a, F> {
     } };
 
     ghost seen = { λ r. record {
-      source = source_of r.base.now (standing r.from.events);
+      source = paged_source_of r.base.now (standing r.from.events);
       notes = notes_of r.base.now (is_faithful (F.log r.files.now)) (standing r.from.events);
       faults = read_faults (F.log r.files.now);
     } };

@@ -2,13 +2,11 @@
 #![tactic(auto)]
 
 mod bounds;
-mod decimal;
 mod fixed;
 mod quotient;
 mod word;
 
 pub use bounds::{End, Pair};
-pub use decimal::{print_down, print_units, print_up};
 pub use fixed::{Fixed, ONE};
 pub use quotient::{ceil_div, floor_div};
 pub use word::{from_word, to_word};

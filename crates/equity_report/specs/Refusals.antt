@@ -3,12 +3,12 @@ use Rattle.std.specs.Prelude.{ℕ, List, ◌++◌, codes, decimal}
 use Rattle.hyper_outside.specs.declared.outside.BadWords.{BadWords}
 use Rattle.hyper_outside.specs.declared.outside.WordsKind.{WordsKind}
 use Rattle.hyper_outside.specs.declared.outside.WordsKind.TheVariants as kinds
-use Rattle.position_rank.specs.declared.text.BadPosition.{BadPosition}
-use Rattle.position_rank.specs.declared.text.BadPosition.TheVariants.{Shape, Place, Count, SharedPoint, Over}
+use Rattle.position_text.specs.declared.text.BadPosition.{BadPosition}
+use Rattle.position_text.specs.declared.text.BadPosition.TheVariants.{Shape, Place, Count, SharedPoint, Over}
 use Rattle.roll_table.specs.declared.roll.BadRoll.{BadRoll}
 use Rattle.roll_table.specs.declared.roll.BadRoll.TheVariants as rolls
 use Rattle.cube_actions.specs.declared.name.StakesName.TheVariants.{Match}
-use Rattle.cube_actions.specs.Names.{kind_text}
+use Rattle.cube_text.specs.Texts.{kind_text}
 use Rattle.base_head.specs.declared.fault.BadFile.{BadFile}
 use Rattle.base_head.specs.declared.fault.FileFault.{FileFault}
 use Rattle.base_head.specs.declared.fault.FileFault.TheVariants as faults

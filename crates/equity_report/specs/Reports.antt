@@ -2,7 +2,7 @@
 use Rattle.std.specs.Prelude.{ℕ, List, ◌++◌, codes, decimal}
 use Rattle.std.specs.Fmt.{signed_decimal}
 use Rattle.directed_fixed.specs.Bounds.{Bounds}
-use Rattle.directed_fixed.specs.Decimal.{millionths_down, millionths_up, millionths_text}
+use Rattle.point_text.specs.Decimal.{millionths_down, millionths_up, millionths_text}
 
 -- a line that begins with a word
 abbrev pub line : List ℕ → List ℕ → List ℕ

@@ -1,10 +1,10 @@
 -- The text of a word that isn't consistent with the others.
 use Rattle.std.specs.Prelude.{List, ℕ, ◌++◌, codes}
 use Rattle.std.specs.Fmt.{signed_decimal}
-use Rattle.position_rank.specs.Text.{position_text}
+use Rattle.position_text.specs.Text.{position_text}
 use Rattle.directed_fixed.specs.declared.bounds.End.{End}
 use Rattle.directed_fixed.specs.declared.bounds.End.TheVariants.{Lower, Upper}
-use Rattle.cube_actions.specs.Names.{kind_text}
+use Rattle.cube_text.specs.Texts.{kind_text}
 use Rattle.equity_report.specs.declared.unheld.Unheld.{Unheld}
 
 -- which end of a pair

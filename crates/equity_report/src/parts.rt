@@ -1,11 +1,12 @@
 ghost use Rattle.std.specs.Prelude.{◌≡◌, ◌≤◌, ◌++◌, ◌+◌, codes, length};
-ghost use Rattle.position_rank.specs.Text.{position_text};
+ghost use Rattle.position_text.specs.Text.{position_text};
 ghost use Rattle.equity_report.specs.Files.{rounds_text, written_text};
 ghost use Rattle.equity_report.specs.Reports.{line, pair_text};
 
 use crate::text::{GameName, Report, add_counted, add_game, add_points, add_units};
 use directed_fixed::Pair;
-use position_rank::{Position, print_position};
+use position_rank::Position;
+use position_text::print_position;
 
 /// Adds the line of a position, with which a report begins.
 pub fn add_position(report: &mut Report, position: &Position)

@@ -8,10 +8,11 @@ use crate::unheld::{Unheld, add_unheld};
 use arrayvec::ArrayString;
 use base_head::{BadFile, FileFault};
 use cube_actions::{KindName, Score, StakesName};
+use cube_text::print_kind;
 use game_record::BadRecord;
 use hyper_outside::{BadWords, Failed, WordsKind};
 use outside_log::Sink;
-use position_rank::BadPosition;
+use position_text::BadPosition;
 use roll_table::BadRoll;
 
 /// A file's name: one of a command, of at most 255 bytes, or that of a score, which begins with such a one.
@@ -139,7 +140,7 @@ fn add_wanted(line: &mut Report, wanted: Wanted)
         Wanted::Checkers(checkers) => add_counted(line, "checkers", u64::from(checkers)),
         Wanted::Kind(kind) => {
             line.push_str("kind ");
-            line.push_str(kind.print().as_str());
+            line.push_str(print_kind(kind).as_str());
         }
         Wanted::Fits(game) => add_game(line, game),
         Wanted::Scored {

@@ -4,8 +4,10 @@ ghost use Rattle.equity_report.specs.Reports.{counted_text, points_text, units_t
 
 use arrayvec::ArrayString;
 use cube_actions::StakesName;
-use directed_fixed::{Pair, print_down, print_units, print_up};
+use cube_text::print_score;
+use directed_fixed::Pair;
 use itoa::Buffer;
+use point_text::{print_down, print_units, print_up};
 
 /// A report, or a part of it, of at most 3,072 bytes.
 pub type Report = ArrayString<3072>;
@@ -80,7 +82,7 @@ pub fn add_stakes(report: &mut Report, stakes: StakesName, match_length: u8)
         StakesName::Match(score) => {
             add_counted(report, "match", u64::from(match_length));
             report.push_str(" ");
-            report.push_str(score.print().as_str());
+            report.push_str(print_score(score).as_str());
         }
     }
 }

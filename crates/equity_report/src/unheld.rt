@@ -1,12 +1,15 @@
 ghost use Rattle.std.specs.Prelude.{◌≡◌, ◌≤◌, ◌++◌, codes, length};
 ghost use Rattle.std.specs.Fmt.{signed_decimal};
-ghost use Rattle.cube_actions.specs.Names.{kind_text};
+ghost use Rattle.cube_text.specs.Texts.{kind_text};
 ghost use Rattle.equity_report.specs.Unheld.{end_text, unheld_text};
 
 use crate::text::Report;
 use cube_actions::KindName;
-use directed_fixed::{End, Fixed, print_units};
-use position_rank::{Position, print_position};
+use cube_text::print_kind;
+use directed_fixed::{End, Fixed};
+use point_text::print_units;
+use position_rank::Position;
+use position_text::print_position;
 
 /// A word of a file that is tighter than the turn over the file's words.
 #[derive(Clone, Copy, Debug, PartialEq, Eq)]
@@ -41,7 +44,7 @@ fn add_state(line: &mut Report, side: End, kind: KindName)
 {
     line.push_str(end_text(side));
     line.push_str(" ");
-    line.push_str(kind.print().as_str());
+    line.push_str(print_kind(kind).as_str());
 }
 
 fn add_values(line: &mut Report, stored: Fixed, computed: Fixed)

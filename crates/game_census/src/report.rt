@@ -7,8 +7,9 @@ use crate::kind_census::KindCensus;
 use crate::stop::{Stop, printed};
 use crate::tally::Tally;
 use cube_actions::KindName;
+use cube_text::print_kind;
 use game_record::{Answer, Offer};
-use position_rank::print_position;
+use position_text::print_position;
 use std::io::Print;
 
 /// A line for a call that came.
@@ -93,7 +94,7 @@ pub(crate) fn print_census<R: Print>(
 ) -> Result<(), Stop>
     ensures { IsOkUnless result Unprinted }
 {
-    let name = kind.print();
+    let name = print_kind(kind);
     let kind = name.as_str();
     print_tally(rt, kind, &census.tally)?;
     print_near(rt, "near-answer", kind, census.answer.nearest)?;

@@ -8,9 +8,9 @@ use Rattle.std.specs.Str.{IsAscii}
 use Rattle.std.specs.List.{All, list_all, range_with_len, join_with_byte}
 use Rattle.roll_table.specs.Rolls.{Dice, IsRoll}
 use Rattle.roll_table.specs.Text.{roll_text}
-use Rattle.position_rank.specs.Text.{place_text}
-use Rattle.position_rank.proofs.PlaceTexts.{both-true}
-use Rattle.move_rules.specs.Notation.{mark, step_text, play_of_words, IsPlayText}
+use Rattle.position_text.specs.Text.{place_text}
+use Rattle.position_text.proofs.PlaceTexts.{both-true}
+use Rattle.play_text.specs.Notation.{mark, step_text, play_of_words, IsPlayText}
 use Rattle.move_rules.specs.declared.written.Step.{Step}
 
 abbrev pub ascii : List ℕ → Bool

@@ -1,7 +1,7 @@
 -- A line is the text of its form.
 use Rattle.std.proofs.Common.{◌≡◌, ℕ, Bool, true, false, cond, ◌&&◌, eqb, nat_eq, List, [], ◌∷◌, ◌++◌, codes, ◌⊎◌, inl, inr, Option, Some, None, unwrap_or, refl, sym, ◌∙◌, ap, append_assoc, arith}
 use Rattle.std.proofs.lemmas.Bool.Decides.{nat_tests}
-use Rattle.position_rank.proofs.PlaceTexts.{both-true}
+use Rattle.position_text.proofs.PlaceTexts.{both-true}
 use Rattle.game_record.specs.declared.player.Player.{Player}
 use Rattle.game_record.specs.declared.player.Player.TheVariants.{A, B}
 use Rattle.game_record.specs.Lines.{player_text}

@@ -6,9 +6,9 @@ use Rattle.std.proofs.lemmas.Fmt.{decimal_by_steps, decimal_nonempty}
 use Rattle.std.proofs.lemmas.List.{append-nil}
 use Rattle.std.specs.Fmt.{digits}
 use Rattle.std.specs.List.{list_all, list_any, range_with_len, join_with_byte}
-use Rattle.position_rank.specs.Text.{place_text}
-use Rattle.position_rank.proofs.PlaceTexts.{lacks, lacks-append, both-true, not-true, read-back}
-use Rattle.move_rules.specs.Notation.{mark, step_text}
+use Rattle.position_text.specs.Text.{place_text}
+use Rattle.position_text.proofs.PlaceTexts.{lacks, lacks-append, both-true, not-true, read-back}
+use Rattle.play_text.specs.Notation.{mark, step_text}
 use Rattle.move_rules.specs.declared.written.Step.{Step}
 use Rattle.game_record.specs.Forms.{cut_at, with_front, same_text, is_word, go_on_as_words, are_words}
 use Rattle.game_record.specs.Lines.{steps_text}

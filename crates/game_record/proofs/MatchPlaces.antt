@@ -25,7 +25,7 @@ use Rattle.game_record.specs.declared.record.RecordStakes.TheVariants.{Match}
 use Rattle.game_record.specs.declared.standing.Standing.{Standing}
 use Rattle.game_record.specs.Cube.{is_free_to, shows}
 use Rattle.game_record.specs.Games.{has_right}
-use Rattle.game_record.specs.Standings.{after_win, first_standing, needs, at_score, side_of, IsInRange}
+use Rattle.game_record.specs.Standings.{standing_after_win, first_standing, points_needed, at_score, side_of, IsInRange}
 use Rattle.game_record.specs.Turns.{other_player, same_player}
 
 -- ---- tests
@@ -51,16 +51,16 @@ other-other B = refl
 
 -- ---- sides
 
-pub side-needs : (standing : Standing) (player : Player) → side_needs (at_score standing) (side_of standing player) ≡ needs standing player
+pub side-needs : (standing : Standing) (player : Player) → side_needs (at_score standing) (side_of standing player) ≡ points_needed standing player
 side-needs standing player = elim (cases_lt standing.b standing.a) [
   | inl less ↦ far player less
   | inr more ↦ near player more
 ] where
-  far : (player : Player) → standing.b < standing.a → side_needs (at_score standing) (side_of standing player) ≡ needs standing player
+  far : (player : Player) → standing.b < standing.a → side_needs (at_score standing) (side_of standing player) ≡ points_needed standing player
   far A less = let test : nat_le standing.a standing.b ≡ false = grind (arith, nat_tests) in rw test (omega arith)
   far B less = let test : nat_le standing.a standing.b ≡ false = grind (arith, nat_tests) in rw test (omega arith)
 
-  near : (player : Player) → standing.a ≤ standing.b → side_needs (at_score standing) (side_of standing player) ≡ needs standing player
+  near : (player : Player) → standing.a ≤ standing.b → side_needs (at_score standing) (side_of standing player) ≡ points_needed standing player
   near A more = let test : nat_le standing.a standing.b ≡ true = grind (arith, nat_tests) in rw test (omega arith)
   near B more = let test : nat_le standing.a standing.b ≡ true = grind (arith, nat_tests) in rw test (omega arith)
 
@@ -155,7 +155,7 @@ phase-turned Normal x y = ap (λ b. cond b Crawford Normal) (or-turned (x == 1) 
 phase-turned Crawford x y = refl
 phase-turned Post x y = refl
 
-pub won-stands : (length : ℕ) (standing : Standing) (player : Player) (won : ℕ) → Stands length standing → 1 ≤ standing.a → 1 ≤ standing.b → 1 ≤ won → Stands length (after_win standing player won)
+pub won-stands : (length : ℕ) (standing : Standing) (player : Player) (won : ℕ) → Stands length standing → 1 ≤ standing.a → 1 ≤ standing.b → 1 ≤ won → Stands length (standing_after_win standing player won)
 won-stands length standing A won was a b some = λ low high.
     won-score length standing.a standing.b (standing.a - won) standing.phase (was a b) low (omega arith) b
 won-stands length standing B won was a b some = λ low high.
@@ -163,7 +163,7 @@ won-stands length standing B won was a b some = λ low high.
     (turned-score length (standing.b - won) standing.a (next_phase standing.phase (standing.b - won) standing.a)
     (won-score length standing.b standing.a (standing.b - won) standing.phase (turned-score length standing.a standing.b standing.phase (was a b)) high (omega arith) a))
 
-pub won-in-range : (standing : Standing) (player : Player) (won : ℕ) → IsInRange standing → IsInRange (after_win standing player won)
+pub won-in-range : (standing : Standing) (player : Player) (won : ℕ) → IsInRange standing → IsInRange (standing_after_win standing player won)
 won-in-range standing A won h = (omega (arith, h.0), h.1)
 won-in-range standing B won h = (h.0, omega (arith, h.1))
 
@@ -255,7 +255,7 @@ small-turns (suc (suc zero)) points few low h = omega arith
 small-turns (suc (suc (suc zero))) points few low h = grind (arith, nat_tests)
 small-turns (suc (suc (suc (suc n)))) points few low h = absurd (omega arith)
 
-few-needed : (standing : Standing) (player : Player) → IsInRange standing → needs standing player ≤ 5
+few-needed : (standing : Standing) (player : Player) → IsInRange standing → points_needed standing player ≤ 5
 few-needed standing A h = h.0
 few-needed standing B h = h.1
 
@@ -268,11 +268,11 @@ owned-already standing doubler turns (Some owner) place free =
 pub taken-place : (length : ℕ) (standing : Standing) (player : Player) (cube : Cube) → IsInRange standing → IsPlace standing cube.turns cube.owner → has_right (Match length) standing (other_player player) cube ≡ true → IsPlace standing (cube.turns + 1) (Some player)
 taken-place length standing player cube range place right =
     let doubler = other_player player in
-    let first = both (not (is_crawford standing.phase) && is_free_to doubler cube.owner) (nat_lt (shows cube) (needs standing doubler)) right in
+    let first = both (not (is_crawford standing.phase) && is_free_to doubler cube.owner) (nat_lt (shows cube) (points_needed standing doubler)) right in
     let second = both (not (is_crawford standing.phase)) (is_free_to doubler cube.owner) first.0 in
     let normal : is_crawford standing.phase ≡ false = not-true (is_crawford standing.phase) second.0 in
-    let more : nat_lt (shows cube) (needs standing doubler) ≡ true = first.1 in
-    let few : cube.turns ≤ 2 = small-turns cube.turns (needs standing doubler) (few-turns standing cube.turns cube.owner place) (few-needed standing doubler range) more in
+    let more : nat_lt (shows cube) (points_needed standing doubler) ≡ true = first.1 in
+    let few : cube.turns ≤ 2 = small-turns cube.turns (points_needed standing doubler) (few-turns standing cube.turns cube.owner place) (few-needed standing doubler range) more in
     let by_side : nat_lt (2 ^ cube.turns) (side_needs (at_score standing) (side_of standing doubler)) ≡ true = rw (side-needs standing doubler) more in
     let own = own-next (at_score standing) (side_of standing doubler) cube.turns few by_side (owned-already standing doubler cube.turns cube.owner place second.1) in
     let to : other_side (side_of standing doubler) ≡ side_of standing player = other-side standing doubler ∙ ap (side_of standing) (other-other player) in

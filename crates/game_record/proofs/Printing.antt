@@ -6,7 +6,7 @@ use Rattle.std.proofs.lemmas.List.Concat.{flat_map-append}
 use Rattle.move_rules.specs.declared.written.Step.{Step}
 use Rattle.game_record.specs.declared.line.Line.{Line}
 use Rattle.game_record.specs.Lines.{line_text, lines_text, steps_text, spaced_step}
-use Rattle.move_rules.specs.Notation.{step_text}
+use Rattle.play_text.specs.Notation.{step_text}
 
 -- the text of lines, and of lines behind them
 pub lines_text_append : (lines more : List Line) → lines_text (lines ++ more) ≡ lines_text lines ++ lines_text more

@@ -27,7 +27,7 @@ use Rattle.game_record.specs.declared.record.RecordStakes.{RecordStakes}
 use Rattle.game_record.specs.declared.record.RecordStakes.TheVariants.{Cubeless, Money, Jacoby, MoneyBeavers, JacobyBeavers, Match}
 use Rattle.game_record.specs.declared.standing.Standing.{Standing}
 use Rattle.game_record.specs.Cube.{is_free_to}
-use Rattle.game_record.specs.Games.{has_beavers, has_right}
+use Rattle.game_record.specs.Games.{records_beavers, has_right}
 use Rattle.game_record.specs.Kinds.{game_stakes, kind_number, kind_of_turn, money_kind}
 use Rattle.game_record.specs.RightDecisions.{terms_for}
 use Rattle.game_record.specs.Standings.{at_score, side_of}
@@ -115,7 +115,7 @@ kind-right (Match length) standing player cube starts there right =
     match-right (at_score standing) starts (kind_of_turn (Match length) standing player cube) there (named-right length standing player cube right)
 
 -- and with beavers his double has two answers
-pub kind-beavers : (stakes : RecordStakes) (standing : Standing) (player : Player) (cube : Cube) (starts : StartPairs) → has_beavers stakes ≡ true → has_right stakes standing player cube ≡ true
+pub kind-beavers : (stakes : RecordStakes) (standing : Standing) (player : Player) (cube : Cube) (starts : StartPairs) → records_beavers stakes ≡ true → has_right stakes standing player cube ≡ true
     → IfSome (kind_at (terms_for (game_stakes stakes standing) starts) (kind_number (game_stakes stakes standing) (kind_of_turn stakes standing player cube))).double (λ double. 2 ≤ length double.answers.items)
 kind-beavers Cubeless standing player cube starts beavers right = absurd (cc)
 kind-beavers Money standing player cube starts beavers right = absurd (cc)

@@ -16,7 +16,7 @@ use Rattle.game_record.specs.declared.record.RecordStakes.{RecordStakes}
 use Rattle.game_record.specs.declared.record.RecordStakes.TheVariants.{Cubeless, Jacoby, MoneyBeavers, JacobyBeavers, Match}
 use Rattle.game_record.specs.declared.standing.Standing.{Standing}
 use Rattle.game_record.specs.Cube.{centred, is_free_to, shows, turned}
-use Rattle.game_record.specs.Standings.{needs}
+use Rattle.game_record.specs.Standings.{points_needed}
 use Rattle.game_record.specs.Turns.{other_player}
 
 -- the board is set up, and the cube is centred
@@ -38,10 +38,10 @@ has_jacoby_rule Jacoby = true
 has_jacoby_rule JacobyBeavers = true
 has_jacoby_rule _ = false
 
-abbrev pub has_beavers : RecordStakes → Bool
-has_beavers MoneyBeavers = true
-has_beavers JacobyBeavers = true
-has_beavers _ = false
+abbrev pub records_beavers : RecordStakes → Bool
+records_beavers MoneyBeavers = true
+records_beavers JacobyBeavers = true
+records_beavers _ = false
 
 abbrev pub won_worth : Won → ℕ
 won_worth Single = 1
@@ -53,8 +53,8 @@ abbrev pub counted : RecordStakes → Cube → Won → ℕ
 counted stakes cube won = if has_jacoby_rule stakes && is_none cube.owner then 1 else won_worth won
 
 -- A player's play leaves this. If he has borne off his last checker, he has won. Else it is the other's turn.
-abbrev pub after_play : RecordStakes → Player → Placement → Progress → Progress
-after_play stakes player end game = record {
+abbrev pub progress_after_play : RecordStakes → Player → Placement → Progress → Progress
+progress_after_play stakes player end game = record {
   position = swap end;
   cube = game.cube;
   opened = true;
@@ -63,8 +63,8 @@ after_play stakes player end game = record {
       (points end);
 }
 
-abbrev pub after_double : Progress → Progress
-after_double game = record game { doubled = true }
+abbrev pub progress_after_double : Progress → Progress
+progress_after_double game = record game { doubled = true }
 
 -- Who takes owns the cube at twice what it showed, and who beavers at four times. Who passes has lost one point, at what the cube showed.
 abbrev pub after_answer : Player → Answer → Progress → Progress
@@ -78,7 +78,7 @@ after_answer player Pass game =
 abbrev pub has_right : RecordStakes → Standing → Player → Cube → Bool
 has_right Cubeless standing player cube = false
 has_right (Match length) standing player cube = not (is_crawford standing.phase)
-    && is_free_to player cube.owner && nat_lt (shows cube) (needs standing player)
+    && is_free_to player cube.owner && nat_lt (shows cube) (points_needed standing player)
 has_right _ standing player cube = is_free_to player cube.owner
 
 -- a player may double after the game's first play, once in a turn, where he has the right

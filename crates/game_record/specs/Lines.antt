@@ -3,7 +3,7 @@ use Rattle.std.specs.Prelude.{◌≡◌, ◌≢◌, ℕ, ◌+◌, ◌≤◌, nat
 use Rattle.std.specs.List.{flat_map}
 use Rattle.roll_table.specs.Rolls.{Dice, IsRoll}
 use Rattle.roll_table.specs.Text.{roll_text}
-use Rattle.move_rules.specs.Notation.{step_text, play_of_words, HitsPoint}
+use Rattle.play_text.specs.Notation.{step_text, play_of_words, HitsPoint}
 use Rattle.move_rules.specs.declared.written.Step.{Step}
 use Rattle.game_record.specs.declared.player.Player.{Player}
 use Rattle.game_record.specs.declared.player.Player.TheVariants.{A, B}
@@ -20,7 +20,7 @@ use Rattle.game_record.specs.declared.line.Line.TheVariants.{Title, Checkers, St
 use Rattle.game_record.specs.declared.stage.Next.{Next}
 use Rattle.game_record.specs.declared.stage.Next.TheVariants.{FirstRoll, Nothing}
 use Rattle.game_record.specs.declared.stage.Stage.{Stage}
-use Rattle.game_record.specs.Turns.{after, kind_of, stage_after, first_stage}
+use Rattle.game_record.specs.Turns.{coming_after, kind_of, stage_after, first_stage}
 
 abbrev pub player_text : Player → List ℕ
 player_text A = codes "A"
@@ -127,7 +127,7 @@ FitsStage stage _ = Unit {0}
 abbrev pub Follow : Stage → List Line → Stage → Type 0
 Follow stage [] end = end ≡ stage
 Follow stage (line ∷ lines) end = (next : Next)
-    × (after stage.in_match stage.next (kind_of line) ≡ Some next) × FitsStage stage line
+    × (coming_after stage.in_match stage.next (kind_of line) ≡ Some next) × FitsStage stage line
     × Follow (stage_after stage line next) lines end
 
 abbrev pub is_line_end : ℕ → Bool

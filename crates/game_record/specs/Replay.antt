@@ -28,10 +28,10 @@ use Rattle.game_record.specs.declared.record.What.{What}
 use Rattle.game_record.specs.declared.record.What.TheVariants.{Rolled, Doubled, Took, Passed, Beavered}
 use Rattle.game_record.specs.declared.standing.Standing.{Standing}
 use Rattle.game_record.specs.Cube.{shows}
-use Rattle.game_record.specs.Games.{after_answer, after_double, after_play, has_beavers, is_over, may_double, opening}
+use Rattle.game_record.specs.Games.{after_answer, progress_after_double, progress_after_play, records_beavers, is_over, may_double, opening}
 use Rattle.game_record.specs.Kinds.{game_needs, game_score, game_stakes, kind_number, kind_of_turn}
 use Rattle.game_record.specs.Lines.{games_lines}
-use Rattle.game_record.specs.Standings.{after_win, first_standing}
+use Rattle.game_record.specs.Standings.{standing_after_win, first_standing}
 use Rattle.game_record.specs.Turns.{other_player}
 
 -- before the line of the first game, which is the fourth
@@ -91,21 +91,21 @@ Acts now player (Rolled roll written) told next =
     (is_over now.progress ≡ false)
     × (end : Placement) × Leaves now.progress.position roll written.items end
     × (told ≡ undoubled now player ++ decided now player player (Played roll end) ∷ [])
-    × (next ≡ goes_on now (after_play now.stakes player end now.progress))
+    × (next ≡ goes_on now (progress_after_play now.stakes player end now.progress))
 Acts now player Doubled told next =
     (is_over now.progress ≡ false)
     × (may_double_now now player ≡ true)
     × (told ≡ decided now player player (Offered Double) ∷ [])
-    × (next ≡ goes_on now (after_double now.progress))
+    × (next ≡ goes_on now (progress_after_double now.progress))
 Acts now player Took told next = Answers now player Take told next
 Acts now player Passed told next = Answers now player Pass told next
 Acts now player Beavered told next =
-    (has_beavers now.stakes ≡ true) × Answers now player Beaver told next
+    (records_beavers now.stakes ≡ true) × Answers now player Beaver told next
 
 -- in a match a win counts as often as the cube shows
 abbrev pub standing_after : Moment → Player → ℕ → RecordStakes → Standing
 standing_after now winner points (Match length) =
-    after_win now.standing winner (points * shows now.progress.cube)
+    standing_after_win now.standing winner (points * shows now.progress.cube)
 standing_after now winner points _ = now.standing
 
 -- the match goes on, and the board is set up again
@@ -157,7 +157,7 @@ IsWrongAct now player Doubled fault =
     ⊎ ((is_over now.progress ≡ false) × (may_double_now now player ≡ false) × (fault ≡ IllegalCube))
 IsWrongAct now player Took fault = ⊥
 IsWrongAct now player Passed fault = ⊥
-IsWrongAct now player Beavered fault = (has_beavers now.stakes ≡ false) × (fault ≡ IllegalCube)
+IsWrongAct now player Beavered fault = (records_beavers now.stakes ≡ false) × (fault ≡ IllegalCube)
 
 -- the line breaks a rule
 abbrev pub IsWrongLine : Moment → Line → RecordFault → Type 0

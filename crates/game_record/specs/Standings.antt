@@ -14,8 +14,8 @@ use Rattle.game_record.specs.declared.standing.Standing.{Standing}
 use Rattle.game_record.specs.Turns.{same_player}
 
 -- A and B need so many points
-abbrev pub needing : ℕ → ℕ → Phase → Standing
-needing a b phase = record { a = a; b = b; phase = phase }
+abbrev pub standing_needing : ℕ → ℕ → Phase → Standing
+standing_needing a b phase = record { a = a; b = b; phase = phase }
 
 -- As the first game begins, both need the length of the match. In a match of one point no game is the Crawford game. For money nothing is
 -- needed.
@@ -28,9 +28,9 @@ first_standing (Match points) = record {
 first_standing _ = record { a = 0; b = 0; phase = Normal }
 
 -- how many points a player still needs
-abbrev pub needs : Standing → Player → ℕ
-needs standing A = standing.a
-needs standing B = standing.b
+abbrev pub points_needed : Standing → Player → ℕ
+points_needed standing A = standing.a
+points_needed standing B = standing.b
 
 abbrev pub at_score : Standing → MatchScore
 at_score standing = record {
@@ -47,13 +47,13 @@ abbrev pub side_of : Standing → Player → Side
 side_of standing player = if same_player player (near_player standing) then Near else Far
 
 -- after a player has won so many points: what he needs falls by them, and the phase follows from what is needed
-abbrev pub after_win : Standing → Player → ℕ → Standing
-after_win standing A won = record {
+abbrev pub standing_after_win : Standing → Player → ℕ → Standing
+standing_after_win standing A won = record {
   a = standing.a - won;
   b = standing.b;
   phase = next_phase standing.phase (standing.a - won) standing.b;
 }
-after_win standing B won = record {
+standing_after_win standing B won = record {
   a = standing.a;
   b = standing.b - won;
   phase = next_phase standing.phase standing.a (standing.b - won);

@@ -33,25 +33,25 @@ abbrev pub on_game : Bool → Bool → Option Next
 on_game in_match away = if (if in_match then away else not away) then Some FirstRoll else None
 
 -- what may come after a line of this kind, where it may come itself
-abbrev pub after : Bool → Next → LineKind → Option Next
-after in_match Title OfTitle = Some Checkers
-after in_match Checkers OfCheckers = Some Stakes
-after in_match Stakes OfStakes = Some FirstGame
-after in_match FirstGame (OfGame away) = on_game in_match away
-after in_match FirstRoll (OfRoll player) = Some (Turn (other_player player))
-after in_match (Turn player) (OfRoll other) = on_turn player other (Turn (other_player other))
-after in_match (Turn player) (OfDouble other) = on_turn player other (Answer (other_player other))
-after in_match (Turn player) OfEnd = Some NextGame
-after in_match (Turn player) OfStop = Some Close
-after in_match (Answer player) (OfTake other) = on_turn player other (Roll (other_player other))
-after in_match (Answer player) (OfPass other) = on_turn player other End
-after in_match (Roll player) (OfRoll other) = on_turn player other (Turn (other_player other))
-after in_match (Roll player) OfStop = Some Close
-after in_match End OfEnd = Some NextGame
-after in_match NextGame (OfGame away) = on_game in_match away
-after in_match NextGame OfClose = Some Nothing
-after in_match Close OfClose = Some Nothing
-after _ _ _ = None
+abbrev pub coming_after : Bool → Next → LineKind → Option Next
+coming_after in_match Title OfTitle = Some Checkers
+coming_after in_match Checkers OfCheckers = Some Stakes
+coming_after in_match Stakes OfStakes = Some FirstGame
+coming_after in_match FirstGame (OfGame away) = on_game in_match away
+coming_after in_match FirstRoll (OfRoll player) = Some (Turn (other_player player))
+coming_after in_match (Turn player) (OfRoll other) = on_turn player other (Turn (other_player other))
+coming_after in_match (Turn player) (OfDouble other) = on_turn player other (Answer (other_player other))
+coming_after in_match (Turn player) OfEnd = Some NextGame
+coming_after in_match (Turn player) OfStop = Some Close
+coming_after in_match (Answer player) (OfTake other) = on_turn player other (Roll (other_player other))
+coming_after in_match (Answer player) (OfPass other) = on_turn player other End
+coming_after in_match (Roll player) (OfRoll other) = on_turn player other (Turn (other_player other))
+coming_after in_match (Roll player) OfStop = Some Close
+coming_after in_match End OfEnd = Some NextGame
+coming_after in_match NextGame (OfGame away) = on_game in_match away
+coming_after in_match NextGame OfClose = Some Nothing
+coming_after in_match Close OfClose = Some Nothing
+coming_after _ _ _ = None
 
 -- a game has begun and isn't over
 abbrev pub IsInGame : Next → Type 0
@@ -80,15 +80,15 @@ kind_of Stopped = OfStop
 kind_of Closed = OfClose
 
 -- the stakes are a match
-abbrev pub is_match : RecordStakes → Bool
-is_match (Match length) = true
-is_match _ = false
+abbrev pub is_match_record : RecordStakes → Bool
+is_match_record (Match length) = true
+is_match_record _ = false
 
 -- how far a record has come with a line, after which this may come
 abbrev pub stage_after : Stage → Line → Next → Stage
 stage_after stage (StakesLine stakes) next = record stage {
   next = next;
-  in_match = is_match stakes;
+  in_match = is_match_record stakes;
 }
 stage_after stage (GameLine number away) next = record stage {
   next = next;

@@ -6,7 +6,7 @@ ghost use Rattle.game_record.specs.declared.line.Line.TheVariants.{Title};
 ghost use Rattle.game_record.specs.Lines.{lines_text, record_lines, IsRecord, IsRecordText};
 ghost use Rattle.game_record.specs.Faults.{IsBad};
 
-use move_rules::texts_tell_plays;
+use play_text::texts_tell_plays;
 
 /// Each text of a record begins with the line `hypergammon record 1`.
 pub fn record_texts_begin_so()

@@ -1,6 +1,6 @@
 ghost use Rattle.std.specs.Prelude.{◌≡◌, ◌+◌, ◌++◌, ◌≤◌, ◌<◌, [], ◌∷◌, length, map, codes, decimal, OnOk, IfOk, Some, None};
 ghost use Rattle.std.specs.List.{flat_map};
-ghost use Rattle.move_rules.specs.Notation.{mark, step_text};
+ghost use Rattle.play_text.specs.Notation.{mark, step_text};
 ghost use Rattle.game_record.specs.declared.line.Line.TheVariants.{Checkers, Stakes, Game as GameLine, Acted};
 ghost use Rattle.game_record.specs.Lines.{player_text, stakes_word, away_text, steps_text, spaced_step, deed_text, line_text, lines_text, ending_line, game_lines, games_lines, record_text};
 
@@ -9,7 +9,7 @@ use crate::record::{Action, Ending, Game, Record, RecordStakes, What};
 use hyper_outside::NoMemory;
 use itoa::Buffer;
 use move_rules::{Step, Written};
-use position_rank::place_name;
+use position_text::place_name;
 use std::alloc::Global;
 
 /// The first line of a record's text, with its end.

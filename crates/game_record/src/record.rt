@@ -1,6 +1,6 @@
 ghost use Rattle.std.specs.Prelude.{◌≡◌, ◌<◌, ◌++◌, List, [], ◌∷◌, length, OnOk, OnErr, slice_get, Some};
-ghost use Rattle.game_record.specs.Games.{has_beavers, has_jacoby_rule};
-ghost use Rattle.game_record.specs.Turns.{is_match};
+ghost use Rattle.game_record.specs.Games.{records_beavers, has_jacoby_rule};
+ghost use Rattle.game_record.specs.Turns.{is_match_record};
 
 use crate::player::Player;
 use hyper_outside::NoMemory;
@@ -33,7 +33,7 @@ pub enum RecordStakes {
 
 impl RecordStakes {
     pub(crate) fn is_match(self) -> bool
-        ensures { result ≡ is_match self }
+        ensures { result ≡ is_match_record self }
     {
         matches!(self, RecordStakes::Match(_))
     }
@@ -47,7 +47,7 @@ impl RecordStakes {
 
     /// Who is doubled may turn the cube once more.
     pub(crate) fn has_beavers(self) -> bool
-        ensures { result ≡ has_beavers self }
+        ensures { result ≡ records_beavers self }
     {
         matches!(
             self,

@@ -1,7 +1,7 @@
 ghost use Rattle.std.specs.Prelude.{◌≡◌, Some};
 ghost use Rattle.cube_actions.specs.Matches.{next_phase};
 ghost use Rattle.cube_actions.specs.Scores.{IsScore};
-ghost use Rattle.game_record.specs.Standings.{after_win, first_standing, needs, at_score, side_of};
+ghost use Rattle.game_record.specs.Standings.{standing_after_win, first_standing, points_needed, at_score, side_of};
 
 use crate::player::Player;
 use crate::record::RecordStakes;
@@ -42,7 +42,7 @@ impl Standing {
 
     /// How many points a player still needs.
     pub(crate) fn needs(self, player: Player) -> u8
-        ensures { result ≡ needs self player }
+        ensures { result ≡ points_needed self player }
     {
         match player {
             Player::A => self.a,
@@ -80,7 +80,7 @@ impl Standing {
 
     /// After a player has won so many points.
     pub(crate) fn after_win(self, winner: Player, won: u8) -> Standing
-        ensures { result ≡ after_win self winner won }
+        ensures { result ≡ standing_after_win self winner won }
     {
         let (a, b) = match winner {
             Player::A => (self.a.saturating_sub(won), self.b),

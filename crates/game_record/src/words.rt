@@ -2,15 +2,16 @@ ghost use Rattle.std.specs.Prelude.{◌≡◌, ◌≤◌, ℕ, ◌+◌, ◌↔�
 ghost use Rattle.std.specs.Str.{IsAscii};
 ghost use Rattle.roll_table.specs.Rolls.{Dice, IsRoll};
 ghost use Rattle.roll_table.specs.Text.{roll_text};
-ghost use Rattle.move_rules.specs.Notation.{IsPlayText};
-ghost use Rattle.game_record.specs.Turns.{is_match};
+ghost use Rattle.play_text.specs.Notation.{IsPlayText};
+ghost use Rattle.game_record.specs.Turns.{is_match_record};
 ghost use Rattle.game_record.specs.Lines.{UpTo, stakes_word};
 ghost use Rattle.game_record.specs.Forms.{same_text};
 ghost use Rattle.game_record.specs.Faults.{IsNoNumber, IsNoStakes, IsNoPlay};
 
 use crate::record::RecordStakes;
 use itoa::Buffer;
-use move_rules::{Written, read_play};
+use move_rules::Written;
+use play_text::read_play;
 use roll_table::Roll;
 
 /// A number from 1 to this one.
@@ -37,7 +38,7 @@ pub(crate) fn is_number(word: &[u8], number: u32) -> bool
 pub(crate) fn stakes_named(word: &[u8]) -> Option<RecordStakes>
     ensures { MatchOption result
         (IsNoStakes word.now)
-        (λ stakes. (is_match stakes ≡ false) × (word.now ≡ stakes_word stakes)) }
+        (λ stakes. (is_match_record stakes ≡ false) × (word.now ≡ stakes_word stakes)) }
 {
     if is(word, "cubeless") {
         Some(RecordStakes::Cubeless)

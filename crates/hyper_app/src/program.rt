@@ -3,7 +3,7 @@ ghost use Rattle.outside_log.specs.Log.{Found};
 ghost use Rattle.system_files.specs.Written.{output_of};
 ghost use Rattle.refusal_notes.specs.Notes.{PutsNotes};
 ghost use Rattle.run_endings.specs.Endings.{Ending, IsStatus};
-ghost use Rattle.top_call.specs.Outcomes.{LeavesAllFiles, Runs, asked, asks_list};
+ghost use Rattle.top_call.specs.Outcomes.{LeavesAllFiles, RunsAsAsked, asked, asks_list};
 
 use progress_line::{ProgressGate, WipingWriter};
 use refusal_notes::put_unread_note;
@@ -44,7 +44,7 @@ pub fn run_real<'g, 'a, R: Threads + Sync + Eprint + Clock + System, W: Write, E
 )
     ghost found: { List (List ℕ × List ℕ) }
     ensures { (ending : Ending)
-        × Runs (asked words.now) (Found found ∷ []) result.1.log.events
+        × RunsAsAsked (asked words.now) (Found found ∷ []) result.1.log.events
         (record { told = Some []; faults = 0 }) (output_of result.2) result.0 ending
         × (LeavesAllFiles (asked words.now) ending
         → result.1.log.events ≡ Found found ∷ [])

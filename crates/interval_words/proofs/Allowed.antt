@@ -18,7 +18,7 @@ use Rattle.interval_words.specs.Numbers.{state_of, word_of, value_of, tightest_w
 use Rattle.interval_words.specs.Core.{Core, IsKept, IsTrueOf, AreReached, words_in_core, noted, with_note, brought, without_work, without_hand, hired, settled, joined, spent}
 use Rattle.interval_words.specs.Events.{IsLoose, IsRoundDone}
 use Rattle.interval_words.specs.Seats.{AreKnown, Knows, WasHeld}
-use Rattle.interval_words.specs.Rule.{core_of, Holds, Reads, Tightens, Settles}
+use Rattle.interval_words.specs.Rule.{core_of, Holds, Reads, Tightens, SettlesWord}
 use Rattle.interval_words.proofs.Ends.{tight-refl, tight-trans}
 use Rattle.interval_words.proofs.TurnLaws.{all-rounds-within}
 use Rattle.interval_words.proofs.Views.{All-at, contains-at, set-at, noted-opening}
@@ -84,7 +84,7 @@ module _ (game : Game) (slots id : ℕ) (me : Mine) (alive : me.0.game ≡ Some 
       let true_of : IsTrueOf game (words_in_core more) view = All-at (IsTrueOf game (words_in_core more)) (set s.views id view) id view after.views (set-at s.views id me.0 view at) in
       (view, keeps, tt, after, (refl, knows-true more after view true_of alive))
 
-  pub settles : IsRoundDone game me.0 → Allows (Holds game) slots id me 0 (λ n. n) (Settles (step slots 0 0 0 none) me)
+  pub settles : IsRoundDone game me.0 → Allows (Holds game) slots id me 0 (λ n. n) (SettlesWord (step slots 0 0 0 none) me)
   settles done s kept _ at _ =
       let core : Core = core_of game s in
       let is : IsTrueOf game (words_in_core core) me.0 = All-at (IsTrueOf game (words_in_core core)) s.views id me.0 kept.views at in

@@ -18,7 +18,7 @@ use Rattle.interval_words.specs.Numbers.{state_of, states_in, word_of, value_of,
 use Rattle.interval_words.specs.Core.{Core, IsTrueOf, words_in_core, AreReached, words_in, noted, known, first_view, with_note, brought, settled, joined}
 use Rattle.interval_words.specs.Events.{IsLoose, IsRoundDone}
 use Rattle.interval_words.specs.Seats.{GameSeat, IsNumber, MayTighten, AreKnown, Knows, WasHeld, noting, bringing, settling}
-use Rattle.interval_words.specs.Rule.{Holds, Reads, Tightens, Settles}
+use Rattle.interval_words.specs.Rule.{Holds, Reads, Tightens, SettlesWord}
 use Rattle.position_rank.specs.LiveRanks.{live_rank_of, live_positions}
 use Rattle.interval_words.proofs.SomeState.{some-state}
 use Rattle.interval_words.proofs.Places.{state-in, word-in}
@@ -61,9 +61,9 @@ module _ (key game : Game) (same : key ≡ game) (slots id : ℕ) (me : Mine) (v
       subst (λ (g : Game). Allows (Holds g) slots id me place (λ n. tightest_word end n word) (Tightens (step slots place word 0 none) me)) (sym same)
       (subst (λ (i : ℕ). Allows (Holds game) slots id me i (λ n. tightest_word end n word) (Tightens (step slots i word 0 none) me)) (sym here) (tightens game slots id me named end may.position may.kind word loose))
 
-  pub settles-at : IsRoundDone game view → Allows (Holds key) slots id me 0 (λ n. n) (Settles (step slots 0 0 0 none) me)
+  pub settles-at : IsRoundDone game view → Allows (Holds key) slots id me 0 (λ n. n) (SettlesWord (step slots 0 0 0 none) me)
   settles-at done =
-      subst (λ (g : Game). Allows (Holds g) slots id me 0 (λ n. n) (Settles (step slots 0 0 0 none) me)) (sym same)
+      subst (λ (g : Game). Allows (Holds g) slots id me 0 (λ n. n) (SettlesWord (step slots 0 0 0 none) me)) (sym same)
       (settles game slots id me named (subst (λ (v : View). IsRoundDone game v) (sym mine) done))
 
 -- each number below the number of states is that of a state

@@ -27,5 +27,5 @@ Tightens step old found new =
     (new ≡ (brought old.0 step.word (value_of step.first), old.1)) × Knows new.0
 
 -- a round more is known
-abbrev pub Settles : Step (Unit {0}) → Me (Unit {0}) View → ℕ → Me (Unit {0}) View → Type 0
-Settles step old found new = (new ≡ (settled old.0, old.1)) × Knows new.0
+abbrev pub SettlesWord : Step (Unit {0}) → Me (Unit {0}) View → ℕ → Me (Unit {0}) View → Type 0
+SettlesWord step old found new = (new ≡ (settled old.0, old.1)) × Knows new.0

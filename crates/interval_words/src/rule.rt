@@ -37,9 +37,9 @@ impl Play<(), View> for Tightening {
 pub(crate) struct Settling;
 
 impl Play<(), View> for Settling {
-    ghost use Rattle.interval_words.specs.Rule.{Settles};
+    ghost use Rattle.interval_words.specs.Rule.{SettlesWord};
 
-    ghost then = { Settles };
+    ghost then = { SettlesWord };
 }
 
 /// A second view that knows what the first knows, and has no hand.

@@ -8,19 +8,19 @@ use Rattle.cube_actions.specs.Matches.{match_kind, terms_of}
 use Rattle.cube_actions.specs.Scores.{MatchScore}
 use Rattle.cube_actions.specs.Stakes.{Terms, kind_at}
 use Rattle.cube_actions.specs.Starts.{StartPairs}
-use Rattle.match_plan.specs.Plans.{centred}
+use Rattle.match_plan.specs.Plans.{centred_kind}
 
-kind-there : (score : MatchScore) (starts : StartPairs) (side : Side) → kind_at (terms_of score starts) (centred side) ≡ match_kind starts score (record { mover = side; cube = 1; owner = None })
+kind-there : (score : MatchScore) (starts : StartPairs) (side : Side) → kind_at (terms_of score starts) (centred_kind side) ≡ match_kind starts score (record { mover = side; cube = 1; owner = None })
 unfolding match_kinds
 kind-there score starts Near = refl
 kind-there score starts Far = refl
 
-there : (score : MatchScore) (starts : StartPairs) (side : Side) → centred side < length (terms_of score starts).kinds
+there : (score : MatchScore) (starts : StartPairs) (side : Side) → centred_kind side < length (terms_of score starts).kinds
 unfolding match_kinds
 there score starts Near = omega arith
 there score starts Far = omega arith
 
-module _ (score : MatchScore) (starts : StartPairs) (side : Side) (stakes : Terms) (number : ℕ) (of_score : stakes ≡ terms_of score starts) (centre : number ≡ centred side) where
+module _ (score : MatchScore) (starts : StartPairs) (side : Side) (stakes : Terms) (number : ℕ) (of_score : stakes ≡ terms_of score starts) (centre : number ≡ centred_kind side) where
   pub centred-inside : number < length stakes.kinds
   centred-inside = rw (of_score, centre) (there score starts side)
 

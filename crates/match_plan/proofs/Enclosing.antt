@@ -3,7 +3,7 @@ use Rattle.std.proofs.Common.{rules, ◌≡◌, Bool, true, false, cond, Some, N
 use Rattle.std.proofs.lemmas.Int.{ints}
 use Rattle.std.proofs.Math.Nat.{mul-le-mul_right, mul-pos}
 use Rattle.directed_fixed.specs.Bounds.{Bounds}
-use Rattle.match_plan.specs.Quotients.{millionths_down, millionths_up, IsShare}
+use Rattle.match_plan.specs.Quotients.{quotient_down, quotient_up, IsShare}
 use Rattle.match_plan.specs.Points.{rise, is_take_point_known, is_gammon_price_known, take_bounds, price_bounds, take_point, gammon_price, IsTakePointKnown, IsGammonPriceKnown, LiesInside, EnclosesTakePoints, EnclosesGammonPrices}
 use Rattle.match_plan.proofs.Shares.{down-below, up-above, down-few, up-few, rise-is, rise-some, times-rise, share-low, share-high, share-of}
 
@@ -49,7 +49,7 @@ module _ (lose pass win : Bounds) (lose_order : lose.lower ≤ℤ lose.upper) (p
       omega (arith, ints, known.win_above, rise-is lose.lower pass.upper (omega (arith, ints, known.lose_below, pass_order, lose_order)), rise-is lose.lower win.lower (omega (arith, ints, known.apart, lose_order)))
 
   -- a take point is a chance
-  pub take-chance : millionths_up high_part high_whole ≤ 1000000
+  pub take-chance : quotient_up high_part high_whole ≤ 1000000
   take-chance = up-few high_part high_whole high_whole-some high_part-within
 
   take-units : (s : ℕ) (l p w : ℤ) → 0 < s → IsInside s lose l → IsInside s pass p → IsInside s win w → IsShare (take_bounds lose pass win) (p -ℤ l) (w -ℤ l)
@@ -58,14 +58,14 @@ module _ (lose pass win : Bounds) (lose_order : lose.lower ≤ℤ lose.upper) (p
     low =
         let below = rise l (pos s *ℤ lose.upper) in
         let down = rise-is l (pos s *ℤ lose.upper) in_lose.to in
-        share-low (millionths_down low_part low_whole) low_whole low_part s below (p -ℤ l) (w -ℤ l) (down-below low_part low_whole)
+        share-low (quotient_down low_part low_whole) low_whole low_part s below (p -ℤ l) (w -ℤ l) (down-below low_part low_whole)
         (mul-le-mul_right below (down-few low_part low_whole low_whole-some low_part-within))
         (omega (arith, ints, in_win.to, down, times-rise s lose.upper win.upper (omega (arith, ints, known.apart, win_order))))
         (omega (arith, ints, in_pass.from, down, times-rise s lose.upper pass.lower known.lose_below));
     high =
         let beyond = rise (pos s *ℤ lose.lower) l in
         let up = rise-is (pos s *ℤ lose.lower) l in_lose.from in
-        share-high (millionths_up high_part high_whole) high_whole high_part s beyond (p -ℤ l) (w -ℤ l) (up-above high_part high_whole high_whole-some)
+        share-high (quotient_up high_part high_whole) high_whole high_part s beyond (p -ℤ l) (w -ℤ l) (up-above high_part high_whole high_whole-some)
         (mul-le-mul_right beyond (up-few high_part high_whole high_whole-some high_part-within))
         (omega (arith, ints, in_win.from, up, times-rise s lose.lower win.lower (omega (arith, ints, known.apart, lose_order))))
         (omega (arith, ints, in_pass.to, up, times-rise s lose.lower pass.upper (omega (arith, ints, known.lose_below, pass_order, lose_order))));
@@ -94,11 +94,11 @@ module _ (lose win gammon : Bounds) (lose_order : lose.lower ≤ℤ lose.upper) 
   price-units s l w g some in_lose in_win in_gammon = record {
     some = above s lose win l w some known.apart in_lose in_win;
     low =
-        share-low (millionths_down least_part least_whole) least_whole least_part s 0 (g -ℤ w) (w -ℤ l) (down-below least_part least_whole) (omega arith)
+        share-low (quotient_down least_part least_whole) least_whole least_part s 0 (g -ℤ w) (w -ℤ l) (down-below least_part least_whole) (omega arith)
         (omega (arith, ints, in_win.to, in_lose.from, times-rise s lose.lower win.upper (omega (arith, ints, known.apart, lose_order, win_order))))
         (omega (arith, ints, in_gammon.from, in_win.to, times-rise s win.upper gammon.lower known.gammon_above));
     high =
-        share-high (millionths_up greatest_part greatest_whole) greatest_whole greatest_part s 0 (g -ℤ w) (w -ℤ l)
+        share-high (quotient_up greatest_part greatest_whole) greatest_whole greatest_part s 0 (g -ℤ w) (w -ℤ l)
         (up-above greatest_part greatest_whole (rise-some lose.upper win.lower known.apart)) (omega arith)
         (omega (arith, ints, in_win.from, in_lose.to, times-rise s lose.upper win.lower (omega (arith, ints, known.apart))))
         (omega (arith, ints, in_gammon.to, in_win.from, times-rise s win.lower gammon.upper (omega (arith, ints, known.gammon_above, win_order, gammon_order))));

@@ -6,23 +6,23 @@ use Rattle.std.proofs.lemmas.Grind.{div_ceil_times}
 use Rattle.std.proofs.Math.Nat.{mul-le-mul_left, mul-le-mul_right, div-mul-le_self, le_of_mul-le-mul_right}
 use borrow.Author.Differences.{up, down}
 use Rattle.match_plan.specs.declared.millionths.Millionths.{Millionths}
-use Rattle.match_plan.specs.Quotients.{millionths_down, millionths_up, IsShare}
+use Rattle.match_plan.specs.Quotients.{quotient_down, quotient_up, IsShare}
 use Rattle.match_plan.specs.Points.{rise}
 
 -- ---- quotients
 
-pub down-below : (part whole : ℕ) → millionths_down part whole * whole ≤ 1000000 * part
+pub down-below : (part whole : ℕ) → quotient_down part whole * whole ≤ 1000000 * part
 down-below part whole = div-mul-le_self (1000000 * part) whole
 
-pub up-above : (part whole : ℕ) → 0 < whole → 1000000 * part ≤ millionths_up part whole * whole
+pub up-above : (part whole : ℕ) → 0 < whole → 1000000 * part ≤ quotient_up part whole * whole
 up-above part whole some = (div_ceil_times (1000000 * part) whole some).0
 
 -- a part is no more than its whole
-pub down-few : (part whole : ℕ) → 0 < whole → part ≤ whole → millionths_down part whole ≤ 1000000
+pub down-few : (part whole : ℕ) → 0 < whole → part ≤ whole → quotient_down part whole ≤ 1000000
 down-few part whole some within = le_of_mul-le-mul_right (omega (arith, down-below part whole)) some
 
-pub up-few : (part whole : ℕ) → 0 < whole → part ≤ whole → millionths_up part whole ≤ 1000000
-up-few part whole some within = elim (cases_lt (millionths_up part whole) 1000001) [
+pub up-few : (part whole : ℕ) → 0 < whole → part ≤ whole → quotient_up part whole ≤ 1000000
+up-few part whole some within = elim (cases_lt (quotient_up part whole) 1000001) [
   | inl few ↦ omega (arith, few)
   | inr many ↦ absurd (omega (arith, within, (div_ceil_times (1000000 * part) whole some).1, mul-le-mul_right whole many))
 ]

@@ -3,15 +3,15 @@
 use Rattle.std.specs.Prelude.{ℕ, Bool, List, ◌++◌, codes, Option, Some, None, if◌then◌else◌}
 use Rattle.std.specs.List.{flat_map}
 use Rattle.directed_fixed.specs.Bounds.{Bounds, negated}
-use Rattle.directed_fixed.specs.Decimal.{millionths_down, millionths_up, millionths_text, size_text}
+use Rattle.point_text.specs.Decimal.{millionths_down, millionths_up, millionths_text, size_text}
 use Rattle.cube_actions.specs.declared.side.Side.{Side}
 use Rattle.cube_actions.specs.declared.side.Side.TheVariants.{Near, Far}
 use Rattle.cube_actions.specs.Scores.{MatchScore, other_side}
-use Rattle.cube_actions.specs.Names.{score_text, side_text}
+use Rattle.cube_text.specs.Texts.{score_text, side_text}
 use Rattle.cube_actions.specs.Ladder.{ladder}
 use Rattle.cube_actions.specs.Starts.{StartPairs, start_pair}
 use Rattle.cube_actions.specs.Matches.{value_of_win}
-use Rattle.cube_actions.specs.MatchKinds.{may_double}
+use Rattle.cube_actions.specs.MatchKinds.{kind_may_double}
 use Rattle.match_plan.specs.declared.millionths.Millionths.{Millionths}
 use Rattle.match_plan.specs.Points.{take_point, gammon_price}
 
@@ -22,14 +22,14 @@ abbrev pub value_of_loss : StartPairs → MatchScore → Side → ℕ → Bounds
 value_of_loss starts score side lost = negated (value_of_win starts score (other_side side) lost)
 
 -- the number of the kind in which a side is to roll with the cube centred
-abbrev pub centred : Side → ℕ
-centred Near = 0
-centred Far = 1
+abbrev pub centred_kind : Side → ℕ
+centred_kind Near = 0
+centred_kind Far = 1
 
 -- the other side may turn the centred cube to 2
 abbrev pub can_be_doubled : MatchScore → Side → Bool
 can_be_doubled score side =
-    may_double score (record { mover = other_side side; cube = 1; owner = None })
+    kind_may_double score (record { mover = other_side side; cube = 1; owner = None })
 
 -- the take point of a side that is doubled from 1 to 2: a pass loses one point, and after a take two are lost or won
 abbrev pub take_point_at : StartPairs → MatchScore → Side → Option Millionths
@@ -46,14 +46,14 @@ gammon_price_at starts score side =
 -- ---- the text
 
 -- both ends with six decimals, or that it isn't known
-abbrev pub found_text : Option Millionths → List ℕ
-found_text (Some found) = size_text found.low ++ codes " " ++ size_text found.high
-found_text None = codes "open"
+abbrev pub share_text : Option Millionths → List ℕ
+share_text (Some found) = size_text found.low ++ codes " " ++ size_text found.high
+share_text None = codes "open"
 
 -- a take point, where the side can be doubled
 abbrev pub take_text : StartPairs → MatchScore → Side → List ℕ
 take_text starts score side = if can_be_doubled score side
-    then found_text (take_point_at starts score side)
+    then share_text (take_point_at starts score side)
     else codes "none"
 
 -- what a side has at a score
@@ -61,7 +61,7 @@ abbrev pub side_line : StartPairs → MatchScore → Side → List ℕ
 side_line starts score side =
     score_text score ++ codes " " ++ side_text side ++ codes " take " ++ take_text starts score side
     ++ codes " price "
-    ++ found_text (gammon_price_at starts score side) ++ codes "\n"
+    ++ share_text (gammon_price_at starts score side) ++ codes "\n"
 
 -- what the near side has of a game at a score, in matches, the lower end rounded down and the upper end up
 abbrev pub start_line : MatchScore → Bounds → List ℕ

@@ -2,7 +2,7 @@
 use Rattle.std.specs.Prelude.{◌<◌, ◌^◌, ℕ, ℤ, pos, ◌*ℤ◌, ◌-ℤ◌, ◌≤ℤ◌, ◌<ℤ◌, int_le, int_lt, unsigned_abs, Bool, ◌&&◌, Option, Some, None, if◌then◌else◌}
 use Rattle.directed_fixed.specs.Bounds.{Bounds}
 use Rattle.match_plan.specs.declared.millionths.Millionths.{Millionths}
-use Rattle.match_plan.specs.Quotients.{millionths_down, millionths_up, IsShare}
+use Rattle.match_plan.specs.Quotients.{quotient_down, quotient_up, IsShare}
 
 -- how far the second value is above the first
 abbrev pub rise : ℤ → ℤ → ℕ
@@ -24,8 +24,8 @@ is_take_point_known lose pass win =
 -- Of (pass - lose) / (win - lose), the least is where the pass is worth least and the others most, the greatest the other way round.
 abbrev pub take_bounds : Bounds → Bounds → Bounds → Millionths
 take_bounds lose pass win = record {
-  low = millionths_down (rise lose.upper pass.lower) (rise lose.upper win.upper);
-  high = millionths_up (rise lose.lower pass.upper) (rise lose.lower win.lower);
+  low = quotient_down (rise lose.upper pass.lower) (rise lose.upper win.upper);
+  high = quotient_up (rise lose.lower pass.upper) (rise lose.lower win.lower);
 }
 
 abbrev pub take_point : Bounds → Bounds → Bounds → Option Millionths
@@ -47,8 +47,8 @@ is_gammon_price_known lose win gammon = int_le win.upper gammon.lower && int_lt 
 -- Of (gammon - win) / (win - lose), the least is where the gammon and the loss are worth least and the win most, the greatest the other way round.
 abbrev pub price_bounds : Bounds → Bounds → Bounds → Millionths
 price_bounds lose win gammon = record {
-  low = millionths_down (rise win.upper gammon.lower) (rise lose.lower win.upper);
-  high = millionths_up (rise win.lower gammon.upper) (rise lose.upper win.lower);
+  low = quotient_down (rise win.upper gammon.lower) (rise lose.lower win.upper);
+  high = quotient_up (rise win.lower gammon.upper) (rise lose.upper win.lower);
 }
 
 abbrev pub gammon_price : Bounds → Bounds → Bounds → Option Millionths

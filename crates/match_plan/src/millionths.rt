@@ -1,5 +1,5 @@
 ghost use Rattle.std.specs.Prelude.{◌≡◌, ◌<◌, ◌≤◌, ◌^◌};
-ghost use Rattle.match_plan.specs.Quotients.{millionths_down, millionths_up};
+ghost use Rattle.match_plan.specs.Quotients.{quotient_down, quotient_up};
 
 /// A quotient in millionths, rounded outwards.
 #[derive(Clone, Copy, Debug, PartialEq, Eq)]
@@ -14,7 +14,7 @@ pub struct Millionths {
 pub(crate) fn millionths_down(part: u64, whole: u64) -> u64
     requires part { part ≤ 2 ^ 33 }
     requires whole { 0 < whole }
-    ensures { result ≡ millionths_down part whole }
+    ensures { result ≡ quotient_down part whole }
 {
     1_000_000 * part / whole
 }
@@ -23,7 +23,7 @@ pub(crate) fn millionths_down(part: u64, whole: u64) -> u64
 pub(crate) fn millionths_up(part: u64, whole: u64) -> u64
     requires part { part ≤ 2 ^ 33 }
     requires whole { 0 < whole }
-    ensures { result ≡ millionths_up part whole }
+    ensures { result ≡ quotient_up part whole }
 {
     (1_000_000 * part).div_ceil(whole)
 }

@@ -1,20 +1,22 @@
 ghost use Rattle.std.specs.Prelude.{◌≡◌, ◌≤◌, ◌+◌, ◌++◌, length};
 ghost use Rattle.outside_log.specs.Sink.{Puts};
-ghost use Rattle.directed_fixed.specs.Decimal.{millionths_down, millionths_text, millionths_up, size_text, six_digits};
+ghost use Rattle.point_text.specs.Decimal.{millionths_down, millionths_text, millionths_up, size_text, six_digits};
 ghost use Rattle.cube_actions.specs.Ladder.{ladder};
-ghost use Rattle.cube_actions.specs.MatchKinds.{may_double};
-ghost use Rattle.cube_actions.specs.Names.{side_text};
+ghost use Rattle.cube_actions.specs.MatchKinds.{kind_may_double};
+ghost use Rattle.cube_text.specs.Texts.{side_text};
 ghost use Rattle.cube_actions.specs.Starts.{Covers, start_pair};
-ghost use Rattle.match_plan.specs.Plans.{can_be_doubled, found_text, plan_text, score_lines, side_line, start_line, take_text};
+ghost use Rattle.match_plan.specs.Plans.{can_be_doubled, share_text, plan_text, score_lines, side_line, start_line, take_text};
 
 use crate::millionths::Millionths;
 use crate::values::{gammon_price_at, take_point_at};
 use arrayvec::ArrayString;
 use cube_actions::{Phase, Score, Side, Starts, ladder};
-use directed_fixed::{Pair, print_down, print_up};
+use cube_text::print_score;
+use directed_fixed::Pair;
 use hyper_outside::Failed;
 use itoa::Buffer;
 use outside_log::Sink;
+use point_text::{print_down, print_up};
 
 /// The text of a plan, which has at most 18 scores.
 type Plan = ArrayString<8192>;
@@ -53,7 +55,7 @@ fn add_millionths(text: &mut Plan, millionths: u64)
 /// Adds both ends, or that it isn't known.
 fn add_found(text: &mut Plan, found: Option<Millionths>)
     requires { length text.old.bytes ≤ 7800 }
-    ensures bytes { text.new.bytes ≡ text.old.bytes ++ found_text found }
+    ensures bytes { text.new.bytes ≡ text.old.bytes ++ share_text found }
     ensures length { length text.new.bytes ≤ length text.old.bytes + 55 }
 {
     match found {
@@ -94,7 +96,7 @@ fn add_side(text: &mut Plan, score: Score, side: Side, starts: &Starts)
     ensures bytes { text.new.bytes ≡ text.old.bytes ++ side_line starts.now score side }
     ensures length { length text.new.bytes ≤ length text.old.bytes + 140 }
 {
-    text.push_str(score.print().as_str());
+    text.push_str(print_score(score).as_str());
     text.push_str(" ");
     text.push_str(side_text(side));
     text.push_str(" take ");
@@ -110,7 +112,7 @@ fn add_start(text: &mut Plan, score: Score, start: Pair)
     ensures bytes { text.new.bytes ≡ text.old.bytes ++ start_line score start }
     ensures length { length text.new.bytes ≤ length text.old.bytes + 82 }
 {
-    text.push_str(score.print().as_str());
+    text.push_str(print_score(score).as_str());
     text.push_str(" start ");
     text.push_str(print_down(start.lower()).as_str());
     text.push_str(" ");

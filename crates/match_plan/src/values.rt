@@ -3,7 +3,7 @@ ghost use Rattle.directed_fixed.specs.Bounds.{IsWithin};
 ghost use Rattle.cube_actions.specs.Matches.{value_of_win};
 ghost use Rattle.cube_actions.specs.Stakes.{point_units};
 ghost use Rattle.cube_actions.specs.Starts.{Covers};
-ghost use Rattle.match_plan.specs.Plans.{centred, gammon_price_at, take_point_at, value_of_loss};
+ghost use Rattle.match_plan.specs.Plans.{centred_kind, gammon_price_at, take_point_at, value_of_loss};
 
 use crate::millionths::Millionths;
 use crate::points::{gammon_price, take_point};
@@ -19,7 +19,7 @@ struct ByPoints {
 
 /// The number of the kind in which a side is to roll with the cube centred. These kinds are a score's first, near before far.
 fn centred(side: Side) -> usize
-    ensures { result ≡ centred side }
+    ensures { result ≡ centred_kind side }
 {
     match side {
         Side::Near => 0,

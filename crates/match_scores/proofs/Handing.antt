@@ -7,7 +7,7 @@ use Rattle.cube_actions.specs.Starts.{StartPairs, AreStarts, Covers}
 use Rattle.turn_rule.specs.declared.game.Game.{Game}
 use Rattle.interval_words.specs.WordLists.{WordList, list_of, words_in_list}
 use Rattle.match_scores.specs.Openings.{start_over}
-use Rattle.match_scores.specs.Ladders.{score_at, with_pair, game_at, AreWordsAt}
+use Rattle.match_scores.specs.Ladders.{score_at, with_pair, game_at_score, AreWordsAt}
 use Rattle.match_scores.specs.Keepers.{Keeper, IsForSame, CountsOn, KeptOneMore, MayKeep, IsKeeperFor, HasKept, IsSolvedSoFar, IsWholeLadder}
 use Rattle.match_scores.proofs.OpeningSums.{GoOn}
 use Rattle.match_scores.proofs.Places.{place-first}
@@ -63,7 +63,7 @@ one-more starts more pair added = ap (λ (s : StartPairs). length s.pairs) added
 pub solved-none : (checkers n r : ℕ) (starts : StartPairs) → starts ≡ record { match_length = n; pairs = [] } → IsSolvedSoFar checkers n r starts
 solved-none checkers n r starts is =
     subst (IsSolvedSoFar checkers n r) (sym is)
-    (record { of_length = refl; solved = (λ place. list_of (game_at checkers last_game (record { match_length = n; pairs = [] })) r [], λ place less. absurd (omega arith)) })
+    (record { of_length = refl; solved = (λ place. list_of (game_at_score checkers last_game (record { match_length = n; pairs = [] })) r [], λ place less. absurd (omega arith)) })
 
 pub none-held : (n : ℕ) (starts : StartPairs) → starts ≡ record { match_length = n; pairs = [] } → length starts.pairs ≡ 0
 none-held n starts is = ap (λ (s : StartPairs). length s.pairs) is

@@ -1,5 +1,5 @@
 -- Where start pairs enclose the exact starts, the stakes of a score enclose the exact payoffs of its game.
-use Rattle.std.proofs.Common.{◌≡◌, ◌≢◌, ◌<◌, ◌≤◌, ◌+◌, ◌-◌, ◌*◌, ◌^◌, ◌∙◌, ℕ, zero, suc, ℤ, pos, neg_ℤ, ◌*ℤ◌, ◌≤ℤ◌, Bool, true, false, cond, eqb, nat_le, List, [], ◌∷◌, length, map, filter, get_or, slice_index_or, Option, Some, None, IfSome, Contains, ◌⊎◌, inl, inr, ap, refl, sym, subst, arith}
+use Rattle.std.proofs.Common.{◌≡◌, ◌≢◌, ◌<◌, ◌≤◌, ◌+◌, ◌-◌, ◌*◌, ◌^◌, ◌∙◌, ℕ, zero, suc, ℤ, pos, neg_ℤ, ◌*ℤ◌, ◌≤ℤ◌, Bool, true, false, cond, eqb, nat_le, List, [], ◌∷◌, length, map, get_or, slice_index_or, Option, Some, None, IfSome, Contains, ◌⊎◌, inl, inr, ap, refl, subst, arith}
 use Rattle.std.proofs.lemmas.Bool.{cases_lt}
 use Rattle.std.proofs.lemmas.Bool.Decides.{nat_tests}
 use Rattle.std.proofs.lemmas.Int.{ints}
@@ -13,7 +13,7 @@ use Rattle.position_rank.specs.Placement.{Placement, swap}
 use Rattle.game_payoff.specs.declared.payoff.Won.{Won}
 use Rattle.game_payoff.specs.declared.payoff.Won.TheVariants.{Single, Gammon, Backgammon}
 use Rattle.directed_fixed.specs.declared.bounds.End.TheVariants.{Lower, Upper}
-use Rattle.directed_fixed.specs.Bounds.{Bounds, negated, IsWithinUnits}
+use Rattle.directed_fixed.specs.Bounds.{Bounds, negated}
 use Rattle.std.specs.Int.{int_max}
 use Rattle.std.specs.Option.{option_map}
 use Rattle.roll_table.specs.Rolls.{all_rolls}
@@ -25,19 +25,17 @@ use Rattle.cube_actions.specs.declared.side.Side.{Side}
 use Rattle.cube_actions.specs.declared.side.Side.TheVariants.{Near, Far}
 use Rattle.cube_actions.specs.Scores.{MatchScore, IsScore, needs, other_side}
 use Rattle.cube_actions.specs.Stakes.{Terms, exactly, no_kind, kind_at}
-use Rattle.cube_actions.specs.Ladder.{ladder}
-use Rattle.cube_actions.specs.Starts.{StartPairs, start_pair, ladder_place}
-use Rattle.cube_actions.specs.MatchKinds.{match_kinds, every_kind, may_double, can_come, number_in, after_play}
-use Rattle.cube_actions.specs.Matches.{next_score, after_win, stays_near, next_value, value_of_win, match_kind, right_to_double, terms_of, answers_in}
+use Rattle.cube_actions.specs.Starts.{StartPairs, start_pair}
+use Rattle.cube_actions.specs.MatchKinds.{match_kinds, every_kind, kind_may_double, can_come}
+use Rattle.cube_actions.specs.Matches.{after_win, stays_near, value_of_win, match_kind, terms_of, answers_in}
 use Rattle.turn_rule.specs.Games.{game_of}
 use Rattle.turn_rule.specs.Turn.{bound_words, win, if_won, sum_over, least}
 use Rattle.turn_rule.specs.Exact.{Scoring, Values, left_with, rolled, after_double, better_of, before_turn, exact}
 use Rattle.turn_rule.specs.States.{IsStateOf, pair_of}
 use Rattle.turn_rule.specs.Truth.{Encloses, IsScoring}
 use Rattle.turn_rule.proofs.Fractions.{bound-over, bound-neg}
-use Rattle.match_scores.specs.Openings.{thirty_starts}
-use Rattle.match_scores.specs.Payoffs.{EndScores, exact_next, exact_win, times_of, mover_in, cube_in, cube_game, points_left, game_parts, scale_of, starts_before, match_scoring, match_start, start_scale}
-use Rattle.match_scores.specs.Ladders.{AreEndScores, game_at}
+use Rattle.match_scores.specs.Payoffs.{EndScores, exact_win, mover_in, cube_in, points_left, game_parts, scale_of, starts_before, match_scoring, match_start, start_scale}
+use Rattle.match_scores.specs.Ladders.{AreEndScores}
 
 -- ---- scales
 
@@ -160,7 +158,7 @@ module _ (checkers turns : ℕ) (ends : EndScores) (within : AreEndScores checke
     by_won Backgammon = won-encloses (mover_in score k) (3 * cube_in score k) (omega (arith, some))
 
   passes-within : (k : ℕ) → k < length (match_kinds score) → IfSome (kind_at (terms_of score starts) k).double (λ double. Encloses double.pass (scoring.pass k) scoring.scale)
-  passes-within k here = rw (kind-at score starts k here) (if-some (may_double score (get_or (match_kinds score) k (record { mover = Near; cube = 1; owner = None }))) _ (won-encloses (mover_in score k) (cube_in score k) (cube-some score k here))) where
+  passes-within k here = rw (kind-at score starts k here) (if-some (kind_may_double score (get_or (match_kinds score) k (record { mover = Near; cube = 1; owner = None }))) _ (won-encloses (mover_in score k) (cube_in score k) (cube-some score k here))) where
     if-some : (may : Bool) (double : Double) → Encloses double.pass (scoring.pass k) scoring.scale → IfSome (cond may (Some double) None) (λ double. Encloses double.pass (scoring.pass k) scoring.scale)
     if-some true double h = h
     if-some false double h = tt
@@ -228,7 +226,7 @@ module _ (score : MatchScore) (starts others : StartPairs) where
 
   pub answers-same : (k : ℕ) → answers_in (kind_at (terms_of score starts) k) ≡ answers_in (kind_at (terms_of score others) k)
   answers-same k = elim (cases_lt k (length (match_kinds score))) [
-    | inl here ↦ rw (kind-at score starts k here, kind-at score others k here) (option-same (may_double score (get_or (match_kinds score) k (record { mover = Near; cube = 1; owner = None }))) _ _ refl)
+    | inl here ↦ rw (kind-at score starts k here, kind-at score others k here) (option-same (kind_may_double score (get_or (match_kinds score) k (record { mover = Near; cube = 1; owner = None }))) _ _ refl)
     | inr past ↦ rw (past_last (terms_of score starts).kinds k (rw kinds-many past), past_last (terms_of score others).kinds k (rw kinds-many past)) refl
   ]
 

@@ -1,20 +1,17 @@
 -- One score of a match: where the start pairs before it enclose, its sound words enclose its game, and its start pair its start.
-use Rattle.std.proofs.Common.{◌≡◌, ◌<◌, ◌≤◌, ◌*◌, ◌^◌, ◌∙◌, ℕ, zero, suc, ℤ, pos, ◌*ℤ◌, Bool, true, cond, eqb, [], length, ap, refl, sym, subst, arith}
+use Rattle.std.proofs.Common.{◌≡◌, ◌<◌, ◌≤◌, ◌*◌, ◌^◌, ◌∙◌, ℕ, ℤ, pos, ◌*ℤ◌, Bool, true, cond, eqb, [], length, ap, sym, subst, arith}
 use Rattle.std.proofs.lemmas.Bool.Decides.{nat_tests}
-use Rattle.position_rank.specs.Placement.{Placement}
-use Rattle.directed_fixed.specs.Bounds.{Bounds}
 use Rattle.cube_actions.specs.declared.side.Side.{Side}
 use Rattle.cube_actions.specs.Scores.{MatchScore, IsScore, needs}
 use Rattle.cube_actions.specs.Ladder.{ladder}
 use Rattle.cube_actions.specs.Starts.{StartPairs, AreStarts, Covers, start_pair, ladder_place}
 use Rattle.cube_actions.specs.Matches.{after_win, terms_of}
 use Rattle.turn_rule.specs.Turn.{Words}
-use Rattle.turn_rule.specs.Exact.{Scoring, exact}
-use Rattle.turn_rule.specs.States.{pair_of}
+use Rattle.turn_rule.specs.Exact.{exact}
 use Rattle.turn_rule.specs.Truth.{Encloses, IsScoring, AreEnclosing, AreSoundFrom}
 use Rattle.match_scores.specs.Openings.{start_over, thirty_starts}
-use Rattle.match_scores.specs.Payoffs.{EndScores, cube_game, points_left, game_parts, scale_of, starts_before, match_scoring, match_start, start_scale}
-use Rattle.match_scores.specs.Ladders.{AreEndScores, EncloseStarts, EnclosesStart, game_at, start_pair_at, score_at}
+use Rattle.match_scores.specs.Payoffs.{EndScores, cube_game, points_left, game_parts, starts_before, match_scoring, match_start, start_scale}
+use Rattle.match_scores.specs.Ladders.{AreEndScores, EncloseStarts, game_at_score, start_pair_at}
 use Rattle.match_scores.proofs.Centred.{centred-terms}
 use Rattle.match_scores.proofs.OpeningSums.{GoOn}
 use Rattle.match_scores.proofs.Starts.{start-encloses, both-ends}
@@ -40,11 +37,11 @@ module _ (down : LeadDown) (checkers turns : ℕ) (ends : EndScores) (score : Ma
       subst (λ (s : MatchScore). Encloses (start_pair_at starts place) (match_start checkers turns ends s) (start_scale turns s)) (score-found starts.match_length next listed) (enclosed place held)
 
   -- the exact payoffs and the end scores lie within the stakes
-  pub payoffs-within : AreEndScores checkers turns ends → AreStarts starts → IsScore score → Covers starts score → EncloseStarts checkers turns ends starts → IsScoring (game_at checkers score starts) (match_scoring checkers turns ends score)
+  pub payoffs-within : AreEndScores checkers turns ends → AreStarts starts → IsScore score → Covers starts score → EncloseStarts checkers turns ends starts → IsScoring (game_at_score checkers score starts) (match_scoring checkers turns ends score)
   payoffs-within within valid is covers enclosed = scored-within checkers turns ends within score starts is (known-starts valid covers enclosed)
 
   -- so sound words enclose the game
-  pub game-enclosed : AreEndScores checkers turns ends → AreStarts starts → IsScore score → Covers starts score → EncloseStarts checkers turns ends starts → (enough : ℕ) (u : Words) → enough ≤ turns → AreSoundFrom (game_at checkers score starts) enough u → AreEnclosing (game_at checkers score starts) (match_scoring checkers turns ends score) turns u
+  pub game-enclosed : AreEndScores checkers turns ends → AreStarts starts → IsScore score → Covers starts score → EncloseStarts checkers turns ends starts → (enough : ℕ) (u : Words) → enough ≤ turns → AreSoundFrom (game_at_score checkers score starts) enough u → AreEnclosing (game_at_score checkers score starts) (match_scoring checkers turns ends score) turns u
   game-enclosed within valid is covers enclosed enough u more sound = sound turns more (match_scoring checkers turns ends score) (payoffs-within within valid is covers enclosed)
 
 module _ (checkers turns : ℕ) (ends : EndScores) (score : MatchScore) (starts : StartPairs) where
@@ -62,7 +59,7 @@ module _ (checkers turns : ℕ) (ends : EndScores) (score : MatchScore) (starts 
   scale-is s n = omega arith
 
   -- and its start pair encloses the start
-  pub start-enclosed : GoOn → 1 ≤ checkers → checkers ≤ 3 → (u : Words) → AreEnclosing (game_at checkers score starts) (match_scoring checkers turns ends score) turns u → Encloses (start_over checkers u score) (match_start checkers turns ends score) (start_scale turns score)
+  pub start-enclosed : GoOn → 1 ≤ checkers → checkers ≤ 3 → (u : Words) → AreEnclosing (game_at_score checkers score starts) (match_scoring checkers turns ends score) turns u → Encloses (start_over checkers u score) (match_start checkers turns ends score) (start_scale turns score)
   start-enclosed goes low high u encloses =
       let scoring = match_scoring checkers turns ends score in
       let values = exact (terms_of score starts) scoring turns in

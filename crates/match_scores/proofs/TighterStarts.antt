@@ -1,5 +1,5 @@
 -- Tighter start pairs give tighter stakes.
-use Rattle.std.proofs.Common.{◌≡◌, ◌<◌, ◌≤◌, ◌-◌, ◌*◌, ◌∙◌, ℕ, Bool, true, false, cond, nat_le, length, get_or, Option, Some, None, refl, sym, subst, arith}
+use Rattle.std.proofs.Common.{◌≡◌, ◌<◌, ◌≤◌, ◌-◌, ◌*◌, ◌∙◌, ℕ, Bool, true, false, cond, nat_le, length, get_or, Some, None, refl, sym, subst}
 use Rattle.game_payoff.specs.declared.payoff.Won.{Won}
 use Rattle.game_payoff.specs.declared.payoff.Won.TheVariants.{Single, Gammon, Backgammon}
 use Rattle.directed_fixed.specs.Bounds.{Bounds, AreNoLooserPairs, negated}
@@ -9,7 +9,7 @@ use Rattle.cube_actions.specs.declared.side.Side.TheVariants.{Near}
 use Rattle.cube_actions.specs.Scores.{MatchScore, needs, other_side}
 use Rattle.cube_actions.specs.Stakes.{exactly, kind_at}
 use Rattle.cube_actions.specs.Starts.{StartPairs, start_pair, ladder_place}
-use Rattle.cube_actions.specs.MatchKinds.{match_kinds, may_double}
+use Rattle.cube_actions.specs.MatchKinds.{match_kinds, kind_may_double}
 use Rattle.cube_actions.specs.Matches.{next_score, stays_near, value_of_win, match_kind, terms_of}
 use Rattle.turn_rule.specs.Turn.{win}
 use Rattle.turn_rule.specs.Truth.{AreNoLooserDoubles, IsNoLooserKind, AreNoLooserStakes}
@@ -57,7 +57,7 @@ module _ (score : MatchScore) (a b : StartPairs) (tight : AreNoLooserStarts a b)
     each k here = rw (kind-at score a k here, kind-at score b k here) (record {
       next = refl;
       wins = by_won;
-      double = double-tighter (may_double score (get_or (match_kinds score) k (record { mover = Near; cube = 1; owner = None }))) _ _ refl (win-tighter (mover_in score k) (cube_in score k));
+      double = double-tighter (kind_may_double score (get_or (match_kinds score) k (record { mover = Near; cube = 1; owner = None }))) _ _ refl (win-tighter (mover_in score k) (cube_in score k));
     }) where
       by_won : (won : Won) → AreNoLooserPairs (win (match_kind a score (get_or (match_kinds score) k (record { mover = Near; cube = 1; owner = None }))) won) (win (match_kind b score (get_or (match_kinds score) k (record { mover = Near; cube = 1; owner = None }))) won)
       by_won Single = win-tighter (mover_in score k) (1 * cube_in score k)

@@ -1,6 +1,6 @@
 -- The whole ladder: from one number of turns on the words of each score enclose its game and each start pair its start, and they are as tight
 -- as the plain starts and the rounds for these.
-use Rattle.std.proofs.Common.{◌≡◌, ◌<◌, ◌≤◌, ◌+◌, ◌++◌, ◌∙◌, ℕ, zero, suc, max, min, List, [], ◌∷◌, All, Contains, length, length-append, take, get_or, cond, eqb, true, false, inl, inr, ap, refl, sym, subst, arith}
+use Rattle.std.proofs.Common.{◌≡◌, ◌<◌, ◌≤◌, ◌+◌, ◌++◌, ◌∙◌, ℕ, zero, suc, max, List, [], ◌∷◌, Contains, length, length-append, take, get_or, cond, eqb, true, false, inl, inr, ap, refl, sym, subst, arith}
 use Rattle.std.proofs.lemmas.Bool.{cases_lt}
 use Rattle.std.proofs.lemmas.Bool.Decides.{nat_tests}
 use Rattle.std.proofs.lemmas.List.{take_all, get_or-take, get_or_default, length-take-le, take-append-le, get_or_append_left}
@@ -15,16 +15,16 @@ use Rattle.cube_actions.specs.Starts.{StartPairs, AreStarts, Covers}
 use Rattle.cube_actions.specs.Matches.{terms_of}
 use Rattle.turn_rule.specs.declared.game.Game.{Game}
 use Rattle.turn_rule.specs.Games.{IsGame, kinds_of}
-use Rattle.turn_rule.specs.Turn.{Words, rounds}
+use Rattle.turn_rule.specs.Turn.{rounds}
 use Rattle.turn_rule.specs.States.{AreNoLooser}
-use Rattle.turn_rule.specs.Truth.{Encloses, AreEnclosing, AreSound, AreSoundFrom}
+use Rattle.turn_rule.specs.Truth.{Encloses, AreEnclosing, AreSoundFrom}
 use Rattle.turn_rule.proofs.Integers.{le_refl}
 use Rattle.turn_rule.proofs.Monotone.{stakes-rounds-tighter}
 use Rattle.turn_rule.proofs.Tight.{words-trans}
 use Rattle.interval_words.specs.WordLists.{WordList, words_in_list}
 use Rattle.match_scores.specs.Openings.{start_over}
 use Rattle.match_scores.specs.Payoffs.{EndScores, match_scoring, match_start, start_scale}
-use Rattle.match_scores.specs.Ladders.{score_at, start_pair_at, starts_till, with_pair, game_at, AreEndScores, EnclosesStart, EncloseStarts, EnclosesGame, AreWordsAt, IsSolvedAt, IsSolved, IsTrueFrom, plain_starts, IsTightAt, IsLadder}
+use Rattle.match_scores.specs.Ladders.{score_at, start_pair_at, starts_till, with_pair, game_at_score, AreEndScores, EnclosesStart, EncloseStarts, EnclosesGame, AreWordsAt, IsSolvedAt, IsSolved, IsTrueFrom, plain_starts, IsTightAt, IsLadder}
 use Rattle.match_scores.proofs.Centred.{centred-terms}
 use Rattle.match_scores.proofs.OpeningSums.{GoOn}
 use Rattle.match_scores.proofs.Starts.{start-tighter}
@@ -91,7 +91,7 @@ module _ (goes : GoOn) (down : LeadDown) (scores : AreScores) (checkers r : ℕ)
         let first-enclosed : EncloseStarts checkers turns ends first = λ place inside. (
         let less : place < count = rw (length-take-le count starts.pairs (omega (arith, here))) at inside in
         subst (λ (pair : Bounds). Encloses pair (match_start checkers turns ends (score_at starts.match_length place)) (start_scale turns (score_at starts.match_length place))) (sym (pair-till starts count place less)) (before place less)) in
-        let game : AreEnclosing (game_at checkers score first) (match_scoring checkers turns ends score) turns u =
+        let game : AreEnclosing (game_at_score checkers score first) (match_scoring checkers turns ends score) turns u =
         game-enclosed down checkers turns ends score first within (till-valid starts count valid (omega (arith, here))) is-score (till-covers starts count listed (omega (arith, here))) first-enclosed enough u more
         (subst (λ (g : Game). AreSoundFrom g enough u) at.closed.game sound) in (
           subst (λ (g : Game). AreEnclosing g (match_scoring checkers turns ends score) turns u) (sym at.closed.game) game,
@@ -167,7 +167,7 @@ module _ (goes : GoOn) (checkers r : ℕ) (low : 1 ≤ checkers) (high : checker
       let at = solved count here in
       let score = score_at starts.match_length count in
       let first = starts_till starts count in
-      let game = game_at checkers score first in
+      let game = game_at_score checkers score first in
       let u = words_in_list (words count) in
       let valid : IsGame game = subst IsGame at.closed.game at.closed.valid in
       let tight : AreNoLooser game u (rounds game.stakes r) = subst (λ (n : ℕ). AreNoLooser game u (rounds game.stakes n)) at.closed.rounds

@@ -1,5 +1,5 @@
 -- The ladder of a match, solved score by score: each score's words are of the game for the starts of the scores before it.
-use Rattle.std.specs.Prelude.{◌≡◌, ◌≤◌, ◌<◌, ◌++◌, ℕ, zero, suc, ℤ, pos, [], ◌∷◌, length, slice_index_or, take}
+use Rattle.std.specs.Prelude.{◌≡◌, ◌≤◌, ◌<◌, ◌++◌, ℕ, zero, suc, pos, [], ◌∷◌, length, slice_index_or, take}
 use Rattle.position_rank.specs.Placement.{Placement}
 use Rattle.directed_fixed.specs.Bounds.{Bounds, AreNoLooserPairs, IsWithinUnits}
 use Rattle.cube_actions.specs.Scores.{MatchScore, IsScore, last_game}
@@ -36,8 +36,8 @@ abbrev pub with_pair : StartPairs → Bounds → StartPairs
 with_pair starts pair = record starts { pairs = starts.pairs ++ pair ∷ [] }
 
 -- the game at a score, given what the scores after it in the match are worth
-abbrev pub game_at : ℕ → MatchScore → StartPairs → Game
-game_at checkers score starts = game_of checkers (terms_of score starts)
+abbrev pub game_at_score : ℕ → MatchScore → StartPairs → Game
+game_at_score checkers score starts = game_of checkers (terms_of score starts)
 
 -- ---- what is true of it
 
@@ -71,7 +71,7 @@ EnclosesGame checkers turns ends starts place words =
 -- these are words of the game at a score, closed after so many rounds
 pub record AreWordsAt (checkers r : ℕ) (score : MatchScore) (starts : StartPairs)
     (words : WordList) : Type 0 where
-  pub game : words.game ≡ game_at checkers score starts
+  pub game : words.game ≡ game_at_score checkers score starts
   pub valid : IsGame words.game
   pub rounds : words.rounds ≡ r
   pub closed : AreClosed words

@@ -5,7 +5,7 @@ ghost use Rattle.turn_rule.specs.Turn.{Words};
 ghost use Rattle.turn_rule.specs.Truth.{Encloses, IsScoring, AreEnclosing, AreSoundFrom};
 ghost use Rattle.match_scores.specs.Openings.{start_over};
 ghost use Rattle.match_scores.specs.Payoffs.{EndScores, match_scoring, match_start, start_scale};
-ghost use Rattle.match_scores.specs.Ladders.{AreEndScores, EncloseStarts, game_at};
+ghost use Rattle.match_scores.specs.Ladders.{AreEndScores, EncloseStarts, game_at_score};
 
 use cube_actions::wins_lead_down_the_ladder;
 use move_rules::opening_plays_go_on;
@@ -16,7 +16,7 @@ pub fn enclosing_starts_bound_the_payoffs()
     ensures { (checkers turns : ℕ) (ends : EndScores) → AreEndScores checkers turns ends
         → (starts : StartPairs) → AreStarts starts → EncloseStarts checkers turns ends starts
         → (score : MatchScore) → IsScore score → Covers starts score
-        → IsScoring (game_at checkers score starts) (match_scoring checkers turns ends score) }
+        → IsScoring (game_at_score checkers score starts) (match_scoring checkers turns ends score) }
 {
     wins_lead_down_the_ladder();
 }
@@ -28,8 +28,8 @@ pub fn sound_words_enclose_the_game_of_a_score()
         → (starts : StartPairs) → AreStarts starts → EncloseStarts checkers turns ends starts
         → (score : MatchScore) → IsScore score → Covers starts score
         → (enough : ℕ) (u : Words) → enough ≤ turns
-        → AreSoundFrom (game_at checkers score starts) enough u
-        → AreEnclosing (game_at checkers score starts) (match_scoring checkers turns ends score)
+        → AreSoundFrom (game_at_score checkers score starts) enough u
+        → AreEnclosing (game_at_score checkers score starts) (match_scoring checkers turns ends score)
         turns u }
 {
     wins_lead_down_the_ladder();
@@ -40,7 +40,7 @@ pub fn sound_words_enclose_the_game_of_a_score()
 pub fn start_pairs_enclose_the_start_of_a_score()
     ensures { (checkers : ℕ) → 1 ≤ checkers → checkers ≤ 3 → (turns : ℕ) (ends : EndScores)
         (score : MatchScore) (starts : StartPairs) (u : Words)
-        → AreEnclosing (game_at checkers score starts) (match_scoring checkers turns ends score)
+        → AreEnclosing (game_at_score checkers score starts) (match_scoring checkers turns ends score)
         turns u
         → Encloses (start_over checkers u score) (match_start checkers turns ends score)
         (start_scale turns score) }

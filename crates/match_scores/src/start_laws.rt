@@ -7,7 +7,7 @@ ghost use Rattle.turn_rule.specs.States.{AreNoLooser};
 ghost use Rattle.turn_rule.specs.Exact.{Scoring, exact};
 ghost use Rattle.turn_rule.specs.Truth.{Encloses, AreEnclosing};
 ghost use Rattle.match_scores.specs.Openings.{start_over, thirty_starts};
-ghost use Rattle.match_scores.specs.Ladders.{game_at};
+ghost use Rattle.match_scores.specs.Ladders.{game_at_score};
 
 use move_rules::opening_plays_go_on;
 
@@ -15,7 +15,7 @@ use move_rules::opening_plays_go_on;
 pub fn tighter_words_tighten_starts()
     ensures { (checkers : ℕ) → 1 ≤ checkers → checkers ≤ 3
         → (score : MatchScore) (starts : StartPairs) (u v : Words)
-        → AreNoLooser (game_at checkers score starts) u v
+        → AreNoLooser (game_at_score checkers score starts) u v
         → AreNoLooserPairs (start_over checkers u score) (start_over checkers v score) }
 {
     opening_plays_go_on();
@@ -26,9 +26,9 @@ pub fn tighter_words_tighten_starts()
 pub fn words_that_enclose_give_starts_that_enclose()
     ensures { (checkers : ℕ) → 1 ≤ checkers → checkers ≤ 3
         → (score : MatchScore) (starts : StartPairs) (scoring : Scoring) (turns : ℕ) (u : Words)
-        → AreEnclosing (game_at checkers score starts) scoring turns u
+        → AreEnclosing (game_at_score checkers score starts) scoring turns u
         → Encloses (start_over checkers u score)
-        (thirty_starts checkers (exact (game_at checkers score starts).stakes scoring turns) score)
+        (thirty_starts checkers (exact (game_at_score checkers score starts).stakes scoring turns) score)
         (30 * (scoring.scale * 36 ^ turns)) }
 {
     opening_plays_go_on();

@@ -1,7 +1,7 @@
 -- Calls that are counted, with those that are to fail.
 use Rattle.std.specs.Prelude.{ℕ, ◌==◌, List, [], ◌∷◌, ◌++◌, take, Option, find}
 use Rattle.std.specs.Option.{option_map, option_map_or}
-use Rattle.hyper_outside.specs.Causes.{counted}
+use Rattle.hyper_outside.specs.Causes.{risen_count}
 
 -- how many calls there were, and each call that is to fail with the length of the front that it still adds
 pub record CallList : Type 0 where
@@ -18,7 +18,7 @@ with_failing calls call front = record calls { failing = calls.failing ++ (call,
 
 -- after one more call
 abbrev pub called : CallList → CallList
-called calls = record calls { made = counted calls.made }
+called calls = record calls { made = risen_count calls.made }
 
 -- what the call just made still adds, if it is to fail
 abbrev pub listed : CallList → Option ℕ

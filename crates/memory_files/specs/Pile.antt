@@ -1,7 +1,7 @@
 -- Pile in memory with room for more, and the sinks over them.
 use Rattle.std.specs.Prelude.{ℕ, ◌+◌, ◌-◌, nat_lt, nat_le, Bool, ◌||◌, List, [], ◌++◌, length, Some, is_some, if◌then◌else◌}
 use Rattle.outside_log.specs.Sink.{Output}
-use Rattle.hyper_outside.specs.Causes.{counted}
+use Rattle.hyper_outside.specs.Causes.{risen_count}
 use Rattle.memory_files.specs.Calls.{CallList, no_calls, called, listed, front_of}
 
 -- the bytes, and how many more there is room for
@@ -34,7 +34,7 @@ abbrev pub after_honest : Honest → List ℕ → Honest
 after_honest sink added =
     if nat_le (length added) sink.pile.room
     then record { pile = more sink.pile added; faults = sink.faults }
-    else record { pile = sink.pile; faults = counted sink.faults }
+    else record { pile = sink.pile; faults = risen_count sink.faults }
 
 -- a sink that fails on demand too
 pub record Demanding : Type 0 where
@@ -62,5 +62,5 @@ after_put sink bytes =
           then more sink.pile (front_of (listed calls) bytes)
           else sink.pile;
       calls = calls;
-      faults = if put_fails sink bytes then counted sink.faults else sink.faults;
+      faults = if put_fails sink bytes then risen_count sink.faults else sink.faults;
     }

@@ -8,12 +8,8 @@ pub mod FullLines
 pub mod RollLines
 mod FirstLines
 pub mod SomeEnd
-mod FaultLaws
-mod WrittenLaws
-mod NotationWords
-mod NotationTexts
-mod NotationPrints
+pub mod FaultLaws
+pub mod WrittenLaws
 mod NoFault
-mod CountsAbove
-mod PrintedTaken
+pub mod CountsAbove
 mod OpeningPlays

@@ -6,4 +6,3 @@ pub mod Listing
 pub mod Faults
 pub mod Written
 pub mod Examples
-pub mod Notation

@@ -1,8 +1,7 @@
-ghost use Rattle.std.specs.Prelude.{◌≡◌, [], ◌∷◌, codes};
+ghost use Rattle.std.specs.Prelude.{◌≡◌, [], ◌∷◌};
 ghost use Rattle.position_rank.specs.Placement.{Placement, swap};
 ghost use Rattle.move_rules.specs.Moves.{IsMove};
 ghost use Rattle.move_rules.specs.Ends.{legal_lines, legal_ends};
-ghost use Rattle.move_rules.specs.Notation.{play_text};
 ghost use Rattle.position_rank.specs.Examples.{placed, off, bar};
 ghost use Rattle.move_rules.specs.Examples.{roll, by};
 
@@ -47,16 +46,4 @@ pub fn worked_moves()
         → IsMove (placed (7 ∷ 2 ∷ []) (1 ∷ 1 ∷ [])) 2 2 q → ⊥ }
     ensures sides_exchanged { swap (placed (6 ∷ off ∷ []) (bar ∷ 3 ∷ []))
         ≡ placed (bar ∷ 3 ∷ []) (6 ∷ off ∷ []) }
-{}
-
-/// Plays and their texts.
-pub fn worked_texts()
-    ensures no_moves { play_text (placed (6 ∷ []) (1 ∷ [])) [] ≡ codes "-" }
-    ensures hits_on_entering { play_text (placed (bar ∷ []) (4 ∷ [])) (by 4 25 ∷ by 1 21 ∷ [])
-        ≡ codes "bar/21* 21/20" }
-    ensures hits_with_the_second { play_text (placed (24 ∷ []) (4 ∷ [])) (by 1 24 ∷ by 2 23 ∷ [])
-        ≡ codes "24/23 23/21*" }
-    ensures bears_off_from_below { play_text
-        (placed (2 ∷ 1 ∷ []) (1 ∷ 1 ∷ [])) (by 6 2 ∷ by 1 1 ∷ [])
-        ≡ codes "2/off 1/off" }
 {}

@@ -79,7 +79,7 @@ fn match_step(
 }
 
 /// Whether a move comes to a point that one checker of the other side holds.
-pub(crate) fn hits(position: &Position, made: Move) -> bool
+pub fn hits(position: &Position, made: Move) -> bool
     requires { made.from ≤ 25 }
     ensures { IsTrue result ↔ IsHit position.now made }
 {

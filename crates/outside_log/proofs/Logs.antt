@@ -4,7 +4,7 @@ use Rattle.std.specs.List.{concat}
 use Rattle.std.specs.Str.{bytes_eq}
 use Rattle.std.proofs.lemmas.List.{append-nil}
 use Rattle.std.proofs.lemmas.Slice.Eq.{bytes_eq-Decides}
-use Rattle.hyper_outside.specs.Causes.{HasCause, Rose, counted}
+use Rattle.hyper_outside.specs.Causes.{HasCause, Rose, risen_count}
 use Rattle.outside_log.specs.Log.{Event, Found, Sized, Read, ReadFailed, Started, Appended, Finished, GivenUp, Failed, Put, Begun, Disk, Adds, AddsAll, AllLeavePlaces, LeavesPlace, LeavesPlaces, after, after_all, disk_of, empty_disk, event_of, failures, standing, with_bytes}
 
 -- some events after others
@@ -102,7 +102,7 @@ cause-of old new event name (Err e) fails =
     let both = ap failures fails ∙ failures-both old (Failed name ∷ []) in
     record { later = omega (arith, both); failed = rose (failures old) (failures new) (omega (arith, both)) }
   where
-    rose : (n m : ℕ) → n + 1 ≤ m → counted n ≤ m
+    rose : (n m : ℕ) → n + 1 ≤ m → risen_count n ≤ m
     rose n m le = omega (arith, le)
 
 pub cause-both : {T E : Type 0} (a b c : ℕ) (result : Result T E) → a ≤ b → HasCause b c result → HasCause a c result

@@ -6,7 +6,7 @@ use Rattle.std.proofs.lemmas.Bool.Decides.{Decides-eqb, Decides-ltb}
 use Rattle.std.proofs.lemmas.List.{append-nil, take-append-drop}
 use Rattle.std.proofs.Math.Seq.{drop-append_seam, take-append_seam}
 use Rattle.std.proofs.lemmas.Slice.Eq.{bytes_eq-Decides}
-use Rattle.hyper_outside.specs.Causes.{HasCause, counted}
+use Rattle.hyper_outside.specs.Causes.{HasCause, risen_count}
 use Rattle.outside_log.specs.Files.{Contents, Reads, bytes_from}
 use Rattle.outside_log.specs.Log.{Event, Found, Sized, Read, ReadFailed, Started, Appended, Finished, GivenUp, Failed, Put, Disk, AllLeavePlaces, CompletesFile, LeavesPlaces, after, after_all, disk_of, empty_disk, failures, standing}
 use Rattle.outside_log.specs.Readings.{ReadsOn, are_answers, are_readings, is_reading, is_answer, is_faithful, is_read, is_size, read_event, read_faults, sized_event}
@@ -141,10 +141,10 @@ faults-both (Put bytes ∷ one) two = faults-both one two
 pub grown-later : (old new added : List Event) → new ≡ old ++ added → read_faults old ≤ read_faults new
 grown-later old new added grown = let both = ap read_faults grown ∙ faults-both old added in omega (arith, both)
 
-one-fails : (old new : List Event) (name : List ℕ) → new ≡ old ++ ReadFailed name ∷ [] → counted (read_faults old) ≤ read_faults new
+one-fails : (old new : List Event) (name : List ℕ) → new ≡ old ++ ReadFailed name ∷ [] → risen_count (read_faults old) ≤ read_faults new
 one-fails old new name grown = let both = ap read_faults grown ∙ faults-both old (ReadFailed name ∷ []) in rose (read_faults old) (read_faults new) (omega (arith, both))
   where
-    rose : (n m : ℕ) → n + 1 ≤ m → counted n ≤ m
+    rose : (n m : ℕ) → n + 1 ≤ m → risen_count n ≤ m
     rose n m le = omega (arith, le)
 
 -- ---- what answers tell

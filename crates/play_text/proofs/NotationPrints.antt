@@ -6,18 +6,18 @@ use Rattle.std.specs.List.{All, slice_get, remove, join_with_byte}
 use Rattle.std.specs.Option.{unwrap_or}
 use Rattle.std.specs.Prelude.{◌↔◌}
 use Rattle.position_rank.specs.Placement.{Placement}
-use Rattle.position_rank.specs.Text.{place_text}
-use Rattle.position_rank.specs.TextParts.{add_word}
+use Rattle.position_text.specs.Text.{place_text}
+use Rattle.position_text.specs.TextParts.{add_word}
 use Rattle.roll_table.specs.Rolls.{dice_of}
 use Rattle.move_rules.specs.Moves.{IsMove}
 use Rattle.move_rules.specs.Sequences.{IsSequence}
 use Rattle.move_rules.specs.Written.{IsHit}
-use Rattle.move_rules.specs.Notation.{mark, step_word, step_text, play_of_words, HitsPoint, IsPlayText, is_hit, next_board, words_from, play_text, CanFollow, AreStepsOf}
+use Rattle.play_text.specs.Notation.{mark, step_word, step_text, play_of_words, HitsPoint, IsPlayText, is_hit, next_board, words_from, play_text, CanFollow, AreStepsOf}
 use Rattle.move_rules.specs.declared.play.Move.{Move}
 use Rattle.move_rules.specs.declared.written.Step.{Step}
 use Rattle.move_rules.proofs.EndsExact.{after_move-complete}
 use Rattle.move_rules.proofs.FaultLaws.{All-remove, dice-from}
-use Rattle.move_rules.proofs.NotationWords.{step_word-cut}
+use Rattle.play_text.proofs.NotationWords.{step_word-cut}
 
 -- ---- moves that can be made in turn
 

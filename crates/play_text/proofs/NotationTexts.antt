@@ -8,11 +8,11 @@ use Rattle.std.proofs.lemmas.List.Elements.{All-get_or, All-push, All-nil}
 use Rattle.std.proofs.lemmas.List.Splits.{slice_split_none, slice_split_at, join_with_byte-slice_split, length-slice_split}
 use Rattle.std.specs.Cmp.Lexicographic.{pointwise}
 use Rattle.std.specs.List.{All, join_with_byte}
-use Rattle.position_rank.specs.Text.{place_text, words}
-use Rattle.move_rules.specs.Notation.{mark, step_text, play_of_words, HitsPoint, IsPlayText}
+use Rattle.position_text.specs.Text.{place_text, words}
+use Rattle.play_text.specs.Notation.{mark, step_text, play_of_words, HitsPoint, IsPlayText}
 use Rattle.move_rules.specs.declared.written.Step.{Step}
-use Rattle.position_rank.proofs.PlaceTexts.{lacks, lacks-append, lacks-middle, all-lack, not-true, both-true, read-back, place-same}
-use Rattle.move_rules.proofs.NotationWords.{step_word-cut, cut-mark}
+use Rattle.position_text.proofs.PlaceTexts.{lacks, lacks-append, lacks-middle, all-lack, not-true, both-true, read-back, place-same}
+use Rattle.play_text.proofs.NotationWords.{step_word-cut, cut-mark}
 
 -- ---- the words of a text
 

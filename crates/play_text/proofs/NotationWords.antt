@@ -3,9 +3,9 @@ use Rattle.std.proofs.Common.{◌≡◌, ◌≤◌, ℕ, Bool, true, false, List
 use Rattle.std.proofs.lemmas.List.{append-nil, append_cancel_right}
 use Rattle.std.proofs.lemmas.Str.Pattern.{IsSplitOnceResult, split_after, split_parts}
 use Rattle.std.specs.Option.{MatchOption}
-use Rattle.position_rank.specs.Text.{place_text}
-use Rattle.position_rank.proofs.PlaceTexts.{lacks, lacks-middle, lacks-at, read-back}
-use Rattle.move_rules.specs.Notation.{mark, step_word, step_text}
+use Rattle.position_text.specs.Text.{place_text}
+use Rattle.position_text.proofs.PlaceTexts.{lacks, lacks-middle, lacks-at, read-back}
+use Rattle.play_text.specs.Notation.{mark, step_word, step_text}
 use Rattle.move_rules.specs.declared.written.Step.{Step}
 
 -- ---- the parts of a word

@@ -11,12 +11,12 @@ use Rattle.move_rules.specs.declared.written.Step.{Step}
 use Rattle.move_rules.specs.Moves.{MayLeave, BearsOff, IsMove}
 use Rattle.move_rules.specs.Sequences.{IsSequence, CanPlay, IsLegal}
 use Rattle.move_rules.specs.Written.{TakesLastOff, IsDieOf, IsHit, IsStep, IsWritten}
-use Rattle.move_rules.specs.Notation.{AreStepsOf, next_board, IsPlayText, play_text}
+use Rattle.play_text.specs.Notation.{AreStepsOf, next_board, IsPlayText, play_text}
 use Rattle.move_rules.proofs.EndsExact.{after_move-complete, same_dice}
 use Rattle.move_rules.proofs.FaultLaws.{Contains-got}
 use Rattle.move_rules.proofs.CountsAbove.{from_on, parts-off, above-at, fewer-above, highest-in-play, above-is, off-now, sum-now, above-now}
-use Rattle.move_rules.proofs.NotationPrints.{printed-read}
-use Rattle.move_rules.proofs.NotationTexts.{one-play}
+use Rattle.play_text.proofs.NotationPrints.{printed-read}
+use Rattle.play_text.proofs.NotationTexts.{one-play}
 use Rattle.move_rules.proofs.WrittenLaws.{takes-two, written-sequence}
 
 board-after : (p : Placement) (m : Move) (next : Placement) → IsMove p m.die m.from next → next_board p m ≡ next

@@ -2,7 +2,7 @@
 use Rattle.std.specs.Prelude.{◌≡◌, ℕ, ◌-◌, ◌<◌, ◌≤◌, ◌==◌, nat_lt, Bool, ◌&&◌, ◌↔◌, IsTrue, List, [], ◌∷◌, ◌++◌, length, map, codes, All, unwrap_or, slice_index, if◌then◌else◌}
 use Rattle.std.specs.List.{join_with_byte}
 use Rattle.position_rank.specs.Placement.{Placement}
-use Rattle.position_rank.specs.Text.{place_text}
+use Rattle.position_text.specs.Text.{place_text}
 use Rattle.roll_table.specs.Rolls.{Dice, IsRoll, dice_of}
 use Rattle.move_rules.specs.Ends.{after_move}
 use Rattle.move_rules.specs.Sequences.{IsSequence}

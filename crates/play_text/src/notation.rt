@@ -3,17 +3,15 @@ ghost use Rattle.roll_table.specs.Rolls.{Dice, IsRoll, dice_of};
 ghost use Rattle.move_rules.specs.Sequences.{IsLegal};
 ghost use Rattle.move_rules.specs.Written.{IsWritten};
 ghost use Rattle.position_rank.specs.Placement.{Placement};
-ghost use Rattle.position_rank.specs.Text.{place, place_text};
-ghost use Rattle.position_rank.specs.TextParts.{add_word};
+ghost use Rattle.position_text.specs.Text.{place, place_text};
+ghost use Rattle.position_text.specs.TextParts.{add_word};
 ghost use Rattle.move_rules.specs.Ends.{after_move};
-ghost use Rattle.move_rules.specs.Notation.{mark, step_word, step_text, HitsPoint, IsPlayText, is_hit, next_board, play_text, CanFollow, AreStepsOf};
+ghost use Rattle.play_text.specs.Notation.{mark, step_word, step_text, HitsPoint, IsPlayText, is_hit, next_board, play_text, CanFollow, AreStepsOf};
 
-use crate::matched::hits;
-use crate::moves::after_move;
-use crate::play::{Move, Play};
-use crate::written::{Step, Written};
 use arrayvec::ArrayString;
-use position_rank::{Position, place_name, push_word, read_place};
+use move_rules::{Move, Play, Step, Written, after_move, hits};
+use position_rank::Position;
+use position_text::{place_name, push_word, read_place};
 
 /// The steps of a play's text, as `bar/20* 6/off`, or none for `-`. `None` exactly where it is no such text.
 pub fn read_play(text: &str) -> Option<Written>

@@ -1,10 +1,10 @@
 ghost use Rattle.std.specs.Prelude.{◌≡◌, ◌^◌, ◌+◌, ◌<◌, ◌++◌, ℕ, ℤ, pos, ◌+ℤ◌, ◌*ℤ◌, ◌≤ℤ◌, ◌<ℤ◌, length};
 ghost use Rattle.std.specs.Fmt.{signed_decimal};
-ghost use Rattle.directed_fixed.specs.Decimal.{millionths_down, millionths_up, six_digits, millionths_text};
+ghost use Rattle.point_text.specs.Decimal.{millionths_down, millionths_up, six_digits, millionths_text};
 ghost use Rattle.directed_fixed.specs.Bounds.{IsWithinUnits};
 
-use crate::fixed::{Fixed, ONE};
 use arrayvec::ArrayString;
+use directed_fixed::{Fixed, ONE};
 use itoa::Buffer;
 
 /// The greatest number of points with six decimals that isn't above the value, as `-2.833334`.

@@ -13,7 +13,7 @@ use Rattle.base64.proofs.RoundTrip.{length-encode_symbols}
 use Rattle.std.specs.declared.result.Result.{Result}
 use Rattle.base64.specs.declared.decode.DecodeSliceError.TheVariants.{OutputSliceTooSmall}
 use Rattle.base64.specs.declared.engine.DecodePaddingMode.TheVariants.{RequireNone}
-use Rattle.position_rank.specs.declared.text.BadPosition.TheVariants.{Shape}
+use Rattle.position_text.specs.declared.text.BadPosition.TheVariants.{Shape}
 use Rattle.position_id.specs.Readings.{read_key}
 
 pub length-encoded : (key : List ℕ) → length (encode_of standard_no_pad key) ≡ (4 * length key + 2) / 3

@@ -8,7 +8,7 @@ use Rattle.std.specs.List.{list_any, range_with_len}
 use Rattle.std.specs.Prelude.{◌↔◌, IsTrue}
 use Rattle.position_rank.specs.Placement.{Placement, AreApart, InPlay, IsLive}
 use Rattle.position_rank.specs.Packed.{counts_of}
-use Rattle.position_rank.specs.Text.{share_point, all_off, read_placement, read_places, numbers_fit}
+use Rattle.position_text.specs.Text.{share_point, all_off, read_placement, read_places, numbers_fit}
 
 is_shared : Placement → ℕ → Bool
 is_shared p point = nat_lt 0 (slice_index p.mover point) && nat_lt 0 (slice_index p.other (25 - point))

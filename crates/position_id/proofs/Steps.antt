@@ -10,9 +10,9 @@ use Rattle.base64.specs.Engines.{standard_no_pad}
 use Rattle.base64.specs.GeneralPurpose.{IsBytes, decode_of, decode_slice_of, decoded_bytes_of}
 use Rattle.base64.specs.declared.decode.DecodeSliceError.{DecodeSliceError}
 use Rattle.position_rank.specs.Placement.{Placement}
-use Rattle.position_rank.specs.Text.{read_places}
-use Rattle.position_rank.specs.declared.text.BadPosition.{BadPosition}
-use Rattle.position_rank.specs.declared.text.BadPosition.TheVariants.{Shape}
+use Rattle.position_text.specs.Text.{read_places}
+use Rattle.position_text.specs.declared.text.BadPosition.{BadPosition}
+use Rattle.position_text.specs.declared.text.BadPosition.TheVariants.{Shape}
 use Rattle.position_id.specs.Readings.{bits_of_bytes, mover_told, other_told, places_told, read_id, read_key, read_told, with_off}
 use Rattle.position_id.proofs.Decoded.{decoded, ten-bytes}
 

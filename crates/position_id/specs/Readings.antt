@@ -5,9 +5,9 @@ use Rattle.base64.specs.Engines.{standard_no_pad}
 use Rattle.base64.specs.GeneralPurpose.{decode_of}
 use Rattle.base64.specs.declared.decode.DecodeError.{DecodeError}
 use Rattle.position_rank.specs.Placement.{Placement}
-use Rattle.position_rank.specs.Text.{read_places}
-use Rattle.position_rank.specs.declared.text.BadPosition.{BadPosition}
-use Rattle.position_rank.specs.declared.text.BadPosition.TheVariants.{Shape}
+use Rattle.position_text.specs.Text.{read_places}
+use Rattle.position_text.specs.declared.text.BadPosition.{BadPosition}
+use Rattle.position_text.specs.declared.text.BadPosition.TheVariants.{Shape}
 
 -- so many lowest bits of a number, the lowest first
 abbrev pub low_bits : ℕ → ℕ → List Bool

@@ -1,13 +1,14 @@
 ghost use Rattle.std.specs.Prelude.{◌≡◌, ◌==◌, ◌+◌, ◌++◌, ◌≤◌, ◌↔◌, All, IfOk, IfSome, IsSome, false, length};
 ghost use Rattle.std.specs.List.{list_any};
 ghost use Rattle.position_rank.specs.Placement.{IsLive, IsPosition};
-ghost use Rattle.position_rank.specs.Text.{all_off, read_places, share_point};
+ghost use Rattle.position_text.specs.Text.{all_off, read_places, share_point};
 ghost use Rattle.position_id.specs.Readings.{bits_of_bytes, has_id_form, low_bits, mover_told, other_told, places_told, read_id, some_behind, with_off};
 
 use crate::print::{Bits, ID_LENGTH, KEY_BYTES};
 use arrayvec::ArrayVec;
 use base64::engine::general_purpose::STANDARD_NO_PAD;
-use position_rank::{BadPosition, Layout, MOST_CHECKERS, Position};
+use position_rank::{Layout, Position};
+use position_text::{BadPosition, MOST_CHECKERS};
 
 const OFF: u8 = 0;
 

@@ -4,6 +4,4 @@ pub mod Points
 pub mod Packed
 pub mod PackedLaws
 pub mod Ranks
-pub mod Text
-pub mod TextParts
 pub mod Examples

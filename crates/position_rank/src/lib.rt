@@ -3,20 +3,14 @@
 
 mod layout;
 mod live;
-mod place;
 mod points;
 mod position;
 mod rank;
-mod text;
 
 pub use layout::{BadLayout, Layout};
 pub use live::{
     live_count, live_rank, live_ranks_tell_positions, live_unrank, squares_hold_their_positions,
 };
-pub use place::{place_name, push_word, read_place};
 pub use points::{MoverPoints, OtherPoints, all_other_points};
 pub use position::Position;
 pub use rank::{layout_count, ranks_tell_layouts, square_ranks_tell_positions};
-pub use text::{
-    BadPosition, MOST_CHECKERS, print_position, printed_positions_are_read, read_position,
-};

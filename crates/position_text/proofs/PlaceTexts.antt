@@ -5,7 +5,7 @@ use Rattle.std.proofs.lemmas.Bool.Decides.{nat_tests}
 use Rattle.std.specs.Cmp.Lexicographic.{pointwise}
 use Rattle.std.specs.Fmt.{digits}
 use Rattle.std.specs.List.{All, list_all, range_with_len}
-use Rattle.position_rank.specs.Text.{place, place_text, is_slash}
+use Rattle.position_text.specs.Text.{place, place_text, is_slash}
 
 pub both-true : (a b : Bool) → (a && b) ≡ true → (a ≡ true) × (b ≡ true)
 both-true true b e = (refl, e)

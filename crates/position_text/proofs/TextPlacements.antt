@@ -3,8 +3,8 @@ use Rattle.std.proofs.Common.{◌≡◌, ◌<◌, ◌+◌, ◌-◌, ℕ, suc, Bo
 use Rattle.std.proofs.lemmas.Bool.Decides.{nat_tests}
 use Rattle.std.specs.List.{list_any, range_with_len}
 use Rattle.position_rank.specs.Placement.{Placement, AreApart, InPlay, IsLive}
-use Rattle.position_rank.specs.Text.{share_point, all_off}
-use Rattle.position_rank.proofs.TextLists.{none-in-range}
+use Rattle.position_text.specs.Text.{share_point, all_off}
+use Rattle.position_text.proofs.TextLists.{none-in-range}
 
 abbrev pub is_shared : Placement → ℕ → Bool
 is_shared p point = nat_lt 0 (slice_index p.mover point) && nat_lt 0 (slice_index p.other (25 - point))

@@ -6,9 +6,9 @@ use Rattle.std.proofs.lemmas.List.Sums.{fold-append, sum_by-append}
 use Rattle.std.proofs.lemmas.Bool.Decides.{nat_tests}
 use Rattle.std.specs.List.{flat_map, join_with_byte}
 use Rattle.position_rank.specs.Placement.{Placement}
-use Rattle.position_rank.specs.Text.{place_text, places_below, places_of, position_words, position_text}
-use Rattle.position_rank.specs.TextParts.{add_word}
-use Rattle.position_rank.proofs.TextLists.{Each, Each-append}
+use Rattle.position_text.specs.Text.{place_text, places_below, places_of, position_words, position_text}
+use Rattle.position_text.specs.TextParts.{add_word}
+use Rattle.position_text.proofs.TextLists.{Each, Each-append}
 
 abbrev pub held : List ℕ → ℕ → List ℕ
 held counts place = replicate (slice_index counts place) place

@@ -3,12 +3,12 @@ use Rattle.std.proofs.Common.{◌≡◌, ◌≤◌, ℕ, Bool, true, false, ◌&
 use Rattle.std.proofs.lemmas.Bool.Decides.{nat_tests}
 use Rattle.std.proofs.lemmas.List.{take_all}
 use Rattle.std.specs.List.{filter_map, cons_option}
-use Rattle.position_rank.specs.Text.{place, have_shape, are_places, numbers_fit, read_places, read_words, before_slash, after_slash}
-use Rattle.position_rank.specs.declared.text.TheConstants.{KEPT}
-use Rattle.position_rank.proofs.PlaceTexts.{place-text}
-use Rattle.position_rank.proofs.TextLists.{Each-take, Each-at}
-use Rattle.position_rank.proofs.TextPrint.{ArePlaces}
-use Rattle.position_rank.proofs.TextSides.{first}
+use Rattle.position_text.specs.Text.{place, have_shape, are_places, numbers_fit, read_places, read_words, before_slash, after_slash}
+use Rattle.position_text.specs.declared.text.TheConstants.{KEPT}
+use Rattle.position_text.proofs.PlaceTexts.{place-text}
+use Rattle.position_text.proofs.TextLists.{Each-take, Each-at}
+use Rattle.position_text.proofs.TextPrint.{ArePlaces}
+use Rattle.position_text.proofs.TextSides.{first}
 
 onto-places : (o : Option ℕ) (places : List ℕ) → ((p : ℕ) → o ≡ Some p → p ≤ 25) → ArePlaces places → ArePlaces (cons_option o places)
 onto-places None places h k = k

@@ -9,12 +9,12 @@ use Rattle.std.specs.List.{list_all, list_any, filter_map, flat_map, range_with_
 use Rattle.position_rank.specs.Placement.{Placement, IsPosition, IsLive}
 use Rattle.position_rank.specs.Packed.{counts_of}
 use Rattle.position_rank.specs.PackedLaws.{length-counts_of, counts_of-at, sum-counts_of}
-use Rattle.position_rank.specs.Text.{place, place_text, words, is_slash, have_shape, are_places, numbers_fit, share_point, all_off, read_placement, read_words, read_position, places_below, places_of, position_words, position_text, before_slash, after_slash}
-use Rattle.position_rank.proofs.PlaceTexts.{both-true, not-true, lacks, read-back}
-use Rattle.position_rank.proofs.TextPlacements.{is_shared}
-use Rattle.position_rank.proofs.TextLists.{Each, Each-append, Each-at}
-use Rattle.position_rank.proofs.TextPrint.{ArePlaces, held, places_of-places, position_words-full}
-use Rattle.position_rank.proofs.TextSides.{before-slash, after-slash, before-word, after-word, count-slash, count-word}
+use Rattle.position_text.specs.Text.{place, place_text, words, is_slash, have_shape, are_places, numbers_fit, share_point, all_off, read_placement, read_words, read_position, places_below, places_of, position_words, position_text, before_slash, after_slash}
+use Rattle.position_text.proofs.PlaceTexts.{both-true, not-true, lacks, read-back}
+use Rattle.position_text.proofs.TextPlacements.{is_shared}
+use Rattle.position_text.proofs.TextLists.{Each, Each-append, Each-at}
+use Rattle.position_text.proofs.TextPrint.{ArePlaces, held, places_of-places, position_words-full}
+use Rattle.position_text.proofs.TextSides.{before-slash, after-slash, before-word, after-word, count-slash, count-word}
 
 -- ---- the words of the text
 

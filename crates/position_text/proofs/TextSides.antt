@@ -4,8 +4,8 @@ use Rattle.std.proofs.lemmas.List.{append-nil, take_all}
 use Rattle.std.proofs.lemmas.List.Sums.{sum_by-cons}
 use Rattle.std.proofs.Math.Seq.{drop-cons}
 use Rattle.std.specs.List.{filter_map, prefix_len}
-use Rattle.position_rank.specs.Text.{place, is_slash, before_slash, after_slash, are_places}
-use Rattle.position_rank.specs.declared.text.TheConstants.{KEPT}
+use Rattle.position_text.specs.Text.{place, is_slash, before_slash, after_slash, are_places}
+use Rattle.position_text.specs.declared.text.TheConstants.{KEPT}
 
 abbrev pub first : List ℕ → List ℕ
 first places = take KEPT places

@@ -2,8 +2,8 @@
 use Rattle.std.specs.Prelude.{ℕ, zero, suc, ◌-◌, ◌==◌, nat_eq, nat_lt, nat_le, Bool, not, ◌&&◌, ◌||◌, List, [], ◌∷◌, ◌++◌, length, map, sum, count_by, find, replicate, take, codes, decimal, Option, is_some, Result, Ok, Err, slice_index, if◌then◌else◌}
 use Rattle.std.specs.List.{slice_split, before_first, after_first, filter_map, flat_map, list_all, list_any, range_with_len, join_with_byte}
 use Rattle.std.specs.Cmp.Lexicographic.{pointwise}
-use Rattle.position_rank.specs.declared.text.BadPosition.{BadPosition}
-use Rattle.position_rank.specs.declared.text.BadPosition.TheVariants.{Shape, Place, Count, SharedPoint, Over}
+use Rattle.position_text.specs.declared.text.BadPosition.{BadPosition}
+use Rattle.position_text.specs.declared.text.BadPosition.TheVariants.{Shape, Place, Count, SharedPoint, Over}
 use Rattle.position_rank.specs.Placement.{Placement}
 use Rattle.position_rank.specs.Packed.{counts_of}
 

@@ -1,6 +1,6 @@
 ghost use Rattle.std.specs.Prelude.{◌≡◌, ◌+◌, ◌≤◌, length};
-ghost use Rattle.position_rank.specs.Text.{place, place_text};
-ghost use Rattle.position_rank.specs.TextParts.{add_word};
+ghost use Rattle.position_text.specs.Text.{place, place_text};
+ghost use Rattle.position_text.specs.TextParts.{add_word};
 
 use arrayvec::ArrayString;
 use itoa::Buffer;

@@ -1,13 +1,12 @@
 ghost use Rattle.std.specs.Prelude.{◌≡◌, ◌↔◌, ◌+◌, ◌*◌, ◌≤◌, ◌&&◌, ℕ, [], ◌∷◌, ◌++◌, All, Ok, IfOk, IfSome, IsSome, IsTrue, count_by, fold, length, map, sum, replicate, take};
 ghost use Rattle.std.specs.List.{before_first, after_first, filter_map};
 ghost use Rattle.position_rank.specs.Placement.{Placement, IsPosition, IsLive};
-ghost use Rattle.position_rank.specs.Text.{place, place_text, words, is_slash, before_slash, after_slash, kept_places, have_shape, are_places, share_point, all_off, read_places, read_position, places_of, position_text};
-ghost use Rattle.position_rank.specs.TextParts.{add_word};
+ghost use Rattle.position_text.specs.Text.{place, place_text, words, is_slash, before_slash, after_slash, kept_places, have_shape, are_places, share_point, all_off, read_places, read_position, places_of, position_text};
+ghost use Rattle.position_text.specs.TextParts.{add_word};
 
-use crate::layout::Layout;
 use crate::place::{place_name, push_word, read_place};
-use crate::position::Position;
 use arrayvec::{ArrayString, ArrayVec};
+use position_rank::{Layout, Position};
 
 /// How many checkers a side of a position that is read has at most.
 pub const MOST_CHECKERS: usize = 3;

@@ -29,7 +29,7 @@ use Rattle.race_table.specs.declared.free_plays.FreeRoll.{FreeRoll}
 use Rattle.race_table.specs.declared.race.Race.{Race}
 use Rattle.race_table.specs.FreePlays.{AreFreeRolls, HasFreeEnds, against, weighted_turns}
 use Rattle.race_table.specs.Races.{IsRace}
-use Rattle.race_table.specs.Tables.{IsSmallRace, after_play, best_of, race_at, turn_of, turns_in, unknown_race, race_bounds}
+use Rattle.race_table.specs.Tables.{IsSmallRace, race_after_play, best_race, race_at, turn_of, turns_in, unknown_race, race_bounds}
 use Rattle.race_table.specs.TurnsLeft.{if_goes_on, left_after, most, most_over}
 use Rattle.race_table.proofs.Bests.{race-is}
 use Rattle.race_table.proofs.Left.{legal-of, most-same, most-upto}
@@ -51,7 +51,7 @@ at-small races small p = elim (cases_lt (square_rank_of p) (length races)) [
 negated-within : (bound : ℤ) (pair : Bounds) → IsWithin bound pair → IsWithin bound (negated pair)
 negated-within bound pair h = record { from = omega (arith, ints, h.to); in_order = omega (arith, ints, h.in_order); to = omega (arith, ints, h.from) }
 
-after-small : (races : List Race) → All IsSmallRace races → (q : Placement) → IsSmallRace (after_play races q)
+after-small : (races : List Race) → All IsSmallRace races → (q : Placement) → IsSmallRace (race_after_play races q)
 after-small races small q = by_points (points q) where
   later : Race
   later = race_at races (swap q)
@@ -60,7 +60,7 @@ after-small races small q = by_points (points q) where
   by_points None = let s = at-small races small (swap q) in record { within = negated-within (point_units 3) later.pair s.within; few = s.few }
   by_points (Some won) = record { within = win-within (point_units 3) alone three (cubeless-valid.kinds 0 no_kind (omega arith)).wins won; few = omega arith }
 
-pub best-small : (races : List Race) → All IsSmallRace races → (qs : List Placement) → IsSmallRace (best_of races qs)
+pub best-small : (races : List Race) → All IsSmallRace races → (qs : List Placement) → IsSmallRace (best_race races qs)
 best-small races small qs =
     let each = after-small races small in
     record {
@@ -133,7 +133,7 @@ module _ (p : Placement) (race : IsRace p) (i : ℕ) (one : FreeRoll) (kept : Is
       (legal_end-stays p one.roll (against p.other left) kept.right race.position race.live legal).1 ∙ race.position.same
 
   -- what the best of these plays leaves is what the best of the legal ones does
-  pub best-legal : (races : List Race) → best_of races (map (against p.other) one.ends.items) ≡ best_of races (legal_ends p one.roll)
+  pub best-legal : (races : List Race) → best_race races (map (against p.other) one.ends.items) ≡ best_race races (legal_ends p one.roll)
   best-legal races = race-is _ _ _ _ _ _ (greatest-same _ _ _ to_legal of_legal) (greatest-same _ _ _ to_legal of_legal) (most-same _ _ _ to_legal of_legal)
 
 -- ---- sums
@@ -196,7 +196,7 @@ added-order a b c d x y h k is also = omega (arith, ints)
 
 module _ (races : List Race) (small : All IsSmallRace races) (p : Placement) (race : IsRace p) (i : ℕ) (one : FreeRoll) (kept : IsKept p.mover i one) where
   -- one roll more
-  pub sums-more : (lower upper lower' upper' : ℤ) (turns turns' : ℕ) (best : Race) → AreSums races p i lower upper turns → best ≡ best_of races (map (against p.other) one.ends.items)
+  pub sums-more : (lower upper lower' upper' : ℤ) (turns turns' : ℕ) (best : Race) → AreSums races p i lower upper turns → best ≡ best_race races (map (against p.other) one.ends.items)
       → lower' ≡ lower +ℤ pos one.times *ℤ best.pair.lower → upper' ≡ upper +ℤ pos one.times *ℤ best.pair.upper → turns' ≡ max turns best.turns → AreSums races p (i + 1) lower' upper' turns'
   sums-more lower upper lower' upper' turns turns' best before is low high most =
       let legal = is ∙ best-legal p race i one kept races in

@@ -30,8 +30,8 @@ abbrev pub turns_in : List Race → Placement → ℕ
 turns_in races p = (race_at races p).turns
 
 -- what a play that ends so leaves the mover
-abbrev pub after_play : List Race → Placement → Race
-after_play races q = record {
+abbrev pub race_after_play : List Race → Placement → Race
+race_after_play races q = record {
   pair = record {
     lower = worth Lower alone (race_bounds races) q;
     upper = worth Upper alone (race_bounds races) q;
@@ -50,8 +50,8 @@ better one another = record {
 }
 
 -- what the best of some plays leaves the mover, and the most turns that one of them leaves
-abbrev pub best_of : List Race → List Placement → Race
-best_of races ends = record {
+abbrev pub best_race : List Race → List Placement → Race
+best_race races ends = record {
   pair = record {
     lower = greatest (worth Lower alone (race_bounds races)) ends;
     upper = greatest (worth Upper alone (race_bounds races)) ends;

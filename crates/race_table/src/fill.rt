@@ -6,7 +6,7 @@ ghost use Rattle.cube_actions.specs.Stakes.{alone};
 ghost use Rattle.race_table.specs.FreePlays.{AreFreeRolls, AreFreeSides, against};
 ghost use Rattle.race_table.specs.Orders.{AreRacesByPips};
 ghost use Rattle.race_table.specs.Races.{IsRaceOf};
-ghost use Rattle.race_table.specs.Tables.{HoldsRaces, IsRaceTable, after_play, best_of, better, turn_of};
+ghost use Rattle.race_table.specs.Tables.{HoldsRaces, IsRaceTable, race_after_play, best_race, better, turn_of};
 
 use crate::free_plays::{FreeRoll, FreeSide};
 use crate::order::CountedRace;
@@ -24,7 +24,7 @@ fn after_play(left: &Layout, other: &Layout, kind: &Kind, races: &[Race]) -> Rac
     requires same { sum left.now ≡ sum other.now }
     requires kind { kind.now ≡ alone }
     requires table { IsRaceTable (sum other.now) races.now }
-    ensures { result ≡ after_play races.now (against other.now left.now) }
+    ensures { result ≡ race_after_play races.now (against other.now left.now) }
 {
     let end = Position::new(*left, *other).unwrap();
     match points(&end) {
@@ -60,7 +60,7 @@ fn best_of(ends: &[Layout], other: &Layout, kind: &Kind, races: &[Race]) -> Race
     requires same { All (λ left. sum left ≡ sum other.now) ends.now }
     requires kind { kind.now ≡ alone }
     requires table { IsRaceTable (sum other.now) races.now }
-    ensures { result ≡ best_of races.now (map (against other.now) ends.now) }
+    ensures { result ≡ best_race races.now (map (against other.now) ends.now) }
 {
     let mut best = after_play(&ends[0], other, kind, races);
     for i in 1..ends.len() {

@@ -18,7 +18,7 @@ use Rattle.game_record.specs.declared.record.RecordStakes.TheVariants.{Cubeless,
 use Rattle.turn_rule.specs.declared.game.Game.{Game}
 use Rattle.turn_rule.specs.Games.{IsGame, game_of}
 use Rattle.turn_rule.specs.Truth.{AreSoundFrom}
-use Rattle.match_scores.specs.Ladders.{AreEndScores, EncloseStarts, game_at as score_game}
+use Rattle.match_scores.specs.Ladders.{AreEndScores, EncloseStarts, game_at_score as score_game}
 use Rattle.match_scores.specs.Payoffs.{EndScores}
 use Rattle.record_analysis.specs.Analyses.{lost}
 use Rattle.record_analysis.specs.Truth.{IsDecisionOf}

@@ -9,7 +9,7 @@ use Rattle.game_record.specs.Faults.{IsBad}
 use Rattle.game_record.specs.Lines.{IsRecord, IsRecordText}
 use Rattle.game_record.specs.Replay.{IsBroken, IsReplay}
 use Rattle.game_record.specs.RightDecisions.{IsRightDecision}
-use Rattle.game_record.specs.Turns.{is_match}
+use Rattle.game_record.specs.Turns.{is_match_record}
 use Rattle.game_record.specs.declared.decision.Decision.{Decision}
 use Rattle.game_record.specs.declared.fault.BadRecord.{BadRecord}
 use Rattle.game_record.specs.declared.record.Record.{Record as RecordRead}
@@ -33,7 +33,7 @@ use Rattle.record_commands.specs.Analyses.{MayRefuseAnalysis, RefusesAnalysis, R
 use Rattle.record_commands.specs.ByFile.{IsBadPageFor, IsDecisionFor, RefusesFile, RefusesFront, front_head}
 use Rattle.record_commands.specs.MatchAnalyses.{RefusesMatch, game_at, score_there}
 use Rattle.record_commands.specs.Records.{HoldsRecord, RefusesRecord, game_recorded}
-use Rattle.record_commands.specs.RightRecords.{CanJudge, CanJudgeAll, CanJudgeAtScore, CanJudgeBy, HasRightFront, HasRightPages, IsRightForAnalysing, IsRightForStudying}
+use Rattle.record_commands.specs.RightRecords.{CanJudge, CanJudgeAll, CanJudgeAtScore, CanJudgeBy, HasRightFrontFor, HasRightPages, IsRightForAnalysing, IsRightForStudying}
 use Rattle.record_commands.specs.Studies.{MayRefuseStudy}
 use Rattle.record_commands.specs.declared.record.Replayed.{Replayed}
 use Rattle.record_commands.proofs.Losses.{choice-state}
@@ -87,7 +87,7 @@ right-opens name bytes front Read r = tt
 right-opens name bytes front Memory r = tt
 right-opens name bytes front refusal r = absurd r
 
-right-front : (wanted : GameName) (name : List ℕ) (held : Option (List ℕ)) (refusal : Refusal) → OfHeld held (HasRightFront wanted) → RefusesFront wanted name refusal held → IsOutside refusal
+right-front : (wanted : GameName) (name : List ℕ) (held : Option (List ℕ)) (refusal : Refusal) → OfHeld held (HasRightFrontFor wanted) → RefusesFront wanted name refusal held → IsOutside refusal
 right-front wanted name None refusal has r = absurd has
 right-front wanted name (Some bytes) refusal has (inl r) = right-opens name bytes has.front refusal r
 right-front wanted name (Some bytes) refusal has (inr other) = absurd (other.other.1 has.game)
@@ -111,12 +111,12 @@ right-file wanted name decisions score (Some bytes) refusal can (inr one) =
 module _ (prefix : List ℕ) (rec : RecordRead) (held : Contents) where
   -- the file of a score is of its game, and right up to its pages
   abbrev HasFront : Option MatchScore → Type 0
-  HasFront score = IfSome score (λ score. OfHeld (held (score_file prefix score)) (HasRightFront (game_at rec score)))
+  HasFront score = IfSome score (λ score. OfHeld (held (score_file prefix score)) (HasRightFrontFor (game_at rec score)))
 
   front-of : (decision : Decision) (score : Option MatchScore) → IfSome score (λ score. OfHeld (held (score_file prefix score)) (CanJudge (game_at rec score) decision)) → HasFront score
   front-of decision None can = tt
   front-of decision (Some score) can = by_held (held (score_file prefix score)) can where
-    by_held : (file : Option (List ℕ)) → OfHeld file (CanJudge (game_at rec score) decision) → OfHeld file (HasRightFront (game_at rec score))
+    by_held : (file : Option (List ℕ)) → OfHeld file (CanJudge (game_at rec score) decision) → OfHeld file (HasRightFrontFor (game_at rec score))
     by_held None can = absurd can
     by_held (Some bytes) can = can.front
 
@@ -153,12 +153,12 @@ right-analysed no_fault one replay no_breach task held refusal right may = by_ca
   by_cause : RefusesAnalysis task refusal held → IsOutside refusal
   by_cause (inl r) = right-record no_fault one no_breach task.rec (held task.rec) right.replayed right.record_file refusal r
   by_cause (inr not) = by_files not.cause where
-    by_files : IsOutside refusal ⊎ RefusesBy (is_match not.replayed.rec.stakes) task.base not.replayed refusal held → IsOutside refusal
+    by_files : IsOutside refusal ⊎ RefusesBy (is_match_record not.replayed.rec.stakes) task.base not.replayed refusal held → IsOutside refusal
     by_files (inl outside) = outside
     by_files (inr cause) =
         let same = same-record one replay (held task.rec) right.replayed not.replayed right.record_file not.record_file in
-        let can = subst (λ (replayed : Replayed). CanJudgeBy (is_match replayed.rec.stakes) task.base replayed held) same right.base_files in
-        right-judged (is_match not.replayed.rec.stakes) task.base not.replayed held refusal can cause
+        let can = subst (λ (replayed : Replayed). CanJudgeBy (is_match_record replayed.rec.stakes) task.base replayed held) same right.base_files in
+        right-judged (is_match_record not.replayed.rec.stakes) task.base not.replayed held refusal can cause
 
 -- ---- files with right pages
 
@@ -175,7 +175,7 @@ can-judge wanted decision bytes has for_game =
       pages = λ q j may. has.pages q j (choice-state (game_in (front_head bytes)) has.game decision.position decision.kind of.state decision.choice of.choice q j may);
     }
 
-pub plain-can-judge : Law → RightDecisions → (rec : RecordRead) (decisions : List Decision) (bytes : List ℕ) → IsRecord rec → IsReplay rec decisions → is_match rec.stakes ≡ false → HasRightPages (game_recorded rec) bytes
+pub plain-can-judge : Law → RightDecisions → (rec : RecordRead) (decisions : List Decision) (bytes : List ℕ) → IsRecord rec → IsReplay rec decisions → is_match_record rec.stakes ≡ false → HasRightPages (game_recorded rec) bytes
     → CanJudgeAll (game_recorded rec) decisions bytes
 plain-can-judge law decisions_right rec decisions bytes valid replay plain has =
     let right = decisions_right rec decisions valid replay in

@@ -1,7 +1,7 @@
 -- Which records and files are right for what is asked of them: nothing refuses it then but a fault of the files or want of memory.
 use Rattle.std.specs.Prelude.{◌≡◌, List, ℕ, All, Bool, true, false, IfSome, Option, None}
 use Rattle.outside_log.specs.Files.{Contents}
-use Rattle.game_record.specs.Turns.{is_match}
+use Rattle.game_record.specs.Turns.{is_match_record}
 use Rattle.game_record.specs.declared.decision.Decision.{Decision}
 use Rattle.game_record.specs.declared.record.Record.{Record as RecordRead}
 use Rattle.turn_rule.specs.Games.{IsGame}
@@ -20,25 +20,25 @@ use Rattle.record_commands.specs.Records.{HoldsRecord, game_recorded}
 use Rattle.record_commands.specs.declared.record.Replayed.{Replayed}
 
 -- the file is of the game that is wanted, and nothing is wrong with what stands before its pages
-pub record HasRightFront (wanted : GameName) (bytes : List ℕ) : Type 0 where
+pub record HasRightFrontFor (wanted : GameName) (bytes : List ℕ) : Type 0 where
   pub front : fault_before_pages (whole bytes) ≡ None
   pub game : game_told (front_head bytes) ≡ wanted
 
 -- so it is, and the pages are right on which it rests what the decision loses
 pub record CanJudge (wanted : GameName) (decision : Decision) (bytes : List ℕ) : Type 0 where
-  pub front : HasRightFront wanted bytes
+  pub front : HasRightFrontFor wanted bytes
   pub pages : AreOnRightPages bytes (MayFollowIn bytes decision)
 
 -- the same, and each state of its game stands on a right page
 pub record HasRightPages (wanted : GameName) (bytes : List ℕ) : Type 0 where
-  pub front : HasRightFront wanted bytes
+  pub front : HasRightFrontFor wanted bytes
   pub game : IsGame (game_in (front_head bytes))
   pub pages : AreOnRightPages bytes (IsState (game_in (front_head bytes)))
 
 -- the file can judge each of these decisions of its game
 pub record CanJudgeAll (wanted : GameName) (decisions : List Decision)
     (bytes : List ℕ) : Type 0 where
-  pub front : HasRightFront wanted bytes
+  pub front : HasRightFrontFor wanted bytes
   pub each : All (λ decision. CanJudge wanted decision bytes) decisions
 
 -- the file of the score of its game can judge a decision
@@ -63,4 +63,4 @@ IsRightForStudying task held =
 pub record IsRightForAnalysing (task : Analyse) (held : Contents) : Type 0 where
   pub replayed : Replayed
   pub record_file : OfHeld (held task.rec) (λ bytes. HoldsRecord bytes replayed)
-  pub base_files : CanJudgeBy (is_match replayed.rec.stakes) task.base replayed held
+  pub base_files : CanJudgeBy (is_match_record replayed.rec.stakes) task.base replayed held

@@ -3,7 +3,7 @@ ghost use Rattle.hyper_outside.specs.Causes.{Rose};
 ghost use Rattle.outside_log.specs.Log.{standing};
 ghost use Rattle.outside_log.specs.Readings.{ReadsOn, is_faithful, read_faults};
 ghost use Rattle.game_record.specs.Lines.{AreRecordStakes, IsRecord};
-ghost use Rattle.game_record.specs.Turns.{is_match};
+ghost use Rattle.game_record.specs.Turns.{is_match_record};
 ghost use Rattle.equity_report.specs.declared.refusal.Refusal.TheVariants.{Read};
 ghost use Rattle.record_commands.specs.Records.{AnswersRecord, AnswersText, IsRightReplayed, TellsUnread, game_recorded, match_length, record_refusal, stakes_recorded};
 ghost use Rattle.run_endings.specs.Endings.{IsOfReplaying};
@@ -45,7 +45,7 @@ fn stakes_recorded(stakes: RecordStakes) -> StakesName
 
 /// Whether a record is one of a match.
 pub(crate) fn is_match(stakes: RecordStakes) -> bool
-    ensures { result ≡ is_match stakes }
+    ensures { result ≡ is_match_record stakes }
 {
     matches!(stakes, RecordStakes::Match(_))
 }

@@ -6,7 +6,7 @@ use Rattle.std.proofs.lemmas.List.Concat.{flat_map-append}
 use Rattle.std.proofs.lemmas.List.Sums.{count_by_more_no, sum_by-append}
 use Rattle.std.specs.List.{count_by}
 use Rattle.itoa.proofs.Decimal.{length_one}
-use Rattle.position_rank.proofs.PlaceTexts.{both-true, lacks}
+use Rattle.position_text.proofs.PlaceTexts.{both-true, lacks}
 use Rattle.game_record.specs.declared.line.Line.{Line}
 use Rattle.game_record.specs.declared.line.Line.TheVariants.{Title as TitleLine, Checkers as CheckersLine, Stakes as StakesLine, Game as GameLine, Acted, Ended as EndedLine, Stopped as StoppedLine, Closed}
 use Rattle.game_record.specs.declared.record.Action.{Action}

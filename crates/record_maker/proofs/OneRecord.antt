@@ -2,7 +2,7 @@
 use Rattle.std.proofs.Common.{◌≡◌, ◌∙◌, ◌≤◌, ℕ, Bool, true, false, List, [], ◌∷◌, Option, is_some, unwrap_or, refl, sym, ap, subst, inl, inr, arith}
 use Rattle.rand_pcg.specs.Lcg.{Lcg}
 use Rattle.roll_table.specs.Rolls.{Dice}
-use Rattle.move_rules.specs.Notation.{IsPlayText, play_text}
+use Rattle.play_text.specs.Notation.{IsPlayText, play_text}
 use Rattle.move_rules.specs.declared.play.Entry.{Entry}
 use Rattle.move_rules.specs.declared.written.Step.{Step}
 use Rattle.game_record.specs.declared.player.Player.{Player}
@@ -16,7 +16,7 @@ use Rattle.game_record.specs.declared.record.Record.{Record}
 use Rattle.game_record.specs.declared.record.RecordStakes.TheVariants.{Jacoby}
 use Rattle.game_record.specs.declared.record.What.{What}
 use Rattle.game_record.specs.declared.record.What.TheVariants.{Rolled, Doubled, Took, Passed, Beavered}
-use Rattle.game_record.specs.Games.{after_play, is_over}
+use Rattle.game_record.specs.Games.{progress_after_play, is_over}
 use Rattle.record_maker.specs.declared.due.Due.{Due}
 use Rattle.record_maker.specs.declared.due.Due.TheVariants.{Start, Turn, Answer, Roll, Nothing}
 use Rattle.record_maker.specs.Draws.{start_drawn, two_dice, word}
@@ -44,7 +44,7 @@ one-play tells from player roll words (Rolled told written) to (Rolled said note
     let there = subst (λ (e : Entry). IsPlayText (play_text from.position e.play.items) written.items) entries text in
     let steps = tells (play_text from.position entry2.play.items) written.items noted.items there text2 in
     let rolls = same ∙ sym same2 in
-    ((λ i. Rolled (rolls i) (record { items = steps i })), game ∙ ap (λ (e : Entry). after_play Jacoby player e.end from) entries ∙ sym game2, later ∙ sym later2)
+    ((λ i. Rolled (rolls i) (record { items = steps i })), game ∙ ap (λ (e : Entry). progress_after_play Jacoby player e.end from) entries ∙ sym game2, later ∙ sym later2)
 one-play tells from player roll words (Rolled told written) to Doubled end one two = absurd two
 one-play tells from player roll words (Rolled told written) to Took end one two = absurd two
 one-play tells from player roll words (Rolled told written) to Passed end one two = absurd two

@@ -10,7 +10,7 @@ use Rattle.record_maker.specs.declared.due.Due.{Due}
 use Rattle.record_maker.specs.declared.due.Due.TheVariants.{Start, Turn, Answer, Roll, Nothing}
 use Rattle.record_maker.specs.declared.size.Size.{Size}
 use Rattle.record_maker.specs.declared.state.Maker.{Maker}
-use Rattle.record_maker.specs.Makers.{HasDoneDue, HasLinesLeft, moment_at, behind, goes_on}
+use Rattle.record_maker.specs.Makers.{HasDoneDue, HasLinesLeft, moment_at, behind, is_unfinished}
 use Rattle.record_maker.specs.Making.{AllDo, DoesAct, IsDone, Moment, due_after, is_turn}
 use Rattle.record_maker.specs.Sizes.{is_full}
 
@@ -81,7 +81,7 @@ room-after old due action new has room free = by (is_turn due) refl where
       (omega (arith, lines, room.0, more), omega (arith, short, room.1, more))
 
 -- a game that goes on isn't over, and has room for a turn
-pub going : (now : Moment) → goes_on now ≡ true → (is_over now.game ≡ false) × (is_turn now.due ≡ true → is_full now.size ≡ false)
+pub going : (now : Moment) → is_unfinished now ≡ true → (is_over now.game ≡ false) × (is_turn now.due ≡ true → is_full now.size ≡ false)
 going now on = split (is_over now.game) (is_turn now.due) (is_full now.size) on where
   split : (over turn full : Bool) → (not over && not (turn && full)) ≡ true → (over ≡ false) × (turn ≡ true → full ≡ false)
   split true turn full e = absurd (cc)
@@ -90,7 +90,7 @@ going now on = split (is_over now.game) (is_turn now.due) (is_full now.size) on 
   split false false full e = (refl, λ turn. absurd (cc))
 
 -- what has been played, with one more action
-pub played-more : (start : Moment) (actions : List Action) (old : Maker) (due : Due) (action : Action) (new : Maker) → HasPlayed start actions old due → goes_on (moment_at old due) ≡ true → HasDoneDue old due action new
+pub played-more : (start : Moment) (actions : List Action) (old : Maker) (due : Due) (action : Action) (new : Maker) → HasPlayed start actions old due → is_unfinished (moment_at old due) ≡ true → HasDoneDue old due action new
     → HasPlayed start (actions ++ action ∷ []) new (due_after action.player action.what)
 played-more start actions old due action new played on has =
     let goes = going (moment_at old due) on in

@@ -7,7 +7,7 @@ use Rattle.std.proofs.lemmas.Option.{get_or_from_slice_get, slice_get_within}
 use Rattle.rand_pcg.specs.Lcg.{Lcg}
 use Rattle.position_rank.specs.Placement.{Placement}
 use Rattle.roll_table.specs.Rolls.{Dice, IsRoll, dice_of}
-use Rattle.move_rules.specs.Notation.{IsPlayText, play_text}
+use Rattle.play_text.specs.Notation.{IsPlayText, play_text}
 use Rattle.move_rules.specs.Order.{IsFirst}
 use Rattle.move_rules.specs.Sequences.{IsLegal}
 use Rattle.move_rules.specs.Written.{IsWritten}

@@ -42,8 +42,8 @@ pub record HasDoneDue (old : Maker) (due : Due) (action : Action) (new : Maker) 
   pub short : new.size.bytes ≤ old.size.bytes + 60
 
 -- the game is not over, and no turn comes where there is too much text
-abbrev pub goes_on : Moment → Bool
-goes_on now = not (is_over now.game) && not (is_turn now.due && is_full now.size)
+abbrev pub is_unfinished : Moment → Bool
+is_unfinished now = not (is_over now.game) && not (is_turn now.due && is_full now.size)
 
 abbrev pub ending_of : Option Win → Ending
 ending_of (Some win) = Ended win.winner win.points

@@ -1,7 +1,7 @@
 -- How a record is made, action by action and game by game, from the words of a generator.
 use Rattle.std.specs.Prelude.{◌≡◌, ◌≤◌, ◌⊎◌, ℕ, ◌+◌, ◌%◌, Bool, true, false, List, [], ◌∷◌, ◌++◌, codes, decimal, Some, None, if◌then◌else◌}
 use Rattle.rand_pcg.specs.Lcg.{Lcg}
-use Rattle.move_rules.specs.Notation.{IsPlayText, play_text}
+use Rattle.play_text.specs.Notation.{IsPlayText, play_text}
 use Rattle.move_rules.specs.declared.play.Entry.{Entry}
 use Rattle.roll_table.specs.Rolls.{Dice}
 use Rattle.game_record.specs.declared.decision.Answer.TheVariants.{Take, Pass}
@@ -15,7 +15,7 @@ use Rattle.game_record.specs.declared.record.Record.{Record}
 use Rattle.game_record.specs.declared.record.RecordStakes.TheVariants.{Jacoby}
 use Rattle.game_record.specs.declared.record.What.{What}
 use Rattle.game_record.specs.declared.record.What.TheVariants.{Rolled, Doubled, Took, Passed, Beavered}
-use Rattle.game_record.specs.Games.{after_answer, after_double, after_play, is_over, may_double, opening}
+use Rattle.game_record.specs.Games.{after_answer, progress_after_double, progress_after_play, is_over, may_double, opening}
 use Rattle.game_record.specs.Lines.{deed_text, player_text}
 use Rattle.game_record.specs.Standings.{first_standing}
 use Rattle.game_record.specs.Turns.{other_player}
@@ -40,7 +40,7 @@ Plays game player roll words (Rolled told written) next =
     (told ≡ roll) × (entry : Entry)
     × IsChosen game.position roll (word words) entry
     × IsPlayText (play_text game.position entry.play.items) written.items
-    × (next.game ≡ after_play Jacoby player entry.end game)
+    × (next.game ≡ progress_after_play Jacoby player entry.end game)
     × (next.words ≡ rest words)
 Plays game player roll words _ next = ⊥
 
@@ -64,7 +64,7 @@ undoubled_words now player = if has_cube now.game player then rest now.words els
 -- a player doubles or rolls
 abbrev pub TakesTurn : Moment → Player → What → Moment → Type 0
 TakesTurn now player Doubled next =
-    Doubles now player × (next.game ≡ after_double now.game) × (next.words ≡ rest now.words)
+    Doubles now player × (next.game ≡ progress_after_double now.game) × (next.words ≡ rest now.words)
 TakesTurn now player what next =
     (Doubles now player → ⊥) × Rolls now.game player (undoubled_words now player) what next
 

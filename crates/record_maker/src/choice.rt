@@ -1,10 +1,11 @@
 ghost use Rattle.std.specs.Prelude.{◌≡◌, ◌≤◌, length};
-ghost use Rattle.move_rules.specs.Notation.{CanFollow, IsPlayText, play_text};
+ghost use Rattle.play_text.specs.Notation.{CanFollow, IsPlayText, play_text};
 ghost use Rattle.move_rules.specs.declared.play.Entry.{Entry};
 ghost use Rattle.game_record.specs.Lines.{steps_text};
 ghost use Rattle.record_maker.specs.Draws.{IsChosen};
 
-use move_rules::{Play, PlayList, Written, plays, print_play, printed_plays_are_read, read_play};
+use move_rules::{Play, PlayList, Written, plays};
+use play_text::{print_play, printed_plays_are_read, read_play};
 use position_rank::Position;
 use roll_table::Roll;
 

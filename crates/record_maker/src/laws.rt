@@ -4,7 +4,7 @@ ghost use Rattle.game_record.specs.declared.decision.Decision.{Decision};
 ghost use Rattle.game_record.specs.declared.record.Record.{Record};
 ghost use Rattle.record_maker.specs.Making.{IsMade};
 
-use move_rules::{printed_plays_are_taken, texts_tell_plays};
+use play_text::{printed_plays_are_taken, texts_tell_plays};
 
 /// A record that is made breaks no rule of the game.
 pub fn made_records_break_no_rule()

@@ -1,6 +1,6 @@
 ghost use Rattle.std.specs.Prelude.{◌≡◌, ◌≤◌, ◌+◌, ◌∷◌, [], length, decimal, false, IfOk};
 ghost use Rattle.game_record.specs.Games.{opening};
-ghost use Rattle.record_maker.specs.Makers.{HasLinesLeft, moment_at, ending_of, goes_on, sheet_of};
+ghost use Rattle.record_maker.specs.Makers.{HasLinesLeft, moment_at, ending_of, is_unfinished, sheet_of};
 ghost use Rattle.record_maker.specs.Making.{AllDo, IsEnd, AddsGame, ending_text, first_sheet, game_line_text};
 ghost use Rattle.record_maker.specs.Sizes.{is_full, with_line};
 ghost use Rattle.record_maker.specs.declared.due.Due.{Due as DueNow};
@@ -82,7 +82,7 @@ impl Maker {
 
     /// Whether what is due is done.
     fn goes_on(&self, due: Due) -> bool
-        ensures { result ≡ goes_on (moment_at self.now due) }
+        ensures { result ≡ is_unfinished (moment_at self.now due) }
     {
         !self.game.is_over() && !(due.is_turn() && self.size.is_full())
     }

@@ -13,12 +13,14 @@ ghost use Rattle.record_reports.specs.Full.{answered_text, chosen_fields, full_l
 
 use crate::analysis::{choice_text, player_text, put_totals};
 use cube_actions::{KindName, Score, Stakes, Starts, ladder, ladders_are_exact};
-use directed_fixed::{Fixed, Pair, print_down, print_up};
+use cube_text::{print_kind, print_score};
+use directed_fixed::{Fixed, Pair};
 use equity_report::{Report, add_number};
 use game_record::{Answer, Choice, Decision, Offer, Record, RecordStakes};
 use hyper_outside::Failed;
 use outside_log::Sink;
-use position_rank::print_position;
+use point_text::{print_down, print_up};
+use position_text::print_position;
 use record_analysis::{Analysis, Judged};
 
 /// A pair for each score of a match: the names of kinds don't depend on what they are.
@@ -99,7 +101,7 @@ fn add_score(line: &mut Report, score: Option<Score>)
     ensures length { length line.new.bytes ≤ length line.old.bytes + 8 }
 {
     match score {
-        Some(score) => line.push_str(score.print().as_str()),
+        Some(score) => line.push_str(print_score(score).as_str()),
         None => line.push_str("-"),
     }
 }
@@ -114,7 +116,7 @@ fn add_state(line: &mut Report, rec: &Record, decision: &Decision)
 {
     line.push_str(print_position(&decision.position).as_str());
     line.push_str("\t");
-    line.push_str(kind_of(rec, decision).print().as_str());
+    line.push_str(print_kind(kind_of(rec, decision)).as_str());
     line.push_str("\t");
     add_score(line, decision.score);
     line.push_str("\t");

@@ -12,7 +12,7 @@ use Rattle.turn_rule.specs.Games.{IsGame}
 use Rattle.turn_rule.specs.Looks.{all_told}
 use Rattle.interval_words.specs.WordLists.{WordList, list_of, source_of, words_in_list}
 use Rattle.match_scores.specs.Keepers.{no_pairs}
-use Rattle.match_scores.specs.Ladders.{score_at, with_pair, game_at, AreWordsAt, IsSolved}
+use Rattle.match_scores.specs.Ladders.{score_at, with_pair, game_at_score, AreWordsAt, IsSolved}
 use Rattle.match_scores.specs.Openings.{start_over}
 use Rattle.match_scores.proofs.Places.{apart-later}
 use Rattle.match_scores.proofs.WholeLadder.{and_then, and_then-before, and_then-last, solved-next}
@@ -25,12 +25,12 @@ use Rattle.record_study.specs.Keeping.{IsDecisionInMatch, IsJudgedBy, IsJudgedSo
 use Rattle.record_study.proofs.AtScore.{judged-at, zipped-all}
 
 -- a decision at a score is of the game of that score's words
-pub of-game : (checkers match_length : ℕ) (score : MatchScore) (starts : StartPairs) (words : WordList) → words.game ≡ game_at checkers score starts → IsGame words.game → (decision : Decision) → IsDecisionInMatch checkers match_length decision → decision.score ≡ Some score → IsDecisionOf words.game decision
+pub of-game : (checkers match_length : ℕ) (score : MatchScore) (starts : StartPairs) (words : WordList) → words.game ≡ game_at_score checkers score starts → IsGame words.game → (decision : Decision) → IsDecisionInMatch checkers match_length decision → decision.score ≡ Some score → IsDecisionOf words.game decision
 of-game checkers match_length score starts words game valid decision is here =
     let both : Some is.score ≡ Some score = sym is.at ∙ here in
     let same : is.score ≡ score = cc in
     subst (λ (g : Game). IsDecisionOf g decision) (sym game)
-    (subst (λ (s : MatchScore). IsGame (game_at checkers s starts) → IsDecisionOf (game_at checkers s starts) decision) same (is.made starts) (subst IsGame game valid))
+    (subst (λ (s : MatchScore). IsGame (game_at_score checkers s starts) → IsDecisionOf (game_at_score checkers s starts) decision) same (is.made starts) (subst IsGame game valid))
 
 -- so it can be judged by them
 pub can-judge : (words : WordList) (decision : Decision) → IsDecisionOf words.game decision → CanBeJudged (source_of words) words.game.stakes decision
@@ -129,7 +129,7 @@ pub none-judged : (checkers r match_length : ℕ) (starts : StartPairs) → star
 none-judged checkers r match_length starts none list right fresh =
     subst (λ (s : StartPairs). IsJudgedSoFar (record { checkers = checkers; rounds = r; starts = s; list = list })) (sym none) (record {
       decisions = right;
-      words = λ place. list_of (game_at checkers last_game (no_pairs match_length)) r [];
+      words = λ place. list_of (game_at_score checkers last_game (no_pairs match_length)) r [];
       solved = λ place less. absurd (omega arith);
       losses = λ i d below. record { kept = λ place at. (let none = at.kept in absurd (omega (arith, none))); other = λ none. fresh i d below };
     })

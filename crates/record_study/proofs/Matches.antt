@@ -22,7 +22,7 @@ use Rattle.play_analyser.proofs.Enclosing.{loss-of-encloses}
 use Rattle.play_analyser.proofs.Tighter.{loss-of-tighter}
 use Rattle.game_record.specs.Lines.{IsRecord}
 use Rattle.game_record.specs.declared.record.Record.{Record}
-use Rattle.match_scores.specs.Ladders.{IsSolved, score_at, starts_till, game_at, AreEndScores, EncloseStarts, IsLadder, IsTightAt, plain_starts}
+use Rattle.match_scores.specs.Ladders.{IsSolved, score_at, starts_till, game_at_score, AreEndScores, EncloseStarts, IsLadder, IsTightAt, plain_starts}
 use Rattle.match_scores.specs.Payoffs.{EndScores, match_scoring, match_start, start_scale}
 use Rattle.match_scores.proofs.Places.{place-first, score-found}
 use Rattle.match_scores.proofs.TighterStarts.{stakes-no-looser}
@@ -42,16 +42,16 @@ use Rattle.record_study.proofs.Regrets.{regret-same}
 abbrev pub PayoffsLieWithin : Type 0
 PayoffsLieWithin =
     (checkers turns : ℕ) (ends : EndScores) → AreEndScores checkers turns ends → (starts : StartPairs) → AreStarts starts → EncloseStarts checkers turns ends starts
-    → (score : MatchScore) → IsScore score → Covers starts score → IsScoring (game_at checkers score starts) (match_scoring checkers turns ends score)
+    → (score : MatchScore) → IsScore score → Covers starts score → IsScoring (game_at_score checkers score starts) (match_scoring checkers turns ends score)
 
 -- what a decision loses over sound words of its score's game encloses what it loses exactly with the payoffs of the match
 pub loss-encloses : PayoffsLieWithin → (checkers turns : ℕ) (ends : EndScores) → AreEndScores checkers turns ends → (starts : StartPairs) → AreStarts starts → EncloseStarts checkers turns ends starts
-    → (score : MatchScore) → IsScore score → Covers starts score → IsGame (game_at checkers score starts) → (enough : ℕ) (u : Words) → AreSoundFrom (game_at checkers score starts) enough u
-    → (left : ℕ) → enough ≤ left → (decision : Decision) → IsDecisionOf (game_at checkers score starts) decision → EnclosesLossAt checkers turns ends left decision (lost (terms_of score starts) u decision) score
+    → (score : MatchScore) → IsScore score → Covers starts score → IsGame (game_at_score checkers score starts) → (enough : ℕ) (u : Words) → AreSoundFrom (game_at_score checkers score starts) enough u
+    → (left : ℕ) → enough ≤ left → (decision : Decision) → IsDecisionOf (game_at_score checkers score starts) decision → EnclosesLossAt checkers turns ends left decision (lost (terms_of score starts) u decision) score
 loss-encloses payoffs checkers turns ends within starts valid encloses score is covers game enough u sound left more decision of =
     let scoring = match_scoring checkers turns ends score in
     let fits = payoffs checkers turns ends within starts valid encloses score is covers in
-    let loss = loss-of-encloses (game_at checkers score starts) game scoring fits left u (sound left more scoring fits) decision.position decision.kind of.state decision.choice of.choice in
+    let loss = loss-of-encloses (game_at_score checkers score starts) game scoring fits left u (sound left more scoring fits) decision.position decision.kind of.state decision.choice of.choice in
     subst (λ (x : ℤ). Encloses (lost (terms_of score starts) u decision) x (counted_over scoring left decision.choice))
     (regret-same score starts (record { match_length = 1; pairs = [] }) scoring left decision.position decision.kind decision.choice) loss
 
@@ -138,8 +138,8 @@ module _ (payoffs : PayoffsLieWithin) (checkers r : ℕ) (starts : StartPairs) (
     abbrev own : WordList
     own = words place
 
-    own-game : own.game ≡ game_at checkers score first
-    own-game = (is_ladder.solved place inside).closed.game ∙ ap (λ (s : MatchScore). game_at checkers s first) found
+    own-game : own.game ≡ game_at_score checkers score first
+    own-game = (is_ladder.solved place inside).closed.game ∙ ap (λ (s : MatchScore). game_at_score checkers s first) found
 
     own-valid : IsGame own.game
     own-valid = (is_ladder.solved place inside).closed.valid
@@ -158,7 +158,7 @@ module _ (payoffs : PayoffsLieWithin) (checkers r : ℕ) (starts : StartPairs) (
         → IfSome one.decision.score (λ score. IfSome one.loss (λ pair. EnclosesLossAt checkers turns ends left one.decision pair score))
     one-true turns ends within encloses left more =
         let u = words_in_list own in
-        let sound : AreSoundFrom (game_at checkers score first) all-sound.0 u = subst (λ (g : Game). AreSoundFrom g all-sound.0 u) own-game (all-sound.1 place inside) in
+        let sound : AreSoundFrom (game_at_score checkers score first) all-sound.0 u = subst (λ (g : Game). AreSoundFrom g all-sound.0 u) own-game (all-sound.1 place inside) in
         let loss = loss-encloses payoffs checkers turns ends within first (till-valid starts place valid (omega (arith, inside))) (till-encloses turns ends place (omega (arith, inside)) encloses) score is.of_match.valid covers
         (subst IsGame own-game own-valid) all-sound.0 u sound left more one.decision (subst (λ (g : Game). IsDecisionOf g one.decision) own-game of-own) in
         let loss' : EnclosesLossAt checkers turns ends left one.decision (lost own.game.stakes u one.decision) score = subst (λ (g : Game). EnclosesLossAt checkers turns ends left one.decision (lost g.stakes u one.decision) score) (sym own-game) loss in

@@ -6,7 +6,7 @@ use Rattle.cube_actions.specs.Starts.{StartPairs}
 use Rattle.game_record.specs.declared.decision.Decision.{Decision}
 use Rattle.turn_rule.specs.Games.{IsGame}
 use Rattle.interval_words.specs.WordLists.{WordList, words_in_list}
-use Rattle.match_scores.specs.Ladders.{IsSolved, game_at, score_at}
+use Rattle.match_scores.specs.Ladders.{IsSolved, game_at_score, score_at}
 use Rattle.record_analysis.specs.Analyses.{lost}
 use Rattle.record_analysis.specs.Truth.{IsDecisionOf}
 use Rattle.record_analysis.specs.declared.analysis.Judged.{Judged}
@@ -17,8 +17,8 @@ pub record IsDecisionInMatch (checkers match_length : ℕ) (decision : Decision)
   pub score : MatchScore
   pub at : decision.score ≡ Some score
   pub of_match : IsOfMatch match_length score
-  pub made : (starts : StartPairs) → IsGame (game_at checkers score starts)
-      → IsDecisionOf (game_at checkers score starts) decision
+  pub made : (starts : StartPairs) → IsGame (game_at_score checkers score starts)
+      → IsDecisionOf (game_at_score checkers score starts) decision
 
 -- What contracts see of such a keeper: the checkers and the rounds that it is for, the length of the match with the start pairs of the scores that it
 -- has kept, and the decisions, each with the pair of what it loses, where that was judged.

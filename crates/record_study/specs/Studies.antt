@@ -14,17 +14,17 @@ use Rattle.record_analysis.specs.Truth.{IsNoLooserAnalysis, IsTrueAnalysis}
 use Rattle.record_analysis.specs.declared.analysis.Judged.{Judged}
 
 -- what a record outside a match is played for; a match has no stakes of its own
-abbrev pub stakes_of : RecordStakes → Terms
-stakes_of Cubeless = cubeless
-stakes_of Money = money
-stakes_of Jacoby = jacoby
-stakes_of MoneyBeavers = money_beavers
-stakes_of JacobyBeavers = jacoby_beavers
-stakes_of (Match length) = cubeless
+abbrev pub stakes_studied : RecordStakes → Terms
+stakes_studied Cubeless = cubeless
+stakes_studied Money = money
+stakes_studied Jacoby = jacoby
+stakes_studied MoneyBeavers = money_beavers
+stakes_studied JacobyBeavers = jacoby_beavers
+stakes_studied (Match length) = cubeless
 
 -- the game that a record outside a match is played in
 abbrev pub game_of_record : Record → Game
-game_of_record rec = game_of rec.checkers (stakes_of rec.stakes)
+game_of_record rec = game_of rec.checkers (stakes_studied rec.stakes)
 
 -- The decisions were studied: from some number of turns on, one for all of them, each pair encloses what its decision loses exactly; and each is
 -- at least as tight as over so many rounds in which all states are worked out from the round before.

@@ -1,11 +1,11 @@
 ghost use Rattle.std.specs.Prelude.{◌≡◌, ◌≤◌, All, IfOk, None, false, length};
 ghost use Rattle.game_record.specs.Lines.{IsRecord};
 ghost use Rattle.game_record.specs.RightDecisions.{IsRightDecision};
-ghost use Rattle.game_record.specs.Turns.{is_match};
+ghost use Rattle.game_record.specs.Turns.{is_match_record};
 ghost use Rattle.interval_words.specs.WordLists.{source_of, words_in_list};
 ghost use Rattle.record_analysis.specs.Analyses.{analysis_of};
 ghost use Rattle.record_analysis.specs.Judging.{CanBeJudged};
-ghost use Rattle.record_study.specs.Studies.{AreStudied, game_of_record, stakes_of};
+ghost use Rattle.record_study.specs.Studies.{AreStudied, game_of_record, stakes_studied};
 
 use cube_actions::Stakes;
 use game_record::{Decisions, Record, RecordStakes};
@@ -22,7 +22,7 @@ use worker_team::Team;
 
 /// What a record is played for. A match has no stakes of its own, and gets those of a game without a cube.
 pub fn stakes_of(stakes: RecordStakes) -> Stakes
-    ensures { result ≡ stakes_of stakes }
+    ensures { result ≡ stakes_studied stakes }
 {
     match stakes {
         RecordStakes::Cubeless | RecordStakes::Match(_) => Stakes::cubeless(),
@@ -63,7 +63,7 @@ pub fn study<R: Threads + Sync, G: Gate + Sync>(
     gate: &G,
 ) -> Result<Analysis, NoMemory>
     requires valid { IsRecord rec.now }
-    requires plain { is_match rec.now.stakes ≡ false }
+    requires plain { is_match_record rec.now.stakes ≡ false }
     requires right { All (IsRightDecision rec.now) decisions }
     requires few { length decisions ≤ 131072 }
     requires rounds { (1 ≤ rounds) × (rounds ≤ 4096) }

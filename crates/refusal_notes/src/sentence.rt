@@ -4,9 +4,11 @@ ghost use Rattle.refusal_notes.specs.Notes.{IsNote, IsShown};
 use arrayvec::{ArrayString, ArrayVec};
 use command_line::CommandName;
 use cube_actions::KindName;
+use cube_text::print_kind;
 use equity_report::{GameName, Report, add_game};
 use itoa::Buffer;
-use position_rank::{Position, print_position};
+use position_rank::Position;
+use position_text::print_position;
 
 /// The most bytes of a sentence. None has more: of a word of the user's it has a front.
 const LONGEST: usize = 1000;
@@ -94,7 +96,7 @@ fn add_part(text: &mut Text, part: Part<'_>) {
         Part::Word(word) => add_word(text, word),
         Part::Text(more) => add(text, more),
         Part::Number(number) => add(text, Buffer::new().format(number)),
-        Part::Kind(kind) => add(text, kind.print().as_str()),
+        Part::Kind(kind) => add(text, print_kind(kind).as_str()),
         Part::Game(game) => add_game_told(text, game),
         Part::Position(position) => add(text, print_position(position).as_str()),
         Part::Arguments(arguments) => add_arguments(text, arguments),

@@ -4,7 +4,7 @@ use crate::call::Call;
 use crate::sentence::{Part, Text, say};
 use command_line::{plain_position, position_given};
 use position_id::has_id_form;
-use position_rank::{BadPosition, read_place};
+use position_text::{BadPosition, read_place};
 
 /// A roll's text that shows none.
 pub(crate) fn add_roll(text: &mut Text, call: &Call<'_>) {

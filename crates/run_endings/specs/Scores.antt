@@ -1,6 +1,6 @@
 -- The files of a match's scores.
 use Rattle.std.specs.Prelude.{ℕ, List, ◌++◌, codes}
-use Rattle.cube_actions.specs.Names.{score_text}
+use Rattle.cube_text.specs.Texts.{score_text}
 use Rattle.cube_actions.specs.Scores.{MatchScore}
 
 -- the name of a score's file

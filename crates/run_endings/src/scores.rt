@@ -3,6 +3,7 @@ ghost use Rattle.cube_actions.specs.Ladder.{ladder};
 ghost use Rattle.run_endings.specs.Scores.{score_file};
 
 use cube_actions::{Score, ladder};
+use cube_text::print_score;
 use equity_report::FileName;
 
 /// The name of a score's file: the prefix, a point, and the score's text, as `L.1.3.c`.
@@ -13,7 +14,7 @@ pub fn score_file(prefix: &str, score: Score) -> FileName
     let mut name = FileName::new();
     name.push_str(prefix);
     name.push('.');
-    name.push_str(score.print().as_str());
+    name.push_str(print_score(score).as_str());
     name
 }
 

@@ -15,7 +15,7 @@ use Rattle.database_file.specs.Texts.{AreWordsOf as AreFileWords}
 use Rattle.match_scores.specs.Keepers.{no_pairs}
 use Rattle.match_scores.proofs.Places.{place-of}
 use Rattle.command_line.specs.Right.{IsRightLadder}
-use Rattle.match_scores.specs.Ladders.{score_at, starts_till, with_pair, game_at, AreWordsAt, IsSolved, IsSolvedAt, IsLadder}
+use Rattle.match_scores.specs.Ladders.{score_at, starts_till, with_pair, game_at_score, AreWordsAt, IsSolved, IsSolvedAt, IsLadder}
 use Rattle.match_scores.proofs.WholeLadder.{and_then, and_then-before, and_then-last, till-same, all-taken, solved-next}
 use Rattle.command_line.specs.declared.command.Ladder.{Ladder}
 use Rattle.solve_commands.specs.Ladders.{AreScoresSolved, HasKeptSince, IsScoreSolved, LadderPast, SolvedScore, WroteScores, file_of, first_score_lines, score_bytes, score_head, score_line, ladder_score, scores_in}
@@ -76,7 +76,7 @@ score-solved task score starts words widest valid closed right is_widest = recor
 -- ---- before the first score
 
 no_score : Ladder → SolvedScore
-no_score task = record { words = list_of (game_at task.checkers last_game (no_pairs task.match_length)) task.rounds []; widest = pos 0 }
+no_score task = record { words = list_of (game_at_score task.checkers last_game (no_pairs task.match_length)) task.rounds []; widest = pos 0 }
 
 none-solved : (task : Ladder) → AreScoresSolved task (no_pairs task.match_length) (λ place. no_score task)
 none-solved task = record {

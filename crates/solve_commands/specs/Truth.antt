@@ -16,11 +16,11 @@ use Rattle.command_line.specs.declared.command.Bound.{Bound as BoundTask}
 use Rattle.solve_commands.specs.Checkers.{IsOfOtherCheckers}
 
 -- the position's pair after so many rounds of a game without a cube, and the report of it
-abbrev pub bound_pair : BoundTask → Bounds
-bound_pair task = pair_of (rounds cubeless task.rounds) task.position 0
+abbrev pub asked_pair : BoundTask → Bounds
+asked_pair task = pair_of (rounds cubeless task.rounds) task.position 0
 
 abbrev pub bound_report : BoundTask → List ℕ
-bound_report task = bound_text task.board task.position task.rounds (bound_pair task)
+bound_report task = bound_text task.board task.position task.rounds (asked_pair task)
 
 -- What is true of a pair. It encloses what the position is worth exactly: in every game without a cube that is played for at least as many
 -- turns as there were rounds, however its unfinished end is scored.
@@ -34,7 +34,7 @@ pub record IsTrueOfBound (task : BoundTask) (pair : Bounds) : Type 0 where
 pub record HasBound (task : BoundTask) (IsTold : List ℕ → Type 0) : Type 0 where
   pub same : sum task.position.mover ≡ task.checkers
   pub report : IsTold (bound_report task)
-  pub truth : IsTrueOfBound task (bound_pair task)
+  pub truth : IsTrueOfBound task (asked_pair task)
 
 -- the position has another number of checkers, or there was no memory for the game of that number
 abbrev pub RefusesBound : BoundTask → Refusal → Type 0

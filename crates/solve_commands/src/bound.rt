@@ -1,7 +1,7 @@
 ghost use Rattle.std.specs.Prelude.{◌≡◌, IfOk, sum};
 ghost use Rattle.run_endings.specs.Endings.{EndsBy, IsOfBounding};
 ghost use Rattle.command_line.specs.Right.{IsRightBound};
-ghost use Rattle.solve_commands.specs.Truth.{IsTrueOfBound, TellsBound, bound_pair};
+ghost use Rattle.solve_commands.specs.Truth.{IsTrueOfBound, TellsBound, asked_pair};
 
 use crate::checkers::count_checkers;
 use command_line::Bound;
@@ -18,7 +18,7 @@ use std::alloc::Global;
 fn pair_after(alloc: Global, task: &Bound) -> Result<Pair, NoMemory>
     requires right { IsRightBound task.now }
     requires same { sum task.now.position.mover ≡ task.now.checkers }
-    ensures pair { IfOk result (λ pair. pair ≡ bound_pair task.now) }
+    ensures pair { IfOk result (λ pair. pair ≡ asked_pair task.now) }
     ensures truth { IfOk result (IsTrueOfBound task.now) }
 {
     let mut table = PlainTable::new(alloc, task.checkers, &Stakes::cubeless())?;

@@ -1,7 +1,7 @@
 -- The report of a position's bounds after some rounds.
 use Rattle.std.specs.Prelude.{ℕ, Bool, List, ◌++◌, codes, decimal}
 use Rattle.position_rank.specs.Placement.{Placement}
-use Rattle.position_rank.specs.Text.{position_text}
+use Rattle.position_text.specs.Text.{position_text}
 use Rattle.position_board.specs.Boards.{board_told}
 use Rattle.directed_fixed.specs.Bounds.{Bounds}
 use Rattle.equity_report.specs.Reports.{line, pair_text}

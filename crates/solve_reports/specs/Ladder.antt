@@ -1,8 +1,8 @@
 -- The report of a ladder: a line for each score that was solved, and a last one.
 use Rattle.std.specs.Prelude.{ℕ, ℤ, List, ◌++◌, codes}
 use Rattle.directed_fixed.specs.Bounds.{Bounds}
-use Rattle.directed_fixed.specs.Decimal.{millionths_up, millionths_text}
-use Rattle.cube_actions.specs.Names.{score_text}
+use Rattle.point_text.specs.Decimal.{millionths_up, millionths_text}
+use Rattle.cube_text.specs.Texts.{score_text}
 use Rattle.cube_actions.specs.Scores.{MatchScore}
 use Rattle.equity_report.specs.Reports.{line, counted_text, points_text}
 

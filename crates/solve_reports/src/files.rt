@@ -1,11 +1,12 @@
 ghost use Rattle.std.specs.Prelude.{◌≡◌, ◌≤◌, ◌++◌, ◌+◌, length};
 ghost use Rattle.outside_log.specs.Sink.{Puts};
-ghost use Rattle.solve_reports.specs.Files.{size_text, solved_text};
+ghost use Rattle.solve_reports.specs.Files.{solved_size_text, solved_text};
 
-use directed_fixed::{Fixed, print_up};
+use directed_fixed::Fixed;
 use equity_report::{GameName, Report, add_counted, add_number, add_rounds, add_written};
 use hyper_outside::Failed;
 use outside_log::Sink;
+use point_text::print_up;
 
 /// A game that was solved.
 #[derive(Clone, Copy, Debug, PartialEq, Eq)]
@@ -25,7 +26,7 @@ pub struct Solved {
 
 fn add_size(report: &mut Report, solved: &Solved)
     requires { length report.old.bytes ≤ 1000 }
-    ensures bytes { report.new.bytes ≡ report.old.bytes ++ size_text solved.now }
+    ensures bytes { report.new.bytes ≡ report.old.bytes ++ solved_size_text solved.now }
     ensures length { length report.new.bytes ≤ length report.old.bytes + 200 }
 {
     report.push_str("positions ");

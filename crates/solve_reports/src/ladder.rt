@@ -3,10 +3,12 @@ ghost use Rattle.outside_log.specs.Sink.{Puts};
 ghost use Rattle.solve_reports.specs.Ladder.{ladder_end_text, ladder_score_text, match_text, work_text};
 
 use cube_actions::Score;
-use directed_fixed::{Fixed, Pair, print_up};
+use cube_text::print_score;
+use directed_fixed::{Fixed, Pair};
 use equity_report::{Report, add_counted, add_points};
 use hyper_outside::Failed;
 use outside_log::Sink;
+use point_text::print_up;
 
 fn add_match(report: &mut Report, checkers: u8, match_length: u8)
     requires { length report.old.bytes ≤ 1000 }
@@ -41,7 +43,7 @@ pub fn write_ladder_score<O: Sink>(
 {
     let mut line = Report::new();
     line.push_str("score ");
-    line.push_str(score.print().as_str());
+    line.push_str(print_score(score).as_str());
     line.push_str(" start ");
     add_points(&mut line, start);
     line.push_str(" widest ");

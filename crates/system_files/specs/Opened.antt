@@ -5,9 +5,9 @@ use Rattle.system_files.specs.declared.opened.Source.{Source}
 use Rattle.system_files.specs.declared.opened.Source.TheVariants.{File, Given}
 
 -- its bytes are there once
-abbrev pub is_given : {F : Type 0} → Source F → Bool
-is_given (File file) = false
-is_given (Given bytes) = true
+abbrev pub is_source_given : {F : Type 0} → Source F → Bool
+is_source_given (File file) = false
+is_source_given (Given bytes) = true
 
 -- where its bytes were given they are so many
 abbrev pub HasSize : {F : Type 0} → Source F → ℕ → Type 0

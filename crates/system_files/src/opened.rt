@@ -1,7 +1,7 @@
 //! Files of a system that are read, each from one opening on.
 ghost use Rattle.std.specs.Prelude.{◌≡◌, ◌≤◌, ◌↔◌, IsTrue, IfOk, IfSome, length, take, string_bytes};
 ghost use Rattle.std.specs.Io.KnownBytes.{ReadConsumes};
-ghost use Rattle.system_files.specs.Opened.{GivesFrom, HasSize, is_given};
+ghost use Rattle.system_files.specs.Opened.{GivesFrom, HasSize, is_source_given};
 ghost use Rattle.outside_log.specs.Reading.{ReadFrom};
 
 use outside_log::{copy_front, rest_from};
@@ -112,7 +112,7 @@ impl<F: Read + Seek + OpenFile> Opened<F> {
 
     /// Whether it can't be opened again.
     pub(crate) fn is_given(&self) -> bool
-        ensures { result ≡ is_given self.now.source }
+        ensures { result ≡ is_source_given self.now.source }
     {
         matches!(self.source, Source::Given(_))
     }

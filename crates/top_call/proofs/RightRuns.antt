@@ -43,7 +43,7 @@ use Rattle.solve_commands.specs.Truth.{RefusesBound}
 use Rattle.record_commands.specs.Analyses.{MayRefuseAnalysis}
 use Rattle.record_commands.specs.RightRecords.{IsRightForAnalysing, IsRightForStudying}
 use Rattle.record_commands.specs.Studies.{MayRefuseStudy}
-use Rattle.top_call.specs.Outcomes.{Does, HasRun, Runs}
+use Rattle.top_call.specs.Outcomes.{Does, HasRun, RunsAsAsked}
 use Rattle.top_call.specs.RightRuns.{AreAnswered, IsDoneUnlessHindered, IsRightFor, IsRightForLadder, WritingFailed}
 
 -- ---- the laws of the families
@@ -132,7 +132,7 @@ module _ (files : FileLaws) (records : RecordLaws) (command : Command) (before a
     by_refusal Memory outside cause = inr (inr refl)
     by_refusal refusal outside cause = absurd outside
 
-  pub right-run : (status : ℕ) (ending : Ending) → Runs (Ok command) before after old new status ending → IsDoneUnlessHindered before after old new status
+  pub right-run : (status : ℕ) (ending : Ending) → RunsAsAsked (Ok command) before after old new status ending → IsDoneUnlessHindered before after old new status
   right-run status ending runs = subst (IsDoneUnlessHindered before after old new) (sym runs.is_status) (elim runs.does [
     | inl does ↦ done-if runs.behind ending does runs.line
     | inr words ↦ subst (λ (e : Ending). IsDoneUnlessHindered before after old new (status_at e)) (sym words.refused) (inr (inr refl))

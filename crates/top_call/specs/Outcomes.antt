@@ -144,7 +144,7 @@ DoesAsked (Err fault) before after old new ending =
 
 -- A run: what the words ask for was done, or there was no memory for them; then the line of the refusal was put, where one is due, and the status
 -- is that of the ending.
-pub record Runs (expected : Result Command WordsFault) (before after : List Event)
+pub record RunsAsAsked (expected : Result Command WordsFault) (before after : List Event)
     (old new : Output) (status : ℕ) (ending : Ending) : Type 0 where
   pub behind : Output
   pub does : DoesAsked expected before after old behind ending

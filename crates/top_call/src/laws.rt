@@ -1,6 +1,6 @@
 ghost use Rattle.std.specs.Prelude.{◌≡◌, ◌<◌, ℕ, List, Option, Some, Ok, false, true};
 ghost use Rattle.outside_log.specs.Files.{Contents};
-ghost use Rattle.game_record.specs.Turns.{is_match};
+ghost use Rattle.game_record.specs.Turns.{is_match_record};
 ghost use Rattle.outside_log.specs.Log.{Event, standing};
 ghost use Rattle.outside_log.specs.Sink.{Output};
 ghost use Rattle.word_pages.specs.declared.version.Version.TheVariants.{Three};
@@ -28,7 +28,7 @@ ghost use Rattle.base_commands.specs.Plans.{HasPlanned, first_file};
 ghost use Rattle.command_line.specs.declared.command.Plan.{Plan};
 ghost use Rattle.base_commands.specs.Verifies.{MayRefuseVerifying};
 ghost use Rattle.top_call.specs.Headline.{HoldLadder, PrintsGoodAdvice, PrintsTrueLosses, PrintsTrueMatch, PrintsTruePlan, ladder_file, ladder_head};
-ghost use Rattle.top_call.specs.Outcomes.{Runs};
+ghost use Rattle.top_call.specs.Outcomes.{RunsAsAsked};
 ghost use Rattle.top_call.specs.RightRuns.{AreAnswered, IsDoneUnlessHindered, IsRightFor};
 ghost use Rattle.top_call.specs.SolvedFiles.{AsksOf, file_read};
 ghost use Rattle.record_commands.specs.Analyses.{HasAnalysed};
@@ -75,7 +75,7 @@ pub fn analyses_by_a_solved_file_are_true()
         → IsRightSolve solve → (solved : HasSolved solve before after put_before put_after)
         → held analyse.base ≡ standing after solve.file
         → (analysed : HasAnalysed analyse true held (λ text. IsPut old new text))
-        → is_match analysed.analysed.replayed.rec.stakes ≡ false
+        → is_match_record analysed.analysed.replayed.rec.stakes ≡ false
         → PrintsTrueLosses (head_of solve solved.words.rounds)
         (report_shown analyse.shown analysed.analysed.replayed.rec.stakes)
         (λ text. IsPut old new text) }
@@ -153,7 +153,7 @@ pub fn right_runs_are_done()
     ensures { (command : Command) (before after : List Event) (old new : Output)
         (status : ℕ) (ending : Ending)
         → AreAnswered before after → IsRightFor command (standing before)
-        → Runs (Ok command) before after old new status ending
+        → RunsAsAsked (Ok command) before after old new status ending
         → IsDoneUnlessHindered before after old new status }
 {
     right_files_are_not_refused();
@@ -194,7 +194,7 @@ pub fn records_are_analysed_by_a_solved_file()
         → IsRightSolve solve → (solved : HasSolved solve before after put_before put_after)
         → held analyse.base ≡ standing after solve.file
         → OfHeld (held analyse.rec) (λ bytes. HoldsRecord bytes replayed)
-        → is_match replayed.rec.stakes ≡ false
+        → is_match_record replayed.rec.stakes ≡ false
         → game_recorded replayed.rec ≡ game_told (head_of solve solved.words.rounds)
         → IsRightFor (ToAnalyse analyse) held }
 {

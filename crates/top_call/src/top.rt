@@ -7,7 +7,7 @@ ghost use Rattle.equity_report.specs.declared.refusal.Refusal.TheVariants.{Read}
 ghost use Rattle.run_endings.specs.declared.ending.RunStop.TheVariants.{NotWritten, Refused};
 ghost use Rattle.run_endings.specs.Endings.{Ending, PutsEnding, status_at};
 ghost use Rattle.refusal_notes.specs.Notes.{PutsNote, PutsNotes};
-ghost use Rattle.top_call.specs.Outcomes.{Ends, HasRun, KeepsFiles, LeavesAllFiles, LeavesFiles, NotesBefore, Runs, asked, asks_list, is_list, unread_refusal};
+ghost use Rattle.top_call.specs.Outcomes.{Ends, HasRun, KeepsFiles, LeavesAllFiles, LeavesFiles, NotesBefore, RunsAsAsked, asked, asks_list, is_list, unread_refusal};
 
 use crate::board::run_board;
 use base_commands::{
@@ -209,7 +209,7 @@ pub fn run<R: Threads + Sync, F: Files, O: Sink, N: Sink, G: Gate + Sync>(
     gate: &G,
 ) -> u8
     ensures { (ending : Ending)
-        × Runs (asked words.now) (F.log files.old) (F.log files.new)
+        × RunsAsAsked (asked words.now) (F.log files.old) (F.log files.new)
         (O.output out.old) (O.output out.new) result ending
         × (LeavesAllFiles (asked words.now) ending → files.new ≡ files.old)
         × PutsNotes (asks_list (asked words.now)) ending

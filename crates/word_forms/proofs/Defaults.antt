@@ -7,13 +7,13 @@ use Rattle.std.proofs.lemmas.Slice.Eq.{bytes_eq-Decides}
 use Rattle.clap.specs.Walk.{Row, Text, has_row, with_default, with_values}
 use Rattle.clap.specs.declared.parser.matches.ValueSource.TheVariants.{CommandLine, DefaultValue}
 use Rattle.clap.specs.declared.builder.value_parser.Reading.TheVariants.{AsWritten}
-use Rattle.word_forms.specs.Form.{Values, is_among, value_of}
+use Rattle.word_forms.specs.Form.{GivenValues, is_among, given_value}
 use Rattle.word_forms.proofs.Rules.{flag_rule}
 
 abbrev pub row : Text × Text → Row
 row v = record { id = v.0; values = v.1 ∷ []; count = None; source = Some CommandLine; reading = AsWritten }
 
-abbrev pub rows : Values → List Row
+abbrev pub rows : GivenValues → List Row
 rows given = map row given
 
 abbrev pub default_row : Text → Row
@@ -86,24 +86,24 @@ module _ (id : Text) where
       twice false c None = refl
 
   -- what is read of a row, and `false` of a default
-  pub texts_are : (read : Row → Option Text) (given : Values) (flags : List Text) → ((v : Text × Text) → read (row v) ≡ Some v.1) → read (default_row id) ≡ Some (codes "false")
-      → option_and_then read (row_at id (with_defaults (rows given) flags)) ≡ value_of id (given ++ map (λ name. (name, codes "false")) flags)
+  pub texts_are : (read : Row → Option Text) (given : GivenValues) (flags : List Text) → ((v : Text × Text) → read (row v) ≡ Some v.1) → read (default_row id) ≡ Some (codes "false")
+      → option_and_then read (row_at id (with_defaults (rows given) flags)) ≡ given_value id (given ++ map (λ name. (name, codes "false")) flags)
   texts_are read given flags reads unset = ap (option_and_then read) (row_with_defaults flags (rows given)) ∙ each given
     where
-      unused : (names : List Text) → option_and_then read (or_default id (is_among id names) None) ≡ value_of id (map (λ name. (name, codes "false")) names)
+      unused : (names : List Text) → option_and_then read (or_default id (is_among id names) None) ≡ given_value id (map (λ name. (name, codes "false")) names)
       unused [] = refl
       unused (n ∷ names) = go (bytes_eq n id) (unused names)
         where
-          go : (b : Bool) → option_and_then read (or_default id (is_among id names) None) ≡ value_of id (map (λ name. (name, codes "false")) names)
+          go : (b : Bool) → option_and_then read (or_default id (is_among id names) None) ≡ given_value id (map (λ name. (name, codes "false")) names)
               → option_and_then read (or_default id (b || is_among id names) None) ≡ option_map (λ (v : Text × Text). v.1) (cond b (Some (n, codes "false")) (find (λ v. bytes_eq v.0 id) (map (λ name. (name, codes "false")) names)))
           go true later = unset
           go false later = later
 
-      each : (vs : Values) → option_and_then read (or_default id (is_among id flags) (row_at id (rows vs))) ≡ value_of id (vs ++ map (λ name. (name, codes "false")) flags)
+      each : (vs : GivenValues) → option_and_then read (or_default id (is_among id flags) (row_at id (rows vs))) ≡ given_value id (vs ++ map (λ name. (name, codes "false")) flags)
       each [] = unused flags
       each (v ∷ vs) = go (bytes_eq v.0 id) (each vs)
         where
-          go : (b : Bool) → option_and_then read (or_default id (is_among id flags) (row_at id (rows vs))) ≡ value_of id (vs ++ map (λ name. (name, codes "false")) flags)
+          go : (b : Bool) → option_and_then read (or_default id (is_among id flags) (row_at id (rows vs))) ≡ given_value id (vs ++ map (λ name. (name, codes "false")) flags)
               → option_and_then read (or_default id (is_among id flags) (cond b (Some (row v)) (row_at id (rows vs)))) ≡ option_map (λ (w : Text × Text). w.1) (cond b (Some v) (find (λ w. bytes_eq w.0 id) (vs ++ map (λ name. (name, codes "false")) flags)))
           go true later = reads v
           go false later = later

@@ -6,7 +6,7 @@ use Rattle.std.specs.Str.{bytes_eq}
 use Rattle.std.proofs.lemmas.Slice.Eq.{bytes_eq-Decides}
 use Rattle.clap.specs.Walk.{Text}
 use Rattle.clap.specs.Values.{bool_text}
-use Rattle.word_forms.specs.Form.{Form, Values, Reading, is_among, is_flag, is_set, is_given, is_whole, value_of, option_of, give, take_argument, take_value, take_known, take_flag, take_named, take_as, take_word, read, nothing_read, with_flags, values_of}
+use Rattle.word_forms.specs.Form.{Form, GivenValues, Reading, is_among, is_flag, is_set, is_given, is_whole, given_value, option_of, give, take_argument, take_value, take_known, take_flag, take_named, take_as, take_word, read_forward, nothing_read, with_flags, values_of}
 
 abbrev IsTrue : Option Text → Type 0
 IsTrue None = Unit {0}
@@ -19,7 +19,7 @@ abbrev first_text : Option (Text × Text) → Option Text
 first_text = option_map (λ v. v.1)
 
 -- one value more
-added : (name n t : Text) (given : Values) → IsTrue (value_of name given) → (bytes_eq n name ≡ true → t ≡ codes "true") → IsTrue (value_of name (given ++ (n, t) ∷ []))
+added : (name n t : Text) (given : GivenValues) → IsTrue (given_value name given) → (bytes_eq n name ≡ true → t ≡ codes "true") → IsTrue (given_value name (given ++ (n, t) ∷ []))
 added name n t [] is new = go (bytes_eq n name) refl
   where
     go : (b : Bool) → bytes_eq n name ≡ b → IsTrue (first_text (cond b (Some (n, t)) None))
@@ -28,23 +28,23 @@ added name n t [] is new = go (bytes_eq n name) refl
 added name n t (v ∷ given) is new = go (bytes_eq v.0 name) is (λ later. added name n t given later new)
   where
     go : (b : Bool) → IsTrue (first_text (cond b (Some v) (find (λ v. bytes_eq v.0 name) given)))
-        → (IsTrue (value_of name given) → IsTrue (value_of name (given ++ (n, t) ∷ [])))
+        → (IsTrue (given_value name given) → IsTrue (given_value name (given ++ (n, t) ∷ [])))
         → IsTrue (first_text (cond b (Some v) (find (λ v. bytes_eq v.0 name) (given ++ (n, t) ∷ []))))
     go true here later = here
     go false here later = later here
 
 -- `false` behind the values
-told : (name : Text) (names : List Text) (given : Values) → is_among name names ≡ true → IsTrue (value_of name given) → Tells (value_of name (given ++ map (λ n. (n, codes "false")) names))
+told : (name : Text) (names : List Text) (given : GivenValues) → is_among name names ≡ true → IsTrue (given_value name given) → Tells (given_value name (given ++ map (λ n. (n, codes "false")) names))
 told name [] [] among is = absurd (true≢false (sym among))
 told name (n ∷ names) [] among is = go (bytes_eq n name) among (λ later. told name names [] later tt)
   where
-    go : (b : Bool) → (b || is_among name names) ≡ true → (is_among name names ≡ true → Tells (value_of name (map (λ n. (n, codes "false")) names)))
+    go : (b : Bool) → (b || is_among name names) ≡ true → (is_among name names ≡ true → Tells (given_value name (map (λ n. (n, codes "false")) names)))
         → Tells (first_text (cond b (Some (n, codes "false")) (find (λ v. bytes_eq v.0 name) (map (λ n. (n, codes "false")) names))))
     go true here later = refl
     go false here later = later here
 told name names (v ∷ given) among is = go (bytes_eq v.0 name) is (told name names given among)
   where
-    go : (b : Bool) → IsTrue (first_text (cond b (Some v) (find (λ v. bytes_eq v.0 name) given))) → (IsTrue (value_of name given) → Tells (value_of name (given ++ map (λ n. (n, codes "false")) names)))
+    go : (b : Bool) → IsTrue (first_text (cond b (Some v) (find (λ v. bytes_eq v.0 name) given))) → (IsTrue (given_value name given) → Tells (given_value name (given ++ map (λ n. (n, codes "false")) names)))
         → Tells (first_text (cond b (Some v) (find (λ v. bytes_eq v.0 name) (given ++ map (λ n. (n, codes "false")) names))))
     go true here later = subst (λ (t : Text). Tells (Some t)) (sym here) refl
     go false here later = later here
@@ -72,7 +72,7 @@ module _ (f : Form) where
   Waits (Some name) = is_among name f.options ≡ true
 
   record IsRight (r : Reading) : Type 0 where
-    flags : (name : Text) → is_flag f name ≡ true → IsTrue (value_of name r.given)
+    flags : (name : Text) → is_flag f name ≡ true → IsTrue (given_value name r.given)
     waits : Waits r.waiting
 
   abbrev Goes : Option Reading → Type 0
@@ -121,19 +121,19 @@ module _ (f : Form) where
       go None = to_value r.waiting is.waits
       go (Some o) = to_named o (is_some r.waiting)
 
-  words_right : (words : List Text) (o : Option Reading) → Goes o → Goes (read f words o)
+  words_right : (words : List Text) (o : Option Reading) → Goes o → Goes (read_forward f words o)
   words_right [] o is = is
   words_right (word ∷ words) None is = words_right words None tt
   words_right (word ∷ words) (Some r) is = words_right words (take_word f word r) (word_right word r is)
 
   -- a flag's value says whether it is set
-  pub flag_told : (words : List Text) (given : Values) (name : Text) → values_of f words ≡ Some given → is_flag f name ≡ true → value_of name given ≡ Some (bool_text (is_set name given))
-  flag_told words given name e flag = go (read f words (Some nothing_read)) (words_right words (Some nothing_read) (record { flags = λ _ _. tt; waits = tt })) e
+  pub flag_told : (words : List Text) (given : GivenValues) (name : Text) → values_of f words ≡ Some given → is_flag f name ≡ true → given_value name given ≡ Some (bool_text (is_set name given))
+  flag_told words given name e flag = go (read_forward f words (Some nothing_read)) (words_right words (Some nothing_read) (record { flags = λ _ _. tt; waits = tt })) e
     where
-      whole : (b : Bool) (r : Reading) → IsRight r → cond b (Some (with_flags f r.given)) None ≡ Some given → Tells (value_of name given)
-      whole true r is same = subst (λ (o : Option Values). Tells (option_and_then (value_of name) o)) same (told name f.flags r.given (among_all _ _ _ flag).0 (is.flags name flag))
+      whole : (b : Bool) (r : Reading) → IsRight r → cond b (Some (with_flags f r.given)) None ≡ Some given → Tells (given_value name given)
+      whole true r is same = subst (λ (o : Option GivenValues). Tells (option_and_then (given_value name) o)) same (told name f.flags r.given (among_all _ _ _ flag).0 (is.flags name flag))
       whole false r is same = cc
 
-      go : (o : Option Reading) → Goes o → option_and_then (λ (r : Reading). cond (is_whole f r) (Some (with_flags f r.given)) None) o ≡ Some given → Tells (value_of name given)
+      go : (o : Option Reading) → Goes o → option_and_then (λ (r : Reading). cond (is_whole f r) (Some (with_flags f r.given)) None) o ≡ Some given → Tells (given_value name given)
       go None is same = cc
       go (Some r) is same = whole (is_whole f r) r is same

@@ -24,12 +24,12 @@ is_flag f name =
     is_among name f.flags && not (is_among name f.options) && not (is_among name f.arguments)
 
 -- values by the names that they are given to, in the order of the words
-abbrev pub Values : Type 0
-Values = List (Bytes × Bytes)
+abbrev pub GivenValues : Type 0
+GivenValues = List (Bytes × Bytes)
 
 -- what has been read so far: the values, how many of them are arguments, and the option that waits for its value
 pub record Reading : Type 0 where
-  pub given : Values
+  pub given : GivenValues
   pub count : ℕ
   pub waiting : Option Bytes
 
@@ -59,17 +59,17 @@ option_of (x ∷ y ∷ z ∷ rest) = if (x == 45) && (y == 45)
     else None
 option_of _ = None
 
-abbrev pub is_given : Bytes → Values → Bool
+abbrev pub is_given : Bytes → GivenValues → Bool
 is_given name given = list_any (λ v. bytes_eq v.0 name) given
 
 -- the value that a name was given
-abbrev pub value_of : Bytes → Values → Option Bytes
-value_of name given = option_map (λ v. v.1) (find (λ v. bytes_eq v.0 name) given)
+abbrev pub given_value : Bytes → GivenValues → Option Bytes
+given_value name given = option_map (λ v. v.1) (find (λ v. bytes_eq v.0 name) given)
 
 -- the flag is given
-abbrev pub is_set : Bytes → Values → Bool
+abbrev pub is_set : Bytes → GivenValues → Bool
 is_set name given =
-    option_map_or (λ value. bytes_eq value (codes "true")) (value_of name given) false
+    option_map_or (λ value. bytes_eq value (codes "true")) (given_value name given) false
 
 -- a value for a name that has none yet
 abbrev pub give : Bytes → Bytes → Reading → Option Reading
@@ -114,9 +114,9 @@ abbrev pub take_word : Form → Bytes → Reading → Option Reading
 take_word f word r = take_as f (option_of word) word r
 
 -- the words, one after the other
-abbrev pub read : Form → List Bytes → Option Reading → Option Reading
-read f [] r = r
-read f (word ∷ words) r = read f words (option_and_then (take_word f word) r)
+abbrev pub read_forward : Form → List Bytes → Option Reading → Option Reading
+read_forward f [] r = r
+read_forward f (word ∷ words) r = read_forward f words (option_and_then (take_word f word) r)
 
 -- no option waits, and each argument is given
 abbrev pub is_whole : Form → Reading → Bool
@@ -126,11 +126,11 @@ abbrev pub nothing_read : Reading
 nothing_read = record { given = []; count = 0; waiting = None }
 
 -- behind the values that were given stands `false` for each flag: a name's first value counts
-abbrev pub with_flags : Form → Values → Values
+abbrev pub with_flags : Form → GivenValues → GivenValues
 with_flags f given = given ++ map (λ name. (name, codes "false")) f.flags
 
 -- the values that the words give, if they have the form
-abbrev pub values_of : Form → List Bytes → Option Values
+abbrev pub values_of : Form → List Bytes → Option GivenValues
 values_of f words =
     option_and_then (λ (r : Reading). if is_whole f r then Some (with_flags f r.given) else None)
-    (read f words (Some nothing_read))
+    (read_forward f words (Some nothing_read))

@@ -7,7 +7,7 @@ use Rattle.std.specs.Int.{byte_at, bytes_high_first}
 use Rattle.byteorder.specs.Endian.{big_from, big_number, big_bytes}
 use Rattle.byteorder.specs.Numbers.{big_from-cons, big_from-lt, big_number-reads_back, length-bytes_high_first}
 use Rattle.word_pages.specs.declared.version.Version.{Version}
-use Rattle.word_pages.specs.Words.{word_size, Fits, word_text, words_text, words_of}
+use Rattle.word_pages.specs.Words.{word_size, Fits, word_text, words_bytes, words_in_bytes}
 use Rattle.word_pages.specs.Pages.{AreBytes}
 use Rattle.word_pages.proofs.Texts.{times_more}
 
@@ -49,7 +49,7 @@ are_bytes-drop (suc n) [] are = are
 are_bytes-drop (suc n) (x ∷ bytes) are = are_bytes-drop n bytes (λ k. are (suc k))
 
 -- the words of bytes are written as these bytes
-pub text-words_of : (version : Version) (n : ℕ) (bytes : List ℕ) → word_size version * n ≤ length bytes → AreBytes bytes → words_text version (words_of version n bytes) ≡ take (word_size version * n) bytes
+pub text-words_of : (version : Version) (n : ℕ) (bytes : List ℕ) → word_size version * n ≤ length bytes → AreBytes bytes → words_bytes version (words_in_bytes version n bytes) ≡ take (word_size version * n) bytes
 text-words_of version zero bytes long are =
     let none : 0 ≡ word_size version * 0 = omega arith in ap (λ k. take k bytes) none
 text-words_of version (suc n) bytes long are =
@@ -61,22 +61,22 @@ text-words_of version (suc n) bytes long are =
     ∙ ap (λ k. take k bytes) (sym more)
 
 -- words are read from their bytes
-pub words_of-text : (version : Version) (words rest : List ℕ) → All (Fits version) words → words_of version (length words) (words_text version words ++ rest) ≡ words
+pub words_of-text : (version : Version) (words rest : List ℕ) → All (Fits version) words → words_in_bytes version (length words) (words_bytes version words ++ rest) ≡ words
 words_of-text version [] rest fit = refl
 words_of-text version (word ∷ words) rest fit =
     let size = word_size version in
-    let all = words_text version words ++ rest in
-    let parts : words_text version (word ∷ words) ++ rest ≡ word_text version word ++ all = append_assoc (word_text version word) (words_text version words) rest in
+    let all = words_bytes version words ++ rest in
+    let parts : words_bytes version (word ∷ words) ++ rest ≡ word_text version word ++ all = append_assoc (word_text version word) (words_bytes version words) rest in
     let behind : drop size (word_text version word ++ all) ≡ all = ap (λ k. drop k (word_text version word ++ all)) (sym (length-bytes_high_first size word)) ∙ drop-append_seam (word_text version word) all in
-    ap (words_of version (suc (length words))) parts
+    ap (words_in_bytes version (suc (length words))) parts
     ∙ ap₂ (λ (word : ℕ) (words : List ℕ). word ∷ words) (big_number-reads_back size word all (fit 0 0 (omega arith)))
-    (ap (words_of version (length words)) behind ∙ words_of-text version words rest (λ k d lt. fit (suc k) d (omega (arith, lt))))
+    (ap (words_in_bytes version (length words)) behind ∙ words_of-text version words rest (λ k d lt. fit (suc k) d (omega (arith, lt))))
 
 -- words that were read fit
-pub words_of-fit : (version : Version) (n : ℕ) (bytes : List ℕ) → AreBytes bytes → All (Fits version) (words_of version n bytes)
+pub words_of-fit : (version : Version) (n : ℕ) (bytes : List ℕ) → AreBytes bytes → All (Fits version) (words_in_bytes version n bytes)
 words_of-fit version n bytes are = λ k d. each k n bytes are d
   where
-    each : (k n : ℕ) (bytes : List ℕ) → AreBytes bytes → (d : ℕ) → k < length (words_of version n bytes) → Fits version (slice_index_or (words_of version n bytes) k d)
+    each : (k n : ℕ) (bytes : List ℕ) → AreBytes bytes → (d : ℕ) → k < length (words_in_bytes version n bytes) → Fits version (slice_index_or (words_in_bytes version n bytes) k d)
     each k zero bytes are d lt = absurd (omega (arith, lt))
     each zero (suc n) bytes are d lt = big_from-lt 0 (word_size version) bytes are
     each (suc k) (suc n) bytes are d lt = each k n (drop (word_size version) bytes) (are_bytes-drop (word_size version) bytes are) d (omega (arith, lt))

@@ -7,9 +7,9 @@ use Rattle.std.proofs.lemmas.List.{take_all, take-append-drop, drop-drop, length
 use Rattle.hyper_outside.specs.declared.outside.PageFault.TheVariants.{PageDigest}
 use Rattle.sha2.specs.Sha256.{sha256}
 use Rattle.word_pages.specs.declared.version.Version.{Version}
-use Rattle.word_pages.specs.Words.{word_size, Fits, words_text, words_of}
+use Rattle.word_pages.specs.Words.{word_size, Fits, words_bytes, words_in_bytes}
 use Rattle.word_pages.specs.Sealed.{binding_of, is_sealed_under, sealed_under}
-use Rattle.word_pages.specs.Flaws.{pairs_flaw, AreWithin}
+use Rattle.word_pages.specs.Flaws.{pairs_flaw, ArePairsWithin}
 use Rattle.word_pages.specs.Pages.{AreBytes, page_text, page_size, page_flaw, first_pages, pages_from, pages_in, pages_text}
 use Rattle.word_pages.proofs.Texts.{length-cells}
 use Rattle.word_pages.proofs.Seals.{length-sealed, is_sealed-exactly}
@@ -20,7 +20,7 @@ use Rattle.word_pages.proofs.Back.{text-words_of, words_of-text}
 -- ---- one page
 
 pub length-page : (version : Version) (binding words : List ℕ) → length (page_text version binding words) ≡ page_size version (length words)
-length-page version binding words = length-sealed binding (words_text version words) ∙ ap (λ k. k + 32) (length-cells (word_size version) words)
+length-page version binding words = length-sealed binding (words_bytes version words) ∙ ap (λ k. k + 32) (length-cells (word_size version) words)
 
 -- sealed bytes are sealed
 pub is_sealed-sealed : (binding bytes : List ℕ) → is_sealed_under binding (sealed_under binding bytes) ≡ true
@@ -39,31 +39,31 @@ sealed-one binding other bytes others same =
     sym (take-append_seam bytes (sha256 (binding ++ bytes))) ∙ ap₂ (λ (k : ℕ) (text : List ℕ). take k text) count same ∙ take-append_seam others (sha256 (other ++ others))
 
 -- a page of words that fit and lie within the bound has no flaw, whatever stands behind it
-pub page-right : (version : Version) (binding : List ℕ) (bound : ℤ) (at : ℕ) (words rest : List ℕ) → All (Fits version) words → AreWithin bound words
+pub page-right : (version : Version) (binding : List ℕ) (bound : ℤ) (at : ℕ) (words rest : List ℕ) → All (Fits version) words → ArePairsWithin bound words
     → page_flaw version binding bound (length words) at (page_text version binding words ++ rest) ≡ None
 page-right version binding bound at words rest fit within =
     let page = page_text version binding words in
     let size = page_size version (length words) in
-    let digest = sha256 (binding ++ words_text version words) in
+    let digest = sha256 (binding ++ words_bytes version words) in
     let count = length-page version binding words in
     let whole : take size (page ++ rest) ≡ page = ap (λ k. take k (page ++ rest)) (sym count) ∙ take-append_seam page rest in
-    let read : words_of version (length words) (page ++ rest) ≡ words =
-    ap (words_of version (length words)) (append_assoc (words_text version words) digest rest) ∙ words_of-text version words (digest ++ rest) fit in
+    let read : words_in_bytes version (length words) (page ++ rest) ≡ words =
+    ap (words_in_bytes version (length words)) (append_assoc (words_bytes version words) digest rest) ∙ words_of-text version words (digest ++ rest) fit in
     long-flaw version binding bound (length words) at (page ++ rest) (omega (arith, count, length-append page rest))
-    ∙ or_none _ _ (no_flaw (is_sealed_under binding (take size (page ++ rest))) PageDigest (at + word_size version * length words) (ap (is_sealed_under binding) whole ∙ is_sealed-sealed binding (words_text version words)))
+    ∙ or_none _ _ (no_flaw (is_sealed_under binding (take size (page ++ rest))) PageDigest (at + word_size version * length words) (ap (is_sealed_under binding) whole ∙ is_sealed-sealed binding (words_bytes version words)))
     (ap (pairs_flaw version bound at) read ∙ within-none version bound at words within)
 
 -- bytes of a page's length have no flaw exactly where they are the page of their words, which lie within the bound
 pub page-exactly : (version : Version) (binding : List ℕ) (bound : ℤ) (n at : ℕ) (bytes : List ℕ) → AreBytes bytes → length bytes ≡ page_size version n
-    → (page_flaw version binding bound n at bytes ≡ None → (bytes ≡ page_text version binding (words_of version n bytes)) × AreWithin bound (words_of version n bytes))
-    × ((bytes ≡ page_text version binding (words_of version n bytes)) × AreWithin bound (words_of version n bytes) → page_flaw version binding bound n at bytes ≡ None)
+    → (page_flaw version binding bound n at bytes ≡ None → (bytes ≡ page_text version binding (words_in_bytes version n bytes)) × ArePairsWithin bound (words_in_bytes version n bytes))
+    × ((bytes ≡ page_text version binding (words_in_bytes version n bytes)) × ArePairsWithin bound (words_in_bytes version n bytes) → page_flaw version binding bound n at bytes ≡ None)
 page-exactly version binding bound n at bytes are long =
     let size = page_size version n in
-    let words = words_of version n bytes in
+    let words = words_in_bytes version n bytes in
     let whole : take size bytes ≡ bytes = take_all size bytes (omega (arith, long)) in
     let flaw = long-flaw version binding bound n at bytes (omega (arith, long)) in
     let exactly = is_sealed-exactly binding bytes in
-    let text : take (length bytes - 32) bytes ≡ words_text version words = ap (λ k. take k bytes) front ∙ sym (text-words_of version n bytes (omega (arith, long)) are) in (
+    let text : take (length bytes - 32) bytes ≡ words_bytes version words = ap (λ k. take k bytes) front ∙ sym (text-words_of version n bytes (omega (arith, long)) are) in (
       λ none.
           let parts = none_or _ _ (sym flaw ∙ none) in
           let right = is_well (is_sealed_under binding (take size bytes)) PageDigest (at + word_size version * n) parts.0 in

@@ -6,7 +6,7 @@ use Rattle.std.proofs.lemmas.Grind.{flat_map-append}
 use Rattle.byteorder.specs.Endian.{big_number, big_bytes}
 use Rattle.byteorder.specs.Numbers.{big_from-take, length-bytes_high_first}
 use Rattle.word_pages.specs.declared.version.Version.{Version}
-use Rattle.word_pages.specs.Words.{word_size, numbers_of, words_of}
+use Rattle.word_pages.specs.Words.{word_size, numbers_of, words_in_bytes}
 
 -- so many times one more
 pub times_more : (n k : ℕ) → n * suc k ≡ n + n * k
@@ -38,7 +38,7 @@ cells_next size i words lt =
 
 -- ---- reading
 
-pub length-words_of : (version : Version) (n : ℕ) (bytes : List ℕ) → length (words_of version n bytes) ≡ n
+pub length-words_of : (version : Version) (n : ℕ) (bytes : List ℕ) → length (words_in_bytes version n bytes) ≡ n
 length-words_of version zero bytes = refl
 length-words_of version (suc n) bytes = let rest = length-words_of version n (drop (word_size version) bytes) in omega (arith, rest)
 
@@ -55,7 +55,7 @@ numbers_next size (suc n) bytes =
     ∙ ap (λ (rest : List ℕ). big_number size bytes ∷ (numbers_of size n (drop size bytes) ++ big_number size rest ∷ [])) (drop-drop (size * n) size bytes ∙ ap (λ k. drop k bytes) on)
 
 -- the words of bytes are in their front
-pub words_of-take : (version : Version) (n m : ℕ) (bytes : List ℕ) → word_size version * n ≤ m → words_of version n (take m bytes) ≡ words_of version n bytes
+pub words_of-take : (version : Version) (n m : ℕ) (bytes : List ℕ) → word_size version * n ≤ m → words_in_bytes version n (take m bytes) ≡ words_in_bytes version n bytes
 words_of-take version zero m bytes le = refl
 words_of-take version (suc n) m bytes le =
     let size = word_size version in
@@ -63,4 +63,4 @@ words_of-take version (suc n) m bytes le =
     let parts : size + (m - size) ≡ m = omega (arith, le, more) in
     let rest : drop size (take m bytes) ≡ take (m - size) (drop size bytes) = ap (λ k. drop size (take k bytes)) (sym parts) ∙ drop-take size (m - size) bytes in
     ap₂ (λ (word : ℕ) (words : List ℕ). word ∷ words) (big_from-take 0 size m bytes (omega (arith, le, more)))
-    (ap (words_of version n) rest ∙ words_of-take version n (m - size) (drop size bytes) (omega (arith, le, more)))
+    (ap (words_in_bytes version n) rest ∙ words_of-take version n (m - size) (drop size bytes) (omega (arith, le, more)))

@@ -9,12 +9,12 @@ use Rattle.word_pages.specs.declared.flaws.Flaw.{Flaw}
 use Rattle.word_pages.specs.Words.{word_size}
 
 -- the value that a word stands for
-abbrev pub value_of : ℕ → ℤ
-value_of word = pos word -ℤ pos (2 ^ 36)
+abbrev pub word_value : ℕ → ℤ
+word_value word = pos word -ℤ pos (2 ^ 36)
 
 -- the word's value lies within the bound on both sides of 0
 abbrev pub is_in_range : ℤ → ℕ → Bool
-is_in_range bound word = int_le (neg_ℤ bound) (value_of word) && int_le (value_of word) bound
+is_in_range bound word = int_le (neg_ℤ bound) (word_value word) && int_le (word_value word) bound
 
 -- nothing where all is well, else this fault here
 abbrev pub flaw_unless : Bool → PageFault → ℕ → Option Flaw
@@ -36,12 +36,12 @@ pairs_flaw version bound at (lower ∷ upper ∷ words) = option_or
     (pairs_flaw version bound (at + 2 * word_size version) words)
 
 -- the pair with this number, counted from 0
-abbrev pub pair_of : List ℕ → ℕ → Bounds
-pair_of words k = record {
-  lower = value_of (slice_index words (2 * k));
-  upper = value_of (slice_index words (2 * k + 1));
+abbrev pub pair_in_words : List ℕ → ℕ → Bounds
+pair_in_words words k = record {
+  lower = word_value (slice_index words (2 * k));
+  upper = word_value (slice_index words (2 * k + 1));
 }
 
 -- each pair lies within the bound, the lower word at most the upper one
-abbrev pub AreWithin : ℤ → List ℕ → Type 0
-AreWithin bound words = (k : ℕ) → 2 * k + 1 < length words → IsWithin bound (pair_of words k)
+abbrev pub ArePairsWithin : ℤ → List ℕ → Type 0
+ArePairsWithin bound words = (k : ℕ) → 2 * k + 1 < length words → IsWithin bound (pair_in_words words k)

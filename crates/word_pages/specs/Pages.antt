@@ -4,7 +4,7 @@ use Rattle.std.specs.Option.{option_or}
 use Rattle.hyper_outside.specs.declared.outside.PageFault.TheVariants.{Short, PageDigest}
 use Rattle.word_pages.specs.declared.version.Version.{Version}
 use Rattle.word_pages.specs.declared.flaws.Flaw.{Flaw}
-use Rattle.word_pages.specs.Words.{word_size, words_text, words_of}
+use Rattle.word_pages.specs.Words.{word_size, words_bytes, words_in_bytes}
 use Rattle.word_pages.specs.Sealed.{sealed_under, is_sealed_under, binding_of}
 use Rattle.word_pages.specs.Flaws.{flaw_unless, pairs_flaw}
 
@@ -14,7 +14,7 @@ AreBytes bytes = (k : ℕ) → slice_index bytes k < 256
 
 -- a page of words that is bound to these bytes
 abbrev pub page_text : Version → List ℕ → List ℕ → List ℕ
-page_text version binding words = sealed_under binding (words_text version words)
+page_text version binding words = sealed_under binding (words_bytes version words)
 
 -- how many bytes a page of so many words has
 abbrev pub page_size : Version → ℕ → ℕ
@@ -29,7 +29,7 @@ page_flaw version binding bound count at bytes =
     (option_or
     (flaw_unless (is_sealed_under binding (take (page_size version count) bytes)) PageDigest
     (at + word_size version * count))
-    (pairs_flaw version bound at (words_of version count bytes)))
+    (pairs_flaw version bound at (words_in_bytes version count bytes)))
 
 -- so many pages of `size` words each, one after the other, the last one shorter where the words
 -- don't fill it; the first has this number, in a file whose head has this digest

@@ -18,8 +18,8 @@ Fits version word = word < 256 ^ word_size version
 abbrev pub word_text : Version → ℕ → List ℕ
 word_text version word = big_bytes (word_size version) word
 
-abbrev pub words_text : Version → List ℕ → List ℕ
-words_text version words = flat_map (word_text version) words
+abbrev pub words_bytes : Version → List ℕ → List ℕ
+words_bytes version words = flat_map (word_text version) words
 
 -- the first n numbers of so many bytes each
 abbrev pub numbers_of : ℕ → ℕ → List ℕ → List ℕ
@@ -27,5 +27,5 @@ numbers_of size zero bytes = []
 numbers_of size (suc n) bytes = big_number size bytes ∷ numbers_of size n (drop size bytes)
 
 -- the first n words that bytes hold
-abbrev pub words_of : Version → ℕ → List ℕ → List ℕ
-words_of version n bytes = numbers_of (word_size version) n bytes
+abbrev pub words_in_bytes : Version → ℕ → List ℕ → List ℕ
+words_in_bytes version n bytes = numbers_of (word_size version) n bytes

@@ -1,6 +1,6 @@
 ghost use Rattle.std.specs.Prelude.{◌≡◌, ◌≤◌, ◌<◌, ◌+◌, ◌*◌, ◌^◌, ℕ, ℤ, pos, ◌≤ℤ◌, length};
 ghost use Rattle.std.specs.Result.{result_err};
-ghost use Rattle.word_pages.specs.Words.{word_size, words_of};
+ghost use Rattle.word_pages.specs.Words.{word_size, words_in_bytes};
 ghost use Rattle.word_pages.specs.Flaws.{pair_flaw, pairs_flaw};
 
 use crate::version::Version;
@@ -78,9 +78,9 @@ pub fn read_pairs(
     requires to { bound ≤ℤ pos (2 ^ 36) }
     requires long { word_size version * length words.old ≤ length bytes.now }
     requires places { at + length bytes.now < 2 ^ 64 }
-    ensures words { words.new ≡ words_of version (length words.old) bytes.now }
+    ensures words { words.new ≡ words_in_bytes version (length words.old) bytes.now }
     ensures flaw { result_err result
-        ≡ pairs_flaw version bound at (words_of version (length words.old) bytes.now) }
+        ≡ pairs_flaw version bound at (words_in_bytes version (length words.old) bytes.now) }
 {
     read_words(version, bytes, words);
     check_pairs(version, bound, at, words)

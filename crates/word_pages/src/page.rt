@@ -1,6 +1,6 @@
 ghost use Rattle.std.specs.Prelude.{◌≡◌, ◌≤◌, ◌<◌, ◌+◌, ◌*◌, ◌^◌, ℕ, ℤ, pos, ◌≤ℤ◌, OnOk, length};
 ghost use Rattle.std.specs.Result.{result_err};
-ghost use Rattle.word_pages.specs.Words.{words_of};
+ghost use Rattle.word_pages.specs.Words.{words_in_bytes};
 ghost use Rattle.word_pages.specs.Pages.{page_size, page_flaw};
 
 use crate::digest::is_sealed_under;
@@ -25,7 +25,7 @@ pub fn read_page(
     requires places { at + length bytes.now < 2 ^ 64 }
     ensures flaw { result_err result
         ≡ page_flaw version binding.now bound (length words.old) at bytes.now }
-    ensures words { OnOk result (words.new ≡ words_of version (length words.old) bytes.now) }
+    ensures words { OnOk result (words.new ≡ words_in_bytes version (length words.old) bytes.now) }
 {
     let size = version.page_size(words.len());
     if bytes.len() < size {

@@ -1,6 +1,6 @@
 ghost use Rattle.std.specs.Prelude.{◌≡◌, ◌≤◌, ◌<◌, ◌+◌, ◌*◌, ◌^◌, ◌++◌, All, length, flat_map};
 ghost use Rattle.byteorder.specs.Endian.{big_bytes};
-ghost use Rattle.word_pages.specs.Words.{word_size, Fits, words_text, words_of, numbers_of};
+ghost use Rattle.word_pages.specs.Words.{word_size, Fits, words_bytes, words_in_bytes, numbers_of};
 
 use crate::version::Version;
 use arrayvec::ArrayVec;
@@ -10,7 +10,7 @@ use byteorder::{BigEndian, ByteOrder};
 pub fn put_words<const N: usize>(version: Version, words: &[u64], out: &mut ArrayVec<u8, N>)
     requires room { length out.old.items + word_size version * length words.now ≤ N }
     requires fit { All (Fits version) words.now }
-    ensures { out.new.items ≡ out.old.items ++ words_text version words.now }
+    ensures { out.new.items ≡ out.old.items ++ words_bytes version words.now }
 {
     match version {
         Version::One => put_cells::<8, N>(words, out),
@@ -37,7 +37,7 @@ fn put_cells<const SIZE: usize, const N: usize>(words: &[u64], out: &mut ArrayVe
 /// Reads words from the front of bytes.
 pub fn read_words(version: Version, bytes: &[u8], words: &mut [u64])
     requires { word_size version * length words.old ≤ length bytes.now }
-    ensures { words.new ≡ words_of version (length words.old) bytes.now }
+    ensures { words.new ≡ words_in_bytes version (length words.old) bytes.now }
 {
     match version {
         Version::One => read_cells::<8>(bytes, words),

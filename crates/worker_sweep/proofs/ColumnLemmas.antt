@@ -15,7 +15,7 @@ use Rattle.turn_rule.specs.States.{IsState}
 use Rattle.turn_rule.specs.Looks.{IsTurnPair, all_told}
 use Rattle.turn_rule.specs.Layouts.{AreLayouts}
 use Rattle.column_sums.specs.Leaps.{layout_at}
-use Rattle.column_turns.specs.Columns.{ColumnPairs}
+use Rattle.column_turns.specs.Columns.{ColumnPairs, position_in, pair_in}
 use Rattle.column_turns.specs.Turns.{AreLiveMovers, AreTurnsOf, mover_at, place_in}
 use Rattle.interval_words.specs.declared.view.View.{View}
 use Rattle.interval_words.specs.Core.{noted}
@@ -23,17 +23,17 @@ use Rattle.interval_words.specs.Seats.{GameTable, GameSeat, SitsAt, KeepsNotes}
 use Rattle.interval_words.proofs.Ends.{tight-trans}
 use Rattle.interval_words.proofs.TurnLaws.{turns-tighten}
 use Rattle.worker_sweep.specs.Blocks.{MaySweep, IsSwept}
-use Rattle.worker_sweep.specs.Columns.{MayBringColumn, AreNotedTo, position_in, pair_in}
-use Rattle.worker_sweep.specs.Sources.{source_of}
+use Rattle.worker_sweep.specs.Columns.{MayBringColumn, AreNotedTo}
+use Rattle.worker_sweep.specs.Sources.{board_source}
 use Rattle.worker_sweep.proofs.BlockLemmas.{swept-noted}
 use Rattle.worker_sweep.proofs.StateLemmas.{turn-done, pair-ends}
 
 -- the pair of a turn that was worked out over the seat's notes may be brought
-pub turn-sweeps : (game : Game) (view : View) (p : Placement) (k : ℕ) (pair : Bounds) → IsTurnPair game.stakes p k (source_of game view.base) (all_told (noted game view.notes)) pair → MaySweep game view p k pair
+pub turn-sweeps : (game : Game) (view : View) (p : Placement) (k : ℕ) (pair : Bounds) → IsTurnPair game.stakes p k (board_source game view.base) (all_told (noted game view.notes)) pair → MaySweep game view p k pair
 turn-sweeps game view p k pair is = record {
   within = within;
-  loose = λ end. (pair-ends game.stakes p k (source_of game view.base) (all_told (noted game view.notes)) pair refl is end).1;
-  tight = λ end. subst (IsNoLooser end (at end pair)) (turn-done game view.base end p k) (pair-ends game.stakes p k (source_of game view.base) (all_told (noted game view.notes)) pair refl is end).0;
+  loose = λ end. (pair-ends game.stakes p k (board_source game view.base) (all_told (noted game view.notes)) pair refl is end).1;
+  tight = λ end. subst (IsNoLooser end (at end pair)) (turn-done game view.base end p k) (pair-ends game.stakes p k (board_source game view.base) (all_told (noted game view.notes)) pair refl is end).0;
 } where
   within : (end : End) → IsWithinUnits game.stakes.bound (at end pair)
   within Lower = is.lower
@@ -75,11 +75,11 @@ column-states game column block are inside other_is movers i k below kind =
 
 -- a column that was worked out over the seat's notes may be brought
 pub column-filled : (game : Game) (view : View) (column : ColumnPairs) (block : ℕ) → AreLayouts game.checkers column.layouts → block < length column.layouts → column.other ≡ layout_at column.layouts block → column.kinds ≡ kinds_of game
-    → AreLiveMovers column.layouts column.other column.movers → AreTurnsOf (source_of game view.base) (all_told (noted game view.notes)) game.stakes (mover_at column.layouts column.other column.movers) (length column.movers) column.pairs → MayBringColumn game view column
+    → AreLiveMovers column.layouts column.other column.movers → AreTurnsOf (board_source game view.base) (all_told (noted game view.notes)) game.stakes (mover_at column.layouts column.other column.movers) (length column.movers) column.pairs → MayBringColumn game view column
 column-filled game view column block are inside other_is kinds movers turns = record {
   states = column-states game column block are inside other_is movers;
   pairs = λ i k below kind. turn-sweeps game view (position_in column i) k (pair_in column i k)
-      (subst (λ (n : ℕ). IsTurnPair game.stakes (position_in column i) k (source_of game view.base) (all_told (noted game view.notes)) (get_or column.pairs (place_in n i k) nothing)) (sym kinds) (turns i k below kind));
+      (subst (λ (n : ℕ). IsTurnPair game.stakes (position_in column i) k (board_source game view.base) (all_told (noted game view.notes)) (get_or column.pairs (place_in n i k) nothing)) (sym kinds) (turns i k below kind));
 }
 
 -- what was noted of a state stays so

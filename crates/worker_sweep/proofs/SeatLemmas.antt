@@ -17,7 +17,7 @@ use Rattle.interval_words.specs.Seats.{GameTable, GameSeat, SitsAt, KeepsNotes, 
 use Rattle.interval_words.proofs.SeatNotes.{sits-kept, keeps-noting, told-noting, adds-trans, adds-weaker}
 use Rattle.worker_sweep.specs.Blocks.{IsWorkIn, WorksIn}
 use Rattle.interval_words.proofs.Ends.{tight-trans, tightest-right}
-use Rattle.worker_sweep.specs.Sources.{source_of}
+use Rattle.worker_sweep.specs.Sources.{board_source}
 
 pub knows-within : (board : GameTable) (seat : GameSeat) → SitsAt board seat → Knows seat.view → AreWithin board.game (noted board.game seat.view.notes)
 knows-within board seat sits knows = (knows.notes board.game sits.game).within
@@ -29,7 +29,7 @@ known-floor game seat end p k value h = tight-trans end _ _ _ h (tightest-right 
 -- a word that was read is an answer
 pub looked-noting : (board : GameTable) (old new : GameSeat) (state : ℕ) (value : ℤ) (end : End) (p : Placement) (k : ℕ) → new ≡ noting old (word_of end state) value → SitsAt board old → state ≡ state_of (kinds_of board.game) p k
     → IsWithinUnits board.game.stakes.bound value → IsNoLooser end value (known board.game old.view end p k)
-    → Looked (source_of board.game old.view.base) (all_told (noted board.game old.view.notes)) (all_told (noted board.game new.view.notes)) 0 0 (λ damage. None ≡ Some damage) (IsAnswer end (source_of board.game old.view.base) (all_told (noted board.game new.view.notes)) p k) (Ok value)
+    → Looked (board_source board.game old.view.base) (all_told (noted board.game old.view.notes)) (all_told (noted board.game new.view.notes)) 0 0 (λ damage. None ≡ Some damage) (IsAnswer end (board_source board.game old.view.base) (all_told (noted board.game new.view.notes)) p k) (Ok value)
 looked-noting board old new state value end p k noting_is sits at within fresh = record {
   later = omega arith;
   notes = record { told = λ told. told; words = λ _. (keeps-noting board old new (word_of end state) value noting_is sits).notes board.game sits.game };

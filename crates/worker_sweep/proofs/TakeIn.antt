@@ -8,9 +8,8 @@ use Rattle.turn_rule.specs.declared.game.Game.{Game}
 use Rattle.interval_words.specs.Core.{noted}
 use Rattle.interval_words.specs.Seats.{GameTable, GameSeat, SitsAt, joining, KeepsNotes}
 use Rattle.worker_sweep.specs.Blocks.{IsSwept}
-use Rattle.column_turns.specs.Columns.{ColumnPairs}
-use Rattle.worker_sweep.specs.Columns.{IsRoomOf}
-use Rattle.worker_sweep.specs.Workers.{SeatsAndMarks, HasRoom, IsHonest, is_marked, unmarked}
+use Rattle.column_turns.specs.Columns.{ColumnPairs, IsRoomOf}
+use Rattle.worker_sweep.specs.Workers.{SeatsAndMarks, HasColumnRoom, IsHonest, is_marked, unmarked}
 use Rattle.worker_sweep.proofs.BlockLemmas.{append-left, append-right, swept-still}
 
 module _ (old other new : GameSeat) (joins : new ≡ joining old other) (same : other.view.base ≡ old.view.base) (none : other.view.hands ≡ 0) where
@@ -70,14 +69,14 @@ honest-kept old new marks kept before game names block marked =
     swept-still game old.view new.view block kept.base (kept.notes game named) (before game named block marked)
 
 -- there is room for the columns of a board's game, whichever seat at it names it
-pub room-of : (board : GameTable) (seat : GameSeat) (column : ColumnPairs) → SitsAt board seat → HasRoom seat.view column → IsRoomOf board.game column
+pub room-of : (board : GameTable) (seat : GameSeat) (column : ColumnPairs) → SitsAt board seat → HasColumnRoom seat.view column → IsRoomOf board.game column
 room-of board seat column sits has = has.room board.game sits.game
 
-pub has-room : (board : GameTable) (seat : GameSeat) (column : ColumnPairs) → SitsAt board seat → IsRoomOf board.game column → HasRoom seat.view column
+pub has-room : (board : GameTable) (seat : GameSeat) (column : ColumnPairs) → SitsAt board seat → IsRoomOf board.game column → HasColumnRoom seat.view column
 has-room board seat column sits room = record { room = λ game names. subst (λ (g : Game). IsRoomOf g column) (one-game seat.view board.game game sits.game names) room }
 
 -- a seat that takes another's place has room for its columns
-pub room-at : (board : GameTable) (seat new : GameSeat) (column : ColumnPairs) → SitsAt board seat → SitsAt board new → HasRoom seat.view column → HasRoom new.view column
+pub room-at : (board : GameTable) (seat new : GameSeat) (column : ColumnPairs) → SitsAt board seat → SitsAt board new → HasColumnRoom seat.view column → HasColumnRoom new.view column
 room-at board seat new column sits follows has = has-room board new column follows (room-of board seat column sits has)
 
 -- nothing is marked

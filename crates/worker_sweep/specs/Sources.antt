@@ -5,8 +5,8 @@ use Rattle.turn_rule.specs.Looks.{Source}
 use Rattle.turn_rule.specs.declared.game.Game.{Game}
 
 -- each look-up is answered, and none is looser than the word after the rounds of the seat's base
-abbrev pub source_of : Game → ℕ → Source
-source_of game base = record {
+abbrev pub board_source : Game → ℕ → Source
+board_source game base = record {
   checkers = game.checkers;
   kinds = length game.stakes.kinds;
   bound = game.stakes.bound;

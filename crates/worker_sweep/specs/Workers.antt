@@ -8,9 +8,8 @@ use Rattle.turn_rule.specs.declared.game.Game.{Game}
 use Rattle.interval_words.specs.Seats.{GameTable, GameSeat, SitsAt, AddsWork}
 use Rattle.interval_words.specs.declared.view.View.{View}
 use Rattle.interval_words.specs.declared.view.Work.{Work}
-use Rattle.column_turns.specs.Columns.{ColumnPairs}
+use Rattle.column_turns.specs.Columns.{ColumnPairs, IsRoomOf}
 use Rattle.worker_sweep.specs.Blocks.{blocks, IsSwept, IsInBlock}
-use Rattle.worker_sweep.specs.Columns.{IsRoomOf}
 
 -- a worker's seats at the board and at the claims, its number, and for each block whether it has swept it in this round
 pub record SeatsAndMarks : Type 0 where
@@ -36,7 +35,7 @@ unmarked_worker seat claims number blocks = record {
 }
 
 -- a column has room for those of the view's game
-pub record HasRoom (view : View) (column : ColumnPairs) : Type 0 where
+pub record HasColumnRoom (view : View) (column : ColumnPairs) : Type 0 where
   pub room : (game : Game) → view.game ≡ Some game → IsRoomOf game column
 
 -- the marked blocks are swept

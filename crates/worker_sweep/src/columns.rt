@@ -5,7 +5,8 @@ ghost use Rattle.turn_rule.specs.Games.{kinds_of};
 ghost use Rattle.turn_rule.specs.States.{IsState};
 ghost use Rattle.interval_words.specs.Seats.{SitsAt, KeepsNotes};
 ghost use Rattle.worker_sweep.specs.Blocks.{blocks, IsSwept, WorksIn};
-ghost use Rattle.worker_sweep.specs.Columns.{IsRoomOf, MayBringColumn, AreNotedTo, position_in};
+ghost use Rattle.worker_sweep.specs.Columns.{MayBringColumn, AreNotedTo};
+ghost use Rattle.column_turns.specs.Columns.{IsRoomOf, position_in};
 
 use crate::seat_pairs::SeatPairs;
 use column_turns::ColumnTurns;

@@ -31,7 +31,7 @@ impl<'a> Pairs for SeatPairs<'a> {
     ghost use Rattle.turn_rule.specs.Looks.{all_told};
     ghost use Rattle.interval_words.specs.Core.{noted};
     ghost use Rattle.interval_words.specs.declared.view.Work.{Work};
-    ghost use Rattle.worker_sweep.specs.Sources.{source_of};
+    ghost use Rattle.worker_sweep.specs.Sources.{board_source};
 
     ghost Stays = { GameTable × ℕ × List Work × ℕ };
 
@@ -39,7 +39,7 @@ impl<'a> Pairs for SeatPairs<'a> {
         (s.board.now, s.seat.view.base, s.seat.view.work, s.seat.view.hands) };
 
     ghost seen = { λ s. record {
-      source = source_of s.board.now.game s.seat.view.base;
+      source = board_source s.board.now.game s.seat.view.base;
       notes = all_told (noted s.board.now.game s.seat.view.notes);
       faults = 0;
     } };

@@ -29,7 +29,7 @@ pub struct Worker {
 }
 
 impl Model for Worker {
-    ghost use Rattle.worker_sweep.specs.Workers.{SeatsAndMarks, IsHonest, HasRoom};
+    ghost use Rattle.worker_sweep.specs.Workers.{SeatsAndMarks, IsHonest, HasColumnRoom};
 
     ghost Value = { SeatsAndMarks };
 
@@ -45,7 +45,7 @@ impl Model for Worker {
       claims = a.claims;
       number = a.number;
       marks = a.swept.items;
-    }) × HasRoom a.seat.view a.turns };
+    }) × HasColumnRoom a.seat.view a.turns };
 }
 
 impl Worker {

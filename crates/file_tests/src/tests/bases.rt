@@ -11,7 +11,7 @@ use database_file::{LoadStop, append_base, load_base, open_paged};
 use hyper_outside::{Failed, LookStop, OpenGate, PageFault};
 use memory_files::MemFiles;
 use outside_log::{Files, Log, Told};
-use position_rank::read_position;
+use position_text::read_position;
 use std::alloc::Global;
 use std::process::Abort;
 use std::test::Fail;

@@ -6,6 +6,7 @@ use crate::tests::asserts::{holds, same};
 use crate::tests::lists::units;
 use arrayvec::ArrayVec;
 use cube_actions::{Score, Stakes, Starts};
+use cube_text::print_score;
 use directed_fixed::ONE;
 use hyper_outside::{Failed, OpenGate};
 use interval_words::Closed;
@@ -78,7 +79,7 @@ fn were_noted(rt: &impl Abort, noting: &Noting, scores: &str) {
     let noted = noting.noted.as_slice().iter().zip(scores.split(" "));
     for (place, (row, text)) in noted.enumerate() {
         let (score, before) = *row;
-        same(rt, &score.print().as_str(), &text, &place);
+        same(rt, &print_score(score).as_str(), &text, &place);
         same(rt, &before, &place, &text);
     }
 }

@@ -3,7 +3,8 @@ ghost use Rattle.std.specs.Prelude.{◌≡◌, [], ◌∷◌, sum};
 ghost use Rattle.position_rank.specs.Placement.{IsPosition, IsLive};
 ghost use Rattle.position_rank.specs.Packed.{counts_of};
 
-use position_rank::{Layout, Position, read_position};
+use position_rank::{Layout, Position};
+use position_text::read_position;
 use std::process::Abort;
 
 /// The live position of a text, with so many checkers a side.

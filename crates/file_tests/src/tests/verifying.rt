@@ -7,7 +7,7 @@ use database_file::{Base, load_base};
 use directed_fixed::End;
 use hyper_outside::OpenGate;
 use move_rules::PlayList;
-use position_rank::print_position;
+use position_text::print_position;
 use std::alloc::AllocGlobal;
 use std::process::Abort;
 use std::thread::Threads;

@@ -1,6 +1,6 @@
 //! What each decision of a recorded game loses.
 ghost use Rattle.std.specs.Prelude.{◌≡◌, ◌≤◌, Err, false};
-ghost use Rattle.hyper_outside.specs.Causes.{counted};
+ghost use Rattle.hyper_outside.specs.Causes.{risen_count};
 ghost use Rattle.hyper_outside.specs.declared.outside.LookStop.TheVariants.{ReadFault};
 ghost use Rattle.record_tests.specs.TestPairs.{untold_cube, untold_zero_pairs};
 
@@ -94,8 +94,8 @@ struct Failing {
 impl Failing {
     fn fail(&mut self) -> Result<Fixed, LookStop>
         ensures stop { result ≡ Err ReadFault }
-        ensures later { self.old.faults ≤ counted self.old.faults }
-        ensures counted { self.new ≡ record self.old { faults = counted self.old.faults } }
+        ensures later { self.old.faults ≤ risen_count self.old.faults }
+        ensures risen_count { self.new ≡ record self.old { faults = risen_count self.old.faults } }
     {
         self.faults = self.faults.saturating_add(1);
         Err(LookStop::ReadFault)

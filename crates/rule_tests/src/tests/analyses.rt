@@ -9,10 +9,11 @@ use crate::tests::checks::holds;
 use crate::tests::given_pairs::{GivenPairs, Words};
 use crate::tests::states::{Ends, live, units};
 use cube_actions::Stakes;
-use directed_fixed::{ONE, print_down, print_up};
+use directed_fixed::ONE;
 use game_record::{Answer, Choice, Offer};
 use hyper_outside::LookStop;
 use play_analyser::{CubeAdvice, cube_advice, loss, rank_plays};
+use point_text::{print_down, print_up};
 use roll_table::Roll;
 use std::process::Abort;
 

@@ -5,6 +5,7 @@ use crate::tests::match_starts::starts;
 use crate::tests::states::{Ends, units};
 use cube_actions::Side::{Far, Near};
 use cube_actions::{Double, KindName, Phase, Score, Side, Stakes, Taken, ladder};
+use cube_text::{print_kind, print_score, read_kind};
 use directed_fixed::{ONE, Pair};
 use std::process::Abort;
 
@@ -33,7 +34,7 @@ fn are_scores(length: u8, texts: &str) -> bool {
         && scores
             .iter()
             .zip(texts.split(' '))
-            .all(|(score, text)| score.print().as_str() == text)
+            .all(|(score, text)| print_score(*score).as_str() == text)
 }
 
 #[test]
@@ -81,7 +82,7 @@ fn is_kind(stakes: &Stakes, number: usize, row: &Row) -> bool {
     }
     let name = stakes.kind_name(number);
     let kind = stakes.kind(number);
-    name.print().as_str() == row.0
+    print_kind(name).as_str() == row.0
         && stakes.number_of(name) == Some(number)
         && kind.next == row.1
         && are_wins(&kind.win, &row.2)
@@ -298,7 +299,7 @@ const MATCH_TEXTS: &[(&str, InMatch)] = &[
 
 /// Whether this is a kind's text.
 fn is_text(text: &str, name: KindName) -> bool {
-    name.print().as_str() == text && KindName::read(text) == Some(name)
+    print_kind(name).as_str() == text && read_kind(text) == Some(name)
 }
 
 #[test]
@@ -336,6 +337,6 @@ const NO_TEXTS: &[&str] = &[
 #[test]
 fn texts_of_no_kind(rt: HostRuntime) {
     for text in NO_TEXTS {
-        holds(&rt, KindName::read(text).is_none(), text);
+        holds(&rt, read_kind(text).is_none(), text);
     }
 }

@@ -3,10 +3,9 @@
 mod trial;
 
 use crate::tests::checks::{holds, holds_at, holds_of};
-use move_rules::{
-    BadPlay, Move, Play, PlayList, Step, Written, apply, match_play, plays, print_play, read_play,
-};
-use position_rank::{print_position, read_position};
+use move_rules::{BadPlay, Move, Play, PlayList, Step, Written, apply, match_play, plays};
+use play_text::{print_play, read_play};
+use position_text::{print_position, read_position};
 use roll_table::{Roll, rolls};
 use std::process::Abort;
 use trial::{first_of_each_end, in_counts};

@@ -1,9 +1,8 @@
 //! Values: their texts and their words.
 
 use crate::tests::checks::holds;
-use directed_fixed::{
-    Fixed, ONE, ceil_div, floor_div, from_word, print_down, print_units, print_up, to_word,
-};
+use directed_fixed::{Fixed, ONE, ceil_div, floor_div, from_word, to_word};
+use point_text::{print_down, print_units, print_up};
 
 // Units, with the decimals below and above them and the text of their number.
 const PRINTED: &[(i64, &str, &str, &str)] = &[

@@ -1,10 +1,8 @@
 //! Positions: their texts, their ranks and those among the live ones.
 
 use crate::tests::checks::holds;
-use position_rank::{
-    BadPosition, Layout, Position, layout_count, live_count, live_rank, live_unrank,
-    print_position, read_position,
-};
+use position_rank::{Layout, Position, layout_count, live_count, live_rank, live_unrank};
+use position_text::{BadPosition, print_position, read_position};
 
 // Texts with the text that is printed of what they are read as, or why they are refused.
 const TEXTS: &[(&str, Result<&str, BadPosition>)] = &[

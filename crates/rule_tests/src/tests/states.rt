@@ -4,7 +4,8 @@ ghost use Rattle.std.specs.Prelude.{◌≡◌, sum};
 ghost use Rattle.position_rank.specs.Placement.{IsPosition, IsLive};
 
 use directed_fixed::Pair;
-use position_rank::{Position, read_position};
+use position_rank::Position;
+use position_text::read_position;
 use std::process::Abort;
 
 /// The lower and the upper end of a pair, in units.

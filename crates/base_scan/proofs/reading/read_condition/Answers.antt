@@ -1,7 +1,7 @@
 use Rattle.std.proofs.Common.{◌≡◌, ◌+◌, ◌++◌, ◌∷◌, [], Bool, lit<, length, length-append, sym, subst, arith}
 use Rattle.std.proofs.lemmas.Iterator.Consumers.{YieldsList-at, YieldsList-turn, YieldsList-end}
 use Rattle.std.proofs.lemmas.Iterator.Splits.{YieldsList-from_str_split}
-use Rattle.position_rank.specs.Text.{words}
+use Rattle.position_text.specs.Text.{words}
 use Rattle.base_scan.specs.Conditions.{IsFirstBad}
 use Rattle.base_scan.proofs.Readings.{HasRead, bad-end, bad-word, has-room, not-full, read-all, read-part}
 use Rattle.base_scan.proofs.reading.read_condition.Goals as goal

@@ -1,5 +1,5 @@
 use Rattle.std.proofs.Common.{◌≡◌, length}
-use Rattle.position_rank.specs.Text.{words}
+use Rattle.position_text.specs.Text.{words}
 use Rattle.base_scan.proofs.Readings.{HasRead}
 use Rattle.base_scan.proofs.reading.read_condition.Given as goal
 

@@ -1,7 +1,7 @@
 use Rattle.std.proofs.Common.{◌<◌, ℕ}
 use Rattle.directed_fixed.specs.declared.bounds.End.{End}
 use Rattle.base_verify.specs.Findings.{WordHolds}
-use Rattle.base_verify.specs.Columns.{position_in}
+use Rattle.column_turns.specs.Columns.{position_in}
 use Rattle.base_verify.proofs.columns.position_holds.Given as goal
 
 abbrev pub invariant-loop-kind : goal.invariant-loop-kind

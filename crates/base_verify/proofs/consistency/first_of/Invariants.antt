@@ -1,10 +1,10 @@
 use Rattle.std.proofs.Common.{◌<◌, ℕ}
 use Rattle.interval_words.specs.WordLists.{WordList}
 use Rattle.base_verify.specs.Findings.{HoldBetween}
-use Rattle.base_verify.specs.Checks.{ArePartsTold, place_at, start_of}
+use Rattle.base_verify.specs.Checks.{ArePartsTold, word_place, start_of}
 use Rattle.base_verify.proofs.consistency.first_of.Given as goal
 
 abbrev pub invariant-loop-part : goal.invariant-loop-part
 invariant-loop-part l =
     (words : WordList) (parts : ℕ) → 0 < parts → ArePartsTold words parts l.told
-    → HoldBetween words (place_at words 0) (place_at words (start_of words parts l.part-index))
+    → HoldBetween words (word_place words 0) (word_place words (start_of words parts l.part-index))

@@ -1,7 +1,7 @@
 use Rattle.std.proofs.Common.{◌<◌, sym, subst, arith}
 use Rattle.std.proofs.lemmas.Result.{err_from_is_err_and}
 use Rattle.position_rank.specs.LiveRanks.{live_positions}
-use Rattle.base_verify.specs.Checks.{ArePartsTold, place_at}
+use Rattle.base_verify.specs.Checks.{ArePartsTold, word_place}
 use Rattle.base_verify.proofs.Whole.{all-hold, first-of-all}
 use Rattle.base_verify.proofs.Marks.{all-columns}
 use Rattle.base_verify.proofs.consistency.verify_words.Goals as goal
@@ -16,7 +16,7 @@ returns-in-Some g c =
     let words = c.args.words.now in
     let some : 0 < c.args.team.now = omega arith in
     let are = subst (ArePartsTold words c.args.team.now) (sym c.deref.ensures.value) c.in_ok-told.ensures in
-    first-of-all words (place_at words (live_positions words.game.checkers)) c.in-Some.finding (c.in-Some.ensures words c.args.team.now some are)
+    first-of-all words (word_place words (live_positions words.game.checkers)) c.in-Some.finding (c.in-Some.ensures words c.args.team.now some are)
 
 pub returns : goal.returns
 returns g c =

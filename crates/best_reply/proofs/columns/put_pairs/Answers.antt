@@ -1,5 +1,5 @@
 use Rattle.std.proofs.Common.{◌<◌, ◌+◌, ◌*◌, length, arith}
-use Rattle.best_reply.specs.Columns.{pair_in}
+use Rattle.column_turns.specs.Columns.{pair_in}
 use Rattle.best_reply.proofs.Filling.{put-more, put-none}
 use Rattle.best_reply.proofs.columns.put_pairs.Goals as goal
 

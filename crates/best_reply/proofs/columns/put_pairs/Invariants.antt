@@ -1,4 +1,4 @@
-use Rattle.best_reply.specs.Columns.{pair_in}
+use Rattle.column_turns.specs.Columns.{pair_in}
 use Rattle.best_reply.proofs.Filling.{IsPutTo}
 use Rattle.best_reply.proofs.columns.put_pairs.Given as goal
 

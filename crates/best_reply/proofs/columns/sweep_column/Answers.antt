@@ -3,7 +3,7 @@ use Rattle.position_rank.specs.LiveRanks.{live_positions, live_rank_of}
 use Rattle.turn_rule.specs.Turn.{turn}
 use Rattle.turn_rule.specs.Looks.{Source}
 use Rattle.column_sums.specs.Leaps.{layout_at}
-use Rattle.best_reply.specs.Columns.{HasRoomFor}
+use Rattle.column_turns.specs.Columns.{IsRoomOf}
 use Rattle.best_reply.specs.Tables.{words_by}
 use Rattle.best_reply.proofs.Filling.{bank-place}
 use Rattle.best_reply.proofs.ColumnLemmas.{column-filled, column-turned, put-step}
@@ -22,7 +22,7 @@ loop-i-preserved c =
     let old = c.args.old.now in
     let column = c.fill.new.self in
     let i = c.loop-i.i in
-    let room : HasRoomFor game column = record { layouts = rw c.fill.ensures.layouts c.requires.room.layouts; kinds = c.fill.ensures.kinds ∙ c.requires.room.kinds } in
+    let room : IsRoomOf game column = record { layouts = rw c.fill.ensures.layouts c.requires.room.layouts; kinds = c.fill.ensures.kinds ∙ c.requires.room.kinds } in
     let is : column.other ≡ layout_at column.layouts c.args.other = rw c.fill.ensures.layouts c.fill.ensures.other in
     let noted : words_by c.fill.new.pairs.bank.now ≡ words_by old = ap (λ (s : Source). s.floor) c.fill.ensures.later.source ∙ ap words_by c.of-reader.ensures.bank in
     let found = rw (c.of-reader.ensures.words, c.of-reader.ensures.bank, c.stakes.ensures) at c.fill.ensures.turns in
@@ -38,6 +38,6 @@ pub returns-clause-filled : goal.returns-clause-filled
 returns-clause-filled c =
     let game = c.args.words.now.game in
     let column = c.fill.new.self in
-    let room : HasRoomFor game column = record { layouts = rw c.fill.ensures.layouts c.requires.room.layouts; kinds = c.fill.ensures.kinds ∙ c.requires.room.kinds } in
+    let room : IsRoomOf game column = record { layouts = rw c.fill.ensures.layouts c.requires.room.layouts; kinds = c.fill.ensures.kinds ∙ c.requires.room.kinds } in
     let is : column.other ≡ layout_at column.layouts c.args.other = rw c.fill.ensures.layouts c.fill.ensures.other in
     column-filled game column c.args.other room c.requires.other is c.fill.ensures.movers (turn game.stakes (words_by c.args.old.now)) c.loop-i.i c.loop-i.new (rw (← c.len-i-end.ensures) c.loop-i-test.false) c.loop-i.invariant

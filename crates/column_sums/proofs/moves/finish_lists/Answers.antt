@@ -1,6 +1,6 @@
 use Rattle.std.proofs.Common.{◌≡◌, ◌<◌, ◌+◌, ◌-◌, ◌∙◌, ℕ, List, get_or, length, length-set, subst, sym, ap, arith}
 use Rattle.column_sums.specs.declared.moves.DieList.{DieList}
-use Rattle.column_sums.specs.MoveLists.{AreReaches, HasRoom, IsDieList}
+use Rattle.column_sums.specs.MoveLists.{AreReaches, HasListRoom, IsDieList}
 use Rattle.column_sums.proofs.Places.{put-more, put-all, put-rest}
 use Rattle.column_sums.proofs.moves.finish_lists.Goals as goal
 
@@ -33,7 +33,7 @@ loop-d-preserved c =
       same = c.finish.ensures.same ∙ c.loop-d.invariant.same;
       rooms = record {
         six = length-set lists d new ∙ c.loop-d.invariant.rooms.six;
-        room = put-all (λ i l. HasRoom l) lists d 6 new here c.loop-d.invariant.rooms.room c.finish.ensures.room;
+        room = put-all (λ i l. HasListRoom l) lists d 6 new here c.loop-d.invariant.rooms.room c.finish.ensures.room;
       };
       done = put-more (λ i l. IsDieList c.args.steps.now c.args.layers.now near c.args.movers (i + 1) l) lists d new here c.loop-d.invariant.done list;
       rest = put-rest c.args.lists.now lists d new c.loop-d.invariant.rest;

@@ -2,7 +2,7 @@ use Rattle.std.proofs.Common.{◌≡◌, ◌≤◌, ◌+◌, [], ◌∷◌, lit<
 use Rattle.std.proofs.lemmas.Iterator.Consumers.{YieldsList-at, YieldsList-turn, YieldsList-end}
 use Rattle.std.proofs.lemmas.Iterator.Splits.{YieldsList-from_str_split}
 use Rattle.std.proofs.lemmas.List.{drop_all}
-use Rattle.position_rank.specs.Text.{words}
+use Rattle.position_text.specs.Text.{words}
 use Rattle.command_line.specs.Plain.{add_place}
 use Rattle.command_line.proofs.PlaceRoom.{space_for, split-space, next-place, word-room, place-step, empty-step}
 use Rattle.command_line.proofs.plain.join_places.Goals as goal

@@ -1,5 +1,5 @@
 use Rattle.std.proofs.Common.{◌≡◌, ◌+◌, ◌≤◌, [], length, fold, drop}
-use Rattle.position_rank.specs.Text.{words}
+use Rattle.position_text.specs.Text.{words}
 use Rattle.command_line.specs.Plain.{add_place}
 use Rattle.command_line.proofs.PlaceRoom.{space_for}
 use Rattle.command_line.proofs.plain.join_places.Given as goal

@@ -2,7 +2,7 @@ use Rattle.std.proofs.Common.{◌≡◌, Bool, true, false, cond, List, [], ◌�
 use Rattle.std.specs.Option.{option_map}
 use Rattle.cube_actions.specs.declared.kind.Kind.{Kind}
 use Rattle.cube_actions.specs.declared.kind.Double.{Double}
-use Rattle.cube_actions.specs.MatchKinds.{match_kinds, may_double}
+use Rattle.cube_actions.specs.MatchKinds.{match_kinds, kind_may_double}
 use Rattle.cube_actions.specs.Matches.{answers_in, match_kind}
 use Rattle.cube_actions.proofs.match_laws.cubes_come_of_the_score.Goals as goal
 
@@ -20,5 +20,5 @@ same_answers false a b e = refl
 pub returns : goal.returns
 returns c = record {
   next = λ score starts others. same_of_each (λ (kind : Kind). kind.next) (match_kind starts score) (match_kind others score) (λ kind. refl) (match_kinds score);
-  answers = λ score starts others. same_of_each answers_in (match_kind starts score) (match_kind others score) (λ kind. same_answers (may_double score kind) _ _ refl) (match_kinds score);
+  answers = λ score starts others. same_of_each answers_in (match_kind starts score) (match_kind others score) (λ kind. same_answers (kind_may_double score kind) _ _ refl) (match_kinds score);
 }

@@ -1,5 +1,5 @@
-use Rattle.cube_actions.proofs.NamesRead.{printed_read}
-use Rattle.cube_actions.proofs.name_laws.printed_kinds_are_read.Goals as goal
+use Rattle.cube_text.proofs.KindsRead.{printed_read}
+use Rattle.cube_text.proofs.kinds.printed_kinds_are_read.Goals as goal
 
 pub returns : goal.returns
 returns c = printed_read

@@ -1,7 +1,7 @@
 use Rattle.std.proofs.Common.{◌≡◌, None, Err, refl, sym, ap, subst}
 use Rattle.outside_log.specs.Files.{bytes_from}
 use Rattle.database_file.specs.declared.pages.Pages.{Pages}
-use Rattle.database_file.specs.Pages.{AnswersPages, ArePages, flaw_in, words_in}
+use Rattle.database_file.specs.Pages.{AnswersPages, ArePages, flaw_in, words_listed}
 use Rattle.database_file.proofs.Bases.{pages-valid}
 use Rattle.database_file.specs.declared.stop.LoadStop.TheVariants.{NoMemory}
 use Rattle.database_file.proofs.Loading.{base-read, base-told, front-stopped, list-fits, no-room, pages-read, pages-told}
@@ -41,21 +41,21 @@ base_of-requires-clause-long g c =
     let (file, told) = c.in_ok-header.ensures.read in
     let (bytes, pages) = c.in_ok-list.ensures.read in
     (list-fits c.args.oldest file c.in_ok-header.field-0 bytes c.in_ok-list.list.items c.in_ok-header.ensures.valid told
-    (subst (λ (pages : Pages). (flaw_in pages bytes ≡ None) × (c.in_ok-list.list.items ≡ words_in pages bytes)) c.pages_behind-pages.ensures pages)).0
+    (subst (λ (pages : Pages). (flaw_in pages bytes ≡ None) × (c.in_ok-list.list.items ≡ words_listed pages bytes)) c.pages_behind-pages.ensures pages)).0
 
 pub base_of-requires-clause-within : goal.base_of-requires-clause-within
 base_of-requires-clause-within g c =
     let (file, told) = c.in_ok-header.ensures.read in
     let (bytes, pages) = c.in_ok-list.ensures.read in
     (list-fits c.args.oldest file c.in_ok-header.field-0 bytes c.in_ok-list.list.items c.in_ok-header.ensures.valid told
-    (subst (λ (pages : Pages). (flaw_in pages bytes ≡ None) × (c.in_ok-list.list.items ≡ words_in pages bytes)) c.pages_behind-pages.ensures pages)).1
+    (subst (λ (pages : Pages). (flaw_in pages bytes ≡ None) × (c.in_ok-list.list.items ≡ words_listed pages bytes)) c.pages_behind-pages.ensures pages)).1
 
 pub returns-clause-read : goal.returns-clause-read
 returns-clause-read g c =
     let (file, told) = c.in_ok-header.ensures.read in
     let (bytes, pages) = c.in_ok-list.ensures.read in
     base-read c.args.oldest file c.in_ok-header.field-0 bytes c.in_ok-list.list.items c.in_ok-base.base told
-    (subst (λ (pages : Pages). (flaw_in pages bytes ≡ None) × (c.in_ok-list.list.items ≡ words_in pages bytes)) c.pages_behind-pages.ensures pages) c.in_ok-base.ensures
+    (subst (λ (pages : Pages). (flaw_in pages bytes ≡ None) × (c.in_ok-list.list.items ≡ words_listed pages bytes)) c.pages_behind-pages.ensures pages) c.in_ok-base.ensures
 
 pub returns-clause-told : goal.returns-clause-told
 returns-clause-told g c tells =
@@ -63,7 +63,7 @@ returns-clause-told g c tells =
     let there = standing (g.F.Files.log c.read_front.new.files) c.args.name.now in
     let at = c.pages_behind-pages.result.at in
     base-told c.args.oldest held there c.in_ok-header.field-0 at c.in_ok-list.list.items c.in_ok-base.base (reads-file c.in_ok-header.ensures.reads c.args.name.now) (ap (λ (pages : Pages). pages.at) c.pages_behind-pages.ensures) (c.in_ok-header.ensures.told (reads-before c.read_pages.ensures.reads tells))
-    (subst (λ (pages : Pages). (flaw_in pages (bytes_from at there) ≡ None) × (c.in_ok-list.list.items ≡ words_in pages (bytes_from at there))) c.pages_behind-pages.ensures (c.in_ok-list.ensures.told tells))
+    (subst (λ (pages : Pages). (flaw_in pages (bytes_from at there) ≡ None) × (c.in_ok-list.list.items ≡ words_listed pages (bytes_from at there))) c.pages_behind-pages.ensures (c.in_ok-list.ensures.told tells))
     c.in_ok-base.ensures
 
 pub returns-in_err-list-clause-reads : goal.returns-in_err-list-clause-reads

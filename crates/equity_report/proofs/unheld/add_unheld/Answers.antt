@@ -1,8 +1,8 @@
 use Rattle.std.proofs.Common.{◌≡◌, ◌++◌, List, ℕ, append_assoc}
 use Rattle.std.specs.Prelude.{codes}
 use Rattle.std.specs.Fmt.{signed_decimal}
-use Rattle.position_rank.specs.Text.{position_text}
-use Rattle.cube_actions.specs.Names.{kind_text}
+use Rattle.position_text.specs.Text.{position_text}
+use Rattle.cube_text.specs.Texts.{kind_text}
 use Rattle.equity_report.specs.Unheld.{end_text}
 use Rattle.equity_report.proofs.unheld.add_unheld.Goals as goal
 

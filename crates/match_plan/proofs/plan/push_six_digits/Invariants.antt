@@ -1,5 +1,5 @@
 use Rattle.std.proofs.Common.{◌≡◌, ◌/◌, ◌%◌, ◌++◌, ℕ, map, take}
-use Rattle.directed_fixed.specs.Decimal.{decimal_digit}
+use Rattle.point_text.specs.Decimal.{decimal_digit}
 use Rattle.match_plan.proofs.plan.push_six_digits.Given as goal
 
 abbrev pub invariant-loop-power : goal.invariant-loop-power

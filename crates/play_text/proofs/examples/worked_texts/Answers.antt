@@ -3,7 +3,7 @@ use Rattle.std.proofs.Common.{refl}
 use Rattle.std.specs.Fmt.{digits}
 use Rattle.position_rank.specs.Packed.{counts_of}
 use Rattle.move_rules.specs.Ends.{after_move}
-use Rattle.move_rules.proofs.examples.worked_texts.Goals as goal
+use Rattle.play_text.proofs.examples.worked_texts.Goals as goal
 
 pub returns-clause-no_moves : goal.returns-clause-no_moves
 unfolding digits counts_of after_move

@@ -1,9 +1,9 @@
 use Rattle.std.proofs.Common.{◌≡◌, rules, lit<, refl, arith}
 use Rattle.std.proofs.lemmas.Bool.Decides.{nat_tests}
 use Rattle.move_rules.proofs.FaultLaws.{next-of}
-use Rattle.move_rules.proofs.NotationPrints.{begins-with, print-start, print-one}
-use Rattle.move_rules.proofs.notation.print_play.Goals as goal
-use Rattle.move_rules.proofs.notation.print_play.Goals.{then-is_empty, else-is_empty}
+use Rattle.play_text.proofs.NotationPrints.{begins-with, print-start, print-one}
+use Rattle.play_text.proofs.notation.print_play.Goals as goal
+use Rattle.play_text.proofs.notation.print_play.Goals.{then-is_empty, else-is_empty}
 
 pub loop-step-init : goal.loop-step-init
 loop-step-init c =

@@ -1,7 +1,7 @@
 use Rattle.std.proofs.Common.{sym}
 use Rattle.roll_table.specs.Rolls.{dice_of}
-use Rattle.move_rules.proofs.PrintedTaken.{printed-taken, one-end}
-use Rattle.move_rules.proofs.notation.printed_plays_are_taken.Goals as goal
+use Rattle.play_text.proofs.PrintedTaken.{printed-taken, one-end}
+use Rattle.play_text.proofs.notation.printed_plays_are_taken.Goals as goal
 
 pub returns-clause-taken : goal.returns-clause-taken
 returns-clause-taken c = printed-taken

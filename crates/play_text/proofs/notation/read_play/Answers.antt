@@ -1,9 +1,9 @@
 use Rattle.std.proofs.Common.{◌≡◌, ◌+◌, ◌<◌, ◌≤◌, lit<, length, sym, rules, ◌∷◌, [], ◌++◌, length-append}
 use Rattle.std.proofs.lemmas.Iterator.Consumers.{YieldsList-at, YieldsList-turn, YieldsList-end}
 use Rattle.std.proofs.lemmas.Iterator.Splits.{YieldsList-from_str_split}
-use Rattle.position_rank.specs.Text.{words}
-use Rattle.move_rules.proofs.NotationTexts.{read-none, read-one, too-many, wrong-word, read-all}
-use Rattle.move_rules.proofs.notation.read_play.Goals as goal
+use Rattle.position_text.specs.Text.{words}
+use Rattle.play_text.proofs.NotationTexts.{read-none, read-one, too-many, wrong-word, read-all}
+use Rattle.play_text.proofs.notation.read_play.Goals as goal
 
 pub loop-word-init : goal.loop-word-init
 loop-word-init c = rw c.new-written.ensures (read-none (words c.args.text.now))

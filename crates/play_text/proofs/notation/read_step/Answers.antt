@@ -1,8 +1,8 @@
 use Rattle.std.proofs.Common.{◌∙◌, sym, arith, inl, inr}
-use Rattle.position_rank.proofs.PlaceTexts.{place-none, place-same, place-text}
-use Rattle.move_rules.proofs.NotationWords.{is-cut, no-cut}
-use Rattle.move_rules.proofs.notation.read_step.Goals as goal
-use Rattle.move_rules.proofs.notation.read_step.Goals.{then-to-from-via-then-to-from, then-to-from-via-else-to-from+then-to-eq0}
+use Rattle.position_text.proofs.PlaceTexts.{place-none, place-same, place-text}
+use Rattle.play_text.proofs.NotationWords.{is-cut, no-cut}
+use Rattle.play_text.proofs.notation.read_step.Goals as goal
+use Rattle.play_text.proofs.notation.read_step.Goals.{then-to-from-via-then-to-from, then-to-from-via-else-to-from+then-to-eq0}
 
 pub returns-in_err-from : goal.returns-in_err-from
 returns-in_err-from c = rw c.from_residual.ensures (λ step h e. no-cut c.args.word.now c.split_once.result c.split_once.ensures.cases c.in_err-from.was step e)

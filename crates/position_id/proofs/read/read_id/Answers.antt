@@ -1,5 +1,5 @@
 use Rattle.std.specs.Result.{result_ok}
-use Rattle.position_rank.specs.declared.text.BadPosition.TheVariants.{Shape}
+use Rattle.position_text.specs.declared.text.BadPosition.TheVariants.{Shape}
 use Rattle.std.proofs.Common.{◌≡◌, ◌≤◌, ◌∙◌, ℕ, List, [], ◌∷◌, All, Some, Err, refl, ap, sym, subst, rules, arith}
 use Rattle.position_id.specs.Readings.{bits_of_bytes, mover_told, other_told, places_told, read_told, with_off}
 use Rattle.position_id.proofs.Decoded.{undecoded}

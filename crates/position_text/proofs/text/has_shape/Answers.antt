@@ -5,9 +5,9 @@ use Rattle.std.proofs.lemmas.Iterator.Consumers.{YieldsList-from_filter, YieldsL
 use Rattle.std.proofs.lemmas.Iterator.Splits.{YieldsList-from_str_split}
 use Rattle.std.proofs.lemmas.List.Sums.{length-filter}
 use Rattle.std.specs.List.{list_all}
-use Rattle.position_rank.specs.Text.{words, is_slash, have_shape}
-use Rattle.position_rank.proofs.TextLists.{list_all-told}
-use Rattle.position_rank.proofs.text.has_shape.Goals as goal
+use Rattle.position_text.specs.Text.{words, is_slash, have_shape}
+use Rattle.position_text.proofs.TextLists.{list_all-told}
+use Rattle.position_text.proofs.text.has_shape.Goals as goal
 
 shape-full : (ws : List (List ℕ)) (n : ℕ) → list_all (λ (word : List ℕ). nat_lt 0 (length word)) ws ≡ true → n ≡ count_by is_slash ws → nat_eq n 1 ≡ have_shape ws
 shape-full ws n full e = rw (full, e) refl

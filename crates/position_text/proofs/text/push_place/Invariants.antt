@@ -1,7 +1,7 @@
 use Rattle.std.proofs.Common.{◌≡◌, ◌+◌, ◌*◌, ◌≤◌, length, fold, replicate}
-use Rattle.position_rank.specs.Text.{place_text}
-use Rattle.position_rank.specs.TextParts.{add_word}
-use Rattle.position_rank.proofs.text.push_place.Given as goal
+use Rattle.position_text.specs.Text.{place_text}
+use Rattle.position_text.specs.TextParts.{add_word}
+use Rattle.position_text.proofs.text.push_place.Given as goal
 
 abbrev pub invariant-loop : goal.invariant-loop
 invariant-loop l = record {

@@ -1,8 +1,8 @@
 use Rattle.std.proofs.Common.{◌≡◌, ℕ, fold, arith, refl, sym, ap, ◌∙◌}
 use Rattle.std.proofs.lemmas.List.Sums.{sum_by-take-le}
-use Rattle.position_rank.specs.TextParts.{add_word}
-use Rattle.position_rank.proofs.TextPrint.{texts_below, texts-all, texts-none, words-step, sum-step}
-use Rattle.position_rank.proofs.text.push_side.Goals as goal
+use Rattle.position_text.specs.TextParts.{add_word}
+use Rattle.position_text.proofs.TextPrint.{texts_below, texts-all, texts-none, words-step, sum-step}
+use Rattle.position_text.proofs.text.push_side.Goals as goal
 
 pub loop-place-init : goal.loop-place-init
 loop-place-init c = record { words = rw texts-all refl; length = omega (arith, sum_by-take-le (λ (x : ℕ). x) c.args.side.now 26) }

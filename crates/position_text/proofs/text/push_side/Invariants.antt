@@ -1,8 +1,8 @@
 use Rattle.std.proofs.Common.{◌≡◌, ◌+◌, ◌*◌, ◌≤◌, length, fold, map, sum, take}
-use Rattle.position_rank.specs.Text.{place_text, places_of}
-use Rattle.position_rank.specs.TextParts.{add_word}
-use Rattle.position_rank.proofs.TextPrint.{texts_below}
-use Rattle.position_rank.proofs.text.push_side.Given as goal
+use Rattle.position_text.specs.Text.{place_text, places_of}
+use Rattle.position_text.specs.TextParts.{add_word}
+use Rattle.position_text.proofs.TextPrint.{texts_below}
+use Rattle.position_text.proofs.text.push_side.Given as goal
 
 abbrev pub invariant-loop-place : goal.invariant-loop-place
 invariant-loop-place l = record {

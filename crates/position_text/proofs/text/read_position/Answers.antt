@@ -1,8 +1,8 @@
 use Rattle.std.proofs.Common.{◌≡◌, Some, true, ap, refl, sym, ◌∙◌, rules}
 use Rattle.std.specs.Result.{result_ok}
-use Rattle.position_rank.specs.Text.{words, before_slash, after_slash}
-use Rattle.position_rank.proofs.TextReads.{first-places, read_words-done}
-use Rattle.position_rank.proofs.text.read_position.Goals as goal
+use Rattle.position_text.specs.Text.{words, before_slash, after_slash}
+use Rattle.position_text.proofs.TextReads.{first-places, read_words-done}
+use Rattle.position_text.proofs.text.read_position.Goals as goal
 
 pub set_up-requires-clause-mover : goal.set_up-requires-clause-mover
 set_up-requires-clause-mover c =

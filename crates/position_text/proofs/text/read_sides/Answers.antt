@@ -1,9 +1,9 @@
 use Rattle.std.proofs.Common.{lit<, length, refl, sym, subst, ◌∙◌}
 use Rattle.std.proofs.lemmas.Iterator.Consumers.{YieldsList-at, YieldsList-turn, YieldsList-end}
 use Rattle.std.proofs.lemmas.Iterator.Splits.{YieldsList-from_str_split}
-use Rattle.position_rank.specs.Text.{words}
-use Rattle.position_rank.proofs.TextSides.{IsRead, read-start, read-slash, read-other, read-mover, read-wrong, read-done, next-word, drop_all, told-apart}
-use Rattle.position_rank.proofs.text.read_sides.Goals as goal
+use Rattle.position_text.specs.Text.{words}
+use Rattle.position_text.proofs.TextSides.{IsRead, read-start, read-slash, read-other, read-mover, read-wrong, read-done, next-word, drop_all, told-apart}
+use Rattle.position_text.proofs.text.read_sides.Goals as goal
 
 pub loop-word-init : goal.loop-word-init
 loop-word-init c = rw (c.new-mover.ensures, c.new-other.ensures) (read-start (words c.args.text.now) c.requires)

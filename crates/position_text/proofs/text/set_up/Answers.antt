@@ -2,9 +2,9 @@ use Rattle.std.proofs.Common.{◌≡◌, true, false, sum, ap, sym, ◌∙◌, r
 use Rattle.position_rank.specs.Placement.{Placement}
 use Rattle.position_rank.specs.Packed.{counts_of}
 use Rattle.position_rank.specs.PackedLaws.{sum-counts_of}
-use Rattle.position_rank.specs.Text.{all_off}
-use Rattle.position_rank.proofs.TextPlacements.{live-told}
-use Rattle.position_rank.proofs.text.set_up.Goals as goal
+use Rattle.position_text.specs.Text.{all_off}
+use Rattle.position_text.proofs.TextPlacements.{live-told}
+use Rattle.position_text.proofs.text.set_up.Goals as goal
 
 pub returns-in_err-position-clause-placement : goal.returns-in_err-position-clause-placement
 returns-in_err-position-clause-placement c =

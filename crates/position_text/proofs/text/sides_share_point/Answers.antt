@@ -1,8 +1,8 @@
 use Rattle.std.proofs.Common.{◌≡◌, ◌<◌, false, sym, subst, ◌∙◌, arith}
 use Rattle.std.proofs.lemmas.Bool.Decides.{nat_tests}
-use Rattle.position_rank.proofs.TextPlacements.{is_shared, shared_from, shared-start, shared-end, shared-here, shared-later}
-use Rattle.position_rank.proofs.text.sides_share_point.Goals as goal
-use Rattle.position_rank.proofs.text.sides_share_point.Goals.{else-mover_at-gt0-via-then-mover_at-gt0+else-other_at-gt0, else-mover_at-gt0-via-else-mover_at-gt0}
+use Rattle.position_text.proofs.TextPlacements.{is_shared, shared_from, shared-start, shared-end, shared-here, shared-later}
+use Rattle.position_text.proofs.text.sides_share_point.Goals as goal
+use Rattle.position_text.proofs.text.sides_share_point.Goals.{else-mover_at-gt0-via-then-mover_at-gt0+else-other_at-gt0, else-mover_at-gt0-via-else-mover_at-gt0}
 
 pub loop-point-init : goal.loop-point-init
 loop-point-init c = shared-start c.args.position.now

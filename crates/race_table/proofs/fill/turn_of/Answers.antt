@@ -3,7 +3,7 @@ use Rattle.std.specs.Ordering.{ord_max}
 use Rattle.std.proofs.lemmas.Bool.Decides.{nat_tests}
 use Rattle.std.proofs.lemmas.Int.{ints}
 use Rattle.race_table.specs.FreePlays.{against}
-use Rattle.race_table.specs.Tables.{IsSmallRace, best_of}
+use Rattle.race_table.specs.Tables.{IsSmallRace, best_race}
 use Rattle.race_table.proofs.Sums.{all-sums, best-small, ends-same, ends-some, kept-at, kept-end, kept-few, no-sums, sum-small, sums-more, value-small}
 use Rattle.race_table.proofs.fill.turn_of.Goals as goal
 
@@ -52,7 +52,7 @@ loop-roll-preserved c =
     let p = c.args.race.now in
     let one = c.roll-item.result in
     let kept = kept-at p.mover c.args.rolls.now c.loop-roll.roll-index one c.requires.rolls c.loop-roll-test.true c.roll-item.is in
-    let best : c.best_of-best.result ≡ best_of c.args.races.now (map (against p.other) one.ends.items) = rw (c.as_slice.ensures.value, c.other-other.ensures.other) at c.best_of-best.ensures in
+    let best : c.best_of-best.result ≡ best_race c.args.races.now (map (against p.other) one.ends.items) = rw (c.as_slice.ensures.value, c.other-other.ensures.other) at c.best_of-best.ensures in
     sums-more c.args.races.now c.requires.table.small p c.requires.race.race c.loop-roll.roll-index one kept _ _ _ _ _ _ c.best_of-best.result c.loop-roll.invariant best
     (rw c.lower.ensures.lower at c.add_times-lower.ensures) (rw c.upper.ensures.upper at c.add_times-upper.ensures) (c.max-most.ensures ∙ greater_of c.loop-roll.most c.best_of-best.result.turns)
 

@@ -1,5 +1,5 @@
 use Rattle.std.proofs.Common.{◌∙◌, List, ℕ, sym, subst, arith}
-use Rattle.move_rules.specs.Notation.{IsPlayText}
+use Rattle.play_text.specs.Notation.{IsPlayText}
 use Rattle.record_maker.proofs.choice.written_play.Goals as goal
 
 -- the text that was printed is that of steps

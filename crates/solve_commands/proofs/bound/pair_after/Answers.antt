@@ -8,7 +8,7 @@ use Rattle.turn_rule.specs.States.{IsState, pair_of}
 use Rattle.turn_rule.proofs.Cubeless.{cubeless-valid}
 use Rattle.turn_rule.proofs.Enclosing.{rounds-enclose}
 use Rattle.plain_table.specs.Tables.{words_at}
-use Rattle.solve_commands.specs.Truth.{IsTrueOfBound, bound_pair}
+use Rattle.solve_commands.specs.Truth.{IsTrueOfBound, asked_pair}
 use Rattle.solve_commands.proofs.bound.pair_after.Goals as goal
 
 pub returns : goal.returns
@@ -22,6 +22,6 @@ returns c =
     let state : IsState (game_of task.checkers cubeless) p 0 = record { position = right.position; many = c.requires.same; live = right.live; kind = omega arith } in
     let there : IsState (game_of table.table.checkers table.stakes) p 0 = rw (reached.checkers, reached.stakes) state in
     let same : pair_of (words_at table.table) p 0 ≡ pair_of (rounds table.stakes c.loop-round._round) p 0 = rw (reached.rounds Lower p 0 there, reached.rounds Upper p 0 there) refl in
-    let is : c.pair.result ≡ bound_pair task = c.pair.ensures ∙ (rw (reached.stakes, last) at same) in
-    let true_of : IsTrueOfBound task (bound_pair task) = record { encloses = λ turns scoring more within. rounds-enclose (game_of task.checkers cubeless) cubeless-valid task.rounds turns more scoring within p 0 state } in
+    let is : c.pair.result ≡ asked_pair task = c.pair.ensures ∙ (rw (reached.stakes, last) at same) in
+    let true_of : IsTrueOfBound task (asked_pair task) = record { encloses = λ turns scoring more within. rounds-enclose (game_of task.checkers cubeless) cubeless-valid task.rounds turns more scoring within p 0 state } in
     record { pair = is; truth = subst (λ (pair : Bounds). IsTrueOfBound task pair) (sym is) true_of }

@@ -1,7 +1,7 @@
 use Rattle.std.proofs.Common.{◌≡◌, ◌∙◌, ℕ, List, Ok, Option, length, take, min, sym, ap}
 use Rattle.std.proofs.lemmas.List.{take_min}
 use Rattle.outside_log.specs.Files.{Fills, bytes_from}
-use Rattle.word_pages.specs.Words.{words_of}
+use Rattle.word_pages.specs.Words.{words_in_bytes}
 use Rattle.word_pages.specs.Pages.{page_size, page_flaw}
 use Rattle.word_pages.proofs.PageFlaws.{answers_on, answers_bad}
 use Rattle.outside_log.specs.Log.{standing}
@@ -29,4 +29,4 @@ returns-clause-told g c = λ tells.
     let file = standing (g.F.Files.log c.args.files.now) c.args.name.now in
     let read = there c.args.at (page_size version n) file c.args.buf.now c.fill.new.buf c.in_ok-count.count c.requires.room (c.in_ok-count.ensures.fills tells) in
     answers_on version c.args.binding.now c.args.bound n c.args.at (bytes_from c.args.at file) c.read_page.new.words (Ok c.in_ok-read_page.field-0)
-    (sym (c.in_ok-read_page.ensures.flaw ∙ ap (page_flaw version c.args.binding.now c.args.bound n c.args.at) read), c.in_ok-read_page.ensures.words ∙ ap (words_of version n) read)
+    (sym (c.in_ok-read_page.ensures.flaw ∙ ap (page_flaw version c.args.binding.now c.args.bound n c.args.at) read), c.in_ok-read_page.ensures.words ∙ ap (words_in_bytes version n) read)

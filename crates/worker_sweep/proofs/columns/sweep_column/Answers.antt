@@ -12,8 +12,9 @@ use Rattle.interval_words.specs.Seats.{GameTable, GameSeat, SitsAt, KeepsNotes}
 use Rattle.interval_words.proofs.SeatNotes.{keeps-trans, sits-kept, adds-none}
 use Rattle.column_turns.specs.Turns.{AreTurnsOf, mover_at}
 use Rattle.worker_sweep.specs.Blocks.{IsWorkIn, WorksIn}
-use Rattle.worker_sweep.specs.Columns.{AreNotedTo, position_in}
-use Rattle.worker_sweep.specs.Sources.{source_of}
+use Rattle.worker_sweep.specs.Columns.{AreNotedTo}
+use Rattle.column_turns.specs.Columns.{position_in}
+use Rattle.worker_sweep.specs.Sources.{board_source}
 use Rattle.worker_sweep.proofs.ColumnLemmas.{column-later, column-states, column-filled, noted-later, column-swept, column-rank}
 use Rattle.worker_sweep.proofs.StateLemmas.{keeps-looked}
 use Rattle.worker_sweep.proofs.SeatLemmas.{works-trans}
@@ -46,10 +47,10 @@ loop-i-init c =
     let inside : c.args.block < length column.layouts = omega (arith, c.requires.block, layouts.many) in
     let many = length column.movers in
     let place = mover_at column.layouts column.other column.movers in
-    let one = subst (λ (b : GameTable). AreTurnsOf (source_of b.game old.seat.view.base) (all_told (noted new.board.now.game new.seat.view.notes)) c.stakes-stakes.result.now place many column.pairs) board_is c.fill.ensures.turns in
-    let two = subst (λ (b : GameTable). AreTurnsOf (source_of game old.seat.view.base) (all_told (noted b.game new.seat.view.notes)) c.stakes-stakes.result.now place many column.pairs) (same ∙ board_is) one in
-    let three = subst (λ (n : ℕ). AreTurnsOf (source_of game n) (all_told (noted game new.seat.view.notes)) c.stakes-stakes.result.now place many column.pairs) (sym base) two in
-    let turns = subst (λ (s : Terms). AreTurnsOf (source_of game new.seat.view.base) (all_told (noted game new.seat.view.notes)) s place many column.pairs) c.stakes-stakes.ensures three in
+    let one = subst (λ (b : GameTable). AreTurnsOf (board_source b.game old.seat.view.base) (all_told (noted new.board.now.game new.seat.view.notes)) c.stakes-stakes.result.now place many column.pairs) board_is c.fill.ensures.turns in
+    let two = subst (λ (b : GameTable). AreTurnsOf (board_source game old.seat.view.base) (all_told (noted b.game new.seat.view.notes)) c.stakes-stakes.result.now place many column.pairs) (same ∙ board_is) one in
+    let three = subst (λ (n : ℕ). AreTurnsOf (board_source game n) (all_told (noted game new.seat.view.notes)) c.stakes-stakes.result.now place many column.pairs) (sym base) two in
+    let turns = subst (λ (s : Terms). AreTurnsOf (board_source game new.seat.view.base) (all_told (noted game new.seat.view.notes)) s place many column.pairs) c.stakes-stakes.ensures three in
     let after = subst (λ (s : GameSeat). KeepsNotes s new.seat) c.new-pairs.ensures.seat looked in
     let sits : SitsAt board new.seat = sits-kept board c.args.seat new.seat after c.requires.seat in
     let valid : IsValid game.stakes = subst IsValid c.stakes-stakes.ensures c.kinds-kinds.ensures.valid in

@@ -3,7 +3,8 @@ use Rattle.position_rank.specs.Ranks.{rank_of}
 use Rattle.turn_rule.specs.Games.{kinds_of}
 use Rattle.interval_words.specs.Seats.{KeepsNotes}
 use Rattle.worker_sweep.specs.Blocks.{WorksIn}
-use Rattle.worker_sweep.specs.Columns.{MayBringColumn, AreNotedTo, position_in}
+use Rattle.worker_sweep.specs.Columns.{MayBringColumn, AreNotedTo}
+use Rattle.column_turns.specs.Columns.{position_in}
 use Rattle.worker_sweep.proofs.columns.sweep_column.Given as goal
 
 abbrev pub invariant-loop-i : goal.invariant-loop-i

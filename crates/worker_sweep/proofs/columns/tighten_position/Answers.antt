@@ -6,7 +6,7 @@ use Rattle.turn_rule.specs.States.{IsState}
 use Rattle.interval_words.specs.Seats.{GameTable}
 use Rattle.interval_words.proofs.SeatNotes.{keeps-refl, keeps-trans, sits-kept, adds-none}
 use Rattle.worker_sweep.specs.Blocks.{MaySweep, IsWorkIn}
-use Rattle.worker_sweep.specs.Columns.{position_in}
+use Rattle.column_turns.specs.Columns.{position_in}
 use Rattle.worker_sweep.proofs.SeatLemmas.{works-trans}
 use Rattle.worker_sweep.proofs.ColumnLemmas.{may-still, noted-kind}
 use Rattle.worker_sweep.proofs.columns.tighten_position.Goals as goal

@@ -2,7 +2,8 @@ use Rattle.std.proofs.Common.{◌≡◌}
 use Rattle.position_rank.specs.Ranks.{rank_of}
 use Rattle.interval_words.specs.Seats.{KeepsNotes}
 use Rattle.worker_sweep.specs.Blocks.{WorksIn}
-use Rattle.worker_sweep.specs.Columns.{AreNotedTo, position_in}
+use Rattle.worker_sweep.specs.Columns.{AreNotedTo}
+use Rattle.column_turns.specs.Columns.{position_in}
 use Rattle.worker_sweep.proofs.columns.tighten_position.Given as goal
 
 abbrev pub invariant-loop-kind : goal.invariant-loop-kind

@@ -2,7 +2,7 @@ use Rattle.std.proofs.Common.{◌≡◌, ◌∙◌, ℕ, ◌+◌, ◌*◌, true,
 use Rattle.std.proofs.lemmas.List.{take_rest}
 use Rattle.cube_actions.specs.Starts.{StartPairs}
 use Rattle.word_pages.specs.Sealed.{is_sealed}
-use Rattle.word_pages.specs.Words.{words_of}
+use Rattle.word_pages.specs.Words.{words_in_bytes}
 use Rattle.word_pages.proofs.Texts.{length-words_of}
 use Rattle.base_head.specs.Faults.{checked}
 use Rattle.base_head.specs.Fronts.{head_in, pairs_of_words, starts_fault, starts_length}
@@ -39,6 +39,6 @@ returns c =
     ap (λ (k : ℕ). is_sealed (take (k + 32) bytes)) (sym c.digest_place-place.ensures) ∙ sym c.is_sealed.ensures.value ∙ right-if c.is_sealed.result _ (checked-ok _ _ _ (sym c.in_ok-check.ensures)).0 in
     let read = checked-ok _ _ _ (sym c.in_ok-starts.ensures) in
     let none : starts_fault header bytes ≡ None = sealed-starts header bytes _ (take_rest bytes 64) right ∙ read.0 in
-    let starts : c.in_ok-starts.starts ≡ (head_in header bytes).starts = read.1 ∙ ap (λ (r : List ℕ). record { match_length = starts_length header.name header.match_length; pairs = pairs_of_words (words_of header.version (2 * header.starts) r) }) (take_rest bytes 64) in
+    let starts : c.in_ok-starts.starts ≡ (head_in header bytes).starts = read.1 ∙ ap (λ (r : List ℕ). record { match_length = starts_length header.name header.match_length; pairs = pairs_of_words (words_in_bytes header.version (2 * header.starts) r) }) (take_rest bytes 64) in
     let head = c.head.ensures ∙ ap (λ (s : StartPairs). record { checkers = header.checkers; name = header.name; rounds = header.rounds; starts = s }) starts in
     ap₂ (λ (o : Option BadFile) (h : FileHead). checked o h) (sym none) head

@@ -1,6 +1,6 @@
 use Rattle.std.proofs.Common.{length, ap, subst, ◌∙◌}
 use Rattle.turn_rule.specs.Layouts.{AreLayouts}
-use Rattle.worker_sweep.specs.Columns.{IsRoomOf}
+use Rattle.column_turns.specs.Columns.{IsRoomOf}
 use Rattle.worker_sweep.proofs.TakeIn.{none-marked, has-room}
 use Rattle.worker_sweep.proofs.worker.Worker.new.Goals as goal
 

@@ -1,0 +1,4 @@
+mod NotationWords
+mod NotationTexts
+mod NotationPrints
+mod PrintedTaken
