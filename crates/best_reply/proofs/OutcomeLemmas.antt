@@ -10,8 +10,8 @@ use Rattle.position_rank.specs.Ranks.{layouts}
 use Rattle.position_rank.proofs.LiveLaws.{live-same, live_below-le, square-size}
 use Rattle.roll_table.specs.Rolls.{Dice, all_rolls}
 use Rattle.move_rules.specs.Sequences.{IsLegalEnd}
-use Rattle.game_payoff.specs.declared.payoff.Won.{Won}
-use Rattle.game_payoff.specs.Points.{points}
+use Rattle.move_rules.specs.declared.payoff.Won.{Won}
+use Rattle.move_rules.specs.Payoff.{points}
 use Rattle.directed_fixed.specs.Bounds.{Bounds, IsWithin, negated}
 use Rattle.cube_actions.specs.declared.kind.Kind.{Kind}
 use Rattle.cube_actions.specs.Stakes.{kind_at, nothing}

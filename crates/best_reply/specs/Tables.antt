@@ -7,7 +7,7 @@ use Rattle.roll_table.specs.Rolls.{Dice, IsRoll, all_rolls}
 use Rattle.move_rules.specs.declared.play.Entry.{Entry}
 use Rattle.move_rules.specs.Order.{PlayComesBefore, IsFirst, ends_of, plays_of}
 use Rattle.move_rules.specs.Sequences.{IsLegalEnd}
-use Rattle.game_payoff.specs.Points.{points}
+use Rattle.move_rules.specs.Payoff.{points}
 use Rattle.directed_fixed.specs.declared.bounds.End.{End}
 use Rattle.directed_fixed.specs.declared.bounds.End.TheVariants.{Lower, Upper}
 use Rattle.directed_fixed.specs.Bounds.{Bounds, IsWithinUnits, at}

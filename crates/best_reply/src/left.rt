@@ -1,11 +1,11 @@
 ghost use Rattle.std.specs.Prelude.{◌≡◌, ◌<◌, ◌^◌, None, sum};
 ghost use Rattle.position_rank.specs.Placement.{IsLive, swap};
 ghost use Rattle.position_rank.specs.LiveRanks.{live_rank_of};
-ghost use Rattle.game_payoff.specs.Points.{points};
+ghost use Rattle.move_rules.specs.Payoff.{points};
 ghost use Rattle.best_reply.specs.Tables.{IsRight};
 
-use game_payoff::{Won, points};
 use interval_words::LiveIndex;
+use move_rules::{Won, points};
 use position_rank::Position;
 
 /// The live rank of a position. Of one to three checkers a side there are far fewer positions than a

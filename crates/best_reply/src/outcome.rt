@@ -3,7 +3,7 @@ ghost use Rattle.best_reply.specs.Tables.{IsRight};
 ghost use Rattle.best_reply.specs.Outcomes.{IsOutcomeOf, rank_in, won_in};
 
 use crate::left::Left;
-use game_payoff::Won;
+use move_rules::Won;
 
 /// How many numbers stand for wins.
 const WINS: u32 = 3;

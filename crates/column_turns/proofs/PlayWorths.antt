@@ -1,8 +1,8 @@
 -- What a play is worth whose game has ended, and one after which the other side's word was looked up.
 use Rattle.std.proofs.Common.{◌≡◌, ◌∙◌, ℕ, ℤ, neg_ℤ, Option, Some, None, Result, Ok, ap, sym, subst}
 use Rattle.position_rank.specs.Placement.{Placement, swap}
-use Rattle.game_payoff.specs.declared.payoff.Won.{Won}
-use Rattle.game_payoff.specs.Points.{points}
+use Rattle.move_rules.specs.declared.payoff.Won.{Won}
+use Rattle.move_rules.specs.Payoff.{points}
 use Rattle.directed_fixed.specs.declared.bounds.End.{End}
 use Rattle.directed_fixed.specs.Bounds.{IsNoLooser, IsWithin, IsWithinUnits, at, other}
 use Rattle.hyper_outside.specs.declared.outside.LookStop.{LookStop}

@@ -1,7 +1,7 @@
 ghost use Rattle.std.specs.Prelude.{◌≡◌, ◌<◌, IsTrue, sum};
 ghost use Rattle.position_rank.specs.Placement.{swap};
 ghost use Rattle.position_rank.specs.Ranks.{square_rank_of};
-ghost use Rattle.game_payoff.specs.declared.payoff.Won.{Won};
+ghost use Rattle.move_rules.specs.declared.payoff.Won.{Won};
 ghost use Rattle.directed_fixed.specs.Bounds.{IsWithin, IsWithinUnits};
 ghost use Rattle.turn_rule.specs.Turn.{win};
 ghost use Rattle.turn_rule.specs.Looks.{Source};
@@ -10,7 +10,7 @@ ghost use Rattle.column_turns.specs.Moments.{IsLater};
 
 use cube_actions::Kind;
 use directed_fixed::{End, Fixed};
-use game_payoff::points;
+use move_rules::points;
 use position_rank::Position;
 use turn_rule::{Pairs, end_of, other_end, win_of, word_of};
 

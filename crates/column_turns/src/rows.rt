@@ -1,5 +1,5 @@
 ghost use Rattle.std.specs.Prelude.{◌≡◌, ◌<◌, ◌≤◌, ◌^◌, pos, ◌≤ℤ◌, IsTrue, length, sum};
-ghost use Rattle.game_payoff.specs.declared.payoff.Won.{Won};
+ghost use Rattle.move_rules.specs.declared.payoff.Won.{Won};
 ghost use Rattle.directed_fixed.specs.Bounds.{IsWithin};
 ghost use Rattle.turn_rule.specs.Turn.{win};
 ghost use Rattle.turn_rule.specs.Layouts.{AreLayouts};

@@ -6,8 +6,8 @@ use Rattle.std.specs.Option.{option_map, MatchOption}
 use Rattle.cube_actions.specs.Ladder.{IsOfMatch}
 use Rattle.cube_actions.specs.Names.{money_names, names_of}
 use Rattle.cube_actions.specs.declared.name.KindName.TheVariants.{Mine, Theirs}
-use Rattle.game_payoff.specs.Points.{points}
-use Rattle.game_payoff.specs.declared.payoff.Won.TheVariants.{Single, Gammon, Backgammon}
+use Rattle.move_rules.specs.Payoff.{points}
+use Rattle.move_rules.specs.declared.payoff.Won.TheVariants.{Single, Gammon, Backgammon}
 use Rattle.position_rank.specs.Placement.{Placement, IsLive, IsPosition, above}
 use Rattle.position_rank.proofs.StartLive.{start-live, start-position, start-sum}
 use Rattle.roll_table.specs.Rolls.{Dice, IsRoll}

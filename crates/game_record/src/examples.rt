@@ -9,7 +9,7 @@ ghost use Rattle.game_record.specs.Faults.{IsLineFault};
 ghost use Rattle.cube_actions.specs.declared.name.KindName.TheVariants.{Mine, Theirs, InMatch};
 ghost use Rattle.cube_actions.specs.declared.phase.Phase.TheVariants.{Normal, Crawford, Post};
 ghost use Rattle.cube_actions.specs.declared.side.Side.TheVariants.{Near, Far};
-ghost use Rattle.game_payoff.specs.declared.payoff.Won.TheVariants.{Gammon};
+ghost use Rattle.move_rules.specs.declared.payoff.Won.TheVariants.{Gammon};
 ghost use Rattle.game_record.specs.declared.decision.Answer.TheVariants.{Take, Pass, Beaver};
 ghost use Rattle.game_record.specs.declared.record.RecordStakes.TheVariants.{Money, Jacoby, Match};
 ghost use Rattle.game_record.specs.Cube.{centred, shows, turned};

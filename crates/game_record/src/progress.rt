@@ -9,7 +9,7 @@ use crate::player::Player;
 use crate::record::RecordStakes;
 use crate::standing::Standing;
 use cube_actions::Phase;
-use game_payoff::{Won, points};
+use move_rules::{Won, points};
 use position_rank::Position;
 
 /// Who has won a game, and how many points, of 1 to 3, in units of what the cube shows.

@@ -10,14 +10,14 @@ use Rattle.std.specs.List.{list_all}
 use Rattle.move_rules.specs.Listing.{Among}
 use Rattle.move_rules.proofs.Members.{filter-cases, Among-Contains}
 use Rattle.position_rank.specs.Placement.{Placement, swap}
-use Rattle.game_payoff.specs.declared.payoff.Won.{Won}
-use Rattle.game_payoff.specs.declared.payoff.Won.TheVariants.{Single, Gammon, Backgammon}
+use Rattle.move_rules.specs.declared.payoff.Won.{Won}
+use Rattle.move_rules.specs.declared.payoff.Won.TheVariants.{Single, Gammon, Backgammon}
 use Rattle.directed_fixed.specs.declared.bounds.End.TheVariants.{Lower, Upper}
 use Rattle.directed_fixed.specs.Bounds.{Bounds, negated}
 use Rattle.std.specs.Int.{int_max}
 use Rattle.std.specs.Option.{option_map}
 use Rattle.roll_table.specs.Rolls.{all_rolls}
-use Rattle.game_payoff.specs.Points.{points}
+use Rattle.move_rules.specs.Payoff.{points}
 use Rattle.cube_actions.specs.declared.kind.Kind.{Kind}
 use Rattle.cube_actions.specs.declared.kind.Double.{Double}
 use Rattle.cube_actions.specs.declared.kind.Taken.{Taken}

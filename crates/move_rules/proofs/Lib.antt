@@ -13,3 +13,4 @@ pub mod WrittenLaws
 mod NoFault
 pub mod CountsAbove
 mod OpeningPlays
+mod WonCases

@@ -6,3 +6,4 @@ pub mod Listing
 pub mod Faults
 pub mod Written
 pub mod Examples
+pub mod Payoff

@@ -1,4 +1,4 @@
-//! The rules of play: which plays a roll allows.
+//! The rules of play: which plays a roll allows, and how a game is won.
 #![tactic(auto)]
 
 mod applied;
@@ -7,6 +7,8 @@ mod laws;
 mod listing;
 mod matched;
 mod moves;
+mod payoff;
+mod payoff_laws;
 mod play;
 mod written;
 
@@ -19,5 +21,7 @@ pub use laws::{
 pub use listing::plays;
 pub use matched::{hits, match_play};
 pub use moves::after_move;
+pub use payoff::{Won, points};
+pub use payoff_laws::worked_payoffs;
 pub use play::{Entry, MOST_PLAYS, Move, Play, PlayList};
 pub use written::{Step, Written};

@@ -11,7 +11,7 @@ use Rattle.move_rules.specs.Listing.{Among}
 use Rattle.move_rules.specs.Sequences.{IsLegalEnd}
 use Rattle.move_rules.proofs.Members.{Contains-Among, Among-Contains}
 use Rattle.move_rules.proofs.EndsExact.{legal_ends-complete, legal_ends-sound}
-use Rattle.game_payoff.specs.declared.payoff.Won.{Won}
+use Rattle.move_rules.specs.declared.payoff.Won.{Won}
 use Rattle.directed_fixed.specs.Bounds.{Bounds, IsWithin, IsWithinUnits, at_zero}
 use Rattle.hyper_outside.specs.declared.outside.LookStop.{LookStop}
 use Rattle.cube_actions.specs.Stakes.{Terms, kind_at, no_kind, IsValid}

@@ -8,8 +8,8 @@ use Rattle.move_rules.specs.Listing.{Among}
 use Rattle.move_rules.specs.Sequences.{IsLegalEnd}
 use Rattle.move_rules.proofs.Members.{Among-Contains, Contains-Among, Among-flat_map, Among-map, Among-range}
 use Rattle.move_rules.proofs.EndsExact.{legal_ends-sound, legal_ends-complete}
-use Rattle.game_payoff.specs.declared.payoff.Won.{Won}
-use Rattle.game_payoff.specs.Points.{points}
+use Rattle.move_rules.specs.declared.payoff.Won.{Won}
+use Rattle.move_rules.specs.Payoff.{points}
 use Rattle.turn_rule.proofs.Greatest.{AreRolls, all_rolls-right}
 use Rattle.race_table.specs.Races.{IsRace, pips}
 use Rattle.race_table.specs.TurnsLeft.{most, most_over, if_goes_on, left_after, turns_upto, turns_left}

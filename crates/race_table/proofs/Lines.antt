@@ -6,7 +6,7 @@ use Rattle.roll_table.specs.Rolls.{Dice, IsRoll, dice_of}
 use Rattle.move_rules.specs.Sequences.{IsSequence, IsLegalEnd}
 use Rattle.move_rules.specs.declared.play.Move.{Move}
 use Rattle.move_rules.proofs.StayLive.{AreDice, mover-stays, legal_end-stays}
-use Rattle.game_payoff.specs.Points.{points}
+use Rattle.move_rules.specs.Payoff.{points}
 use Rattle.turn_rule.proofs.Within.{in_play}
 use Rattle.race_table.specs.Races.{HavePassed, IsRace, pips, pips_of}
 use Rattle.race_table.specs.FreePlays.{against}

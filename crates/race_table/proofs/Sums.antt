@@ -14,8 +14,8 @@ use Rattle.move_rules.proofs.EndsExact.{legal_ends-complete}
 use Rattle.move_rules.proofs.Members.{Among-Contains, Contains-Among, Among-map}
 use Rattle.move_rules.proofs.SomeEnd.{some_legal_end}
 use Rattle.move_rules.proofs.StayLive.{legal_end-stays}
-use Rattle.game_payoff.specs.declared.payoff.Won.{Won}
-use Rattle.game_payoff.specs.Points.{points}
+use Rattle.move_rules.specs.declared.payoff.Won.{Won}
+use Rattle.move_rules.specs.Payoff.{points}
 use Rattle.directed_fixed.specs.declared.bounds.End.TheVariants.{Lower, Upper}
 use Rattle.directed_fixed.specs.Bounds.{Bounds, IsWithin, IsWithinUnits, negated}
 use Rattle.directed_fixed.specs.Rounding.{floor_36, ceil_36}

@@ -2,7 +2,7 @@ ghost use Rattle.std.specs.Prelude.{◌≡◌, ◌↔◌, ◌+◌, ◌<◌, IsTr
 ghost use Rattle.position_rank.specs.Placement.{Placement, IsPosition, IsLive, swap};
 ghost use Rattle.roll_table.specs.Rolls.{Dice, IsRoll, all_rolls};
 ghost use Rattle.move_rules.specs.Sequences.{IsLegalEnd};
-ghost use Rattle.game_payoff.specs.Points.{points};
+ghost use Rattle.move_rules.specs.Payoff.{points};
 ghost use Rattle.race_table.specs.Races.{IsRace, is_race, pips};
 ghost use Rattle.race_table.specs.RacePairs.{IsTrueOfRace, race_pair};
 ghost use Rattle.race_table.specs.TurnsLeft.{left_after, most_over, turns_left};

@@ -6,7 +6,7 @@ use Rattle.move_rules.specs.Ends.{legal_ends}
 use Rattle.move_rules.specs.Listing.{Among}
 use Rattle.move_rules.proofs.Members.{Among-Contains}
 use Rattle.move_rules.proofs.EndsExact.{legal_ends-sound}
-use Rattle.game_payoff.specs.Points.{points}
+use Rattle.move_rules.specs.Payoff.{points}
 use Rattle.cube_actions.specs.declared.kind.Double.{Double}
 use Rattle.cube_actions.specs.declared.kind.Taken.{Taken}
 use Rattle.cube_actions.specs.Stakes.{Terms, kind_at}

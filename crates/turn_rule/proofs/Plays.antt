@@ -4,8 +4,8 @@ use Rattle.std.specs.Int.{int_max}
 use Rattle.std.proofs.lemmas.List.{take_more}
 use Rattle.position_rank.specs.Placement.{Placement, swap}
 use Rattle.move_rules.specs.Listing.{Among}
-use Rattle.game_payoff.specs.declared.payoff.Won.{Won}
-use Rattle.game_payoff.specs.Points.{points}
+use Rattle.move_rules.specs.declared.payoff.Won.{Won}
+use Rattle.move_rules.specs.Payoff.{points}
 use Rattle.directed_fixed.specs.declared.bounds.End.{End}
 use Rattle.directed_fixed.specs.Bounds.{at, other, IsWithinUnits}
 use Rattle.cube_actions.specs.declared.kind.Kind.{Kind}

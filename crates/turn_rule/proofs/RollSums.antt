@@ -9,7 +9,7 @@ use Rattle.move_rules.specs.Listing.{Among}
 use Rattle.move_rules.specs.Ends.{legal_ends}
 use Rattle.move_rules.proofs.Members.{Among-Contains, Contains-Among, Among-flat_map, Among-map, Among-range}
 use Rattle.move_rules.proofs.EndsExact.{legal_ends-sound, legal_ends-complete}
-use Rattle.game_payoff.specs.declared.payoff.Won.{Won}
+use Rattle.move_rules.specs.declared.payoff.Won.{Won}
 use Rattle.directed_fixed.specs.declared.bounds.End.{End}
 use Rattle.directed_fixed.specs.Bounds.{IsWithin, IsWithinUnits}
 use Rattle.cube_actions.specs.declared.kind.Kind.{Kind}

@@ -12,9 +12,9 @@ use Rattle.roll_table.specs.Rolls.{Dice, IsRoll, all_rolls}
 use Rattle.move_rules.specs.Ends.{legal_ends}
 use Rattle.move_rules.specs.Listing.{Among}
 use Rattle.move_rules.proofs.StayLive.{legal_end-stays}
-use Rattle.game_payoff.specs.declared.payoff.Won.{Won}
-use Rattle.game_payoff.specs.declared.payoff.Won.TheVariants.{Single, Gammon, Backgammon}
-use Rattle.game_payoff.specs.Points.{points}
+use Rattle.move_rules.specs.declared.payoff.Won.{Won}
+use Rattle.move_rules.specs.declared.payoff.Won.TheVariants.{Single, Gammon, Backgammon}
+use Rattle.move_rules.specs.Payoff.{points}
 use Rattle.directed_fixed.specs.declared.bounds.End.TheVariants.{Lower, Upper}
 use Rattle.directed_fixed.specs.Bounds.{Bounds, IsWithin}
 use Rattle.directed_fixed.specs.Rounding.{floor_36, ceil_36}

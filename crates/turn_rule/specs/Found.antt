@@ -4,7 +4,7 @@ use Rattle.position_rank.specs.Placement.{Placement, swap}
 use Rattle.roll_table.specs.Rolls.{Dice, all_rolls}
 use Rattle.move_rules.specs.Listing.{Among}
 use Rattle.move_rules.specs.Ends.{legal_ends}
-use Rattle.game_payoff.specs.Points.{points}
+use Rattle.move_rules.specs.Payoff.{points}
 use Rattle.directed_fixed.specs.declared.bounds.End.{End}
 use Rattle.directed_fixed.specs.Bounds.{IsNoLooser, IsWithinUnits}
 use Rattle.hyper_outside.specs.declared.outside.LookStop.{LookStop}

@@ -2,8 +2,8 @@
 use Rattle.std.specs.Prelude.{◌≡◌, ℕ, Option}
 use Rattle.position_rank.specs.Placement.{Placement, swap}
 use Rattle.position_rank.specs.Ranks.{square_rank_of}
-use Rattle.game_payoff.specs.declared.payoff.Won.{Won}
-use Rattle.game_payoff.specs.Points.{points}
+use Rattle.move_rules.specs.declared.payoff.Won.{Won}
+use Rattle.move_rules.specs.Payoff.{points}
 
 -- the end as the mover sees it
 abbrev pub mover_view : Placement → Placement

@@ -1,7 +1,7 @@
 -- What it is that a pair of words encloses.
 use Rattle.std.specs.Prelude.{◌≡◌, ◌<◌, ◌≤◌, ◌^◌, ◌*◌, ℕ, ℤ, pos, ◌*ℤ◌, ◌≤ℤ◌, IfSome, length, Option, Some, None}
 use Rattle.position_rank.specs.Placement.{Placement}
-use Rattle.game_payoff.specs.declared.payoff.Won.{Won}
+use Rattle.move_rules.specs.declared.payoff.Won.{Won}
 use Rattle.directed_fixed.specs.declared.bounds.End.{End}
 use Rattle.directed_fixed.specs.declared.bounds.End.TheVariants.{Lower, Upper}
 use Rattle.directed_fixed.specs.Bounds.{Bounds, AreNoLooserPairs}

@@ -1,9 +1,9 @@
 ghost use Rattle.std.specs.Prelude.{◌≡◌};
 ghost use Rattle.position_rank.specs.Placement.{Placement, swap};
 ghost use Rattle.position_rank.specs.Ranks.{square_rank_of};
-ghost use Rattle.game_payoff.specs.Points.{points};
+ghost use Rattle.move_rules.specs.Payoff.{points};
 
-use game_payoff::{Won, points};
+use move_rules::{Won, points};
 use position_rank::Position;
 use std::marker::Model;
 

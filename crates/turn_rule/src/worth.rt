@@ -2,8 +2,8 @@ ghost use Rattle.std.specs.Prelude.{◌≡◌, ◌<◌, ℕ, None, All, length};
 ghost use Rattle.std.specs.List.{Contains};
 ghost use Rattle.position_rank.specs.Placement.{Placement, swap};
 ghost use Rattle.position_rank.specs.Ranks.{square_rank_of};
-ghost use Rattle.game_payoff.specs.declared.payoff.Won.{Won};
-ghost use Rattle.game_payoff.specs.Points.{points};
+ghost use Rattle.move_rules.specs.declared.payoff.Won.{Won};
+ghost use Rattle.move_rules.specs.Payoff.{points};
 ghost use Rattle.directed_fixed.specs.Bounds.{Bounds, IsWithin, at, other};
 ghost use Rattle.turn_rule.specs.Turn.{win};
 ghost use Rattle.turn_rule.specs.Looks.{IsSourceState};
@@ -13,8 +13,8 @@ use crate::pairs::Pairs;
 use crate::play_end::PlayEnd;
 use cube_actions::Kind;
 use directed_fixed::{End, Fixed, Pair};
-use game_payoff::Won;
 use hyper_outside::LookStop;
+use move_rules::Won;
 use position_rank::Position;
 
 /// The other end of a pair.

@@ -1,5 +1,5 @@
 use Rattle.std.proofs.Common.{◌≡◌, ◌<◌, ◌∙◌, None, length, sym, ap, arith}
-use Rattle.game_payoff.specs.Points.{points}
+use Rattle.move_rules.specs.Payoff.{points}
 use Rattle.directed_fixed.specs.Bounds.{negated}
 use Rattle.cube_actions.specs.Stakes.{Terms}
 use Rattle.turn_rule.specs.Games.{kinds_of}

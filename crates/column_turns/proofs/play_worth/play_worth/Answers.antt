@@ -1,7 +1,7 @@
 use Rattle.std.proofs.Common.{◌≡◌, None, sym, arith}
 use Rattle.std.proofs.lemmas.Int.{ints}
-use Rattle.game_payoff.specs.declared.payoff.Won.TheVariants.{Single}
-use Rattle.game_payoff.specs.Points.{points}
+use Rattle.move_rules.specs.declared.payoff.Won.TheVariants.{Single}
+use Rattle.move_rules.specs.Payoff.{points}
 use Rattle.turn_rule.specs.Turn.{win}
 use Rattle.turn_rule.proofs.Values.{within-positive}
 use Rattle.column_turns.proofs.PlayWorths.{won-found, word-found}

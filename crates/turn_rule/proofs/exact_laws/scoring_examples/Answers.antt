@@ -1,6 +1,6 @@
 use Rattle.std.proofs.Common.{arith}
 use Rattle.std.proofs.lemmas.Int.{ints}
-use Rattle.game_payoff.specs.declared.payoff.Won.TheVariants.{Gammon}
+use Rattle.move_rules.specs.declared.payoff.Won.TheVariants.{Gammon}
 use Rattle.turn_rule.proofs.Cubeless.{one_each, one_each-state}
 use Rattle.turn_rule.proofs.exact_laws.scoring_examples.Goals as goal
 

@@ -1,7 +1,7 @@
 use Rattle.std.proofs.Common.{◌<◌, ℕ, refl, arith, zero, suc}
 use Rattle.std.proofs.lemmas.Int.{ints}
-use Rattle.game_payoff.specs.declared.payoff.Won.{Won}
-use Rattle.game_payoff.specs.declared.payoff.Won.TheVariants.{Single, Gammon, Backgammon}
+use Rattle.move_rules.specs.declared.payoff.Won.{Won}
+use Rattle.move_rules.specs.declared.payoff.Won.TheVariants.{Single, Gammon, Backgammon}
 use Rattle.directed_fixed.specs.Bounds.{AreNoLooserPairs}
 use Rattle.cube_actions.specs.Stakes.{cubeless, kind_at}
 use Rattle.turn_rule.specs.Turn.{win}

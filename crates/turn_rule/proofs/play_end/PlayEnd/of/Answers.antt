@@ -1,6 +1,6 @@
 use Rattle.std.proofs.Common.{◌∙◌, ap, sym}
 use Rattle.position_rank.specs.Placement.{swap}
-use Rattle.game_payoff.specs.Points.{points}
+use Rattle.move_rules.specs.Payoff.{points}
 use Rattle.turn_rule.proofs.play_end.PlayEnd.of.Goals as goal
 
 pub returns : goal.returns

@@ -1,5 +1,5 @@
 use Rattle.std.proofs.Common.{◌∙◌, ap}
-use Rattle.game_payoff.specs.Points.{points}
+use Rattle.move_rules.specs.Payoff.{points}
 use Rattle.turn_rule.proofs.play_end.PlayEnd.won.Goals as goal
 
 pub returns : goal.returns

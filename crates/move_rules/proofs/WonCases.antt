@@ -1,9 +1,9 @@
 -- How a game was won, case by case.
 use Rattle.std.proofs.Common.{◌≡◌, ◌<◌, ◌≤◌, Bool, true, false, cond, nat_lt, slice_index, sum, Option, Some, None}
 use Rattle.std.proofs.lemmas.Bool.{lt-ltb, le-ltb}
-use Rattle.game_payoff.specs.declared.payoff.Won.{Won}
-use Rattle.game_payoff.specs.declared.payoff.Won.TheVariants.{Single, Gammon, Backgammon}
-use Rattle.game_payoff.specs.Points.{points}
+use Rattle.move_rules.specs.declared.payoff.Won.{Won}
+use Rattle.move_rules.specs.declared.payoff.Won.TheVariants.{Single, Gammon, Backgammon}
+use Rattle.move_rules.specs.Payoff.{points}
 use Rattle.position_rank.specs.Placement.{Placement, above}
 
 -- the answer to three tests: a checker of the mover isn't off, the other side has one off, it has one in the winner's home

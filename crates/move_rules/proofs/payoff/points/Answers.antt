@@ -1,6 +1,6 @@
 use Rattle.std.proofs.Common.{sym, arith}
-use Rattle.game_payoff.proofs.WonCases.{not-won, single, backgammon, gammon}
-use Rattle.game_payoff.proofs.payoff.points.Goals as goal
+use Rattle.move_rules.proofs.WonCases.{not-won, single, backgammon, gammon}
+use Rattle.move_rules.proofs.payoff.points.Goals as goal
 
 pub returns-then-mover_at-checkers : goal.returns-then-mover_at-checkers
 returns-then-mover_at-checkers c =

@@ -1,7 +1,7 @@
 -- What a game that has ended is worth.
 use Rattle.std.specs.Prelude.{Option, Some, None, sum, slice_index, nat_lt, if◌then◌else◌}
-use Rattle.game_payoff.specs.declared.payoff.Won.{Won}
-use Rattle.game_payoff.specs.declared.payoff.Won.TheVariants.{Single, Gammon, Backgammon}
+use Rattle.move_rules.specs.declared.payoff.Won.{Won}
+use Rattle.move_rules.specs.declared.payoff.Won.TheVariants.{Single, Gammon, Backgammon}
 use Rattle.position_rank.specs.Placement.{Placement, above}
 
 -- After the mover's play: nothing while he has a checker that isn't off. A win is single if the other side has borne off a checker,

@@ -1,7 +1,7 @@
 -- By computation.
 use Rattle.std.proofs.Common.{refl}
 use Rattle.position_rank.specs.Packed.{counts_of}
-use Rattle.game_payoff.proofs.laws.worked_examples.Goals as goal
+use Rattle.move_rules.proofs.payoff_laws.worked_payoffs.Goals as goal
 
 pub returns-clause-on_the_bar : goal.returns-clause-on_the_bar
 unfolding counts_of

@@ -1,10 +1,10 @@
 ghost use Rattle.std.specs.Prelude.{◌≡◌, Some, None, ◌∷◌, []};
-ghost use Rattle.game_payoff.specs.declared.payoff.Won.TheVariants.{Single, Gammon, Backgammon};
-ghost use Rattle.game_payoff.specs.Points.{points};
+ghost use Rattle.move_rules.specs.declared.payoff.Won.TheVariants.{Single, Gammon, Backgammon};
+ghost use Rattle.move_rules.specs.Payoff.{points};
 ghost use Rattle.position_rank.specs.Examples.{placed, off, bar};
 
 /// Positions after a play, and how each is won.
-pub fn worked_examples()
+pub fn worked_payoffs()
     ensures on_the_bar { points (placed (off ∷ []) (bar ∷ [])) ≡ Some Backgammon }
     ensures far_end_of_the_winners_home { points (placed (off ∷ []) (24 ∷ [])) ≡ Some Backgammon }
     ensures near_end_of_the_winners_home { points (placed (off ∷ []) (19 ∷ [])) ≡ Some Backgammon }

@@ -1,5 +1,5 @@
 ghost use Rattle.std.specs.Prelude.{◌≡◌};
-ghost use Rattle.game_payoff.specs.Points.{points};
+ghost use Rattle.move_rules.specs.Payoff.{points};
 
 use position_rank::Position;
 
