@@ -344,15 +344,25 @@ def spread_positions(checkers):
         return [row for row in csv.DictReader(file, delimiter="\t") if row["checkers"] == str(checkers)]
 
 
+def shown_of(words, folder):
+    """The lines that `show` prints."""
+    return run([PROGRAM, "show", *words], folder, environment=LARGE_PAGES).output.decode().splitlines()
+
+
 def faults_of_reader(name, rows, folder):
-    """What import/base.py has of positions has to be what `show` prints, of an older file what it prints of the one from which that was made."""
+    """What import/base.py has of positions has to be what `show` prints, of an older file what it prints of the one from which that was made:
+    of a list of all of them, and of some alone."""
     shown = SMALL if name in OLDER_VERSIONS else name
-    base = Base(folder / name)
-    for row in rows:
-        position, rank = row["position"], live_rank(*map(read_places, row["position"].split("/")))
+    base, positions = Base(folder / name), [row["position"] for row in rows]
+    (folder / "positions").write_text("".join(f"{it}\n" for it in positions))
+    listed = shown_of((shown, "--positions", "positions"), folder)
+    yield from differences("lines of a list", len(listed), len(positions))
+    for row, position, line in zip(rows, positions, listed):
+        rank, due = live_rank(*map(read_places, position.split("/"))), " ".join(lines(base, position))
         yield from differences(f"live rank of {position}", str(rank), row["rank"])
-        printed = run([PROGRAM, "show", shown, position], folder, environment=LARGE_PAGES).output.decode().splitlines()
-        yield from differences(f"pairs of {position}", list(lines(base, position)), printed[2:])
+        yield from differences(f"pairs of {position}", line.split("\t"), [position, *due.split()])
+    for position in positions[::30]:
+        yield from differences(f"pairs of {position}", shown_of((shown, position), folder)[2:], list(lines(base, position)))
 
 
 def try_reader(tally, folder):

@@ -2,6 +2,7 @@ mod asserts;
 mod bases;
 mod claims;
 mod drawn;
+mod every_state;
 mod files;
 mod gates;
 mod heads;

@@ -1,9 +1,7 @@
 //! The hypergammon solver.
 #![tactic(auto)]
 
-mod program;
-
-use program::start;
+use real_run::start;
 use std::io::IsTerminal;
 use std::process::ExitCode;
 

@@ -9,6 +9,7 @@ mod numbers;
 mod outside;
 mod plans;
 mod positions;
+mod race_rounds;
 mod races;
 mod rolls;
 mod states;

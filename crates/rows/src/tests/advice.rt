@@ -1,9 +1,9 @@
 use super::bench::{run, run_each};
-use super::steps::Change::Bit;
-use super::steps::Content::Cubeless;
-use super::steps::Held::{IsCubeless, Length};
-use super::steps::Step;
-use super::steps::Step::{Ask, Change, FailCall, FailPut, File, Make, Row};
+use row_steps::Change::Bit;
+use row_steps::Content::Cubeless;
+use row_steps::Held::{IsCubeless, Length};
+use row_steps::Step;
+use row_steps::Step::{Ask, Change, FailCall, FailPut, File, Make, Row};
 use std::test::Fail;
 
 // Words that solve a game, each within a second. Of the file of two checkers a bit of the last page is turned, on which no advice

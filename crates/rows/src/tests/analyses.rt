@@ -1,10 +1,10 @@
 use super::bench::{run, run_each};
-use super::steps::Change::Bit;
-use super::steps::Content::{Cubeless, Filled, Text};
-use super::steps::Held::{IsCubeless, Length};
-use super::steps::Step;
-use super::steps::Step::{Ask, Change, FailCall, FailPut, File, Make, Put, Row};
-use super::steps::Told::EachLine;
+use row_steps::Change::Bit;
+use row_steps::Content::{Cubeless, Filled, Text};
+use row_steps::Held::{IsCubeless, Length};
+use row_steps::Step;
+use row_steps::Step::{Ask, Change, FailCall, FailPut, File, Make, Put, Row};
+use row_steps::Told::EachLine;
 use std::test::Fail;
 
 // A game of one checker, with a hit and a double.

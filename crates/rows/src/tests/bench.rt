@@ -1,104 +1,12 @@
 //! Takes the steps of a test.
-use super::files::{alter, holds, make};
-use super::puts::is_told;
-use super::steps::Step;
-use crate::meeting::Meeting;
-use crate::runs::{ask, ask_at, ask_failing};
+use super::runs::{Outcome, answer, answer_at, answer_failing};
 use hyper_outside::NoMemory;
 use memory_files::MemFiles;
-use outside_log::Files;
+use row_steps::{Meeting, Step, alter, holds, is_told, make};
 use std::alloc::{AllocGlobal, Global};
 use std::process::Abort;
-use std::sync::atomic::Ordering;
 use std::test::Fail;
 use std::thread::Threads;
-
-/// How a run ended, and what it put.
-#[derive(Drop)]
-pub(super) struct Outcome {
-    pub(super) status: u8,
-    put: Vec<u8>,
-}
-
-impl Outcome {
-    fn new(alloc: Global, status: u8, put: &[u8]) -> Result<Outcome, NoMemory> {
-        let mut bytes = Vec::new(alloc);
-        bytes.extend_from_slice(put)?;
-        Ok(Outcome { status, put: bytes })
-    }
-
-    /// What was put, nothing where it isn't text.
-    pub(super) fn text(&self) -> &str {
-        str::from_utf8(self.put.as_slice()).unwrap_or("")
-    }
-}
-
-/// The words of a question.
-fn parted<'a>(alloc: Global, question: &'a str) -> Result<Vec<&'a str>, NoMemory> {
-    let mut words = Vec::new(alloc);
-    if question.is_empty() {
-        return Ok(words);
-    }
-    for word in question.split(", ") {
-        words.push(word)?;
-    }
-    Ok(words)
-}
-
-/// Answers a question.
-pub(super) fn answer<R: Threads + Sync, F: Files>(
-    rt: &R,
-    alloc: Global,
-    files: &mut F,
-    question: &str,
-) -> Result<Outcome, NoMemory> {
-    let words = parted(alloc, question)?;
-    let (status, out) = ask(rt, alloc, files, &words)?;
-    Outcome::new(alloc, status, out.put_bytes())
-}
-
-/// Answers a question, where the output's call of this number, from 1, fails after so many bytes.
-fn answer_failing<R: Threads + Sync>(
-    rt: &R,
-    alloc: Global,
-    files: &mut MemFiles,
-    question: &str,
-    failing: (u64, usize),
-) -> Result<Outcome, NoMemory> {
-    let (call, prefix) = failing;
-    let words = parted(alloc, question)?;
-    let (status, out) = ask_failing(rt, alloc, files, &words, call, prefix)?;
-    Outcome::new(alloc, status, out.put_bytes())
-}
-
-/// Answers a question while workers meet.
-fn answer_at<R: Threads + Sync>(
-    rt: &R,
-    alloc: Global,
-    files: &mut MemFiles,
-    question: &str,
-    gate: &Meeting,
-) -> Result<Outcome, NoMemory> {
-    let words = parted(alloc, question)?;
-    let (status, out) = ask_at(rt, alloc, files, &words, gate)?;
-    Outcome::new(alloc, status, out.put_bytes())
-}
-
-/// Whether nobody gave up, so many rounds were said to come, and each block was passed so often. Where that is once, whoever came to block 1 came to no other.
-fn has_met(gate: &Meeting, times: u64) -> bool {
-    let last = gate.last.load(Ordering::SeqCst) as usize;
-    let of_last = match gate.came.get(last) {
-        Some(came) => came.load(Ordering::SeqCst),
-        None => 0,
-    };
-    gate.gave_up.load(Ordering::SeqCst) == 0
-        && gate.rounds.load(Ordering::SeqCst) == times
-        && gate
-            .passes
-            .iter()
-            .all(|passes| passes.load(Ordering::SeqCst) == times)
-        && (times > 1 || of_last == 1)
-}
 
 /// What a test has made so far.
 #[derive(Drop)]
@@ -118,10 +26,7 @@ impl Bench {
             alloc,
             files: MemFiles::new(alloc),
             failing: None,
-            last: Outcome {
-                status: 0,
-                put: Vec::new(alloc),
-            },
+            last: Outcome::none(alloc),
             kept: String::new(alloc),
         }
     }
@@ -150,7 +55,7 @@ impl Bench {
     ) -> Result<bool, NoMemory> {
         let gate = Meeting::new(self.alloc, workers as usize)?;
         self.last = answer_at(rt, self.alloc, &mut self.files, question, &gate)?;
-        Ok(self.last.status == 0 && has_met(&gate, times))
+        Ok(self.last.status == 0 && gate.has_met(times))
     }
 
     /// Keeps what stands behind the first place of some words. Whether they stand there.

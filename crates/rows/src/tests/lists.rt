@@ -1,8 +1,8 @@
 use super::bench::run;
-use super::steps::Change::Ends;
-use super::steps::Content::{Cubeless, Text};
-use super::steps::Step;
-use super::steps::Step::{Ask, Change, FailPut, Make, Row};
+use row_steps::Change::Ends;
+use row_steps::Content::{Cubeless, Text};
+use row_steps::Step;
+use row_steps::Step::{Ask, Change, FailPut, Make, Row};
 use std::test::Fail;
 
 // Of all lines but the first and the last no pair is shown. The last has no line end.

@@ -1,9 +1,9 @@
 use super::bench::{run, run_each};
-use super::steps::Change::Bit;
-use super::steps::Content::{CopyOf, Text};
-use super::steps::Step;
-use super::steps::Step::{Ask, Change, Make, Put, Row};
-use super::steps::Told::EachLine;
+use row_steps::Change::Bit;
+use row_steps::Content::{CopyOf, Text};
+use row_steps::Step;
+use row_steps::Step::{Ask, Change, Make, Put, Row};
+use row_steps::Told::EachLine;
 use std::test::Fail;
 
 // A game of a match of two points in which the first double is passed.

@@ -1,9 +1,9 @@
 use super::bench::{run, run_each};
-use super::steps::Content::Text;
-use super::steps::Held::{Length, Nothing};
-use super::steps::Step::{Ask, FailCall, FailPut, File, Make, Put};
-use super::steps::Told::{Begins, EachLine, Encloses, Ends, Has, Lines};
-use super::steps::{Finder, Held, Step};
+use row_steps::Content::Text;
+use row_steps::Held::{Length, Nothing};
+use row_steps::Step::{Ask, FailCall, FailPut, File, Make, Put};
+use row_steps::Told::{Begins, EachLine, Encloses, Ends, Has, Lines};
+use row_steps::{Finder, Held, Step};
 use std::test::Fail;
 
 const TO_TWO: &str = "ladder, L, --checkers, 1, --length, 2, --rounds, 4, --workers, 2";

@@ -1,10 +1,10 @@
 //! Workers that really run at once: each is held at its first block until all have come to theirs.
 use super::analyses::{GAME, IN_MATCH, LINES};
 use super::bench::run;
-use super::steps::Content::Text;
-use super::steps::Step;
-use super::steps::Step::{Ask, Make, Meet, Put, Row};
-use super::steps::Told::{Begins, EachLine, Ends, Lines};
+use row_steps::Content::Text;
+use row_steps::Step;
+use row_steps::Step::{Ask, Make, Meet, Put, Row};
+use row_steps::Told::{Begins, EachLine, Ends, Lines};
 use std::test::Fail;
 
 // Whoever has block 1 waits there until the others have come to all others: so it comes last, and one worker passes one block. From `12 / 1`

@@ -1,9 +1,9 @@
 use super::bench::{run, run_each};
-use super::steps::Change::Byte;
-use super::steps::Content::{Cubeless, Opening};
-use super::steps::Held::{IsOpening, Length, Nothing};
-use super::steps::Step;
-use super::steps::Step::{Ask, Change, FailCall, File, Make, Row};
+use row_steps::Change::Byte;
+use row_steps::Content::{Cubeless, Opening};
+use row_steps::Held::{IsOpening, Length, Nothing};
+use row_steps::Step;
+use row_steps::Step::{Ask, Change, FailCall, File, Make, Row};
 use std::test::Fail;
 
 const MIGRATE: &str = "migrate, old, new";

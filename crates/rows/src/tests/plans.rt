@@ -1,8 +1,8 @@
 use super::bench::{run, run_each};
-use super::steps::Content::Text;
-use super::steps::Step::{Ask, FailCall, FailPut, Make, Put, Row};
-use super::steps::Told::{Begins, Encloses, Has, Lines, Times};
-use super::steps::{Finder, Step};
+use row_steps::Content::Text;
+use row_steps::Step::{Ask, FailCall, FailPut, Make, Put, Row};
+use row_steps::Told::{Begins, Encloses, Has, Lines, Times};
+use row_steps::{Finder, Step};
 use std::test::Fail;
 
 static TO_TWO: [Step; 1] = [Ask(

@@ -1,7 +1,7 @@
 use super::bench::{run, run_each};
-use super::steps::Step;
-use super::steps::Step::{Ask, FailPut, Keep, Put, Row};
-use super::steps::Told::{Begins, ThenKept};
+use row_steps::Step;
+use row_steps::Step::{Ask, FailPut, Keep, Put, Row};
+use row_steps::Told::{Begins, ThenKept};
 use std::test::Fail;
 
 // From 1 each roll bears the last checker off, which wins a gammon. From 6 there are 27 rolls of 36 that do; after the other 9 the other side wins one.

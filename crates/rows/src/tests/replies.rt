@@ -1,8 +1,8 @@
 use super::bench::{run, run_each};
-use super::steps::Content::{Cubeless, Opening, Text};
-use super::steps::Step;
-use super::steps::Step::{Ask, FailCall, FailPut, Make, Put, Row};
-use super::steps::Told::Begins;
+use row_steps::Content::{Cubeless, Opening, Text};
+use row_steps::Step;
+use row_steps::Step::{Ask, FailCall, FailPut, Make, Put, Row};
+use row_steps::Told::Begins;
 use std::test::Fail;
 
 static SOLVED: [Step; 2] = [

@@ -1,10 +1,10 @@
 use super::bench::{run, run_each};
-use super::steps::Change::Bit;
-use super::steps::Content::{Cubeless, Text};
-use super::steps::Held::Length;
-use super::steps::Step;
-use super::steps::Step::{Ask, Change, FailCall, FailPut, File, Keep, Make, Put, Row};
-use super::steps::Told::{Begins, Ends, Lines, ThenKept};
+use row_steps::Change::Bit;
+use row_steps::Content::{Cubeless, Text};
+use row_steps::Held::Length;
+use row_steps::Step;
+use row_steps::Step::{Ask, Change, FailCall, FailPut, File, Keep, Make, Put, Row};
+use row_steps::Told::{Begins, Ends, Lines, ThenKept};
 use std::test::Fail;
 
 static SOLVED: [Step; 1] = [Ask("solve, c1, --checkers=1, --stakes=cubeless, --rounds=8", 0)];

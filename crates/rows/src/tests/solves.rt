@@ -1,61 +1,42 @@
-use super::bench::{answer, run, run_each};
-use super::files::is_so;
-use super::steps::Content::Text;
-use super::steps::Step::{Ask, FailCall, File, Make, Row};
-use super::steps::{Held, Step};
-use memory_files::MemFiles;
+use super::bench::{run, run_each};
+use row_steps::Content::Text;
+use row_steps::Step::{Ask, FailCall, File, Make, Put, Row};
+use row_steps::{Held, Step, Told};
 use std::test::Fail;
 
 // A game of one checker.
 const SOLVE: &str = "solve, c1, --checkers=1, --stakes, cubeless, --rounds, 8, --workers=4";
 
-/// Whether the report is as it is due. How wide the widest pair is no one reckoned by hand.
-fn is_report(text: &str) -> bool {
-    let front =
-        "solved checkers 1 stakes cubeless rounds 8 workers 4\npositions 601 kinds 1 widest ";
-    text.starts_with(front) && text.ends_with("\nfile c1 bytes 6138\n")
-}
+// How wide the widest pair is no one reckoned by hand. In the file stands the pair of `1 / 1`: every play wins a gammon.
+static SOLVED: [Step; 6] = [
+    Ask(SOLVE, 0),
+    Put(Told::Begins(
+        "solved checkers 1 stakes cubeless rounds 8 workers 4\npositions 601 kinds 1 widest ",
+    )),
+    Put(Told::Ends("\nfile c1 bytes 6138\n")),
+    File("c1", Held::Length(6138)),
+    File("c1", Held::Begins(b"HYPGAMMN\0\0\0\x03\0\0\0\x01")),
+    File("c1", Held::At(96, b"\x12\0\0\0\0\x12\0\0\0\0")),
+];
 
-/// Whether the file is as it is due, with the pair of `1 / 1`: every play wins a gammon.
-fn is_file(bytes: &[u8]) -> bool {
-    bytes.len() == 6138
-        && bytes.starts_with(b"HYPGAMMN\0\0\0\x03\0\0\0\x01")
-        && is_so(bytes, Held::At(96, b"\x12\0\0\0\0\x12\0\0\0\0"))
-}
+// The widest pair of this game has 0.782189 points after 4 rounds of one worker, and 0.016477 after 8: so many rounds may be the last ones.
+static NARROW: [Step; 2] = [
+    Ask(
+        "solve, n1, --checkers=1, --stakes, cubeless, --width, 0.02",
+        0,
+    ),
+    Put(Told::BeginsAs(&[
+        "solved checkers 1 stakes cubeless rounds 5 workers 1\n",
+        "solved checkers 1 stakes cubeless rounds 6 workers 1\n",
+        "solved checkers 1 stakes cubeless rounds 7 workers 1\n",
+        "solved checkers 1 stakes cubeless rounds 8 workers 1\n",
+    ])),
+];
 
 // Over files that never fail.
 #[test]
 fn a_game_is_solved(rt: HostRuntime) -> Result<(), Fail> {
-    let mut files = MemFiles::new(rt.alloc());
-    let solved = answer(&rt, rt.alloc(), &mut files, SOLVE)?;
-    let text = solved.text();
-    let is_solved = is_report(text) && is_file(files.held("c1").unwrap_or(b""));
-    if solved.status != 0 || !is_solved {
-        panic!(rt; "{text}");
-    }
-    Ok(())
-}
-
-/// The widest pair of this game has 0.782189 points after 4 rounds of one worker, and 0.016477 after 8.
-const NARROW: &str = "solve, n1, --checkers=1, --stakes, cubeless, --width, 0.02";
-
-/// So this many rounds may be the last ones.
-const LAST: [&str; 4] = [
-    "solved checkers 1 stakes cubeless rounds 5 workers 1\n",
-    "solved checkers 1 stakes cubeless rounds 6 workers 1\n",
-    "solved checkers 1 stakes cubeless rounds 7 workers 1\n",
-    "solved checkers 1 stakes cubeless rounds 8 workers 1\n",
-];
-
-#[test]
-fn a_width_ends_the_rounds(rt: HostRuntime) -> Result<(), Fail> {
-    let mut files = MemFiles::new(rt.alloc());
-    let solved = answer(&rt, rt.alloc(), &mut files, NARROW)?;
-    let text = solved.text();
-    if solved.status != 0 || !LAST.iter().any(|front| text.starts_with(*front)) {
-        panic!(rt; "{text}");
-    }
-    Ok(())
+    run_each(&rt, &[], &[&SOLVED, &NARROW])
 }
 
 /// What stands where the file is to be written.

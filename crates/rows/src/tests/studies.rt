@@ -1,10 +1,10 @@
 use super::analyses::{GAME, IN_MATCH, LINES, ONE_POINT};
 use super::bench::{run, run_each};
-use super::steps::Content::Text;
-use super::steps::Held::Nothing;
-use super::steps::Step::{Ask, FailCall, FailPut, File, Keep, Make, Put, Row};
-use super::steps::Told::{Begins, EachLine, Ends, EndsKept};
-use super::steps::{Held, Step};
+use row_steps::Content::Text;
+use row_steps::Held::Nothing;
+use row_steps::Step::{Ask, FailCall, FailPut, File, Keep, Make, Put, Row};
+use row_steps::Told::{Begins, EachLine, Ends, EndsKept};
+use row_steps::{Held, Step};
 use std::test::Fail;
 
 // The game is solved by eight rounds and four workers on the way, and no file of bounds is there.

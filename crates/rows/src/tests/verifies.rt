@@ -1,10 +1,10 @@
 //! Files whose words are checked: solved ones, ones of the widest pairs, and ones with a word that is too tight.
 use super::bench::{run, run_each};
-use super::steps::Change::{EachPair, Pair};
-use super::steps::Content::CopyOf;
-use super::steps::Held::{At, Like, Something};
-use super::steps::Step;
-use super::steps::Step::{Ask, Change, FailCall, FailPut, File, Make, Row};
+use row_steps::Change::{EachPair, Pair};
+use row_steps::Content::CopyOf;
+use row_steps::Held::{At, Like, Something};
+use row_steps::Step;
+use row_steps::Step::{Ask, Change, FailCall, FailPut, File, Make, Row};
 use std::test::Fail;
 
 /// How many units a point has.

@@ -1,8 +1,8 @@
 use super::bench::run;
-use super::steps::Step;
-use super::steps::Step::{FailPut, Row};
 use hyper_outside::NoMemory;
 use memory_files::HonestSink;
+use row_steps::Step;
+use row_steps::Step::{FailPut, Row};
 use run_endings::refuse_unread;
 use std::alloc::Global;
 use std::test::Fail;

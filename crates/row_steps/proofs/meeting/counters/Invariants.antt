@@ -1,5 +1,5 @@
 use Rattle.std.proofs.Common.{◌≡◌, length}
-use Rattle.rows.proofs.meeting.counters.Given as goal
+use Rattle.row_steps.proofs.meeting.counters.Given as goal
 
 abbrev pub invariant-loop : goal.invariant-loop
 invariant-loop l = record { many : length l.counters.items ≡ l.counter }

@@ -1,8 +1,10 @@
 //! What a test does, step by step.
+use hyper_outside::NoMemory;
+use std::alloc::Global;
 
 /// One step of a test. The words of a question stand in one text, parted by `, `; where it is empty there are none.
 #[derive(Clone, Copy)]
-pub(super) enum Step {
+pub enum Step {
     /// Puts a file of this name.
     Make(&'static str, Content),
     /// Changes the file of this name.
@@ -29,7 +31,7 @@ pub(super) enum Step {
 
 /// What a file is made of.
 #[derive(Clone, Copy)]
-pub(super) enum Content {
+pub enum Content {
     Text(&'static str),
     /// `cubeless_text` of this version.
     Cubeless(u8),
@@ -43,7 +45,7 @@ pub(super) enum Content {
 
 /// What is changed of a file.
 #[derive(Clone, Copy)]
-pub(super) enum Change {
+pub enum Change {
     /// The byte at this place becomes this one.
     Byte(usize, u8),
     /// The lowest bit of the byte at this place is turned.
@@ -58,8 +60,10 @@ pub(super) enum Change {
 
 /// What is said of a text that was put.
 #[derive(Clone, Copy)]
-pub(super) enum Told {
+pub enum Told {
     Begins(&'static str),
+    /// It begins as one of these.
+    BeginsAs(&'static [&'static str]),
     Ends(&'static str),
     /// These words stand in it.
     Has(&'static str),
@@ -79,18 +83,18 @@ pub(super) enum Told {
 
 /// How ends that are put hold numbers that another program finds.
 #[derive(Clone, Copy)]
-pub(super) struct Finder {
+pub struct Finder {
     /// How many parts of a millionth it tells.
-    pub(super) parts: i64,
+    pub parts: i64,
     /// By how many of its parts it may be rounded.
-    pub(super) rounded: i64,
+    pub rounded: i64,
     /// The ends lie nearer than so many millionths.
-    pub(super) width: i64,
+    pub width: i64,
 }
 
 /// What is said of a file.
 #[derive(Clone, Copy)]
-pub(super) enum Held {
+pub enum Held {
     /// There is none.
     Nothing,
     Text(&'static str),
@@ -108,4 +112,16 @@ pub(super) enum Held {
     IsOpening(u8),
     /// It is as the file of this name.
     Like(&'static str),
+}
+
+/// The words of a question, as the program gets them.
+pub fn words_of(alloc: Global, question: &str) -> Result<Vec<String>, NoMemory> {
+    let mut words = Vec::new(alloc);
+    if question.is_empty() {
+        return Ok(words);
+    }
+    for word in question.split(", ") {
+        words.push(String::from_str(alloc, word)?)?;
+    }
+    Ok(words)
 }

@@ -9,7 +9,7 @@ use std::thread;
 const TURNS: u32 = 50_000_000;
 
 /// How many blocks there are of one checker a side.
-pub(crate) const BLOCKS: usize = 26;
+const BLOCKS: usize = 26;
 
 /// Numbers from 0 on that many threads count up.
 fn counters(alloc: Global, many: usize) -> Result<Vec<AtomicU64>, AllocError>
@@ -25,30 +25,30 @@ fn counters(alloc: Global, many: usize) -> Result<Vec<AtomicU64>, AllocError>
 /// Holds each of some workers at its first block until all have come to their first, and whoever comes to block 1 there
 /// until all blocks have been come to. Where one has given up, none is held any more.
 #[derive(Drop)]
-pub(crate) struct Meeting {
+pub struct Meeting {
     workers: usize,
     /// How many blocks each worker has come to.
-    pub(crate) came: Vec<AtomicU64>,
+    came: Vec<AtomicU64>,
     /// How often each block was come to.
-    pub(crate) passes: Vec<AtomicU64>,
+    passes: Vec<AtomicU64>,
     /// How many blocks all workers have come to.
-    pub(crate) all: AtomicU64,
+    all: AtomicU64,
     /// Who came to block 1.
-    pub(crate) last: AtomicU64,
+    last: AtomicU64,
     /// How many rounds were said to come.
-    pub(crate) rounds: AtomicU64,
+    rounds: AtomicU64,
     /// 1 while parts of a file are loaded, at which none is held, else 0.
-    pub(crate) loading: AtomicU64,
+    loading: AtomicU64,
     /// How often a worker gave up, or came that isn't one of them, or to a block that there is none of, or rounds were said to come behind the
     /// first block.
-    pub(crate) gave_up: AtomicU64,
+    gave_up: AtomicU64,
     ghost crew: { length came.items ≡ workers },
     ghost blocks: { length passes.items ≡ 26 },
 }
 
 impl Meeting {
     /// No worker has come to a block.
-    pub(crate) fn new(alloc: Global, workers: usize) -> Result<Meeting, AllocError>
+    pub fn new(alloc: Global, workers: usize) -> Result<Meeting, AllocError>
         ensures crew { IfOk result (λ meeting. length meeting.came.items ≡ workers) }
         ensures blocks { IfOk result (λ meeting. length meeting.passes.items ≡ 26) }
     {
@@ -85,6 +85,23 @@ impl Meeting {
         for other in 0..self.workers {
             self.hold(&self.came[other], 1);
         }
+    }
+
+    /// Whether nobody gave up, so many rounds were said to come, and each block was passed so often. Where that is once, whoever came to
+    /// block 1 came to no other.
+    pub fn has_met(&self, times: u64) -> bool {
+        let last = self.last.load(Ordering::SeqCst) as usize;
+        let of_last = match self.came.get(last) {
+            Some(came) => came.load(Ordering::SeqCst),
+            None => 0,
+        };
+        self.gave_up.load(Ordering::SeqCst) == 0
+            && self.rounds.load(Ordering::SeqCst) == times
+            && self
+                .passes
+                .iter()
+                .all(|passes| passes.load(Ordering::SeqCst) == times)
+            && (times > 1 || of_last == 1)
     }
 }
 

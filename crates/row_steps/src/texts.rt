@@ -1,6 +1,6 @@
 ghost use Rattle.std.specs.Prelude.{◌≡◌, ◌++◌, IfOk, OnOk};
 ghost use Rattle.word_pages.specs.Sealed.{sealed_under};
-ghost use Rattle.rows.specs.Texts.{IsSealedTwice};
+ghost use Rattle.row_steps.specs.Texts.{IsSealedTwice};
 
 use hyper_outside::NoMemory;
 use sha2::{Digest, Sha256};

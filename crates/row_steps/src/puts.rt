@@ -1,5 +1,5 @@
 //! What a test says of a text that was put.
-use super::steps::{Finder, Told};
+use crate::steps::{Finder, Told};
 
 /// A number with six decimals that isn't below 0, in millionths.
 fn unsigned(word: &str) -> Option<i64> {
@@ -67,10 +67,21 @@ fn tells_lines(text: &str, told: &[(&str, &str)]) -> bool {
     text.lines().count() == told.len()
 }
 
+/// Whether a text begins as one of these.
+fn begins_as(text: &str, fronts: &[&str]) -> bool {
+    for front in fronts {
+        if text.starts_with(*front) {
+            return true;
+        }
+    }
+    false
+}
+
 /// Whether a text is so, where this was kept of another.
-pub(super) fn is_told(text: &str, kept: &str, told: Told) -> bool {
+pub fn is_told(text: &str, kept: &str, told: Told) -> bool {
     match told {
         Told::Begins(front) => text.starts_with(front),
+        Told::BeginsAs(fronts) => begins_as(text, fronts),
         Told::Ends(end) => text.ends_with(end),
         Told::Has(words) => text.contains(words),
         Told::Times(words, times) => text.matches(words).count() == times,

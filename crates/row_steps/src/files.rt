@@ -1,5 +1,5 @@
 //! Files that a test makes, changes and looks at.
-use super::steps::{Change, Content, Held};
+use crate::steps::{Change, Content, Held};
 use crate::texts::{cubeless_text, opening_text};
 use hyper_outside::NoMemory;
 use memory_files::MemFiles;
@@ -37,7 +37,7 @@ fn made(alloc: Global, files: &MemFiles, content: Content) -> Result<Vec<u8>, No
 }
 
 /// Puts a file.
-pub(super) fn make(
+pub fn make(
     alloc: Global,
     files: &mut MemFiles,
     name: &str,
@@ -102,7 +102,7 @@ fn turn(text: &mut [u8], at: usize) -> bool {
 }
 
 /// Changes a file. Whether what is to be changed was there.
-pub(super) fn alter(
+pub fn alter(
     alloc: Global,
     files: &mut MemFiles,
     name: &str,
@@ -130,7 +130,7 @@ pub(super) fn alter(
 }
 
 /// Whether the bytes of a file are so.
-pub(super) fn is_so(bytes: &[u8], held: Held) -> bool {
+fn is_so(bytes: &[u8], held: Held) -> bool {
     match held {
         Held::Text(text) => bytes == text.as_bytes(),
         Held::Length(length) => bytes.len() == length,
@@ -143,12 +143,7 @@ pub(super) fn is_so(bytes: &[u8], held: Held) -> bool {
 }
 
 /// Whether a file is so.
-pub(super) fn holds(
-    alloc: Global,
-    files: &MemFiles,
-    name: &str,
-    held: Held,
-) -> Result<bool, NoMemory> {
+pub fn holds(alloc: Global, files: &MemFiles, name: &str, held: Held) -> Result<bool, NoMemory> {
     let found = files.held(name);
     Ok(match held {
         Held::Nothing => found.is_none(),
