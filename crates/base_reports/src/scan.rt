@@ -1,4 +1,4 @@
-ghost use Rattle.std.specs.Prelude.{◌≡◌, All};
+ghost use Rattle.std.specs.Prelude.{◌≡◌, ◌≤◌, ◌++◌, ℕ, List, All, OnOk, length};
 ghost use Rattle.std.specs.List.{flat_map};
 ghost use Rattle.outside_log.specs.Sink.{Puts};
 ghost use Rattle.base_scan.specs.Found.{IsFoundState};
@@ -12,27 +12,35 @@ use interval_words::Words;
 use outside_log::Sink;
 use position_text::print_position;
 
-/// The line of a state that was found.
-fn found_line(words: &Words, state: &State) -> Report
-    requires { IsFoundState words.now.game state.now }
-    ensures { result.bytes ≡ found_text words.now state.now }
+/// How many bytes of lines may wait where one more is added.
+const WAITING: usize = 2800;
+
+/// Adds the line of a state that was found.
+fn add_found(lines: &mut Report, words: &Words, state: &State)
+    requires state { IsFoundState words.now.game state.now }
+    requires room { length lines.old.bytes ≤ 2800 }
+    ensures { lines.new.bytes ≡ lines.old.bytes ++ found_text words.now state.now }
 {
-    let mut line = Report::new();
     let kind = usize::from(state.kind);
-    line.push_str(print_kind(words.stakes().kind_name(kind)).as_str());
-    line.push_str(" ");
-    line.push_str(print_position(&state.position).as_str());
-    line.push_str(" ");
-    add_points(&mut line, words.pair(&state.position, kind));
-    line.push_str("\n");
-    line
+    lines.push_str(print_kind(words.stakes().kind_name(kind)).as_str());
+    lines.push_str(" ");
+    lines.push_str(print_position(&state.position).as_str());
+    lines.push_str(" ");
+    add_points(lines, words.pair(&state.position, kind));
+    lines.push_str("\n");
 }
 
-fn put_state<O: Sink>(out: &mut O, words: &Words, state: &State) -> Result<(), Failed>
-    requires { IsFoundState words.now.game state.now }
-    ensures { Puts (O.output out.old) (O.output out.new) (found_text words.now state.now) result }
+/// Puts the lines that wait, unless one more fits behind them.
+fn make_room<O: Sink>(out: &mut O, lines: &mut Report) -> Result<(), Failed>
+    ensures put { (text rest : List ℕ) × Puts (O.output out.old) (O.output out.new) text result
+        × (lines.old.bytes ≡ text ++ rest) × OnOk result (lines.new.bytes ≡ rest) }
+    ensures room { OnOk result (length lines.new.bytes ≤ 2800) }
 {
-    out.put(found_line(words, state).as_str().as_bytes())
+    if lines.len() > WAITING {
+        out.put(lines.as_str().as_bytes())?;
+        lines.clear();
+    }
+    Ok(())
 }
 
 fn put_states<O: Sink>(out: &mut O, words: &Words, states: &[State]) -> Result<(), Failed>
@@ -40,10 +48,12 @@ fn put_states<O: Sink>(out: &mut O, words: &Words, states: &[State]) -> Result<(
     ensures { Puts (O.output out.old) (O.output out.new)
         (flat_map (found_text words.now) states.now) result }
 {
+    let mut lines = Report::new();
     'states: for state in states {
-        put_state(out, words, state)?;
+        make_room(out, &mut lines)?;
+        add_found(&mut lines, words, state);
     }
-    Ok(())
+    out.put(lines.as_str().as_bytes())
 }
 
 /// Puts the last line: how many states were found, and how many there are.
