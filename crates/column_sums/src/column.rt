@@ -6,6 +6,7 @@ ghost use Rattle.column_sums.specs.AfterHits.{AreDistinct, AreClosedByHits};
 ghost use Rattle.column_sums.specs.ColumnOf.{AreColumnSums};
 ghost use Rattle.column_sums.specs.Leaps.{layout_at};
 ghost use Rattle.column_sums.specs.Listings.{IsListed};
+ghost use Rattle.column_sums.specs.Sums.{AreSmall};
 ghost use Rattle.column_sums.specs.Tables.{IsTable};
 
 use crate::moves::Moves;
@@ -125,6 +126,7 @@ impl Column {
         requires { length self.old.movers ≤ length sums.old }
         ensures column { self.new ≡ self.old }
         ensures many { length sums.new ≡ length sums.old }
+        ensures small { AreSmall sums.new (length self.old.movers) }
         ensures sums { (value : Placement → ℤ)
             → IsTable value [] self.old.layouts self.old.others row.now
             → AreColumnSums value self.old all_rolls sums.new }

@@ -24,17 +24,6 @@ fn clear(sums: &mut [Fixed], many: usize)
     }
 }
 
-/// One more value, so many times, in units.
-#[inline]
-fn added(sum: i64, times: u32, best: Fixed) -> i64
-    requires sum { IsWithinUnits (pos (2 ^ 42)) sum }
-    requires times { times ≤ 2 }
-    requires best { IsWithinUnits (pos (2 ^ 36)) best }
-    ensures { result ≡ (sum +ℤ pos times *ℤ best) }
-{
-    sum + i64::from(times) * best.units()
-}
-
 /// One more value, so many times.
 #[inline]
 fn add_times(sum: Fixed, times: u32, best: Fixed) -> Fixed
@@ -43,7 +32,7 @@ fn add_times(sum: Fixed, times: u32, best: Fixed) -> Fixed
     requires best { IsWithinUnits (pos (2 ^ 36)) best }
     ensures { result ≡ (sum +ℤ pos times *ℤ best) }
 {
-    Fixed::new(added(sum.units(), times, best)).unwrap()
+    sum.add(best.times(times))
 }
 
 /// The best with one die to play, for each die.
@@ -191,7 +180,9 @@ pub(crate) fn sum_rolls(
     requires ready { AreReady moves.now }
     requires row { IsRow row.now }
     requires sums { moves.now.movers ≤ length sums.old }
-    ensures { (value : Placement → ℤ) → IsTable value [] moves.now.steps moves.now.layers row.now
+    ensures small { AreSmall sums.new moves.now.movers }
+    ensures sums { (value : Placement → ℤ)
+        → IsTable value [] moves.now.steps moves.now.layers row.now
         → AreSums value moves.now all_rolls sums.new }
 {
     clear(sums, moves.movers);

@@ -6,3 +6,4 @@ pub mod Places
 pub mod SumsFound
 pub mod SlicesFound
 pub mod ColumnStates
+mod RowsFound

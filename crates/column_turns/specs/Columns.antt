@@ -6,7 +6,7 @@ use Rattle.cube_actions.specs.Stakes.{nothing}
 use Rattle.turn_rule.specs.declared.game.Game.{Game}
 use Rattle.turn_rule.specs.Games.{kinds_of}
 use Rattle.turn_rule.specs.Layouts.{AreLayouts}
-use Rattle.column_sums.specs.Tables.{IsRow}
+use Rattle.column_turns.specs.Rows.{AreRows}
 use Rattle.column_turns.specs.Turns.{mover_at, place_in}
 
 -- The layouts of a game's checkers and how many kinds it has, the layout of the other side in the column, the ranks of its movers, and a pair
@@ -37,8 +37,8 @@ pub record HasRoom (layouts : List (List ℕ)) (kinds : ℕ) (sums : List ℤ) :
   pub small : All (IsWithinUnits (pos (2 ^ 42))) sums
 
 -- a column of a game of so many checkers, with room for its movers, its sums and its pairs
-pub record IsColumn (checkers capacity : ℕ) (column : ColumnPairs) (cells : List (Option ℤ))
-    (one lower upper : List ℤ) : Type 0 where
+pub record IsColumn (checkers capacity : ℕ) (column : ColumnPairs)
+    (lower_cells upper_cells : List (List (Option ℤ))) (one lower upper : List ℤ) : Type 0 where
   pub low : 1 ≤ checkers
   pub high : checkers ≤ 3
   pub kinds : column.kinds ≤ 14
@@ -47,7 +47,8 @@ pub record IsColumn (checkers capacity : ℕ) (column : ColumnPairs) (cells : Li
   pub valid : IsLayout column.other
   pub many : sum column.other ≡ checkers
   pub room : length column.layouts ≤ capacity
-  pub row : IsRow cells
+  pub lower_rows : AreRows column.kinds lower_cells
+  pub upper_rows : AreRows column.kinds upper_cells
   pub room_one : length column.layouts ≤ length one
   pub room_lower : HasRoom column.layouts column.kinds lower
   pub room_upper : HasRoom column.layouts column.kinds upper

@@ -1,13 +1,15 @@
 -- A row: for each cell of a column, what a turn that ends there is worth. A cell tells which layer the other side is left with, and the rank
 -- of the mover's layout.
-use Rattle.std.specs.Prelude.{◌≡◌, ◌<◌, ◌*◌, ℕ, ℤ, List, length, Option, Some, None, slice_index_or}
+use Rattle.std.specs.Prelude.{◌≡◌, ◌<◌, ◌*◌, ℕ, ℤ, All, List, [], length, Option, Some, None, slice_index_or, slice_set}
 use Rattle.position_rank.specs.Placement.{Placement, IsPosition}
 use Rattle.directed_fixed.specs.declared.bounds.End.{End}
 use Rattle.cube_actions.specs.declared.kind.Kind.{Kind}
+use Rattle.cube_actions.specs.Stakes.{Terms, kind_at}
 use Rattle.turn_rule.specs.Looks.{Source, Notes}
 use Rattle.turn_rule.specs.Found.{LeavesState, IsFoundOf, of_play}
 use Rattle.column_sums.specs.Leaps.{layout_at}
 use Rattle.column_sums.specs.Cells.{cell_of}
+use Rattle.column_sums.specs.Tables.{IsRow}
 
 abbrev pub at_cell : List (Option ℤ) → ℕ → ℕ → Option ℤ
 at_cell row layer rank = slice_index_or row (cell_of layer rank) None
@@ -37,3 +39,40 @@ AreFoundLayers end source noted kind layouts others row count =
 abbrev pub IsSameBefore : ℕ → List (Option ℤ) → List (Option ℤ) → Type 0
 IsSameBefore layer old new =
     (cell : ℕ) → cell < layer * 4096 → slice_index_or new cell None ≡ slice_index_or old cell None
+
+-- a row for each kind
+pub record AreRows (kinds : ℕ) (rows : List (List (Option ℤ))) : Type 0 where
+  pub many : length rows ≡ kinds
+  pub each : All IsRow rows
+
+abbrev pub row_at : List (List (Option ℤ)) → ℕ → List (Option ℤ)
+row_at rows k = slice_index_or rows k []
+
+-- in one cell of a row a value was put, which was found of what the mover has after a play that leaves these checkers
+abbrev pub IsPut : End → Source → Notes → Kind → Placement → ℕ → ℕ → List (Option ℤ)
+    → List (Option ℤ) → Type 0
+IsPut end source noted kind left layer rank old new =
+    (x : ℤ) × (new ≡ slice_set old (cell_of layer rank) (Some x))
+    × (LeavesState source kind.next left → IsFoundOf end (of_play kind left) source noted x)
+
+-- so it was in the rows of the first few kinds
+abbrev pub ArePut : End → Source → Notes → Terms → Placement → ℕ → ℕ → List (List (Option ℤ))
+    → List (List (Option ℤ)) → ℕ → Type 0
+ArePut end source noted stakes left layer rank old new count =
+    (k : ℕ) → k < count
+    → IsPut end source noted (kind_at stakes k) left layer rank (row_at old k) (row_at new k)
+
+-- in each kind's row the layers before this one have the same values, and the first few cells of this one were found
+pub record AreFoundRowsTo (end : End) (source : Source) (noted : Notes) (stakes : Terms)
+    (layouts : List (List ℕ)) (other : List ℕ) (old new : List (List (Option ℤ)))
+    (layer count : ℕ) : Type 0 where
+  pub same : (k : ℕ) → k < length stakes.kinds → IsSameBefore layer (row_at old k) (row_at new k)
+  pub found : (k : ℕ) → k < length stakes.kinds
+      → AreFoundTo end source noted (kind_at stakes k) layouts other (row_at new k) layer count
+
+-- in each kind's row all cells of the first few layers were found
+abbrev pub AreFoundRows : End → Source → Notes → Terms → List (List ℕ) → List (List ℕ)
+    → List (List (Option ℤ)) → ℕ → Type 0
+AreFoundRows end source noted stakes layouts others rows count =
+    (k : ℕ) → k < length stakes.kinds
+    → AreFoundLayers end source noted (kind_at stakes k) layouts others (row_at rows k) count

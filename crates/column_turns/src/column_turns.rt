@@ -6,6 +6,7 @@ ghost use Rattle.turn_rule.specs.Looks.{AreStakesOf};
 ghost use Rattle.turn_rule.specs.Layouts.{AreLayouts};
 ghost use Rattle.column_sums.specs.Leaps.{layout_at};
 ghost use Rattle.column_turns.specs.Moments.{IsLater};
+ghost use Rattle.column_turns.specs.Rows.{AreRows};
 ghost use Rattle.column_turns.specs.Turns.{mover_at, place_in, AreLiveMovers, AreTurnsOf};
 
 use crate::movers::list_movers;
@@ -26,7 +27,8 @@ pub struct ColumnTurns {
     checkers: u8,
     kinds: usize,
     column: Column,
-    row: Row,
+    lower_rows: Vec<Row>,
+    upper_rows: Vec<Row>,
     other: Layout,
     movers: Vec<u16>,
     one: Vec<Fixed>,
@@ -55,7 +57,7 @@ impl Model for ColumnTurns {
       other = a.other;
       movers = a.column.movers;
       pairs = a.pairs.items;
-    }) a.row a.one.items a.lower.items a.upper.items };
+    }) a.lower_rows.items a.upper_rows.items a.one.items a.lower.items a.upper.items };
 }
 
 /// So many values of 0.
@@ -75,6 +77,17 @@ fn zero_pairs(alloc: Global, count: usize) -> Result<Vec<Pair>, NoMemory>
     Ok(pairs)
 }
 
+/// A row for each of so many kinds.
+fn empty_rows(alloc: Global, kinds: usize) -> Result<Vec<Row>, NoMemory>
+    ensures { IfOk result (λ rows. AreRows kinds rows.items) }
+{
+    let mut rows = Vec::with_capacity(alloc, kinds)?;
+    for _ in 0..kinds {
+        rows.push(Row::new(alloc)?)?;
+    }
+    Ok(rows)
+}
+
 impl ColumnTurns {
     /// No column yet, of a game of one to three checkers a side with these stakes. It asks for memory, and may answer `NoMemory`.
     pub fn new(alloc: Global, checkers: u8, stakes: &Stakes) -> Result<ColumnTurns, NoMemory>
@@ -90,7 +103,8 @@ impl ColumnTurns {
             checkers,
             kinds,
             column,
-            row: Row::new(alloc)?,
+            lower_rows: empty_rows(alloc, kinds)?,
+            upper_rows: empty_rows(alloc, kinds)?,
             other: Position::start(checkers).mover(),
             movers: Vec::with_capacity(alloc, many)?,
             one: zeros(alloc, many)?,
@@ -126,7 +140,8 @@ impl ColumnTurns {
         turn_column(
             stakes,
             &mut self.column,
-            &mut self.row,
+            self.lower_rows.as_mut_slice(),
+            self.upper_rows.as_mut_slice(),
             self.one.as_mut_slice(),
             self.lower.as_mut_slice(),
             self.upper.as_mut_slice(),

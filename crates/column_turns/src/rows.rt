@@ -1,42 +1,104 @@
-ghost use Rattle.std.specs.Prelude.{◌≡◌, ◌<◌, ◌≤◌, ◌^◌, pos, ◌≤ℤ◌, IsTrue, length, sum};
-ghost use Rattle.move_rules.specs.declared.payoff.Won.{Won};
-ghost use Rattle.directed_fixed.specs.Bounds.{IsWithin};
-ghost use Rattle.turn_rule.specs.Turn.{win};
+ghost use Rattle.std.specs.Prelude.{◌≡◌, ◌<◌, ◌≤◌, ◌^◌, ℕ, pos, IsTrue, Some, length, slice_set, sum};
+ghost use Rattle.directed_fixed.specs.declared.bounds.End.TheVariants.{Lower, Upper};
+ghost use Rattle.directed_fixed.specs.Bounds.{IsWithinUnits};
+ghost use Rattle.position_rank.specs.Placement.{swap};
+ghost use Rattle.position_rank.specs.Ranks.{square_rank_of};
+ghost use Rattle.turn_rule.specs.Looks.{AreStakesOf};
 ghost use Rattle.turn_rule.specs.Layouts.{AreLayouts};
+ghost use Rattle.column_sums.specs.Cells.{cell_of};
 ghost use Rattle.column_sums.specs.Leaps.{layout_at};
-ghost use Rattle.column_sums.specs.Tables.{IsRow};
 ghost use Rattle.column_turns.specs.Moments.{IsLater};
-ghost use Rattle.column_turns.specs.Rows.{AreFoundTo, AreFoundLayers, IsSameBefore};
+ghost use Rattle.column_turns.specs.Rows.{AreFoundRows, AreFoundRowsTo, ArePut, AreRows, row_at};
 
 use crate::play_worth::play_worth;
 use column_sums::{Column, Row};
-use cube_actions::Kind;
-use directed_fixed::End;
+use cube_actions::Stakes;
+use directed_fixed::{End, Fixed};
+use move_rules::points;
 use position_rank::Position;
 use turn_rule::Pairs;
 
-/// Finds what the mover has after each play that leaves the other side with the layout of one layer.
-fn fill_layer<P: Pairs>(
-    end: End,
-    kind: &Kind,
-    column: &Column,
+/// Puts what a cell is worth in the row of one kind.
+#[inline]
+fn put_worth(rows: &mut [Row], number: usize, layer: usize, rank: usize, worth: Fixed)
+    requires number { number < length rows.old }
+    requires layer { layer < 8 }
+    requires rank { rank < 4095 }
+    requires worth { IsWithinUnits (pos (2 ^ 36)) worth }
+    ensures put { rows.new ≡ slice_set rows.old number
+        (slice_set (row_at rows.old number) (cell_of layer rank) (Some worth)) }
+    ensures rows { (kinds : ℕ) → AreRows kinds rows.old → AreRows kinds rows.new }
+{
+    let row = &mut rows[number];
+    row.set(layer, rank, worth);
+}
+
+/// Finds what the mover has after a play that leaves these checkers, in each kind and at both ends.
+#[inline]
+fn fill_cell<P: Pairs>(
+    stakes: &Stakes,
+    left: &Position,
+    square: u64,
     layer: usize,
-    row: &mut Row,
+    rank: usize,
+    lower: &mut [Row],
+    upper: &mut [Row],
     pairs: &mut P,
 )
     requires sure { IsTrue (P.seen pairs.old).source.sure }
+    requires stakes { AreStakesOf (P.seen pairs.old).source stakes.now }
+    requires many { sum left.now.mover ≡ (P.seen pairs.old).source.checkers }
+    requires square { square ≡ square_rank_of (swap left.now) }
+    requires layer { layer < 8 }
+    requires rank { rank < 4095 }
+    requires lower { AreRows (length stakes.now.kinds) lower.old }
+    requires upper { AreRows (length stakes.now.kinds) upper.old }
+    ensures lower { AreRows (length stakes.now.kinds) lower.new }
+    ensures upper { AreRows (length stakes.now.kinds) upper.new }
+    ensures put_lower { ArePut Lower (P.seen pairs.old).source (P.seen pairs.new).notes stakes.now
+        left.now layer rank lower.old lower.new (length stakes.now.kinds) }
+    ensures put_upper { ArePut Upper (P.seen pairs.old).source (P.seen pairs.new).notes stakes.now
+        left.now layer rank upper.old upper.new (length stakes.now.kinds) }
+    ensures later { IsLater (P.seen pairs.old) (P.seen pairs.new) }
+    ensures stays { P.stays pairs.new ≡ P.stays pairs.old }
+{
+    // What `bound` ensures says that the stakes are valid.
+    let _bound = stakes.bound();
+    let won = points(left);
+    let live = left.swap().is_live();
+    for number in 0..stakes.kinds() {
+        let kind = stakes.kind(number);
+        let low = play_worth(End::Lower, left, won, live, square, kind, pairs);
+        put_worth(lower, number, layer, rank, low);
+        let high = play_worth(End::Upper, left, won, live, square, kind, pairs);
+        put_worth(upper, number, layer, rank, high);
+    }
+}
+
+/// Finds what the mover has after each play that leaves the other side with the layout of one layer, in each kind and at both ends.
+fn fill_layer<P: Pairs>(
+    stakes: &Stakes,
+    column: &Column,
+    layer: usize,
+    lower: &mut [Row],
+    upper: &mut [Row],
+    pairs: &mut P,
+)
+    requires sure { IsTrue (P.seen pairs.old).source.sure }
+    requires stakes { AreStakesOf (P.seen pairs.old).source stakes.now }
     requires layouts { AreLayouts (P.seen pairs.old).source.checkers column.now.layouts }
-    requires next { kind.now.next < (P.seen pairs.old).source.kinds }
-    requires wins { (won : Won) → IsWithin (P.seen pairs.old).source.bound (win kind.now won) }
-    requires small { (P.seen pairs.old).source.bound ≤ℤ pos (2 ^ 36) }
     requires layer { layer < length column.now.others }
     requires eight { layer < 8 }
-    requires row { IsRow row.old }
-    ensures row { IsRow row.new }
-    ensures same { IsSameBefore layer row.old row.new }
-    ensures found { AreFoundTo end (P.seen pairs.old).source (P.seen pairs.new).notes kind.now
-        column.now.layouts (layout_at column.now.others layer) row.new layer
-        (length column.now.layouts) }
+    requires lower { AreRows (length stakes.now.kinds) lower.old }
+    requires upper { AreRows (length stakes.now.kinds) upper.old }
+    ensures lower { AreRows (length stakes.now.kinds) lower.new }
+    ensures upper { AreRows (length stakes.now.kinds) upper.new }
+    ensures found_lower { AreFoundRowsTo Lower (P.seen pairs.old).source (P.seen pairs.new).notes
+        stakes.now column.now.layouts (layout_at column.now.others layer) lower.old lower.new
+        layer (length column.now.layouts) }
+    ensures found_upper { AreFoundRowsTo Upper (P.seen pairs.old).source (P.seen pairs.new).notes
+        stakes.now column.now.layouts (layout_at column.now.others layer) upper.old upper.new
+        layer (length column.now.layouts) }
     ensures few { length column.now.layouts ≤ 3276 }
     ensures later { IsLater (P.seen pairs.old) (P.seen pairs.new) }
     ensures stays { P.stays pairs.new ≡ P.stays pairs.old }
@@ -47,34 +109,37 @@ fn fill_layer<P: Pairs>(
         match Position::new(*column.layout(rank), other) {
             None => {}
             Some(left) => {
-                let worth = play_worth(end, &left, first + rank as u64, kind, pairs);
-                row.set(layer, rank, worth);
+                let square = first + rank as u64;
+                fill_cell(stakes, &left, square, layer, rank, lower, upper, pairs);
             }
         }
     }
 }
 
-/// Finds what the mover has after each play that may be made in a column.
-pub(crate) fn fill_row<P: Pairs>(
-    end: End,
-    kind: &Kind,
+/// Finds what the mover has after each play that may be made in a column: a row for each kind, for the lower ends and for the upper ones. What
+/// is asked of a play's end is the same for all of them.
+pub(crate) fn fill_rows<P: Pairs>(
+    stakes: &Stakes,
     column: &Column,
-    row: &mut Row,
+    lower: &mut [Row],
+    upper: &mut [Row],
     pairs: &mut P,
 )
     requires sure { IsTrue (P.seen pairs.old).source.sure }
+    requires stakes { AreStakesOf (P.seen pairs.old).source stakes.now }
     requires layouts { AreLayouts (P.seen pairs.old).source.checkers column.now.layouts }
-    requires next { kind.now.next < (P.seen pairs.old).source.kinds }
-    requires wins { (won : Won) → IsWithin (P.seen pairs.old).source.bound (win kind.now won) }
-    requires small { (P.seen pairs.old).source.bound ≤ℤ pos (2 ^ 36) }
-    requires row { IsRow row.old }
-    ensures row { IsRow row.new }
-    ensures found { AreFoundLayers end (P.seen pairs.old).source (P.seen pairs.new).notes kind.now
-        column.now.layouts column.now.others row.new (length column.now.others) }
+    requires lower { AreRows (length stakes.now.kinds) lower.old }
+    requires upper { AreRows (length stakes.now.kinds) upper.old }
+    ensures lower { AreRows (length stakes.now.kinds) lower.new }
+    ensures upper { AreRows (length stakes.now.kinds) upper.new }
+    ensures found_lower { AreFoundRows Lower (P.seen pairs.old).source (P.seen pairs.new).notes
+        stakes.now column.now.layouts column.now.others lower.new (length column.now.others) }
+    ensures found_upper { AreFoundRows Upper (P.seen pairs.old).source (P.seen pairs.new).notes
+        stakes.now column.now.layouts column.now.others upper.new (length column.now.others) }
     ensures later { IsLater (P.seen pairs.old) (P.seen pairs.new) }
     ensures stays { P.stays pairs.new ≡ P.stays pairs.old }
 {
     for layer in 0..column.layers() {
-        fill_layer(end, kind, column, layer, row, pairs);
+        fill_layer(stakes, column, layer, lower, upper, pairs);
     }
 }

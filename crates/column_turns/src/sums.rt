@@ -1,9 +1,10 @@
-ghost use Rattle.std.specs.Prelude.{◌≡◌, ◌≢◌, ◌<◌, ◌≤◌, ◌*◌, ◌^◌, ℕ, pos, All, IsTrue, length, slice_index_or};
+ghost use Rattle.std.specs.Prelude.{◌≡◌, ◌≢◌, ◌<◌, ◌≤◌, ◌*◌, ◌^◌, ℕ, pos, All, length, slice_index_or};
+ghost use Rattle.directed_fixed.specs.declared.bounds.End.{End};
 ghost use Rattle.directed_fixed.specs.Bounds.{IsWithinUnits};
-ghost use Rattle.turn_rule.specs.Looks.{AreStakesOf};
+ghost use Rattle.cube_actions.specs.Stakes.{kind_at};
+ghost use Rattle.turn_rule.specs.Looks.{Source, Notes, AreStakesOf};
 ghost use Rattle.column_sums.specs.Leaps.{layout_at};
-ghost use Rattle.column_sums.specs.Tables.{IsRow};
-ghost use Rattle.column_turns.specs.Moments.{IsLater};
+ghost use Rattle.column_turns.specs.Rows.{AreFoundLayers, AreFoundRows, AreRows, row_at};
 ghost use Rattle.column_turns.specs.Turns.{
   place_in,
   mover_at,
@@ -12,11 +13,9 @@ ghost use Rattle.column_turns.specs.Turns.{
   IsColumnOf,
 };
 
-use crate::rows::fill_row;
 use column_sums::{Column, Row};
 use cube_actions::Stakes;
-use directed_fixed::{End, Fixed};
-use turn_rule::Pairs;
+use directed_fixed::Fixed;
 
 /// Puts the sums of one kind among those of all kinds.
 fn put_sums(one: &[Fixed], many: usize, kinds: usize, number: usize, all: &mut [Fixed])
@@ -41,39 +40,35 @@ fn put_sums(one: &[Fixed], many: usize, kinds: usize, number: usize, all: &mut [
     }
 }
 
-/// Finds the sums of one kind at one end, for all movers of a column.
-fn sum_kind<P: Pairs>(
-    end: End,
+/// The sums of one kind, for all movers of a column, from the rows of all kinds.
+fn sum_kind(
     number: usize,
     stakes: &Stakes,
     column: &mut Column,
-    row: &mut Row,
+    rows: &[Row],
     one: &mut [Fixed],
     all: &mut [Fixed],
-    pairs: &mut P,
 )
-    requires sure { IsTrue (P.seen pairs.old).source.sure }
-    requires stakes { AreStakesOf (P.seen pairs.old).source stakes.now }
     requires number { number < length stakes.now.kinds }
-    requires column { IsColumnOf (P.seen pairs.old).source column.old.layouts
-        column.old.others column.old.movers }
+    requires few { length column.old.movers ≤ 3276 }
     requires one { length column.old.movers ≤ length one.old }
-    requires row { IsRow row.old }
+    requires rows { AreRows (length stakes.now.kinds) rows.now }
     requires room { length column.old.movers * length stakes.now.kinds ≤ length all.old }
     requires small { All (IsWithinUnits (pos (2 ^ 42))) all.old }
     ensures column { column.new ≡ column.old }
-    ensures row { IsRow row.new }
     ensures one { length one.new ≡ length one.old }
     ensures room { length all.new ≡ length all.old }
     ensures small { All (IsWithinUnits (pos (2 ^ 42))) all.new }
-    ensures found { AreSumsOfKind end (P.seen pairs.old).source (P.seen pairs.new).notes stakes.now
+    ensures found { (end : End) (source : Source) (noted : Notes) → AreStakesOf source stakes.now
+        → IsColumnOf source column.old.layouts column.old.others column.old.movers
+        → AreFoundLayers end source noted (kind_at stakes.now number) column.old.layouts
+        column.old.others (row_at rows.now number) (length column.old.others)
+        → AreSumsOfKind end source noted stakes.now
         (mover_at column.old.layouts (layout_at column.old.others 0) column.old.movers)
         (length column.old.movers) number all.new }
     ensures same { (i k : ℕ) → k < length stakes.now.kinds → k ≢ number
         → slice_index_or all.new (place_in (length stakes.now.kinds) i k) (pos 0)
         ≡ slice_index_or all.old (place_in (length stakes.now.kinds) i k) (pos 0) }
-    ensures later { IsLater (P.seen pairs.old) (P.seen pairs.new) }
-    ensures stays { P.stays pairs.new ≡ P.stays pairs.old }
 {
     // What `bound` ensures says that the stakes are valid.
     let _bound = stakes.bound();
@@ -81,41 +76,36 @@ fn sum_kind<P: Pairs>(
     let _layers = column.layers();
     let movers = column.movers();
     let many = movers.len();
-    fill_row(end, stakes.kind(number), column, row, pairs);
-    column.sum(row, one);
+    column.sum(&rows[number], one);
     put_sums(one, many, stakes.kinds(), number, all);
 }
 
-/// Finds the sums of all kinds at one end, for all movers of a column.
-pub(crate) fn sum_kinds<P: Pairs>(
-    end: End,
+/// The sums of all kinds, for all movers of a column, from the rows of all kinds at one end.
+pub(crate) fn sum_kinds(
     stakes: &Stakes,
     column: &mut Column,
-    row: &mut Row,
+    rows: &[Row],
     one: &mut [Fixed],
     all: &mut [Fixed],
-    pairs: &mut P,
 )
-    requires sure { IsTrue (P.seen pairs.old).source.sure }
-    requires stakes { AreStakesOf (P.seen pairs.old).source stakes.now }
-    requires column { IsColumnOf (P.seen pairs.old).source column.old.layouts
-        column.old.others column.old.movers }
+    requires few { length column.old.movers ≤ 3276 }
     requires one { length column.old.movers ≤ length one.old }
-    requires row { IsRow row.old }
+    requires rows { AreRows (length stakes.now.kinds) rows.now }
     requires room { length column.old.movers * length stakes.now.kinds ≤ length all.old }
     requires small { All (IsWithinUnits (pos (2 ^ 42))) all.old }
     ensures column { column.new ≡ column.old }
-    ensures row { IsRow row.new }
     ensures one { length one.new ≡ length one.old }
     ensures room { length all.new ≡ length all.old }
     ensures small { All (IsWithinUnits (pos (2 ^ 42))) all.new }
-    ensures found { AreSumsOf end (P.seen pairs.old).source (P.seen pairs.new).notes stakes.now
+    ensures found { (end : End) (source : Source) (noted : Notes) → AreStakesOf source stakes.now
+        → IsColumnOf source column.old.layouts column.old.others column.old.movers
+        → AreFoundRows end source noted stakes.now column.old.layouts column.old.others
+        rows.now (length column.old.others)
+        → AreSumsOf end source noted stakes.now
         (mover_at column.old.layouts (layout_at column.old.others 0) column.old.movers)
         (length column.old.movers) (length stakes.now.kinds) all.new }
-    ensures later { IsLater (P.seen pairs.old) (P.seen pairs.new) }
-    ensures stays { P.stays pairs.new ≡ P.stays pairs.old }
 {
     for number in 0..stakes.kinds() {
-        sum_kind(end, number, stakes, column, row, one, all, pairs);
+        sum_kind(number, stakes, column, rows, one, all);
     }
 }

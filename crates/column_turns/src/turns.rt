@@ -4,8 +4,8 @@ ghost use Rattle.directed_fixed.specs.Bounds.{IsWithinUnits};
 ghost use Rattle.cube_actions.specs.Stakes.{nothing};
 ghost use Rattle.turn_rule.specs.Looks.{Source, Notes, AreStakesOf, IsTurnPair};
 ghost use Rattle.column_sums.specs.Leaps.{layout_at};
-ghost use Rattle.column_sums.specs.Tables.{IsRow};
 ghost use Rattle.column_turns.specs.Moments.{IsLater};
+ghost use Rattle.column_turns.specs.Rows.{AreRows};
 ghost use Rattle.column_turns.specs.Turns.{
   place_in,
   mover_at,
@@ -14,10 +14,11 @@ ghost use Rattle.column_turns.specs.Turns.{
   IsColumnOf,
 };
 
+use crate::rows::fill_rows;
 use crate::sums::sum_kinds;
 use column_sums::{Column, Row};
 use cube_actions::Stakes;
-use directed_fixed::{End, Fixed, Pair};
+use directed_fixed::{Fixed, Pair};
 use turn_rule::{Pairs, pair_from_sums};
 
 /// Works out the pair of the turn in each kind of one position.
@@ -75,7 +76,8 @@ pub(crate) fn pair_positions(
 pub(crate) fn turn_column<P: Pairs>(
     stakes: &Stakes,
     column: &mut Column,
-    row: &mut Row,
+    lower_rows: &mut [Row],
+    upper_rows: &mut [Row],
     one: &mut [Fixed],
     lower: &mut [Fixed],
     upper: &mut [Fixed],
@@ -87,14 +89,16 @@ pub(crate) fn turn_column<P: Pairs>(
     requires column { IsColumnOf (P.seen pairs.old).source column.old.layouts
         column.old.others column.old.movers }
     requires one { length column.old.movers ≤ length one.old }
-    requires row { IsRow row.old }
+    requires lower_rows { AreRows (length stakes.now.kinds) lower_rows.old }
+    requires upper_rows { AreRows (length stakes.now.kinds) upper_rows.old }
     requires lower { length column.old.movers * length stakes.now.kinds ≤ length lower.old }
     requires upper { length column.old.movers * length stakes.now.kinds ≤ length upper.old }
     requires turns { length column.old.movers * length stakes.now.kinds ≤ length turns.old }
     requires small_lower { All (IsWithinUnits (pos (2 ^ 42))) lower.old }
     requires small_upper { All (IsWithinUnits (pos (2 ^ 42))) upper.old }
     ensures column { column.new ≡ column.old }
-    ensures row { IsRow row.new }
+    ensures lower_rows { AreRows (length stakes.now.kinds) lower_rows.new }
+    ensures upper_rows { AreRows (length stakes.now.kinds) upper_rows.new }
     ensures one { length one.new ≡ length one.old }
     ensures lower { length lower.new ≡ length lower.old }
     ensures upper { length upper.new ≡ length upper.old }
@@ -107,7 +111,8 @@ pub(crate) fn turn_column<P: Pairs>(
     ensures later { IsLater (P.seen pairs.old) (P.seen pairs.new) }
     ensures stays { P.stays pairs.new ≡ P.stays pairs.old }
 {
-    sum_kinds(End::Lower, stakes, column, row, one, lower, pairs);
-    sum_kinds(End::Upper, stakes, column, row, one, upper, pairs);
+    fill_rows(stakes, column, lower_rows, upper_rows, pairs);
+    sum_kinds(stakes, column, lower_rows, one, lower);
+    sum_kinds(stakes, column, upper_rows, one, upper);
     pair_positions(column.movers().len(), stakes, lower, upper, turns);
 }

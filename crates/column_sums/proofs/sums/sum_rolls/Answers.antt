@@ -25,7 +25,10 @@ loop-i-preserved c =
           sum-more value (mover_placement c.args.moves.now k) i (ways roll) none roll _ a.best _ here times is (c.loop-i.invariant.sums value tabled k h) (a.is value tables) a.sum);
     }
 
-pub returns : goal.returns
-returns c = λ value tabled.
+pub returns-clause-small : goal.returns-clause-small
+returns-clause-small c = λ k h. all-small c.loop-i.i _ (c.loop-i.invariant.small k h)
+
+pub returns-clause-sums : goal.returns-clause-sums
+returns-clause-sums c = λ value tabled.
     let all : take c.loop-i.i all_rolls ≡ all_rolls = take_all c.loop-i.i all_rolls (omega (arith, length-all_rolls, c.loop-i-test.false)) in
     subst (λ (rolls : _). AreSums value c.args.moves.now rolls c.loop-i.sums) all (c.loop-i.invariant.sums value tabled)

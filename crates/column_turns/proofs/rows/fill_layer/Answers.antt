@@ -1,18 +1,15 @@
-use Rattle.std.proofs.Common.{◌≡◌, ◌<◌, ◌∙◌, Option, None, Some, arith}
+use Rattle.std.proofs.Common.{◌≡◌, ◌<◌, ◌∙◌, Option, None, arith}
 use Rattle.std.specs.Option.{IsSome}
 use Rattle.position_rank.specs.Placement.{IsPosition}
+use Rattle.directed_fixed.specs.declared.bounds.End.TheVariants.{Lower, Upper}
 use Rattle.column_sums.specs.Leaps.{layout_at}
 use Rattle.column_turns.proofs.Laters.{later-trans}
-use Rattle.column_turns.proofs.RowCells.{narrower, same-set, cell-more, cell-none}
+use Rattle.column_turns.proofs.RowsFound.{rows-more, rows-none}
 use Rattle.column_turns.proofs.rows.fill_layer.Goals as goal
 use Rattle.column_turns.proofs.rows.fill_layer.Goals.{in-None, in-Some}
 
 none-some : {X : Type 0} (o : Option X) → o ≡ None → IsSome o → ⊥
 none-some o is some = cc (is, some)
-
-pub set-requires-clause-value : goal.set-requires-clause-value
-set-requires-clause-value g c =
-    narrower (g.P.Pairs.seen c.args.pairs.now).source.bound c.play_worth-worth.result c.requires.small (rw c.loop-rank.invariant.later.source at c.play_worth-worth.ensures.within)
 
 pub loop-rank-preserved : goal.loop-rank-preserved
 loop-rank-preserved g c =
@@ -20,29 +17,30 @@ loop-rank-preserved g c =
     let mid = g.P.Pairs.seen c.loop-rank.pairs in
     let before = c.loop-rank.invariant in
     let rank = c.loop-rank.rank in
+    let stakes = c.args.stakes.now in
     let layouts = c.args.column.now.layouts in
     let other = layout_at c.args.column.now.others c.args.layer in
     let few : rank < 4096 = omega (arith, c.loop-rank-test.true, c.many-rank-end.ensures.few) in
     elim c.match-new.branch [
       | in-Some w ↦ (
-          let new = g.P.Pairs.seen w.play_worth-worth.new.pairs in
-          let x = w.play_worth-worth.result in
+          let new = g.P.Pairs.seen w.fill_cell.new.pairs in
+          let cell = w.fill_cell.ensures in
           let left_is = rw (c.layout.ensures, c.layer.ensures) at w.in-Some.ensures.value.0 in
-          let found = rw before.later.source at w.play_worth-worth.ensures.found in
-          let cells = rw w.set.ensures.set at w.set.ensures.row.many in
-          rw (w.row-is, w.pairs-is) (record {
-            row = w.set.ensures.row;
-            same = rw w.set.ensures.set (same-set c.args.row.now c.loop-rank.row c.args.layer rank (Some x) before.same);
-            found = rw w.set.ensures.set (cell-more c.args.end old c.args.kind.now layouts other mid new c.loop-rank.row c.args.layer rank x w.in-Some.left before.later w.play_worth-worth.ensures.later cells c.requires.eight few left_is found before.found);
-            later = later-trans old mid new before.later w.play_worth-worth.ensures.later;
-            stays = w.play_worth-worth.ensures.stays ∙ before.stays;
+          rw (w.lower-is, w.upper-is, w.pairs-is) (record {
+            lower = cell.lower;
+            upper = cell.upper;
+            found_lower = rows-more Lower old stakes layouts other mid new c.args.lower.now c.loop-rank.lower w.fill_cell.new.lower c.args.layer rank w.in-Some.left before.later cell.later cell.lower c.requires.eight few left_is (rw before.later.source at cell.put_lower) before.found_lower;
+            found_upper = rows-more Upper old stakes layouts other mid new c.args.upper.now c.loop-rank.upper w.fill_cell.new.upper c.args.layer rank w.in-Some.left before.later cell.later cell.upper c.requires.eight few left_is (rw before.later.source at cell.put_upper) before.found_upper;
+            later = later-trans old mid new before.later cell.later;
+            stays = cell.stays ∙ before.stays;
           }))
       | in-None w ↦ (
           let none : IsPosition (record { mover = layout_at layouts rank; other = other }) → ⊥ = λ position. none-some _ w.in-None.is ((rw (c.layout.ensures, c.layer.ensures) at c.new.ensures.same).1 position.same) in
-          rw (w.row-is, w.pairs-is) (record {
-            row = before.row;
-            same = before.same;
-            found = cell-none c.args.end old c.args.kind.now layouts other mid.notes c.loop-rank.row c.args.layer rank none before.found;
+          rw (w.lower-is, w.upper-is, w.pairs-is) (record {
+            lower = before.lower;
+            upper = before.upper;
+            found_lower = rows-none Lower old stakes layouts other mid.notes c.args.lower.now c.loop-rank.lower c.args.layer rank none before.found_lower;
+            found_upper = rows-none Upper old stakes layouts other mid.notes c.args.upper.now c.loop-rank.upper c.args.layer rank none before.found_upper;
             later = before.later;
             stays = before.stays;
           }))

@@ -1,23 +1,22 @@
 use Rattle.std.proofs.Common.{◌≡◌, ◌^◌, pos, All, length}
+use Rattle.directed_fixed.specs.declared.bounds.End.{End}
 use Rattle.directed_fixed.specs.Bounds.{IsWithinUnits}
+use Rattle.turn_rule.specs.Looks.{Source, Notes, AreStakesOf}
 use Rattle.column_sums.specs.Leaps.{layout_at}
-use Rattle.column_sums.specs.Tables.{IsRow}
-use Rattle.column_turns.specs.Moments.{IsLater}
-use Rattle.column_turns.specs.Turns.{mover_at, AreSumsOf}
+use Rattle.column_turns.specs.Rows.{AreFoundRows}
+use Rattle.column_turns.specs.Turns.{mover_at, AreSumsOf, IsColumnOf}
 use Rattle.column_turns.proofs.sums.sum_kinds.Given as goal
 
 -- the kinds so far
 abbrev pub invariant-loop-number : goal.invariant-loop-number
-invariant-loop-number g l =
-    let old = g.P.Pairs.seen l.fn.pairs in
-    let now = g.P.Pairs.seen l.pairs in
+invariant-loop-number l =
+    let first = l.fn.column in
     record {
-      column : l.column ≡ l.fn.column;
-      row : IsRow l.row;
+      column : l.column ≡ first;
       one : length l.one ≡ length l.fn.one;
       room : length l.all ≡ length l.fn.all;
       small : All (IsWithinUnits (pos (2 ^ 42))) l.all;
-      found : AreSumsOf l.end old.source now.notes l.stakes (mover_at l.fn.column.layouts (layout_at l.fn.column.others 0) l.fn.column.movers) (length l.fn.column.movers) l.number l.all;
-      later : IsLater old now;
-      stays : g.P.Pairs.stays l.pairs ≡ g.P.Pairs.stays l.fn.pairs;
+      found : (end : End) (source : Source) (noted : Notes) → AreStakesOf source l.stakes → IsColumnOf source first.layouts first.others first.movers
+          → AreFoundRows end source noted l.stakes first.layouts first.others l.rows (length first.others)
+          → AreSumsOf end source noted l.stakes (mover_at first.layouts (layout_at first.others 0) first.movers) (length first.movers) l.number l.all;
     }

@@ -13,7 +13,8 @@ invariant_of-result c =
       valid = rw c.mover.ensures.mover c.start.ensures.valid.mover;
       many = rw c.mover.ensures.mover c.start.ensures.checkers;
       room = omega (arith, layouts, c.in_ok-with_capacity.ensures.capacity);
-      row = c.in_ok-new.ensures;
+      lower_rows = c.in_ok-empty_rows.ensures;
+      upper_rows = c.in_ok-empty_rows-2.ensures;
       room_one = omega (arith, layouts, c.in_ok-zeros.ensures.many);
       room_lower = record { many = rw (← layouts) c.in_ok-zeros-2.ensures.many; small = c.in_ok-zeros-2.ensures.small };
       room_upper = record { many = rw (← layouts) c.in_ok-zeros-3.ensures.many; small = c.in_ok-zeros-3.ensures.small };
