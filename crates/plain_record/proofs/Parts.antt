@@ -33,7 +33,7 @@ cut-none byte text found = one-part byte text (is-none (position_or_len (is_byte
 
 -- ---- lines
 
-more-parts : (x : List ℕ) (ps : List (List ℕ)) → 0 < length ps → lines_of_parts (x ∷ ps) ≡ strip_carriage_return x ∷ lines_of_parts ps
+pub more-parts : (x : List ℕ) (ps : List (List ℕ)) → 0 < length ps → lines_of_parts (x ∷ ps) ≡ strip_carriage_return x ∷ lines_of_parts ps
 more-parts x [] some = absurd (omega arith)
 more-parts x (y ∷ more) some = refl
 

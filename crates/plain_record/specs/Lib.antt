@@ -1,2 +1,3 @@
 pub mod Plain
 pub mod Cuts
+pub mod PlainLines
