@@ -82,6 +82,43 @@ A decisions 1 loss 0.000000 0.000000
 B decisions 0 loss 0.000000 0.000000
 """
 
+# Two checkers a side, of which both go the same way.
+PLAYED = b"""\
+hypergammon record 1
+checkers 2
+stakes jacoby
+game 1
+A 31 24/21 21/20
+B 21 24/22 23/22
+A 66 20/14 14/8 23/17 17/11
+B 55 22/17* 17/12 22/17 17/12
+stop
+close
+"""
+
+
+class Reading(NamedTuple):
+    """A record as it may be written, the plain one as which it is read, and how many lines more stand before the first roll."""
+
+    name: str
+    text: bytes
+    plain: bytes
+    more: int = 0
+
+
+READINGS = (
+    Reading("carriage returns", RECORD.replace(b"\n", b"\r\n"), RECORD),
+    Reading("no last line feed", RECORD[:-1], RECORD),
+    Reading("remarks", b"# by hand\n" + RECORD.replace(b"A 31", b"# A begins\nA 31"), RECORD, 2),
+    Reading("empty lines", b"\n" + RECORD.replace(b"A 31", b" \t\n\r\nA 31"), RECORD, 3),
+    Reading("a checker that goes on", RECORD.replace(b"24/21 21/20", b"24/21/20"), RECORD),
+    Reading("checkers that go on", PLAYED.replace(b"20/14 14/8 23/17 17/11", b"20/14/8 23/17/11"), PLAYED),
+    Reading("two that go on", PLAYED.replace(b"22/17* 17/12 22/17 17/12", b"22/17*/12(2)"), PLAYED),
+    Reading("two twice", PLAYED.replace(b"22/17* 17/12 22/17 17/12", b"22/17*(2) 17/12(2)"), PLAYED),
+    Reading("a wrong line", b"# by hand\n\n" + RECORD.replace(b"21/20", b"21/19"), RECORD.replace(b"21/20", b"21/19"), 2),
+    Reading("no end", b"\n" + RECORD[:-6], RECORD[:-6], 1),
+)
+
 SOLVED = b"""\
 solved checkers 1 stakes jacoby rounds 64 workers 1
 positions 601 kinds 3 widest %s
@@ -187,6 +224,19 @@ def try_words(tally, folder):
     for case in CASES:
         status, output = ask(case.words, folder)
         tally.note(case.name, differences("status", status, case.status) + differences("output", output, case.output))
+
+
+def study(text, folder):
+    (folder / "read.rec").write_bytes(text)
+    return ask(("study", "read.rec", "--rounds", "2"), folder)
+
+
+def try_readings(tally, folder):
+    """A record that is written otherwise gives what the plain one does, with its own lines."""
+    for reading in READINGS:
+        status, output = study(reading.plain, folder)
+        due = re.sub(rb"(?m)^(\d|refused 5 record) (\d+)", lambda it: b"%s %d" % (it[1], int(it[2]) + reading.more), output)
+        tally.note(f"a record with {reading.name}", differences("answer", study(reading.text, folder), (status, due)))
 
 
 def try_terminal(tally, folder):

@@ -15,6 +15,10 @@ PAGE_DIGEST = LENGTH - base_file.DIGEST
 GAME = b"hypergammon record 1\ncheckers 1\nstakes jacoby\ngame 1\nA 31 24/21 21/20\nstop\nclose\n"
 MATCH = b"hypergammon record 1\ncheckers 1\nstakes match 2\ngame 1 away 2 2\nA 21 24/22 22/21\nB double\nA pass\nend B 1\nclose\n"
 
+# B goes with both checkers to A's point 3.
+TWO = b"hypergammon record 1\ncheckers 2\nstakes jacoby\ngame 1\nA 31 24/21/20\nB 21 24/22 23/22\nA 66 20/14/8 23/17/11\n"
+LEFT = b"stop\nclose\n"
+
 # What stands in the files that are read beside those that are solved.
 RECORDS = {
     "game.rec": GAME,
@@ -23,9 +27,16 @@ RECORDS = {
     "turn.rec": GAME.replace(b"stop", b"A 21 20/18 18/17\nstop"),
     "rules.rec": GAME.replace(b"jacoby", b"Jacoby"),
     "number.rec": GAME.replace(b"31", b"13"),
-    "text.rec": GAME.replace(b"24/21 21/20", b"24/21/20"),
+    "text.rec": GAME.replace(b"24/21 21/20", b"24-21 21-20"),
     "hit.rec": GAME.replace(b"21/20", b"21/20*"),
+    "hits.rec": GAME.replace(b"24/21 21/20", b"24/21*/20*"),
+    "unmarked.rec": GAME.replace(b"stop", b"B 64 24/18 18/14\nA 63 20/14 14/11\nstop"),
     "dice.rec": GAME.replace(b"21/20", b"21/19"),
+    "returns.rec": b"# by hand\n\n" + GAME.replace(b"21/20", b"21/19").replace(b"\n", b"\r\n"),
+    "place.rec": GAME.replace(b"24/21 21/20", b"23/20 20/19"),
+    "bar.rec": TWO + b"B 55 22/17*/12(2)\nA 31 11/8 8/7\n" + LEFT,
+    "home.rec": TWO + b"B 21 22/20 22/21\nA 61 8/2 11/10\nB 21 20/18 21/20\nA 21 2/off 10/9\n" + LEFT,
+    "closed.rec": TWO + b"B 11 22/21/20(2)\nA 63 11/5 8/5\n" + LEFT,
     "few.rec": GAME.replace(b" 21/20", b""),
     "cube.rec": GAME.replace(b"A 31", b"A double\nB take\nA 31").replace(b"game 1\n", b"game 1\nB 21 24/22 22/21\n").replace(b"jacoby", b"cubeless"),
     "end.rec": GAME.replace(b"stop", b"end A 1"),
@@ -42,6 +53,20 @@ class Mistake(NamedTuple):
 COMMANDS = "write solve, show, advise, migrate, verify, scan, reply, ladder, plan, analyse, study, make, race, bound or board"
 FORM = 'write hypergammon show FILE POSITION, with quotes around the POSITION, as "24 23 / 24 23"'
 STEPS = 'as in "24 23 / 24 23"'
+
+# Records with a play that can't be made: the line, the fault, and what is told of it.
+PLAYS = (
+    ("hit", 5, 6, "31 can't be played 24/21 21/20*: a * stands where no checker is hit, or lacks where one is"),
+    ("hits", 5, 6, "31 can't be played 24/21*/20*: no checker of the other side is there to hit"),
+    ("unmarked", 7, 6, "63 can't be played 20/14 14/11: a step hits a checker, so write a * behind it"),
+    ("dice", 5, 1, "31 can't be played 24/21 21/19: a step isn't made by a die that is left"),
+    ("returns", 7, 1, "31 can't be played 24/21 21/19: a step isn't made by a die that is left"),
+    ("place", 5, 2, "31 can't be played 23/20 20/19: no checker of the player is where a step begins"),
+    ("bar", 9, 3, "31 can't be played 11/8 8/7: the checker on the bar has to move first"),
+    ("home", 11, 4, "21 can't be played 2/off 10/9: a checker can't be borne off while another is farther behind"),
+    ("closed", 9, 5, "63 can't be played 11/5 8/5: two or more checkers of the other side hold the point of a step"),
+    ("few", 5, 7, "31 can't be played 24/21: more steps can be made, so they have to be"),
+)
 
 MISTAKES = (
     # Words.
@@ -324,8 +349,7 @@ MISTAKES = (
     Mistake(
         ("study", "form.rec"),
         "5 record 5 shape",
-        "line 5 has no form of a record's lines: write it as A 31 24/21 21/20, B double or end A 1, with single spaces; "
-        "no line is empty",
+        "line 5 has no form of a record's lines: write it as A 31 24/21 21/20, B double or end A 1, with single spaces",
     ),
     Mistake(
         ("study", "turn.rec"),
@@ -349,13 +373,7 @@ MISTAKES = (
         "line 5 has no play behind its roll: write a step for each die, as 24/18 23/17*, or - where none can be made",
     ),
     Mistake(("study", "open.rec"), "5 record 7 unended", "the record ends before line 7: write close as its last line"),
-    Mistake(
-        ("study", "hit.rec"),
-        "5 record 5 illegal-play 6",
-        "line 5: a * stands where no checker is hit, or lacks where one is",
-    ),
-    Mistake(("study", "dice.rec"), "5 record 5 illegal-play 1", "line 5: a step isn't made by a die that is left"),
-    Mistake(("study", "few.rec"), "5 record 5 illegal-play 7", "line 5: more steps can be made, so they have to be"),
+    *(Mistake(("study", f"{name}.rec"), f"5 record {line} illegal-play {fault}", f"line {line}: {told}") for name, line, fault, told in PLAYS),
     Mistake(
         ("study", "cube.rec"),
         "5 record 6 illegal-cube",

@@ -5,3 +5,5 @@ mod Matches
 mod MatchTruth
 mod RightRecords
 mod Studied
+mod DecisionLines
+mod RecordTexts

@@ -1,10 +1,12 @@
 -- Right records and right files are refused for no fault of theirs.
-use Rattle.std.proofs.Common.{◌≡◌, ◌∙◌, List, ℕ, get_or, All, Bool, true, false, Contains, Option, Some, None, IfSome, IsSomeAnd, ◌⊎◌, inl, inr, refl, sym, ap, subst}
+use Rattle.std.proofs.Common.{◌≡◌, ◌∙◌, List, ℕ, map, length, ◌<◌, ◌≤◌, arith, get_or, All, Bool, true, false, Contains, Option, Some, None, IfSome, IsSomeAnd, Err, ◌⊎◌, inl, inr, refl, sym, ap, subst}
 use Rattle.std.specs.Option.{option_map}
+use Rattle.std.proofs.lemmas.List.{length-map, get_or-map}
 use Rattle.std.proofs.lemmas.Option.{none-some}
 use Rattle.outside_log.specs.Files.{Contents}
 use Rattle.cube_actions.specs.Ladder.{IsOfMatch}
 use Rattle.cube_actions.specs.Scores.{MatchScore}
+use Rattle.game_record.specs.Drafts.{StopsBy}
 use Rattle.game_record.specs.Faults.{IsBad}
 use Rattle.game_record.specs.Lines.{IsRecord, IsRecordText}
 use Rattle.game_record.specs.Replay.{IsBroken, IsReplay}
@@ -12,6 +14,8 @@ use Rattle.game_record.specs.RightDecisions.{IsRightDecision}
 use Rattle.game_record.specs.Turns.{is_match_record}
 use Rattle.game_record.specs.declared.decision.Decision.{Decision}
 use Rattle.game_record.specs.declared.fault.BadRecord.{BadRecord}
+use Rattle.game_record.specs.declared.fault.RecordStop.{RecordStop}
+use Rattle.game_record.specs.declared.fault.RecordStop.TheVariants as stops
 use Rattle.game_record.specs.declared.record.Record.{Record as RecordRead}
 use Rattle.game_record.specs.declared.record.RecordStakes.TheVariants.{Match}
 use Rattle.record_study.specs.Keeping.{IsDecisionInMatch}
@@ -32,7 +36,8 @@ use Rattle.run_endings.specs.Scores.{score_file}
 use Rattle.record_commands.specs.Analyses.{MayRefuseAnalysis, RefusesAnalysis, RefusesBy}
 use Rattle.record_commands.specs.ByFile.{IsBadPageFor, IsDecisionFor, RefusesFile, RefusesFront, front_head}
 use Rattle.record_commands.specs.MatchAnalyses.{RefusesMatch, game_at, score_there}
-use Rattle.record_commands.specs.Records.{HoldsRecord, RefusesRecord, game_recorded}
+use Rattle.plain_record.specs.Plain.{line_numbers, plain_text}
+use Rattle.record_commands.specs.Records.{AnswersText, HoldsRecord, IsRightReplayed, IsWrongPlain, RefusesRecord, at_line, game_recorded, record_refusal}
 use Rattle.record_commands.specs.RightRecords.{CanJudge, CanJudgeAll, CanJudgeAtScore, CanJudgeBy, HasRightFrontFor, HasRightPages, IsRightForAnalysing, IsRightForStudying}
 use Rattle.record_commands.specs.Studies.{MayRefuseStudy}
 use Rattle.record_commands.specs.declared.record.Replayed.{Replayed}
@@ -63,9 +68,12 @@ Holds held replayed = OfHeld held (λ bytes. HoldsRecord bytes replayed)
 right-record : NoFault → OneRecord → NoBreach → (name : List ℕ) (held : Option (List ℕ)) (replayed : Replayed) → Holds held replayed → (refusal : Refusal) → RefusesRecord name refusal held → IsOutside refusal
 right-record no_fault one no_breach name None replayed holds refusal r = absurd holds
 right-record no_fault one no_breach name (Some bytes) replayed holds (Missing missing) r = absurd (none-some bytes (sym r.1))
-right-record no_fault one no_breach name (Some bytes) replayed holds (Record bad) (inl wrong) = absurd (no_fault bytes replayed.rec bad holds.text wrong)
-right-record no_fault one no_breach name (Some bytes) replayed holds (Record bad) (inr (rec, text, broken)) =
-    absurd (no_breach replayed.rec replayed.decisions bad holds.replay (subst (λ (r : RecordRead). IsBroken r bad) (one bytes rec replayed.rec text holds.text) broken))
+right-record no_fault one no_breach name (Some bytes) replayed holds (Record bad) (inl long) = let short = holds.short in let more = long.0 in absurd (omega arith)
+right-record no_fault one no_breach name (Some bytes) replayed holds (Record bad) (inr wrong) = by_cause wrong.wrong where
+  by_cause : IsWrongPlain (plain_text bytes) wrong.plain → IsOutside (Record bad)
+  by_cause (inl fault) = absurd (no_fault (plain_text bytes) replayed.rec wrong.plain holds.plain.text fault)
+  by_cause (inr (rec, text, broken)) =
+      absurd (no_breach replayed.rec holds.told wrong.plain holds.plain.replay (subst (λ (r : RecordRead). IsBroken r wrong.plain) (one (plain_text bytes) rec replayed.rec text holds.plain.text) broken))
 right-record no_fault one no_breach name (Some bytes) replayed holds Memory r = tt
 right-record no_fault one no_breach name (Some bytes) replayed holds Read r = tt
 right-record no_fault one no_breach name (Some bytes) replayed holds refusal r = absurd r
@@ -74,9 +82,10 @@ right-record no_fault one no_breach name (Some bytes) replayed holds refusal r =
 same-record : OneRecord → OneReplay → (held : Option (List ℕ)) (replayed other : Replayed) → Holds held replayed → Holds held other → replayed ≡ other
 same-record one replay None replayed other holds also = absurd holds
 same-record one replay (Some bytes) replayed other holds also =
-    let rec = one bytes replayed.rec other.rec holds.text also.text in
-    let told = replay other.rec replayed.decisions other.decisions (subst (λ (r : RecordRead). IsReplay r replayed.decisions) rec holds.replay) also.replay in
-    λ i. record { rec = rec i; decisions = told i }
+    let rec = one (plain_text bytes) replayed.rec other.rec holds.plain.text also.plain.text in
+    let told = replay other.rec holds.told also.told (subst (λ (r : RecordRead). IsReplay r holds.told) rec holds.plain.replay) also.plain.replay in
+    let decisions : replayed.decisions ≡ other.decisions = holds.lines ∙ ap (map (at_line (line_numbers bytes))) told ∙ sym also.lines in
+    λ i. record { rec = rec i; decisions = decisions i }
 
 -- ---- files that can judge
 
@@ -162,10 +171,6 @@ right-analysed no_fault one replay no_breach task held refusal right may = by_ca
 
 -- ---- files with right pages
 
--- the law on the decisions of a record
-abbrev RightDecisions : Type 0
-RightDecisions = (rec : RecordRead) (told : List Decision) → IsRecord rec → IsReplay rec told → All (IsRightDecision rec) told
-
 -- a file of a decision's game can judge it
 can-judge : (wanted : GameName) (decision : Decision) (bytes : List ℕ) → HasRightPages wanted bytes → IsDecisionFor wanted decision → CanJudge wanted decision bytes
 can-judge wanted decision bytes has for_game =
@@ -175,16 +180,15 @@ can-judge wanted decision bytes has for_game =
       pages = λ q j may. has.pages q j (choice-state (game_in (front_head bytes)) has.game decision.position decision.kind of.state decision.choice of.choice q j may);
     }
 
-pub plain-can-judge : Law → RightDecisions → (rec : RecordRead) (decisions : List Decision) (bytes : List ℕ) → IsRecord rec → IsReplay rec decisions → is_match_record rec.stakes ≡ false → HasRightPages (game_recorded rec) bytes
+pub plain-can-judge : Law → (rec : RecordRead) (decisions : List Decision) (bytes : List ℕ) → All (IsRightDecision rec) decisions → is_match_record rec.stakes ≡ false → HasRightPages (game_recorded rec) bytes
     → CanJudgeAll (game_recorded rec) decisions bytes
-plain-can-judge law decisions_right rec decisions bytes valid replay plain has =
-    let right = decisions_right rec decisions valid replay in
+plain-can-judge law rec decisions bytes right plain has =
     record { front = has.front; each = λ k d below. can-judge (game_recorded rec) _ bytes has (plain-decision law rec plain _ (right k d below)) }
 
-pub match-can-judge : Law → RightDecisions → (prefix : List ℕ) (rec : RecordRead) (decisions : List Decision) (held : Contents) (points : ℕ) → IsRecord rec → IsReplay rec decisions → rec.stakes ≡ Match points
+pub match-can-judge : Law → (prefix : List ℕ) (rec : RecordRead) (decisions : List Decision) (held : Contents) (points : ℕ) → All (IsRightDecision rec) decisions → rec.stakes ≡ Match points
     → ((score : MatchScore) → IsOfMatch points score → OfHeld (held (score_file prefix score)) (HasRightPages (game_at rec score))) → All (CanJudgeAtScore prefix rec held) decisions
-match-can-judge law decisions_right prefix rec decisions held points valid replay is has k d below =
-    let right = in-match law rec points is decisions (decisions_right rec decisions valid replay) k d below in
+match-can-judge law prefix rec decisions held points rights is has k d below =
+    let right = in-match law rec points is decisions rights k d below in
     one (get_or decisions k d) right (has right.score right.of_match)
   where
     one : (decision : Decision) → (right : IsDecisionInMatch rec.checkers points decision) → OfHeld (held (score_file prefix right.score)) (HasRightPages (game_at rec right.score)) → CanJudgeAtScore prefix rec held decision
@@ -192,3 +196,46 @@ match-can-judge law decisions_right prefix rec decisions held points valid repla
       by_held : (file : Option (List ℕ)) → OfHeld file (HasRightPages (game_at rec right.score)) → OfHeld file (CanJudge (game_at rec right.score) decision)
       by_held None has = absurd has
       by_held (Some bytes) has = can-judge (game_at rec right.score) decision bytes has (decision-at rec points right.score decision right right.at)
+
+-- ---- records that are read
+
+-- the laws on the decisions of a record
+abbrev RightDecisions : Type 0
+RightDecisions = (rec : RecordRead) (told : List Decision) → IsRecord rec → IsReplay rec told → All (IsRightDecision rec) told
+
+abbrev FewDecisions : Type 0
+FewDecisions = (rec : RecordRead) (told : List Decision) → IsRecord rec → IsReplay rec told → length told ≤ 131072
+
+-- another line changes nothing of what can be relied on
+right-at-line : (rec : RecordRead) (numbers : List ℕ) (decision : Decision) → IsRightDecision rec decision → IsRightDecision rec (at_line numbers decision)
+right-at-line rec numbers decision right = record { position = right.position; live = right.live; checkers = right.checkers; score = right.score; kind = right.kind; choice = right.choice }
+
+-- nor of all decisions of a record
+pub right-at-lines : (rec : RecordRead) (numbers : List ℕ) (told decisions : List Decision) → IsRightReplayed (record { rec = rec; decisions = told }) → decisions ≡ map (at_line numbers) told → IsRightReplayed (record { rec = rec; decisions = decisions })
+right-at-lines rec numbers told decisions right lines = record {
+  valid = right.valid;
+  right = subst (All (IsRightDecision rec)) (sym lines) each;
+  few = subst (λ (n : ℕ). n ≤ 131072) (sym (ap length lines ∙ length-map told (at_line numbers))) right.few;
+} where
+  each : All (IsRightDecision rec) (map (at_line numbers) told)
+  each k d below =
+      let inside : k < length told = subst (λ (n : ℕ). k < n) (length-map told (at_line numbers)) below in
+      let first = get_or told k d in
+      subst (IsRightDecision rec) (sym (get_or-map (at_line numbers) told k first d inside)) (right-at-line rec numbers (get_or told k first) (right.right k first inside))
+
+pub held-right : RightDecisions → FewDecisions → (bytes : List ℕ) (replayed : Replayed) → HoldsRecord bytes replayed → IsRightReplayed replayed
+held-right decisions_right few bytes replayed holds =
+    let valid = holds.plain.text.valid in
+    right-at-lines replayed.rec (line_numbers bytes) holds.told replayed.decisions
+    (record { valid = valid; right = decisions_right replayed.rec holds.told valid holds.plain.replay; few = few replayed.rec holds.told valid holds.plain.replay })
+    holds.lines
+
+-- what stops reading the plain text of a text refuses the text
+pub stopped : (text read numbers : List ℕ) → length text ≤ 1048576 → read ≡ plain_text text → numbers ≡ line_numbers text → (stop : RecordStop) → StopsBy (IsWrongPlain read) stop → AnswersText text (Err (record_refusal numbers stop))
+stopped text read numbers short is lines (stops.Bad bad) wrong = inr (record {
+  short = short;
+  plain = bad;
+  wrong = subst (λ (t : List ℕ). IsWrongPlain t bad) is wrong;
+  line = ap (λ (ns : List ℕ). record bad { line = get_or ns bad.line 0 }) lines;
+})
+stopped text read numbers short is lines stops.NoMemory wrong = tt

@@ -1,5 +1,5 @@
 -- What is known of a file that holds a recorded game.
-use Rattle.std.specs.Prelude.{◌≡◌, ◌⊎◌, ◌≤◌, ℕ, List, length, Bool, IsTrue, All, Option, Some, None, Result, Ok, Err, ⊤}
+use Rattle.std.specs.Prelude.{◌≡◌, ◌⊎◌, ◌≤◌, ◌<◌, ℕ, List, length, map, slice_index, Bool, IsTrue, All, Option, Some, None, Result, Ok, Err, ⊤}
 use Rattle.cube_actions.specs.declared.name.StakesName.{StakesName}
 use Rattle.game_record.specs.Faults.{IsBad}
 use Rattle.game_record.specs.Kinds.{game_stakes}
@@ -7,6 +7,7 @@ use Rattle.game_record.specs.Lines.{IsRecord, IsRecordText}
 use Rattle.game_record.specs.Replay.{IsBroken, IsReplay}
 use Rattle.game_record.specs.RightDecisions.{IsRightDecision}
 use Rattle.game_record.specs.Standings.{first_standing}
+use Rattle.game_record.specs.declared.decision.Decision.{Decision}
 use Rattle.game_record.specs.declared.fault.BadRecord.{BadRecord}
 use Rattle.game_record.specs.declared.fault.RecordFault.TheVariants.{TooLong}
 use Rattle.game_record.specs.declared.fault.RecordStop.{RecordStop}
@@ -14,6 +15,7 @@ use Rattle.game_record.specs.declared.fault.RecordStop.TheVariants as stops
 use Rattle.game_record.specs.declared.record.Record.{Record as RecordRead}
 use Rattle.game_record.specs.declared.record.RecordStakes.{RecordStakes}
 use Rattle.game_record.specs.declared.record.RecordStakes.TheVariants.{Match}
+use Rattle.plain_record.specs.Plain.{line_numbers, line_of, plain_text}
 use Rattle.outside_log.specs.declared.reading.WholeStop.{WholeStop}
 use Rattle.outside_log.specs.declared.reading.WholeStop.TheVariants as whole
 use Rattle.record_analysis.specs.declared.analysis.Judged.{Judged}
@@ -48,15 +50,39 @@ game_recorded rec = record {
 
 -- ---- records in files
 
--- these bytes are the text of a record that breaks no rule, with these decisions
-pub record HoldsRecord (bytes : List ℕ) (replayed : Replayed) : Type 0 where
-  pub text : IsRecordText bytes replayed.rec
+-- this plain text is that of a record that breaks no rule, with these decisions
+pub record HoldsPlain (plain : List ℕ) (replayed : Replayed) : Type 0 where
+  pub text : IsRecordText plain replayed.rec
   pub replay : IsReplay replayed.rec replayed.decisions
 
--- the first line that is wrong in these bytes: they are no record's text, or else that record breaks a rule
+-- the first line that is wrong in a plain text: it is no record's, or else that record breaks a rule
+abbrev pub IsWrongPlain : List ℕ → BadRecord → Type 0
+IsWrongPlain text bad =
+    IsBad text bad ⊎ ((rec : RecordRead) × IsRecordText text rec × IsBroken rec bad)
+
+-- a decision with another line, where for each line these are their numbers
+abbrev pub at_line : List ℕ → Decision → Decision
+at_line numbers decision = record decision { line = slice_index numbers decision.line }
+
+-- These bytes are read as the text of a record that breaks no rule. These are its decisions, each with the line of the bytes that tells it.
+pub record HoldsRecord (bytes : List ℕ) (replayed : Replayed) : Type 0 where
+  pub short : length bytes ≤ 1048576
+  pub told : List Decision
+  pub plain : HoldsPlain (plain_text bytes) (record { rec = replayed.rec; decisions = told })
+  pub lines : replayed.decisions ≡ map (at_line (line_numbers bytes)) told
+
+-- so of the first wrong line of what bytes are read as
+pub record IsWrongAsRead (bytes : List ℕ) (bad : BadRecord) : Type 0 where
+  pub short : length bytes ≤ 1048576
+  pub plain : BadRecord
+  pub wrong : IsWrongPlain (plain_text bytes) plain
+  pub line : bad ≡ record plain { line = line_of bytes plain.line }
+
+-- the first line that is wrong in these bytes, where they aren't too many
 abbrev pub IsWrongIn : List ℕ → BadRecord → Type 0
 IsWrongIn bytes bad =
-    IsBad bytes bad ⊎ ((rec : RecordRead) × IsRecordText bytes rec × IsBroken rec bad)
+    ((1048576 < length bytes) × (bad ≡ record { line = 0; fault = TooLong }))
+    ⊎ IsWrongAsRead bytes bad
 
 -- a right record, and no more decisions than one can have, each of which could be made
 pub record IsRightReplayed (replayed : Replayed) : Type 0 where
@@ -91,10 +117,10 @@ TellsUnread name whole.TooLong refusal = refusal ≡ Record (record { line = 0; 
 TellsUnread name whole.ReadFault refusal = refusal ≡ Read
 TellsUnread name whole.NoMemory refusal = refusal ≡ Memory
 
--- the refusal of a text that is no record's, or of a record that breaks a rule
-abbrev pub record_refusal : RecordStop → Refusal
-record_refusal (stops.Bad bad) = Record bad
-record_refusal stops.NoMemory = Memory
+-- the refusal of a plain text that is no record's, or of a record that breaks a rule, where for each line these are their numbers
+abbrev pub record_refusal : List ℕ → RecordStop → Refusal
+record_refusal numbers (stops.Bad bad) = Record (record bad { line = slice_index numbers bad.line })
+record_refusal numbers stops.NoMemory = Memory
 
 -- what is read of a text, or its first wrong line; want of memory says nothing of it
 abbrev pub AnswersText : List ℕ → Result Replayed Refusal → Type 0

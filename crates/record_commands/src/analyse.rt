@@ -22,6 +22,7 @@ use equity_report::Refusal;
 use game_record::{Decisions, Record};
 use hyper_outside::Failed;
 use outside_log::{Files, Sink};
+use plain_record::LineFront;
 use record_analysis::{Analysis, analyses_enclose_what_is_lost, right_decisions_can_be_judged};
 use run_endings::RunStop;
 use std::alloc::Global;
@@ -85,12 +86,14 @@ fn judge_replayed<F: Files>(
 }
 
 /// Puts what each decision of a recorded game loses, or those that lost most, by a file of bounds of its game or in a match by those of its
-/// scores, and each player's total. It is refused where a file can't be had, a line of the record is wrong, a file is of another game, or there is no memory.
+/// scores, and each player's total. It is refused where a file can't be had, a line of the record is wrong, whose first bytes are kept, a file is
+/// of another game, or there is no memory.
 pub fn run_analyse<F: Files, O: Sink>(
     alloc: Global,
     task: &Analyse,
     files: &mut F,
     out: &mut O,
+    wrong: &mut LineFront,
 ) -> Result<(), RunStop>
     requires { IsRightAnalyse task.now }
     ensures ends { EndsBy IsOfAnalysing result }
@@ -100,7 +103,7 @@ pub fn run_analyse<F: Files, O: Sink>(
         → Rose (read_faults (F.log files.old)) (read_faults (F.log files.new)) }
     ensures reads { ReadsOn (F.log files.old) (F.log files.new) }
 {
-    let Replayed { rec, decisions } = match read_recorded(alloc, task.rec.as_str(), files) {
+    let Replayed { rec, decisions } = match read_recorded(alloc, task.rec.as_str(), files, wrong) {
         Ok(replayed) => replayed,
         Err(refusal) => return Err(RunStop::Refused(refusal)),
     };

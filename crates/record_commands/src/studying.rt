@@ -17,6 +17,7 @@ use equity_report::Refusal;
 use game_record::{Decisions, Record};
 use hyper_outside::{Failed, Gate, NoMemory};
 use outside_log::{Files, Sink};
+use plain_record::LineFront;
 use position_rank::layout_count;
 use record_analysis::Analysis;
 use record_study::{study, study_match};
@@ -53,14 +54,14 @@ fn study_replayed<R: Threads + Sync, G: Gate + Sync>(
 }
 
 /// Solves what a recorded game is played for, and puts what each of its decisions loses by that, or those that lost most, and each player's total.
-/// It is refused where
-/// the record's file isn't there or can't be read, a line of it is wrong, or there is no memory.
+/// It is refused where the record's file isn't there or can't be read, a line of it is wrong, whose first bytes are kept, or there is no memory.
 pub fn run_study<R: Threads + Sync, F: Files, O: Sink, G: Gate + Sync>(
     team: &Team<R>,
     alloc: Global,
     task: &Study,
     files: &mut F,
     out: &mut O,
+    wrong: &mut LineFront,
     gate: &G,
 ) -> Result<(), RunStop>
     requires right { IsRightStudy task.now }
@@ -73,7 +74,7 @@ pub fn run_study<R: Threads + Sync, F: Files, O: Sink, G: Gate + Sync>(
         → Rose (read_faults (F.log files.old)) (read_faults (F.log files.new)) }
     ensures reads { ReadsOn (F.log files.old) (F.log files.new) }
 {
-    let Replayed { rec, decisions } = match read_recorded(alloc, task.rec.as_str(), files) {
+    let Replayed { rec, decisions } = match read_recorded(alloc, task.rec.as_str(), files, wrong) {
         Ok(replayed) => replayed,
         Err(refusal) => return Err(RunStop::Refused(refusal)),
     };

@@ -25,8 +25,8 @@ const NOT_WRITTEN: &str =
 const NOT_A_RACE: &str =
     "the sides can still meet: in a race the highest places of both add up to less than 25";
 
-/// On a refusal of a command, whose words are in their form.
-fn add_refusal(text: &mut Text, call: &Call<'_>, refusal: &Refusal) {
+/// On a refusal of a command, whose words are in their form, of a record for a line that begins with these bytes.
+fn add_refusal(text: &mut Text, call: &Call<'_>, refusal: &Refusal, wrong: &[u8]) {
     match refusal {
         Refusal::Position(bad) => add_position(text, call, *bad),
         Refusal::Roll(_) => add_roll(text, call),
@@ -34,7 +34,7 @@ fn add_refusal(text: &mut Text, call: &Call<'_>, refusal: &Refusal) {
         Refusal::File(bad) => add_file(text, call, *bad),
         Refusal::Base { wanted, found } => add_game(text, call, *wanted, *found),
         Refusal::Inconsistent(unheld) => add_unheld(text, call, unheld),
-        Refusal::Record(bad) => add_record(text, call, *bad),
+        Refusal::Record(bad) => add_record(text, call, *bad, wrong),
         Refusal::Condition { word } => add_condition(text, call, *word),
         Refusal::Other(name) => add_other(text, call, name.as_str()),
         Refusal::Contact => say(text, NOT_A_RACE, &[]),
@@ -45,12 +45,12 @@ fn add_refusal(text: &mut Text, call: &Call<'_>, refusal: &Refusal) {
 }
 
 /// What lets one mend the call of these words.
-fn text_of(words: &[String], stop: &RunStop) -> Text {
+fn text_of(words: &[String], stop: &RunStop, wrong: &[u8]) -> Text {
     let mut text = Text::new();
     match (stop, Call::new(words)) {
         (RunStop::NotWritten, _) => say(&mut text, NOT_WRITTEN, &[]),
         (RunStop::Refused(Refusal::Words(bad)), _) => add_words(&mut text, words, *bad),
-        (RunStop::Refused(refusal), Some(call)) => add_refusal(&mut text, &call, refusal),
+        (RunStop::Refused(refusal), Some(call)) => add_refusal(&mut text, &call, refusal, wrong),
         (RunStop::Refused(_), None) => say(&mut text, NO_MEMORY, &[]),
     }
     text
@@ -63,13 +63,18 @@ fn put_line<N: Sink>(notes: &mut N, text: &Text)
     let _ = notes.put(line_of(text).as_slice());
 }
 
-/// Puts a line on why a run of these words ended before all was done, by which the call can be mended. Where putting fails, a front of it
-/// was put. Nothing is put where all was done.
-pub fn put_note<N: Sink>(notes: &mut N, words: &[String], ending: &Result<(), RunStop>)
+/// Puts a line on why a run of these words ended before all was done, by which the call can be mended. Where a line of a record is refused, it
+/// begins with the bytes of `wrong`. Where putting fails, a front of it was put. Nothing is put where all was done.
+pub fn put_note<N: Sink>(
+    notes: &mut N,
+    words: &[String],
+    ending: &Result<(), RunStop>,
+    wrong: &[u8],
+)
     ensures { PutsNote ending.now (N.output notes.old) (N.output notes.new) }
 {
     if let Err(stop) = ending {
-        put_line(notes, &text_of(words, stop));
+        put_line(notes, &text_of(words, stop, wrong));
     }
 }
 

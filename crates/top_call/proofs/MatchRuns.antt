@@ -8,10 +8,7 @@ use Rattle.outside_log.specs.Sink.{Output}
 use Rattle.cube_actions.specs.Ladder.{IsOfMatch, in_order, ladder}
 use Rattle.cube_actions.specs.Scores.{MatchScore, last_game}
 use Rattle.cube_actions.specs.Starts.{StartPairs}
-use Rattle.game_record.specs.Replay.{IsReplay}
-use Rattle.game_record.specs.Lines.{IsRecord}
 use Rattle.game_record.specs.RightDecisions.{IsRightDecision, IsScoreIn}
-use Rattle.game_record.specs.declared.decision.Decision.{Decision}
 use Rattle.game_record.specs.declared.record.Record.{Record}
 use Rattle.game_record.specs.declared.record.RecordStakes.{RecordStakes}
 use Rattle.game_record.specs.declared.record.RecordStakes.TheVariants.{Match}
@@ -44,7 +41,7 @@ use Rattle.run_endings.specs.Scores.{score_file}
 use Rattle.solve_commands.specs.Ladders.{HasSolvedLadder, SolvedScore, AreScoresSolved, file_of, ladder_score, scores_in}
 use Rattle.record_commands.specs.Analyses.{HasAnalysed, JudgesBy}
 use Rattle.record_commands.specs.MatchAnalyses.{HasTrueFile, HoldsTruth, JudgesMatch}
-use Rattle.record_commands.specs.Records.{HoldsRecord, report_shown}
+use Rattle.record_commands.specs.Records.{HoldsRecord, IsRightReplayed, report_shown}
 use Rattle.game_record.specs.Turns.{is_match_record}
 use Rattle.record_commands.specs.declared.record.Replayed.{Replayed}
 use Rattle.top_call.specs.Headline.{HoldLadder, PrintsGoodAdvice, PrintsTrueMatch, PrintsTruePlan, ladder_file, ladder_head}
@@ -99,23 +96,26 @@ module _ (law : Law) (exact : (n : ℕ) → 1 ≤ n → n ≤ 5 → (score : Mat
       let right : IsRightDecision rec one.decision = subst (IsRightDecision rec) (get_or-map (λ (j : Judged). j.decision) list k d d.decision below) (rights k d.decision in_map) in
       one-holds rec.stakes is one.decision.score right.score
 
--- a record that was read breaks no rule
-pub read-right : (file : Option (List ℕ)) (replayed : Replayed) → OfHeld file (λ bytes. HoldsRecord bytes replayed) → IsRecord replayed.rec × IsReplay replayed.rec replayed.decisions
-read-right None replayed holds = absurd holds
-read-right (Some text) replayed holds = (holds.text.valid, holds.replay)
+-- the law on records that are held
+abbrev pub HeldLaw : Type 0
+HeldLaw = (bytes : List ℕ) (replayed : Replayed) → HoldsRecord bytes replayed → IsRightReplayed replayed
+
+-- the decisions of a record that was read are right
+pub read-right : HeldLaw → (file : Option (List ℕ)) (replayed : Replayed) → OfHeld file (λ bytes. HoldsRecord bytes replayed) → All (IsRightDecision replayed.rec) replayed.decisions
+read-right law None replayed holds = absurd holds
+read-right law (Some text) replayed holds = (law text replayed holds).right
 
 pub true-match : Law → ((n : ℕ) → 1 ≤ n → n ≤ 5 → (score : MatchScore) → Contains (ladder n) score ↔ IsOfMatch n score)
-    → ((rec : Record) (told : List Decision) → IsRecord rec → IsReplay rec told → All (IsRightDecision rec) told)
+    → HeldLaw
     → (task : LadderTask) (analyse : Analyse) (held : Contents) (before after : List Event) (put_before put_after old new : Output) → IsRightLadder task → (solved : HasSolvedLadder task before after put_before put_after)
     → HoldLadder task solved.starts solved.scores.scores held → analyse.base ≡ task.prefix → (analysed : HasAnalysed analyse true held (λ text. IsPut old new text)) → analysed.analysed.replayed.rec.stakes ≡ Match task.match_length
     → PrintsTrueMatch analysed.analysed.replayed.rec.checkers (report_shown analyse.shown analysed.analysed.replayed.rec.stakes) (λ text. IsPut old new text)
-true-match law exact decisions_right task analyse held before after put_before put_after old new right solved holds named analysed stakes =
+true-match law exact held_right task analyse held before after put_before put_after old new right solved holds named analysed stakes =
     let replayed = analysed.analysed.replayed in
-    let (valid, replay) = read-right (held analyse.rec) replayed (analysed.analysed.record_file refl) in
     let by_base : JudgesMatch analyse.base replayed.rec replayed.decisions held analysed.list =
     subst (λ (b : Bool). JudgesBy b analyse.base replayed held analysed.list) (ap is_match_record stakes) (analysed.analysed.base_files refl) in
     let judges = subst (λ (prefix : List ℕ). JudgesMatch prefix replayed.rec replayed.decisions held analysed.list) named by_base in
-    let rights = subst (All (IsRightDecision replayed.rec)) (sym judges.decisions_are) (decisions_right replayed.rec replayed.decisions valid replay) in
+    let rights = subst (All (IsRightDecision replayed.rec)) (sym judges.decisions_are) (read-right held_right (held analyse.rec) replayed (analysed.analysed.record_file refl)) in
     record {
       list = analysed.list;
       printed = analysed.report;

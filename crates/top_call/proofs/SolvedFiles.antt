@@ -13,8 +13,9 @@ use Rattle.cube_actions.specs.Names.{names_of}
 use Rattle.cube_actions.specs.Ladder.{IsOfMatch, ladder}
 use Rattle.cube_actions.specs.Scores.{MatchScore, last_game}
 use Rattle.cube_actions.specs.Starts.{StartPairs}
-use Rattle.game_record.specs.Lines.{IsRecord}
+use Rattle.game_record.specs.Lines.{IsRecordText}
 use Rattle.game_record.specs.Replay.{IsReplay}
+use Rattle.game_record.specs.RightDecisions.{IsRightDecision}
 use Rattle.game_record.specs.Turns.{is_match_record}
 use Rattle.game_record.specs.declared.decision.Decision.{Decision}
 use Rattle.game_record.specs.declared.record.Record.{Record as RecordRead}
@@ -68,7 +69,7 @@ use Rattle.top_call.specs.Headline.{HoldLadder, ladder_file, ladder_head}
 use Rattle.top_call.specs.RightRuns.{IsRightFor}
 use Rattle.top_call.specs.SolvedFiles.{AsksOf, file_read}
 use Rattle.top_call.proofs.HeldWords.{Law, held-front, held-head, held-load, held-load-any, held-look-up, held-page}
-use Rattle.top_call.proofs.MatchRuns.{read-right}
+use Rattle.top_call.proofs.MatchRuns.{HeldLaw, read-right}
 use Rattle.top_call.proofs.TwoRuns.{solved-text}
 
 -- ---- states on which advice rests
@@ -169,16 +170,16 @@ right-score law task before after put_before put_after solved place inside comma
 
 -- the laws on files that can judge
 abbrev PlainLaw : Type 0
-PlainLaw = (rec : RecordRead) (decisions : List Decision) (bytes : List ℕ) → IsRecord rec → IsReplay rec decisions → is_match_record rec.stakes ≡ false → HasRightPages (game_recorded rec) bytes → CanJudgeAll (game_recorded rec) decisions bytes
+PlainLaw = (rec : RecordRead) (decisions : List Decision) (bytes : List ℕ) → All (IsRightDecision rec) decisions → is_match_record rec.stakes ≡ false → HasRightPages (game_recorded rec) bytes → CanJudgeAll (game_recorded rec) decisions bytes
 
 abbrev MatchLaw : Type 0
-MatchLaw = (prefix : List ℕ) (rec : RecordRead) (decisions : List Decision) (held : Contents) (points : ℕ) → IsRecord rec → IsReplay rec decisions → rec.stakes ≡ OfMatch points
+MatchLaw = (prefix : List ℕ) (rec : RecordRead) (decisions : List Decision) (held : Contents) (points : ℕ) → All (IsRightDecision rec) decisions → rec.stakes ≡ OfMatch points
     → ((score : MatchScore) → IsOfMatch points score → OfHeld (held (score_file prefix score)) (HasRightPages (game_at rec score))) → All (CanJudgeAtScore prefix rec held) decisions
 
-pub right-analysis : Law → PlainLaw → (solve : SolveTask) (analyse : AnalyseTask) (held : Contents) (before after : List Event) (put_before put_after : Output) (replayed : Replayed) → IsRightSolve solve
+pub right-analysis : Law → PlainLaw → HeldLaw → (solve : SolveTask) (analyse : AnalyseTask) (held : Contents) (before after : List Event) (put_before put_after : Output) (replayed : Replayed) → IsRightSolve solve
     → (solved : HasSolved solve before after put_before put_after) → held analyse.base ≡ standing after solve.file → OfHeld (held analyse.rec) (λ bytes. HoldsRecord bytes replayed) → is_match_record replayed.rec.stakes ≡ false
     → game_recorded replayed.rec ≡ game_told (head_of solve solved.words.rounds) → IsRightFor (Analyse analyse) held
-right-analysis law judges solve analyse held before after put_before put_after replayed right solved is holds plain same = record {
+right-analysis law judges held_right solve analyse held before after put_before put_after replayed right solved is holds plain same = record {
   replayed = replayed;
   record_file = holds;
   base_files = subst (λ (b : Bool). CanJudgeBy b analyse.base replayed held) (sym plain) (subst (λ (file : Option (List ℕ)). OfHeld file (CanJudgeAll (game_recorded replayed.rec) replayed.decisions)) (sym there) can);
@@ -194,16 +195,15 @@ right-analysis law judges solve analyse held before after put_before put_after r
 
   can : CanJudgeAll (game_recorded replayed.rec) replayed.decisions bytes
   can =
-      let (valid, replay) = read-right (held analyse.rec) replayed holds in
       let game : IsGame (game_in (head_of solve words.rounds)) = record { low = right.some; high = right.few; stakes = plain-stakes solve.stakes right.no_match } in
-      judges replayed.rec replayed.decisions bytes valid replay plain
+      judges replayed.rec replayed.decisions bytes (read-right held_right (held analyse.rec) replayed holds) plain
       (right-pages law (head_of solve words.rounds) words bytes (solved-text solve words right solved.solved) game solved.solved.consistent (game_recorded replayed.rec) (sym same))
 
-pub right-match-analysis : Law → MatchLaw → ((n : ℕ) → 1 ≤ n → n ≤ 5 → (score : MatchScore) → Contains (ladder n) score ↔ IsOfMatch n score)
+pub right-match-analysis : Law → MatchLaw → HeldLaw → ((n : ℕ) → 1 ≤ n → n ≤ 5 → (score : MatchScore) → Contains (ladder n) score ↔ IsOfMatch n score)
     → (task : LadderTask) (analyse : AnalyseTask) (held : Contents) (before after : List Event) (put_before put_after : Output) (replayed : Replayed) → IsRightLadder task → (solved : HasSolvedLadder task before after put_before put_after)
     → HoldLadder task solved.starts solved.scores.scores held → analyse.base ≡ task.prefix → OfHeld (held analyse.rec) (λ bytes. HoldsRecord bytes replayed) → replayed.rec.stakes ≡ OfMatch task.match_length → replayed.rec.checkers ≡ task.checkers
     → IsRightFor (Analyse analyse) held
-right-match-analysis law judges exact task analyse held before after put_before put_after replayed right solved files named holds stakes checkers = record {
+right-match-analysis law judges held_right exact task analyse held before after put_before put_after replayed right solved files named holds stakes checkers = record {
   replayed = replayed;
   record_file = holds;
   base_files = subst (λ (b : Bool). CanJudgeBy b analyse.base replayed held) (sym (ap is_match_record stakes)) (subst (λ (prefix : List ℕ). All (CanJudgeAtScore prefix replayed.rec held) replayed.decisions) (sym named) can);
@@ -234,17 +234,21 @@ right-match-analysis law judges exact task analyse held before after put_before 
       (subst (λ (file : Option (List ℕ)). OfHeld file (HasRightPages (game_at rec (ladder_score task place)))) (sym (files place inside)) (place-pages place inside))
 
   can : All (CanJudgeAtScore task.prefix rec held) replayed.decisions
-  can =
-      let (valid, replay) = read-right (held analyse.rec) replayed holds in
-      judges task.prefix rec replayed.decisions held task.match_length valid replay stakes score-pages
+  can = judges task.prefix rec replayed.decisions held task.match_length (read-right held_right (held analyse.rec) replayed holds) stakes score-pages
 
 -- ---- records that were made
 
-pub right-made : (make : MakeTask) (study : StudyTask) (held : Contents) (before after : List Event) (put_before put_after : Output) → HasMade make before after put_before put_after → held study.rec ≡ standing after make.file
+-- the law on records that are printed
+abbrev PrintedLaw : Type 0
+PrintedLaw = (text : List ℕ) (rec : RecordRead) (told : List Decision) → IsRecordText text rec → IsReplay rec told → HoldsRecord text (record { rec = rec; decisions = told })
+
+pub right-made : PrintedLaw → (make : MakeTask) (study : StudyTask) (held : Contents) (before after : List Event) (put_before put_after : Output) → HasMade make before after put_before put_after → held study.rec ≡ standing after make.file
     → IsRightFor (Study study) held
-right-made make study held before after put_before put_after made is =
-    let replayed : Replayed = record { rec = made.is_made.rec; decisions = made.is_made.decisions } in (
+right-made law make study held before after put_before put_after made is =
+    let text = made.made.text.items in
+    let told = made.is_made.decisions in
+    let replayed : Replayed = record { rec = made.is_made.rec; decisions = told } in (
       replayed,
-      subst (λ (file : Option (List ℕ)). OfHeld file (λ bytes. HoldsRecord bytes replayed)) (sym (is ∙ stands make.file made.made.text.items before after made.file))
-          (record { text = made.is_made.text; replay = made.is_made.replay }),
+      subst (λ (file : Option (List ℕ)). OfHeld file (λ bytes. HoldsRecord bytes replayed)) (sym (is ∙ stands make.file text before after made.file))
+          (law text made.is_made.rec told made.is_made.text made.is_made.replay),
     )

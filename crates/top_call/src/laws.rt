@@ -36,8 +36,10 @@ ghost use Rattle.record_commands.specs.Analyses.{HasAnalysed};
 use base_commands::right_files_are_not_refused;
 use cube_actions::ladders_are_exact;
 use database_file::texts_are_read_back;
-use game_record::decisions_are_right;
-use record_commands::{files_with_right_pages_can_judge, right_records_are_not_refused};
+use record_commands::{
+    files_with_right_pages_can_judge, held_records_are_right, printed_records_are_held,
+    right_records_are_not_refused,
+};
 
 /// Every play or cube action advised from the file that solve wrote loses at most its printed bound.
 ///
@@ -100,7 +102,7 @@ pub fn analyses_by_a_solved_match_are_true()
 {
     texts_are_read_back();
     ladders_are_exact();
-    decisions_are_right();
+    held_records_are_right();
 }
 
 /// Every play or cube action advised from the file that `ladder` wrote of a score loses at most its printed bound, for the stakes that the start
@@ -200,6 +202,7 @@ pub fn records_are_analysed_by_a_solved_file()
 {
     texts_are_read_back();
     files_with_right_pages_can_judge();
+    held_records_are_right();
 }
 
 /// So are the files that `ladder` wrote of all scores, for a record of a match to as many points, with as many checkers.
@@ -217,6 +220,7 @@ pub fn records_are_analysed_by_a_solved_match()
 {
     texts_are_read_back();
     files_with_right_pages_can_judge();
+    held_records_are_right();
     ladders_are_exact();
 }
 
@@ -227,4 +231,6 @@ pub fn made_records_are_right()
         → HasMade make before after put_before put_after
         → held study.rec ≡ standing after make.file
         → IsRightFor (ToStudy study) held }
-{}
+{
+    printed_records_are_held();
+}

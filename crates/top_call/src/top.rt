@@ -18,6 +18,7 @@ use command_line::{Command, WordsStop, read_words};
 use equity_report::Refusal;
 use hyper_outside::Gate;
 use outside_log::{Files, Sink};
+use plain_record::LineFront;
 use record_commands::{run_analyse, run_make, run_study};
 use refusal_notes::put_note;
 use run_endings::{RunStop, end};
@@ -36,7 +37,7 @@ fn unread_refusal(stop: WordsStop) -> Refusal
     }
 }
 
-/// Does what is asked for, up to the line of a refusal.
+/// Does what is asked for, up to the line of a refusal. Of a line of a record that is refused the first bytes are kept.
 fn perform<R: Threads + Sync, F: Files, O: Sink, N: Sink, G: Gate + Sync>(
     rt: &R,
     alloc: Global,
@@ -45,6 +46,7 @@ fn perform<R: Threads + Sync, F: Files, O: Sink, N: Sink, G: Gate + Sync>(
     out: &mut O,
     notes: &mut N,
     gate: &G,
+    wrong: &mut LineFront,
 ) -> Result<(), RunStop>
     requires { IsRightCommand command }
     ensures ends { Ends command result }
@@ -91,10 +93,10 @@ fn perform<R: Threads + Sync, F: Files, O: Sink, N: Sink, G: Gate + Sync>(
         }
         Command::Study(task) => {
             let team = Team::new(rt, task.workers);
-            run_study(&team, alloc, &task, files, out, gate)
+            run_study(&team, alloc, &task, files, out, wrong, gate)
         }
         Command::Make(task) => run_make(&Team::new(rt, 1), alloc, &task, files, out, gate),
-        Command::Analyse(task) => run_analyse(alloc, &task, files, out),
+        Command::Analyse(task) => run_analyse(alloc, &task, files, out, wrong),
         Command::Plan(task) => run_plan(&Team::new(rt, 1), alloc, &task, files, out, gate),
         Command::Scan(task) => {
             let team = Team::new(rt, task.workers);
@@ -105,18 +107,20 @@ fn perform<R: Threads + Sync, F: Files, O: Sink, N: Sink, G: Gate + Sync>(
     }
 }
 
-/// Ends a run of these words: puts the note and the line of the refusal where they are due, and answers the status.
+/// Ends a run of these words: puts the note and the line of the refusal where they are due, and answers the status. A line of a record that is
+/// refused begins with the bytes of `wrong`.
 fn conclude<O: Sink, N: Sink>(
     words: &[String],
     out: &mut O,
     notes: &mut N,
     ending: Result<(), RunStop>,
+    wrong: &LineFront,
 ) -> u8
     ensures status { result ≡ status_at ending }
     ensures line { PutsEnding ending (O.output out.old) (O.output out.new) }
     ensures note { PutsNote ending (N.output notes.old) (N.output notes.new) }
 {
-    put_note(notes, words, &ending);
+    put_note(notes, words, &ending, wrong.as_slice());
     end(out, ending)
 }
 
@@ -183,8 +187,8 @@ fn conclude<O: Sink, N: Sink>(
 ///    11 where the text of `scan` isn't that of a condition, with the first word with which none can go on.
 /// 3. 13 comes where what stands under the name of a file that `solve`, `migrate`, `make` or `ladder` is to write has a byte and
 ///    begins otherwise than files of its kind. That the file can be begun, of `ladder` each, is seen before any work is done.
-/// 4. Of a record or a list that is to be read: 3 where it isn't there; 5 where its file is too long, or a line of a record is
-///    wrong, with the first.
+/// 4. Of a record or a list that is to be read: 3 where it isn't there; 5 where its file is too long, or a line of a record, in what its
+///    text is read as, is wrong, with the number of the first in the file.
 /// 5. Of a file of bounds that is to be read: 3 where it isn't there; 4 where it isn't one of version 3, or of any for `migrate`, of
 ///    `show`, `advise` and `analyse` up to its pages; 10 where these or `reply` are asked for a position of another number of
 ///    checkers, `advise` or `reply` for a kind that the game hasn't, or `analyse` for a record of another game, or where the file
@@ -215,16 +219,18 @@ pub fn run<R: Threads + Sync, F: Files, O: Sink, N: Sink, G: Gate + Sync>(
         × PutsNotes (asks_list (asked words.now)) ending
         (N.output notes.old) (N.output notes.new) }
 {
+    let mut wrong = LineFront::new();
     match read_words(alloc, words) {
         Ok(command) => {
-            let ending = perform(rt, alloc, command, files, out, notes, gate);
-            conclude(words, out, notes, ending)
+            let ending = perform(rt, alloc, command, files, out, notes, gate, &mut wrong);
+            conclude(words, out, notes, ending, &wrong)
         }
         Err(stop) => conclude(
             words,
             out,
             notes,
             Err(RunStop::Refused(unread_refusal(stop))),
+            &wrong,
         ),
     }
 }
