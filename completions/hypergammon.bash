@@ -39,8 +39,8 @@ _hypergammon() {
         [reply]='--kind --rounds'
         [ladder]='--checkers --length --rounds --workers'
         [plan]='--length'
-        [analyse]='--worst --full'
-        [study]='--rounds --workers --worst --full'
+        [analyse]='--worst --full --board'
+        [study]='--rounds --workers --worst --full --board'
     )
     local -A values=(
         [--checkers]='1 2 3'

@@ -86,9 +86,11 @@ complete -c hypergammon -n '__hypergammon_is ladder' -l workers -x
 complete -c hypergammon -n '__hypergammon_is plan' -l length -x -a '1 2 3 4 5'
 complete -c hypergammon -n '__hypergammon_is analyse' -l worst -x
 complete -c hypergammon -n '__hypergammon_is analyse' -l full
+complete -c hypergammon -n '__hypergammon_is analyse' -l board
 complete -c hypergammon -n '__hypergammon_is study' -l rounds -x
 complete -c hypergammon -n '__hypergammon_is study' -l workers -x
 complete -c hypergammon -n '__hypergammon_is study' -l worst -x
 complete -c hypergammon -n '__hypergammon_is study' -l full
+complete -c hypergammon -n '__hypergammon_is study' -l board
 complete -c hypergammon -n '__hypergammon_asks board.1 bound.1 race.1 solve.1 show.1 advise.1 migrate.1 verify.1 scan.1 reply.1 ladder.1 plan.1 analyse.1 study.1 make.1' -l help -d 'the page of the command'
 complete -c hypergammon -n '__hypergammon_asks solve.1 show.1 advise.1 migrate.1 migrate.2 verify.1 scan.1 reply.1 ladder.1 plan.1 analyse.1 analyse.2 study.1 make.3' -F

@@ -10,14 +10,11 @@ use Rattle.directed_fixed.specs.Bounds.{Bounds}
 use Rattle.point_text.specs.Decimal.{millionths_up, millionths_text}
 use Rattle.cube_actions.specs.declared.name.KindName.{KindName}
 use Rattle.cube_text.specs.Texts.{kind_text}
-use Rattle.game_record.specs.declared.decision.Offer.{Offer}
-use Rattle.game_record.specs.declared.decision.Offer.TheVariants.{NoDouble, Double}
-use Rattle.game_record.specs.declared.decision.Answer.{Answer}
-use Rattle.game_record.specs.declared.decision.Answer.TheVariants.{Take, Pass, Beaver}
 use Rattle.play_analyser.specs.declared.advice.CubeAction.{CubeAction}
 use Rattle.play_analyser.specs.declared.advice.CubeAdvice.{CubeAdvice}
 use Rattle.play_analyser.specs.declared.ranking.PlayRow.{PlayRow}
 use Rattle.play_analyser.specs.declared.ranking.Ranking.{Ranking}
+use Rattle.equity_report.specs.Choices.{answer_text, offer_text}
 use Rattle.equity_report.specs.Reports.{line, points_text}
 
 -- what is advised, and what it loses at most in points, rounded up
@@ -46,15 +43,6 @@ ranking_text board p roll kind ranking =
     ++ advised_text (codes "best") (codes "1") ranking.loss_bound
 
 -- ---- the cube
-
-abbrev pub offer_text : Offer → List ℕ
-offer_text NoDouble = codes "no-double"
-offer_text Double = codes "double"
-
-abbrev pub answer_text : Answer → List ℕ
-answer_text Take = codes "take"
-answer_text Pass = codes "pass"
-answer_text Beaver = codes "beaver"
 
 -- what rolling is worth after a beaver, where there is one
 abbrev pub beaver_text : Option Bounds → List ℕ

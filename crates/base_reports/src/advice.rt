@@ -5,14 +5,13 @@ ghost use Rattle.move_rules.specs.declared.play.TheConstants.{MOST_PLAYS};
 ghost use Rattle.roll_table.specs.Text.{roll_text};
 ghost use Rattle.cube_text.specs.Texts.{kind_text};
 ghost use Rattle.equity_report.specs.Reports.{line, points_text};
-ghost use Rattle.base_reports.specs.Advice.{action_text, advised_text, answer_advised, answer_text, beaver_text, cube_report, offer_text, ranked_text, ranked_texts, ranking_text};
+ghost use Rattle.base_reports.specs.Advice.{action_text, advised_text, answer_advised, beaver_text, cube_report, ranked_text, ranked_texts, ranking_text};
 
 use arrayvec::ArrayString;
 use cube_actions::KindName;
 use cube_text::print_kind;
 use directed_fixed::{Fixed, Pair};
-use equity_report::{Report, add_number, add_points, add_position};
-use game_record::{Answer, Offer};
+use equity_report::{Report, add_number, add_points, add_position, answer_text, offer_text};
 use hyper_outside::Failed;
 use outside_log::Sink;
 use play_analyser::{CubeAction, CubeAdvice, PlayRow, Ranking};
@@ -125,27 +124,6 @@ pub fn write_ranking<O: Sink>(
     add_advised(&mut end, "best", "1", ranking.loss_bound);
     report.push_str(end.as_str());
     out.put(report.as_str().as_bytes())
-}
-
-fn offer_text(offer: Offer) -> &'static str
-    ensures text { result.now ≡ offer_text offer }
-    ensures short { length result.now ≤ 16 }
-{
-    match offer {
-        Offer::NoDouble => "no-double",
-        Offer::Double => "double",
-    }
-}
-
-fn answer_text(answer: Answer) -> &'static str
-    ensures text { result.now ≡ answer_text answer }
-    ensures short { length result.now ≤ 16 }
-{
-    match answer {
-        Answer::Take => "take",
-        Answer::Pass => "pass",
-        Answer::Beaver => "beaver",
-    }
 }
 
 fn add_beaver(report: &mut Report, beaver: Option<Pair>)

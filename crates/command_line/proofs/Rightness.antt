@@ -85,11 +85,12 @@ position-right word next each = grind (arith, given-live word)
 roll-right : (given : Option Bytes) (next : Option Dice → Asked) → ((roll : Option Dice) → IfSome roll IsRoll → Right (next roll)) → Right (value_read (roll_given given) next)
 roll-right given next each = grind (arith, nat_tests)
 
-shown-right : (number : ℕ) (full : Bool) (given : Option Bytes) (next : Shown → Asked) → ((shown : Shown) → IsRightShown shown → Right (next shown)) → Right (value_checked number (shown_given full given) next)
-shown-right number true None next each = each _ tt
-shown-right number false None next each = each _ tt
-shown-right number true (Some word) next each = record { is = tt }
-shown-right number false (Some word) next each = grind (arith, nat_tests)
+shown-right : (number : ℕ) (full board : Bool) (given : Option Bytes) (next : Shown → Asked) → ((shown : Shown) → IsRightShown shown → Right (next shown)) → Right (value_checked number (shown_given full board given) next)
+shown-right number true board None next each = each _ tt
+shown-right number false true None next each = each _ tt
+shown-right number false false None next each = each _ tt
+shown-right number true board (Some word) next each = record { is = tt }
+shown-right number false board (Some word) next each = grind (arith, nat_tests)
 
 away-right : (number : ℕ) (given : Option Bytes) (crawford post : Bool) (next : Away → Asked) → ((away : Away) → IsScore away.score → Right (next away)) → Right (value_checked number (away_given given crawford post) next)
 away-right number given crawford post next each = kept (away_given given crawford post) (away-is given crawford post) where

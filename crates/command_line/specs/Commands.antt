@@ -280,21 +280,27 @@ abbrev pub analyse_form : Form
 analyse_form = record {
   arguments = codes "BASE" ∷ codes "RECORD" ∷ [];
   options = codes "worst" ∷ [];
-  flags = codes "full" ∷ [];
+  flags = codes "full" ∷ codes "board" ∷ [];
 }
 
 abbrev pub analyse_values : GivenValues → Asked
 analyse_values given =
     value_checked 1 (file_name (given_value (codes "BASE") given)) (λ base.
     value_checked 2 (file_name (given_value (codes "RECORD") given)) (λ rec.
-    value_checked 3 (shown_given (is_set (codes "full") given) (given_value (codes "worst") given)) (λ shown.
-    Ok (Analyse (record { base = base; rec = rec; shown = shown })))))
+    value_checked 3 (shown_given (is_set (codes "full") given) (is_set (codes "board") given)
+    (given_value (codes "worst") given)) (λ shown.
+    Ok (Analyse (record {
+      base = base;
+      rec = rec;
+      shown = shown;
+      board = is_set (codes "board") given;
+    })))))
 
 abbrev pub study_form : Form
 study_form = record {
   arguments = codes "RECORD" ∷ [];
   options = codes "rounds" ∷ codes "workers" ∷ codes "worst" ∷ [];
-  flags = codes "full" ∷ [];
+  flags = codes "full" ∷ codes "board" ∷ [];
 }
 
 abbrev pub study_values : GivenValues → Asked
@@ -302,8 +308,15 @@ study_values given =
     value_checked 1 (file_name (given_value (codes "RECORD") given)) (λ rec.
     value_checked 2 (number_or 4096 64 (given_value (codes "rounds") given)) (λ rounds.
     value_checked 3 (number_or 64 1 (given_value (codes "workers") given)) (λ workers.
-    value_checked 4 (shown_given (is_set (codes "full") given) (given_value (codes "worst") given)) (λ shown.
-    Ok (Study (record { rec = rec; rounds = rounds; workers = workers; shown = shown }))))))
+    value_checked 4 (shown_given (is_set (codes "full") given) (is_set (codes "board") given)
+    (given_value (codes "worst") given)) (λ shown.
+    Ok (Study (record {
+      rec = rec;
+      rounds = rounds;
+      workers = workers;
+      shown = shown;
+      board = is_set (codes "board") given;
+    }))))))
 
 abbrev pub make_form : Form
 make_form = record {

@@ -137,10 +137,11 @@ take_given set roll = if set && is_some roll then None else Some set
 abbrev pub seen_by_doubler : Bool → Placement → Placement
 seen_by_doubler take position = if take then swap position else position
 
--- which decisions of a record are shown: all, or at most 100 of those that lost most, beside whose number all aren't asked for
-abbrev pub shown_given : Bool → Option Bytes → Option Shown
-shown_given full None = Some (if full then Full else Losses)
-shown_given full (Some word) =
+-- which decisions of a record are shown: all, with their positions too where boards are asked for, or at most 100 of those that lost most,
+-- beside whose number all aren't asked for
+abbrev pub shown_given : (full board : Bool) → Option Bytes → Option Shown
+shown_given full board None = Some (if full || board then Full else Losses)
+shown_given full board (Some word) =
     if full then None else option_map (λ most. Worst most) (number_within 100 word)
 
 -- 1 to so many bytes, none of them 0

@@ -157,6 +157,8 @@ pub struct Analyse {
     /// The record's name, 1 to 255 bytes.
     pub rec: Text,
     pub shown: Shown,
+    /// Whether each position that is shown is drawn as a board.
+    pub board: bool,
 }
 
 /// A recorded game whose decisions are judged by what is solved for it.
@@ -169,6 +171,8 @@ pub struct Study {
     /// 1 to 64.
     pub workers: u32,
     pub shown: Shown,
+    /// Whether each position that is shown is drawn as a board.
+    pub board: bool,
 }
 
 /// A record that is made by a number, judged and written to a file.
@@ -358,7 +362,7 @@ static ADVISE_FLAGS: [&str; 2] = ["board", "take"];
 
 static BOARD_FLAGS: [&str; 1] = ["id"];
 
-static FULL: [&str; 1] = ["full"];
+static SHOWN_FLAGS: [&str; 2] = ["full", "board"];
 
 static NO_FLAGS: [&str; 0] = [];
 
@@ -480,7 +484,7 @@ impl CommandName {
             CommandName::Advise => ADVISE_FLAGS.as_slice(),
             CommandName::ShowMatch => SHOW_MATCH_FLAGS.as_slice(),
             CommandName::AdviseMatch => ADVISE_MATCH_FLAGS.as_slice(),
-            CommandName::Analyse | CommandName::Study => FULL.as_slice(),
+            CommandName::Analyse | CommandName::Study => SHOWN_FLAGS.as_slice(),
             CommandName::Board => BOARD_FLAGS.as_slice(),
             CommandName::Solve
             | CommandName::ShowList

@@ -398,13 +398,15 @@ fn read_analyse(alloc: Global, values: &ArgMatches<'_>) -> Result<Command, Words
         return Err(bad_value(2));
     };
     let full = is_set(values, "full");
-    let Some(shown) = shown_given(full, values.get_str("worst")) else {
+    let board = is_set(values, "board");
+    let Some(shown) = shown_given(full, board, values.get_str("worst")) else {
         return Err(bad_value(3));
     };
     Ok(Command::Analyse(Analyse {
         base: Text::new(alloc, base)?,
         rec: Text::new(alloc, rec)?,
         shown,
+        board,
     }))
 }
 
@@ -425,7 +427,8 @@ fn read_study(alloc: Global, values: &ArgMatches<'_>) -> Result<Command, WordsSt
         return Err(bad_value(3));
     };
     let full = is_set(values, "full");
-    let Some(shown) = shown_given(full, values.get_str("worst")) else {
+    let board = is_set(values, "board");
+    let Some(shown) = shown_given(full, board, values.get_str("worst")) else {
         return Err(bad_value(4));
     };
     Ok(Command::Study(Study {
@@ -433,6 +436,7 @@ fn read_study(alloc: Global, values: &ArgMatches<'_>) -> Result<Command, WordsSt
         rounds,
         workers,
         shown,
+        board,
     }))
 }
 

@@ -357,14 +357,15 @@ pub(crate) fn seen_by_doubler(take: bool, position: Position) -> Position
     if take { position.swap() } else { position }
 }
 
-/// Which decisions are shown. `None` exactly where the number of those that lost most is out of its form, or all are asked for too.
-pub(crate) fn shown_given(full: bool, worst: Option<&str>) -> Option<Shown>
-    ensures { result ≡ shown_given full (option_map (λ w. w.now) worst.entry) }
+/// Which decisions are shown, all with their positions where boards alone are asked for. `None` exactly where the number of those that
+/// lost most is out of its form, or all are asked for too.
+pub(crate) fn shown_given(full: bool, board: bool, worst: Option<&str>) -> Option<Shown>
+    ensures { result ≡ shown_given full board (option_map (λ w. w.now) worst.entry) }
 {
     match worst {
         Some(_) if full => None,
         Some(word) => number_within(word, MOST_WORST).map(Shown::Worst),
-        None if full => Some(Shown::Full),
+        None if full || board => Some(Shown::Full),
         None => Some(Shown::Losses),
     }
 }

@@ -4,3 +4,4 @@ pub mod Files
 pub mod Unheld
 pub mod Records
 pub mod Refusals
+pub mod Choices

@@ -1,12 +1,14 @@
 //! The lines of refusals, and the parts that reports are made of.
 #![tactic(auto)]
 
+mod choices;
 mod parts;
 mod record;
 mod refusal;
 mod text;
 mod unheld;
 
+pub use choices::{answer_text, offer_text};
 pub use parts::{add_alone, add_position, add_rounds, add_written};
 pub use refusal::{FileName, Refusal, Wanted, add_refusal, write_refusal};
 pub use text::{

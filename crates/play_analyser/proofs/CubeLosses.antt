@@ -256,18 +256,21 @@ module _ (s : Source) (stakes : Terms) (valid : IsValid stakes) (fits : AreStake
     notes-taken : IsTrue w.told → AllTighter (taken_over stakes p double w.words) found
     notes-taken told = pairs-notes s (of_answer stakes p) w told double.answers.items found are
 
-    pub answer-loss : (answer : Answer) → IsPairFor (of_loss stakes p k (Answered answer)) s w (loss (answer_options (negated double.pass) (map negated found) answer))
-    answer-loss answer =
-        loss-pair s w (MayFollowDouble stakes p k) (answers_over stakes p double answer) (λ u. loss_of stakes u p k (Answered answer)) (answers-same stakes p k double is answer) positive (answer_options (negated double.pass) (map negated found) answer)
-        (answers-within (pos 4 *ℤ s.bound) (negated double.pass) (map negated found) answer (negated-within (pos 4 *ℤ s.bound) double.pass pass-within) (all-negated-within (pos 4 *ℤ s.bound) found taken-within))
-        (λ told. answers-tighter (negated double.pass) (negated double.pass) (map negated found) (map negated (taken_over stakes p double s.floor)) answer (negated-tighter double.pass double.pass (same-pair double.pass)) (all-negated-tighter found (taken_over stakes p double s.floor) (floor-taken told)))
-        (λ told. answers-tighter (negated double.pass) (negated double.pass) (map negated (taken_over stakes p double w.words)) (map negated found) answer (negated-tighter double.pass double.pass (same-pair double.pass)) (all-negated-tighter (taken_over stakes p double w.words) found (notes-taken told)))
-        doubled-right
-
-    -- an offer
     module _ (rolling : Bounds) (roll : IsPairFor (of_roll stakes p k 1) s w rolling) where
       pub rolling-within : IsWithin (pos 4 *ℤ s.bound) rolling
       rolling-within = pair-within s (of_roll stakes p k 1) w rolling (pos 4 *ℤ s.bound) (factor-limit 1 s.bound positive (inl refl)) roll
+
+      turn-right : IsTrue w.told → (q : Placement) (j : ℕ) → MayFollowTurn stakes p k q j → s.damage q j ≡ None
+      turn-right told q j (inl after) = roll.right told q j after
+      turn-right told q j (inr after) = doubled-right told q j after
+
+      pub answer-loss : (answer : Answer) → IsPairFor (of_loss stakes p k (Answered answer)) s w (loss (answer_options (negated double.pass) (map negated found) answer))
+      answer-loss answer =
+          loss-pair s w (MayFollowTurn stakes p k) (answers_over stakes p double answer) (λ u. loss_of stakes u p k (Answered answer)) (answers-same stakes p k double is answer) positive (answer_options (negated double.pass) (map negated found) answer)
+          (answers-within (pos 4 *ℤ s.bound) (negated double.pass) (map negated found) answer (negated-within (pos 4 *ℤ s.bound) double.pass pass-within) (all-negated-within (pos 4 *ℤ s.bound) found taken-within))
+          (λ told. answers-tighter (negated double.pass) (negated double.pass) (map negated found) (map negated (taken_over stakes p double s.floor)) answer (negated-tighter double.pass double.pass (same-pair double.pass)) (all-negated-tighter found (taken_over stakes p double s.floor) (floor-taken told)))
+          (λ told. answers-tighter (negated double.pass) (negated double.pass) (map negated (taken_over stakes p double w.words)) (map negated found) answer (negated-tighter double.pass double.pass (same-pair double.pass)) (all-negated-tighter (taken_over stakes p double w.words) found (notes-taken told)))
+          turn-right
 
       pub offer-loss : (offer : Offer) → IsPairFor (of_loss stakes p k (Offered offer)) s w (loss (offer_options rolling (least_pair double.pass found) offer))
       offer-loss offer =
@@ -275,7 +278,7 @@ module _ (s : Source) (stakes : Terms) (valid : IsValid stakes) (fits : AreStake
           (offers-within (pos 4 *ℤ s.bound) rolling (least_pair double.pass found) offer rolling-within doubled-within)
           (λ told. offers-tighter rolling (least_pair double.pass found) _ _ offer (pair-floor s (of_roll stakes p k 1) w rolling roll told) (least-tighter double.pass double.pass found (taken_over stakes p double s.floor) (same-pair double.pass) (floor-taken told)))
           (λ told. offers-tighter _ _ rolling (least_pair double.pass found) offer (pair-notes s (of_roll stakes p k 1) w rolling roll told) (least-tighter double.pass double.pass (taken_over stakes p double w.words) found (same-pair double.pass) (notes-taken told)))
-          (λ told q j may. elim may [ inl after ↦ roll.right told q j after | inr after ↦ doubled-right told q j after ])
+          turn-right
 
 -- ---- counts
 

@@ -5,9 +5,11 @@ pub mod Tighter
 mod LossLemmas
 mod PairLists
 mod OtherPlays
+mod OtherRows
 mod LossPairs
 mod PlayLosses
 mod CubeLosses
 mod RowLemmas
 mod OneList
 mod AdvisedLosses
+pub mod Weighing

@@ -1,5 +1,5 @@
 -- Losses over words that are the same where they count.
-use Rattle.std.proofs.Common.{◌≡◌, ◌≢◌, ◌↔◌, All, Contains, IsTrue, pos, ◌*ℤ◌, ◌∙◌, ℕ, neg_ℤ, List, [], ◌∷◌, map, Option, None, Some, inl, inr, ap, refl, sym}
+use Rattle.std.proofs.Common.{◌≡◌, ◌↔◌, All, Contains, IsTrue, pos, ◌*ℤ◌, ◌∙◌, ℕ, neg_ℤ, List, [], ◌∷◌, map, Option, None, Some, inl, inr, ap, refl, sym}
 use Rattle.position_rank.specs.Placement.{Placement, swap}
 use Rattle.roll_table.specs.Rolls.{Dice}
 use Rattle.move_rules.specs.Ends.{legal_ends}
@@ -30,11 +30,15 @@ use Rattle.game_record.specs.declared.decision.Answer.{Answer}
 use Rattle.play_analyser.specs.Losses.{loss}
 use Rattle.play_analyser.specs.Choices.{IsChoice, all_but, offer_options, answer_options}
 use Rattle.play_analyser.specs.Regrets.{play_pair, taken_pair, double_pair, loss_of, cube_loss, offer_pairs, answer_pairs}
-use Rattle.play_analyser.specs.Sought.{ArePairsFor, MayFollowPlay, MayFollowChoice, of_answer}
+use Rattle.play_analyser.specs.Sought.{ArePairsFor, MayFollowChoice, of_answer}
 use Rattle.play_analyser.specs.declared.advice.CubeAction.{CubeAction}
 use Rattle.play_analyser.specs.declared.advice.CubeAdvice.{CubeAdvice}
+use Rattle.play_analyser.specs.declared.best.Best.{Best}
 use Rattle.play_analyser.specs.declared.ranking.PlayRow.{PlayRow}
+use Rattle.play_analyser.specs.declared.ranking.Ranking.{Ranking}
 use Rattle.play_analyser.specs.Advice.{IsActionBy, IsAdviceOn, IsCubeAdvice, IsCubeAdviceOver, taken_of}
+use Rattle.play_analyser.specs.Bests.{IsBest, IsBestOver}
+use Rattle.play_analyser.specs.Rankings.{IsRanking, IsRankingOver}
 use Rattle.play_analyser.proofs.PlayLosses.{all-of}
 use Rattle.play_analyser.proofs.RowLemmas.{member}
 use Rattle.play_analyser.proofs.LossLemmas.{both_ends}
@@ -82,22 +86,17 @@ module _ (stakes : Terms) (u v : Words) (p : Placement) (k : ℕ) where
   by_double None is f g same F G none left right = ap F is ∙ (none ∙ sym (ap G is))
   by_double (Some double) is f g same F G none left right = ap F is ∙ (left double ∙ (same double is ∙ (sym (right double) ∙ sym (ap G is))))
 
-  module _ (roll : Dice) (end : Placement) (legal : IsLegalEnd p roll end) (same : (e : End) → AgreeOn (MayFollowPlay stakes p k roll end) e u v) where
-    abbrev pairs_over : Words → List Placement → Bounds
-    pairs_over w xs = loss (record { chosen = play_pair (kind_at stakes k) w end; others = map (play_pair (kind_at stakes k) w) xs })
-
-    played-over : (xs : List Placement) → ((q : Placement) → Among q xs → IsLegalEnd p roll q × (q ≢ end)) → pairs_over u xs ≡ pairs_over v xs
-    played-over [] all = refl
-    played-over (x ∷ xs) all =
-        let first = all x (inl refl) in
-        ap (λ (chosen : Bounds). loss (record { chosen = chosen; others = map (play_pair (kind_at stakes k) u) (x ∷ xs) }))
-        (play-same (kind_at stakes k) u v end (λ e q j left. same e q j (record { other = x; allowed = first.0; differs = first.1; end = end; legal = legal; left = left })))
-        ∙ ap (λ (others : List Bounds). loss (record { chosen = play_pair (kind_at stakes k) v end; others = others }))
-        (map-agree (play_pair (kind_at stakes k) u) (play_pair (kind_at stakes k) v) (x ∷ xs)
-        (λ r m. play-same (kind_at stakes k) u v r (λ e q j left. same e q j (record { other = r; allowed = (all r m).0; differs = (all r m).1; end = r; legal = (all r m).0; left = left }))))
+  module _ (roll : Dice) (end : Placement) (legal : IsLegalEnd p roll end) (same : (e : End) → AgreeOn (MayFollowRoll stakes p k roll) e u v) where
+    one-same : (q : Placement) → IsLegalEnd p roll q → play_pair (kind_at stakes k) u q ≡ play_pair (kind_at stakes k) v q
+    one-same q allowed = play-same (kind_at stakes k) u v q (λ e r j left. same e r j (record { end = q; legal = allowed; left = left }))
 
     played-same : loss_of stakes u p k (Played roll end) ≡ loss_of stakes v p k (Played roll end)
-    played-same = played-over (all_but end (legal_ends p roll)) (λ q m. (let left = left-in end (legal_ends p roll) q m in (legal_ends-sound p roll q (Among-Contains q (legal_ends p roll) left.0), left.1)))
+    played-same =
+        let others = all_but end (legal_ends p roll) in
+        ap (λ (chosen : Bounds). loss (record { chosen = chosen; others = map (play_pair (kind_at stakes k) u) others })) (one-same end legal)
+        ∙ ap (λ (pairs : List Bounds). loss (record { chosen = play_pair (kind_at stakes k) v end; others = pairs }))
+        (map-agree (play_pair (kind_at stakes k) u) (play_pair (kind_at stakes k) v) others
+        (λ q m. one-same q (let left = left-in end (legal_ends p roll) q m in legal_ends-sound p roll q (Among-Contains q (legal_ends p roll) left.0))))
 
   pub loss-same : (choice : Choice) → IsChoice stakes p k choice → ((end : End) → AgreeOn (MayFollowChoice stakes p k choice) end u v) → loss_of stakes u p k choice ≡ loss_of stakes v p k choice
   loss-same (Played roll end) is same = played-same roll end is.1 same
@@ -107,7 +106,7 @@ module _ (stakes : Terms) (u v : Words) (p : Placement) (k : ℕ) where
       (λ o. cube_loss o (λ d. offer_pairs stakes u p k d offer)) (λ o. cube_loss o (λ d. offer_pairs stakes v p k d offer)) refl (λ d. refl) (λ d. refl)
   loss-same (Answered answer) is same =
       by_double (kind_at stakes k).double refl (λ d. loss (answer_pairs stakes u p d answer)) (λ d. loss (answer_pairs stakes v p d answer))
-      (λ d some. answered-same d some same answer)
+      (λ d some. answered-same d some (λ end q j after. same end q j (inr after)) answer)
       (λ o. cube_loss o (λ d. answer_pairs stakes u p d answer)) (λ o. cube_loss o (λ d. answer_pairs stakes v p d answer)) refl (λ d. refl) (λ d. refl)
 
 -- ---- rankings and advice
@@ -155,3 +154,19 @@ advice-exact source u stakes p k advice told same is = record {
     pass = h.pass;
     advised = h.advised;
   }
+
+pub ranking-exact : (source : Source) (u : Notes) (stakes : Terms) (p : Placement) (k : ℕ) (roll : Dice) (ranking : Ranking) → IsTrue u.told → ((end : End) → AgreeOn (MayFollowRoll stakes p k roll) end source.floor u.words) → IsRanking stakes p k roll source u ranking → IsRankingOver stakes u.words p k roll ranking
+ranking-exact source u stakes p k roll ranking told same is = record {
+  some = is.some;
+  ends = is.ends;
+  distinct = is.distinct;
+  first = is.first;
+  pairs = rows-exact source u stakes p k roll ranking.rows.items told same is.ends is.pairs;
+  in_order = is.in_order;
+  bound = is.bound;
+}
+
+pub best-exact : (source : Source) (u : Notes) (stakes : Terms) (p : Placement) (k : ℕ) → IsTrue u.told → (choice : Choice) → ((end : End) → AgreeOn (MayFollowChoice stakes p k choice) end source.floor u.words) → (best : Best) → IsBest stakes p k choice source u best → IsBestOver stakes u.words p k choice best
+best-exact source u stakes p k told (Played roll end) same best (ranking, ranked, first) = (ranking, ranking-exact source u stakes p k roll ranking told same ranked, first)
+best-exact source u stakes p k told (Offered offer) same best (advice, advises, is) = (advice, advice-exact source u stakes p k advice told same advises, is)
+best-exact source u stakes p k told (Answered answer) same best (advice, advises, is) = (advice, advice-exact source u stakes p k advice told same advises, is)

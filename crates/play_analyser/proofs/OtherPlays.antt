@@ -1,6 +1,5 @@
 -- The positions of a list without one of them.
-use Rattle.std.proofs.Common.{◌≡◌, ◌≢◌, ◌↔◌, Contains, ◌<◌, ◌+◌, ◌++◌, ◌∙◌, ℕ, List, [], ◌∷◌, length, take, get_or, Bool, true, false, ◌&&◌, nat_eq, if◌then◌else◌, inl, inr, ap, sym, subst, refl}
-use Rattle.std.proofs.lemmas.List.{take_more}
+use Rattle.std.proofs.Common.{◌≡◌, ◌≢◌, ◌↔◌, Contains, ◌∙◌, ℕ, List, [], ◌∷◌, Bool, true, false, ◌&&◌, nat_eq, if◌then◌else◌, inl, inr, ap, sym, subst, refl}
 use Rattle.std.specs.Cmp.Lexicographic.{pointwise, same_text, other_text}
 use Rattle.position_rank.specs.Placement.{Placement}
 use Rattle.roll_table.specs.Rolls.{Dice}
@@ -38,26 +37,6 @@ pub other-is : (p q : Placement) → same_position p q ≡ false → p ≢ q
 other-is p q is same = both (same_position p q) (same-self p q same) is
 
 module _ (end : Placement) where
-  all_but-append : (ends : List Placement) (q : Placement) → all_but end (ends ++ q ∷ []) ≡ all_but end ends ++ (if same_position q end then [] else q ∷ [])
-  all_but-append [] q = refl
-  all_but-append (r ∷ ends) q = by_same (same_position r end) (all_but-append ends q) where
-    by_same : (same : Bool) → all_but end (ends ++ q ∷ []) ≡ all_but end ends ++ (if same_position q end then [] else q ∷ []) → (if same then all_but end (ends ++ q ∷ []) else r ∷ all_but end (ends ++ q ∷ [])) ≡ (if same then all_but end ends else r ∷ all_but end ends) ++ (if same_position q end then [] else q ∷ [])
-    by_same true rest = rest
-    by_same false rest = ap (λ (xs : List Placement). r ∷ xs) rest
-
-  module _ (ends : List Placement) (i : ℕ) (q : Placement) (here : i < length ends) (at_i : q ≡ get_or ends i q) where
-    one-more : all_but end (take (i + 1) ends) ≡ all_but end (take i ends) ++ (if same_position q end then [] else q ∷ [])
-    one-more = ap (all_but end) (take_more ends i q here ∙ ap (λ (x : Placement). take i ends ++ x ∷ []) (sym at_i)) ∙ all_but-append (take i ends) q
-
-    pub another-more : same_position q end ≡ false → all_but end (take (i + 1) ends) ≡ all_but end (take i ends) ++ q ∷ []
-    another-more is = one-more ∙ ap (λ (same : Bool). all_but end (take i ends) ++ (if same then [] else q ∷ [])) is
-
-    pub same-more : same_position q end ≡ true → all_but end (take (i + 1) ends) ≡ all_but end (take i ends)
-    same-more is = one-more ∙ ap (λ (same : Bool). all_but end (take i ends) ++ (if same then [] else q ∷ [])) is ∙ none (all_but end (take i ends)) where
-      none : (xs : List Placement) → xs ++ [] ≡ xs
-      none [] = refl
-      none (x ∷ xs) = ap (λ (ys : List Placement). x ∷ ys) (none xs)
-
   -- what is left is another one of the list
   pub left-in : (ends : List Placement) (q : Placement) → Among q (all_but end ends) → Among q ends × (q ≢ end)
   left-in [] q m = absurd m

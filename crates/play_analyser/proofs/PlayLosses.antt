@@ -1,8 +1,7 @@
 -- What a play loses over the pairs of all plays of its roll.
-use Rattle.std.proofs.Common.{◌≡◌, ◌≢◌, All, zero, suc, ◌^◌, Ok, Err, ℕ, ℤ, pos, ◌*ℤ◌, ◌-ℤ◌, ◌≤ℤ◌, List, [], ◌∷◌, length, map, Bool, true, false, None, IsTrue, inl, inr, refl, subst, sym, arith}
+use Rattle.std.proofs.Common.{◌≡◌, ◌≢◌, All, zero, suc, ◌^◌, Ok, Err, ℕ, ℤ, pos, ◌*ℤ◌, ◌-ℤ◌, ◌≤ℤ◌, List, [], ◌∷◌, map, Bool, true, false, None, IsTrue, inl, inr, refl, subst, sym, arith}
 use Rattle.std.specs.Bool.{⊤}
 use Rattle.std.specs.Int.{int_max}
-use Rattle.arrayvec.specs.ArrayVec.{ArrayVec}
 use Rattle.std.proofs.lemmas.Int.{ints, clamps}
 use Rattle.position_rank.specs.Placement.{Placement, swap}
 use Rattle.roll_table.specs.Rolls.{Dice, IsRoll}
@@ -12,25 +11,24 @@ use Rattle.move_rules.specs.Sequences.{IsLegalEnd}
 use Rattle.move_rules.proofs.Members.{Contains-Among, Among-Contains}
 use Rattle.move_rules.proofs.EndsExact.{legal_ends-complete, legal_ends-sound}
 use Rattle.move_rules.specs.declared.payoff.Won.{Won}
-use Rattle.directed_fixed.specs.Bounds.{Bounds, IsWithin, IsWithinUnits, at_zero}
+use Rattle.directed_fixed.specs.Bounds.{Bounds, IsWithin}
 use Rattle.hyper_outside.specs.declared.outside.LookStop.{LookStop}
 use Rattle.cube_actions.specs.Stakes.{Terms, kind_at, no_kind, IsValid}
 use Rattle.turn_rule.specs.Games.{game_of}
 use Rattle.turn_rule.specs.Turn.{Words, win}
 use Rattle.turn_rule.specs.States.{IsStateOf, IsState}
-use Rattle.turn_rule.specs.Looks.{Source, Notes, Damage, Looked, IsPairFor, AreStakesOf, IsLeft}
+use Rattle.turn_rule.specs.Looks.{Source, Notes, Damage, Looked, IsPairFor, AreStakesOf, IsLeft, MayFollowRoll}
 use Rattle.turn_rule.specs.Found.{LeavesState, of_play}
 use Rattle.turn_rule.proofs.Within.{bound-positive, bound-small, win-within, next_state}
 use Rattle.turn_rule.proofs.Integers.{le_refl}
-use Rattle.turn_rule.proofs.Found.{notes-refl, then-ok, then-err}
+use Rattle.turn_rule.proofs.Found.{notes-refl, then-err}
 use Rattle.game_record.specs.declared.decision.Choice.TheVariants.{Played}
 use Rattle.play_analyser.specs.Losses.{Options, ahead, loss}
 use Rattle.play_analyser.specs.Choices.{all_but, same_position}
 use Rattle.play_analyser.specs.Regrets.{play_pair, loss_of}
-use Rattle.play_analyser.specs.Sought.{MayFollowPlay, AreOthersInOrder, ArePairsFor, IsNear, of_loss}
-use Rattle.play_analyser.proofs.OtherPlays.{others-exactly, same-is, other-is, left-in, in-left}
+use Rattle.play_analyser.specs.Sought.{ArePairsFor, IsNear, of_loss}
+use Rattle.play_analyser.proofs.OtherPlays.{same-is, other-is, left-in, in-left}
 use Rattle.play_analyser.proofs.LossLemmas.{both_ends}
-use Rattle.play_analyser.proofs.PairLists.{pair-later, play-tightens}
 use Rattle.play_analyser.proofs.LossPairs.{loss-pair, pair-floor, pair-notes, pair-within, pairs-floor, pairs-notes, pairs-within, pairs-right}
 
 -- ---- what counts is which values there are
@@ -72,12 +70,6 @@ pub record AreOthers (p : Placement) (roll : Dice) (end : Placement) (others : L
   pub legal : (q : Placement) → Among q others → IsLegalEnd p roll q × (q ≢ end)
   pub all : (q : Placement) → IsLegalEnd p roll q → q ≢ end → Among q others
 
-pub others-are : (p : Placement) (roll : Dice) (end : Placement) (others : List Placement) → AreOthersInOrder p roll end others → AreOthers p roll end others
-others-are p roll end others are = let exactly = others-exactly end p roll are.ends others are.in_order.legal are.are in record {
-  legal = λ q m. (exactly q).0 (Among-Contains q others m);
-  all = λ q legal apart. Contains-Among q others ((exactly q).1 (legal, apart));
-}
-
 near-four : (bound : ℤ) (pair : Bounds) → bound ≤ℤ pos (2 ^ 36) → IsWithin (pos 4 *ℤ bound) pair → IsNear pair
 near-four bound pair small h = let low = h.from in let high = h.to in record { from = omega (arith, ints); in_order = h.in_order; to = omega (arith, ints) }
 
@@ -90,16 +82,9 @@ all-of P (x ∷ xs) h (suc i) d below = all-of P xs (λ y m. h y (inr m)) i d (o
 pub nothing-looked : (s : Source) (u : Notes) (a : ℕ) (meant : Damage → Type 0) → Looked s u u a a meant (λ (x : Unit {0}). ⊤) (Ok tt)
 nothing-looked s u a meant = record { later = omega arith; notes = notes-refl s u; answer = tt; stop = tt }
 
-pub asked-nothing : {A : Type 0} (s : Source) (u : Notes) (a : ℕ) (meant : Damage → Type 0) (right : A → Type 0) (x : A) → right x → Looked s u u a a meant right (Ok x)
-asked-nothing s u a meant right x is = record { later = omega arith; notes = notes-refl s u; answer = is; stop = tt }
-
 -- the first look-up stopped
 pub first-err : {A B : Type 0} (s : Source) (u v : Notes) (a b : ℕ) (meant meant' : Damage → Type 0) (right : A → Type 0) (right' : B → Type 0) (stop : LookStop) → Looked s u v a b meant right (Err stop) → ((damage : Damage) → meant damage → meant' damage) → Looked s u v a b meant' right' (Err stop)
 first-err s u v a b meant meant' right right' stop looked within = then-err s u u v a a b meant' meant meant' (λ (x : Unit {0}). ⊤) right right' tt stop (nothing-looked s u a meant') looked (λ damage told. within damage)
-
-pub no-others : (xs : List Placement) → length xs ≡ 0 → xs ≡ []
-no-others [] h = refl
-no-others (x ∷ xs) h = absurd (omega arith)
 
 -- the play and the others over words
 abbrev pub plays_over : Terms → ℕ → Placement → List Placement → Words → Options Bounds
@@ -153,7 +138,7 @@ module _ (s : Source) (stakes : Terms) (valid : IsValid stakes) (fits : AreStake
 
   module _ (roll : Dice) (end : Placement) (others : List Placement) (are : AreOthers p roll end others) where
     module _ (w : Notes) (chosen : Bounds) (pairs : List Bounds) (one : IsPairFor (of_play (kind_at stakes k) end) s w chosen) (rest : ArePairsFor (of_play (kind_at stakes k)) others s w pairs) where
-      right : IsTrue w.told → (q : Placement) (j : ℕ) → MayFollowPlay stakes p k roll end q j → s.damage q j ≡ None
+      right : IsTrue w.told → (q : Placement) (j : ℕ) → MayFollowRoll stakes p k roll q j → s.damage q j ≡ None
       right told q j may = by_same (same_position may.end end) refl where
         by_same : (same : Bool) → same_position may.end end ≡ same → s.damage q j ≡ None
         by_same true is = one.right told q j (subst (λ (r : Placement). IsLeft (kind_at stakes k).next r q j) (same-is may.end end is) may.left)
@@ -162,37 +147,8 @@ module _ (s : Source) (stakes : Terms) (valid : IsValid stakes) (fits : AreStake
       pub play-loss : IsPairFor (of_loss stakes p k (Played roll end)) s w (loss (record { chosen = chosen; others = pairs }))
       play-loss =
           let kind = kind_at stakes k in
-          loss-pair s w (MayFollowPlay stakes p k roll end) (plays_over stakes k end others) (λ u. loss_of stakes u p k (Played roll end)) (same-loss stakes p k roll end others are) source-positive (record { chosen = chosen; others = pairs })
+          loss-pair s w (MayFollowRoll stakes p k roll) (plays_over stakes k end others) (λ u. loss_of stakes u p k (Played roll end)) (same-loss stakes p k roll end others are) source-positive (record { chosen = chosen; others = pairs })
           (record { chosen = pair-within s (of_play kind end) w chosen (pos 4 *ℤ s.bound) once one; others = pairs-within s (of_play kind) w (pos 4 *ℤ s.bound) others (λ q m. once) pairs rest })
           (λ told. record { chosen = pair-floor s (of_play kind end) w chosen one told; others = pairs-floor s (of_play kind) w told others pairs rest })
           (λ told. record { chosen = pair-notes s (of_play kind end) w chosen one told; others = pairs-notes s (of_play kind) w told others pairs rest })
           right
-
-    pub play-losses : {m m' m'' : Damage → Type 0} → IsLegalEnd p roll end → IsRoll roll → (u v w : Notes) (a b c : ℕ) (chosen : Bounds) (found : ArrayVec Bounds) (now : Bounds) → now ≡ loss (record { chosen = chosen; others = found.items })
-        → Looked s u v a b m (IsPairFor (of_play (kind_at stakes k) end) s v) (Ok chosen)
-        → Looked s v w b c m' (λ (f : ArrayVec Bounds). ArePairsFor (of_play (kind_at stakes k)) others s w f.items) (Ok found)
-        → Looked s u w a c m'' (IsPairFor (of_loss stakes p k (Played roll end)) s w) (Ok now)
-    play-losses legal is_roll u v w a b c chosen found now is first second =
-        then-ok s u v w a b c _ _ _ _ _ _ chosen found now first second
-        (λ tighter one rest.
-        subst (IsPairFor (of_loss stakes p k (Played roll end)) s w) (sym is)
-        (play-loss w chosen found.items (pair-later s (of_play (kind_at stakes k) end) (play-tightens s (kind_at stakes k) end (source-leaves roll is_roll end legal)) v w tighter chosen one) rest))
-
-  module _ (roll : Dice) (end : Placement) (are : AreOthers p roll end []) where
-    zero-units : IsWithinUnits (pos 8 *ℤ s.bound) (pos 0)
-    zero-units = let z = source-positive in record { from = omega (arith, ints); to = omega (arith, ints) }
-
-    -- the one play that a roll allows
-    pub lone-play : (w : Notes) → IsPairFor (of_loss stakes p k (Played roll end)) s w at_zero
-    lone-play w =
-        let zero_is = λ (u : Words). same-loss stakes p k roll end [] are u in
-        record {
-          in_order = le_refl _;
-          lower = zero-units;
-          upper = zero-units;
-          lower_floor = λ told. subst (λ (b : Bounds). b.lower ≤ℤ pos 0) (zero_is s.floor) (le_refl _);
-          upper_floor = λ told. subst (λ (b : Bounds). pos 0 ≤ℤ b.upper) (zero_is s.floor) (le_refl _);
-          lower_notes = λ told. subst (λ (b : Bounds). pos 0 ≤ℤ b.lower) (zero_is w.words) (le_refl _);
-          upper_notes = λ told. subst (λ (b : Bounds). b.upper ≤ℤ pos 0) (zero_is w.words) (le_refl _);
-          right = λ told q j may. absurd (are.all may.other may.allowed may.differs);
-        }

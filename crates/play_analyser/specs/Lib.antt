@@ -5,3 +5,4 @@ pub mod Sought
 pub mod Advice
 pub mod Rankings
 pub mod Advised
+pub mod Bests

@@ -14,7 +14,6 @@ ghost use Rattle.turn_rule.specs.States.{IsState};
 ghost use Rattle.turn_rule.specs.Following.{AgreeOn};
 ghost use Rattle.turn_rule.specs.Found.{of_play};
 ghost use Rattle.turn_rule.specs.Looks.{
-  FindsPair,
   IsLeft,
   IsPairFor,
   LooksUp,
@@ -31,10 +30,13 @@ ghost use Rattle.play_analyser.specs.declared.advice.CubeAdvice.{CubeAdvice};
 ghost use Rattle.play_analyser.specs.declared.ranking.Ranking.{Ranking};
 ghost use Rattle.play_analyser.specs.Advice.{IsCubeAdvice, IsCubeAdviceOver};
 ghost use Rattle.play_analyser.specs.Advised.{ActionLosesAtMost, AreTrueWords, FirstLosesAtMost};
+ghost use Rattle.play_analyser.specs.declared.best.Best.{Best as BestOne};
+ghost use Rattle.play_analyser.specs.declared.losses.Weighed.{Weighed as WeighedOne};
+ghost use Rattle.play_analyser.specs.Bests.{IsBest, IsBestOver, IsWeighed};
 ghost use Rattle.play_analyser.specs.Choices.{IsChoice};
 ghost use Rattle.play_analyser.specs.Rankings.{IsRanking, IsRankingOver};
 ghost use Rattle.play_analyser.specs.Regrets.{counted_over, loss_of, play_pair, regret_of};
-ghost use Rattle.play_analyser.specs.Sought.{MayFollowChoice, of_loss};
+ghost use Rattle.play_analyser.specs.Sought.{MayFollowChoice, MeetsOnChoice, of_loss};
 
 /// Where a source's floor and its notes are the same words on the states that may follow, the pair
 /// of a play is what it gives over these words.
@@ -54,6 +56,16 @@ pub fn one_list_gives_the_loss()
         → ((end : End) → AgreeOn (MayFollowChoice stakes p k choice) end source.floor noted.words)
         → IsPairFor (of_loss stakes p k choice) source noted pair
         → pair ≡ loss_of stakes noted.words p k choice }
+{}
+
+/// Where a source's floor and its notes are the same words on the states that may follow, what was
+/// best is so over these words.
+pub fn one_list_gives_the_best()
+    ensures { (source : Source) (noted : Notes) (stakes : Terms) (p : Placement) (k : ℕ)
+        (choice : Choice) (best : BestOne) → IsTrue noted.told
+        → ((end : End) → AgreeOn (MayFollowChoice stakes p k choice) end source.floor noted.words)
+        → IsBest stakes p k choice source noted best
+        → IsBestOver stakes noted.words p k choice best }
 {}
 
 /// Where a source's floor and its notes are the same words on the states that may follow, a ranking
@@ -80,10 +92,11 @@ pub fn one_list_gives_the_advice()
 
 /// Over a sure source each call is answered.
 pub fn sure_sources_advise()
-    ensures loss { (old new : Seen) (stakes : Terms) (p : Placement) (k : ℕ) (choice : Choice)
-        (result : Result Bounds LookStop)
-        → IsTrue old.source.sure → FindsPair (of_loss stakes p k choice) old new result
-        → IsOk result }
+    ensures weighing { (old new : Seen) (stakes : Terms) (p : Placement) (k : ℕ) (choice : Choice)
+        (result : Result WeighedOne LookStop)
+        → IsTrue old.source.sure → LooksUp old new
+        (MeetsOnChoice stakes p k choice old.source)
+        (IsWeighed stakes p k choice old.source new.notes) result → IsOk result }
     ensures ranking { (old new : Seen) (stakes : Terms) (p : Placement) (k : ℕ) (roll : Dice)
         (result : Result Ranking LookStop)
         → IsTrue old.source.sure → LooksUp old new

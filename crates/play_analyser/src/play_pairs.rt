@@ -8,7 +8,7 @@ ghost use Rattle.directed_fixed.specs.Bounds.{IsWithin};
 ghost use Rattle.turn_rule.specs.Turn.{win};
 ghost use Rattle.turn_rule.specs.Looks.{FindsPair, LooksUp};
 ghost use Rattle.turn_rule.specs.Found.{Finds, LeavesState, of_play};
-ghost use Rattle.play_analyser.specs.Choices.{all_but, same_position};
+ghost use Rattle.play_analyser.specs.Choices.{same_position};
 ghost use Rattle.play_analyser.specs.Sought.{ArePairsFor, MeetsSome};
 
 use arrayvec::ArrayVec;
@@ -109,22 +109,8 @@ pub(crate) fn ends_of_plays(list: &[Entry]) -> ArrayVec<Position, MOST_PLAYS>
     ends
 }
 
-fn same(one: &Position, another: &Position) -> bool
+pub(crate) fn same(one: &Position, another: &Position) -> bool
     ensures { result ≡ same_position one.now another.now }
 {
     *one == *another
-}
-
-/// These positions without one.
-pub(crate) fn without(end: &Position, ends: &[Position]) -> ArrayVec<Position, MOST_PLAYS>
-    requires { length ends.now ≤ MOST_PLAYS }
-    ensures { result.items ≡ all_but end.now ends.now }
-{
-    let mut others = ArrayVec::new();
-    for other in ends {
-        if !same(other, end) {
-            others.push(*other);
-        }
-    }
-    others
 }

@@ -2,7 +2,7 @@
 use Rattle.std.proofs.Common.{◌≡◌, ◌<◌, ◌≤◌, ◌∙◌, ℕ, List, [], ◌∷◌, length, map, get_or, All, IfSome, IsSome, IsSomeAnd, IsTrue, Option, None, Some, ap, sym, subst, refl, arith}
 use Rattle.std.specs.Bool.{⊤}
 use Rattle.std.proofs.lemmas.List.{get_or-map, length-map}
-use Rattle.std.proofs.lemmas.List.Elements.{All-head, All-tail, All-map}
+use Rattle.std.proofs.lemmas.List.Elements.{All-cons, All-head, All-tail, All-map}
 use Rattle.position_rank.specs.Placement.{Placement}
 use Rattle.directed_fixed.specs.declared.bounds.End.{End}
 use Rattle.directed_fixed.specs.Bounds.{Bounds}
@@ -24,15 +24,17 @@ use Rattle.turn_rule.specs.Looks.{AreStakesOf, IsPairFor, Notes, Source}
 use Rattle.turn_rule.specs.States.{AreNoLooser}
 use Rattle.turn_rule.specs.Truth.{AreNoLooserStakes, AreSoundFrom}
 use Rattle.turn_rule.specs.Turn.{Words}
+use Rattle.play_analyser.specs.declared.best.Best.{Best}
+use Rattle.play_analyser.specs.Bests.{IsBest, IsBestOver}
 use Rattle.play_analyser.specs.Choices.{HasAnswer, IfDouble, IsChoice}
 use Rattle.play_analyser.specs.Regrets.{loss_of}
 use Rattle.play_analyser.specs.Sought.{MayFollowChoice, of_loss}
 use Rattle.play_analyser.proofs.Enclosing.{loss-of-encloses}
 use Rattle.play_analyser.proofs.Tighter.{loss-of-tighter}
 use Rattle.record_analysis.specs.declared.analysis.Judged.{Judged}
-use Rattle.record_analysis.specs.Analyses.{analysis_of, lost, unjudged}
-use Rattle.record_analysis.specs.Judging.{CanBeJudged, Judges, JudgesAll, MayFollowOne, MayFollowSome, of_decision}
-use Rattle.record_analysis.specs.Truth.{EnclosesLoss, EncloseLosses, IsDecisionOf, IsNoLooserAnalysis}
+use Rattle.record_analysis.specs.Analyses.{IsBestFor, analysis_of, losses_alone, lost, unjudged}
+use Rattle.record_analysis.specs.Judging.{CanBeJudged, IsBestAt, Judges, JudgesAll, MayFollowOne, MayFollowSome, of_decision}
+use Rattle.record_analysis.specs.Truth.{EnclosesLoss, EncloseLosses, IsDecisionOf, IsNoLooserAnalysis, IsTrueAnalysis}
 
 -- ---- decisions of a record
 
@@ -70,35 +72,52 @@ abbrev pub OneListGives : Type 0
 OneListGives = (source : Source) (u : Notes) (stakes : Terms) (p : Placement) (k : ℕ) (choice : Choice) (pair : Bounds) → IsTrue u.told → IsChoice stakes p k choice
     → ((end : End) → AgreeOn (MayFollowChoice stakes p k choice) end source.floor u.words) → IsPairFor (of_loss stakes p k choice) source u pair → pair ≡ loss_of stakes u.words p k choice
 
-module _ (one_list : OneListGives) (source : Source) (u : Notes) (stakes : Terms) (told : IsTrue u.told) where
+-- and what was best is so over them
+abbrev pub OneListBest : Type 0
+OneListBest = (source : Source) (u : Notes) (stakes : Terms) (p : Placement) (k : ℕ) (choice : Choice) (best : Best) → IsTrue u.told → ((end : End) → AgreeOn (MayFollowChoice stakes p k choice) end source.floor u.words) → IsBest stakes p k choice source u best → IsBestOver stakes u.words p k choice best
+
+module _ (one_list : OneListGives) (one_best : OneListBest) (source : Source) (u : Notes) (stakes : Terms) (told : IsTrue u.told) where
   abbrev SameFor : Decision → Type 0
   SameFor decision = (end : End) → AgreeOn (MayFollowOne None stakes (unjudged decision)) end source.floor u.words
 
-  one-exact : (decision : Decision) (judged : Judged) → decision.score ≡ None → CanBeJudged source stakes decision → SameFor decision → Judges None stakes source u (unjudged decision) judged → judged ≡ record { decision = decision; loss = Some (lost stakes u.words decision) }
-  one-exact decision judged outside can same is = both judged is.decision (by_loss judged.loss (is.judged outside)) where
+  -- a decision with a loss alone
+  abbrev alone : Decision → Option Bounds → Judged
+  alone decision loss = record { decision = decision; loss = loss; best = None }
+
+  one-exact : (decision : Decision) (judged : Judged) → decision.score ≡ None → CanBeJudged source stakes decision → SameFor decision → Judges None stakes source u (unjudged decision) judged
+      → (alone judged.decision judged.loss ≡ alone decision (Some (lost stakes u.words decision))) × IsBestFor stakes u.words judged
+  one-exact decision judged outside can same is = (both is.decision (by_loss judged.loss (is.judged outside)), by_decision judged.decision (sym is.decision) judged.best (is.best outside)) where
+    follows : (end : End) → AgreeOn (MayFollowChoice stakes decision.position decision.kind decision.choice) end source.floor u.words
+    follows end q j may = same end q j (record { at = outside; follows = may })
+
     by_loss : (loss : Option Bounds) → IsSomeAnd loss (IsPairFor (of_decision stakes decision) source u) → loss ≡ Some (lost stakes u.words decision)
     by_loss None h = absurd h
-    by_loss (Some pair) h =
-        ap (λ (b : Bounds). Some b)
-        (one_list source u stakes decision.position decision.kind decision.choice pair told can.choice (λ end q j may. same end q j (record { at = outside; follows = may })) h)
+    by_loss (Some pair) h = ap (λ (b : Bounds). Some b) (one_list source u stakes decision.position decision.kind decision.choice pair told can.choice follows h)
 
-    both : (j : Judged) → j.decision ≡ decision → j.loss ≡ Some (lost stakes u.words decision) → j ≡ record { decision = decision; loss = Some (lost stakes u.words decision) }
-    both j h k =
-        let f : Decision → Judged = λ d. record { decision = d; loss = j.loss } in
-        let g : Option Bounds → Judged = λ o. record { decision = decision; loss = o } in
-        ap f h ∙ ap g k
+    by_best : (best : Option Best) → IsSomeAnd best (IsBestAt stakes decision source u) → IsSomeAnd best (IsBestOver stakes u.words decision.position decision.kind decision.choice)
+    by_best None h = absurd h
+    by_best (Some best) h = one_best source u stakes decision.position decision.kind decision.choice best told follows h
 
-  all-exact : (decisions : List Decision) (list : List Judged) → All (λ (decision : Decision). decision.score ≡ None) decisions → All (CanBeJudged source stakes) decisions → All SameFor decisions → JudgesAll None stakes source u (map unjudged decisions) list → list ≡ analysis_of stakes u.words decisions
-  all-exact [] [] outside can same are = refl
+    by_decision : (d : Decision) → decision ≡ d → (best : Option Best) → IsSomeAnd best (IsBestAt stakes decision source u) → IsSomeAnd best (IsBestOver stakes u.words d.position d.kind d.choice)
+    by_decision d is best h = subst (λ (x : Decision). IsSomeAnd best (IsBestOver stakes u.words x.position x.kind x.choice)) is (by_best best h)
+
+    both : {d : Decision} {o : Option Bounds} → d ≡ decision → o ≡ Some (lost stakes u.words decision) → alone d o ≡ alone decision (Some (lost stakes u.words decision))
+    both {d} {o} h k = ap (λ (x : Decision). alone x o) h ∙ ap (alone decision) k
+
+  all-exact : (decisions : List Decision) (list : List Judged) → All (λ (decision : Decision). decision.score ≡ None) decisions → All (CanBeJudged source stakes) decisions → All SameFor decisions → JudgesAll None stakes source u (map unjudged decisions) list
+      → (losses_alone list ≡ analysis_of stakes u.words decisions) × All (IsBestFor stakes u.words) list
+  all-exact [] [] outside can same are = (refl, λ i d below. absurd (omega arith))
   all-exact [] (judged ∷ list) outside can same are = absurd are
   all-exact (decision ∷ decisions) [] outside can same are = absurd are
   all-exact (decision ∷ decisions) (judged ∷ list) outside can same are =
-      ap (λ (j : Judged). j ∷ list) (one-exact decision judged (All-head (λ (d : Decision). d.score ≡ None) decision decisions outside) (All-head (CanBeJudged source stakes) decision decisions can) (All-head SameFor decision decisions same) are.0)
-      ∙ ap (λ (js : List Judged). record { decision = decision; loss = Some (lost stakes u.words decision) } ∷ js)
-      (all-exact decisions list (All-tail (λ (d : Decision). d.score ≡ None) decision decisions outside) (All-tail (CanBeJudged source stakes) decision decisions can) (All-tail SameFor decision decisions same) are.1)
+      let one = one-exact decision judged (All-head (λ (d : Decision). d.score ≡ None) decision decisions outside) (All-head (CanBeJudged source stakes) decision decisions can) (All-head SameFor decision decisions same) are.0 in
+      let rest = all-exact decisions list (All-tail (λ (d : Decision). d.score ≡ None) decision decisions outside) (All-tail (CanBeJudged source stakes) decision decisions can) (All-tail SameFor decision decisions same) are.1 in (
+        ap (λ (j : Judged). j ∷ losses_alone list) one.0 ∙ ap (λ (js : List Judged). alone decision (Some (lost stakes u.words decision)) ∷ js) rest.0,
+        All-cons (IsBestFor stakes u.words) judged list one.1 rest.1,
+      )
 
   pub analysis-exact : (decisions : List Decision) (list : List Judged) → All (λ (decision : Decision). decision.score ≡ None) decisions → All (CanBeJudged source stakes) decisions → ((end : End) → AgreeOn (MayFollowSome None stakes (map unjudged decisions)) end source.floor u.words)
-      → JudgesAll None stakes source u (map unjudged decisions) list → list ≡ analysis_of stakes u.words decisions
+      → JudgesAll None stakes source u (map unjudged decisions) list → (losses_alone list ≡ analysis_of stakes u.words decisions) × All (IsBestFor stakes u.words) list
   analysis-exact decisions list outside can same are =
       all-exact decisions list outside can
       (λ i d below end q j may. same end q j (record {
@@ -111,7 +130,7 @@ module _ (one_list : OneListGives) (source : Source) (u : Notes) (stakes : Terms
 
 pub analysis-encloses : (game : Game) → IsGame game → (enough : ℕ) (u : Words) → AreSoundFrom game enough u → (decisions : List Decision) → All (IsDecisionOf game) decisions → (turns : ℕ) → enough ≤ turns → EncloseLosses game turns (analysis_of game.stakes u decisions)
 analysis-encloses game right enough u sound decisions are turns late scoring within =
-    All-map (λ (judged : Judged). IfSome judged.loss (EnclosesLoss game.stakes scoring turns judged.decision)) (λ (decision : Decision). record { decision = decision; loss = Some (lost game.stakes u decision) }) decisions
+    All-map (λ (judged : Judged). IfSome judged.loss (EnclosesLoss game.stakes scoring turns judged.decision)) (λ (decision : Decision). record { decision = decision; loss = Some (lost game.stakes u decision); best = None }) decisions
     (λ i d below.
     let decision = get_or decisions i d in
     let is = are i d below in
@@ -127,3 +146,22 @@ analysis-tighter game right other stakes u v words (decision ∷ decisions) are 
       record { decision = refl; loss = loss-of-tighter game right other stakes u v words decision.position decision.kind is.state decision.choice is.choice },
       analysis-tighter game right other stakes u v words decisions (All-tail (IsDecisionOf game) decision decisions are),
     )
+
+-- ---- what was best aside
+
+-- what encloses the losses alone encloses them
+pub alone-encloses : (game : Game) (turns : ℕ) (list : List Judged) → EncloseLosses game turns (losses_alone list) → EncloseLosses game turns list
+alone-encloses game turns list all scoring within =
+    λ i d below.
+    let alone : Judged → Judged = λ judged. record { decision = judged.decision; loss = judged.loss; best = None } in
+    subst (λ (judged : Judged). IfSome judged.loss (EnclosesLoss game.stakes scoring turns judged.decision)) (get_or-map alone list i d (alone d) below) (all scoring within i (alone d) (omega (arith, length-map list alone, below)))
+
+pub alone-true : (game : Game) (list : List Judged) → IsTrueAnalysis game (losses_alone list) → IsTrueAnalysis game list
+alone-true game list (enough, all) = (enough, λ turns late. alone-encloses game turns list (all turns late))
+
+-- losses alone that are as tight are as tight
+pub alone-tight : (list others : List Judged) → IsNoLooserAnalysis (losses_alone list) others → IsNoLooserAnalysis list others
+alone-tight [] [] tight = tt
+alone-tight [] (other ∷ others) tight = absurd tight
+alone-tight (one ∷ list) [] tight = absurd tight
+alone-tight (one ∷ list) (other ∷ others) tight = (record { decision = tight.0.decision; loss = tight.0.loss }, alone-tight list others tight.1)

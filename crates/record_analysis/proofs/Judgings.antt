@@ -20,8 +20,10 @@ use Rattle.move_rules.specs.Listing.{Among}
 use Rattle.play_analyser.specs.Sought.{MayFollowChoice, of_loss}
 use Rattle.turn_rule.proofs.Tight.{tight-trans}
 use Rattle.play_analyser.proofs.Tighter.{loss-of-tighter}
+use Rattle.play_analyser.proofs.Weighing.{best-later}
+use Rattle.play_analyser.specs.declared.best.Best.{Best}
 use Rattle.record_analysis.specs.declared.analysis.Judged.{Judged}
-use Rattle.record_analysis.specs.Judging.{CanBeJudged, IsAt, Judges, JudgesAll, JudgesSome, MayFollowOne, of_decision}
+use Rattle.record_analysis.specs.Judging.{CanBeJudged, IsAt, IsBestAt, Judges, JudgesAll, JudgesSome, MayFollowOne, of_decision}
 
 -- the item at the front of what is left is the one at its place
 pub rest-at : (olds news : List Judged) (i : ℕ) (d : Judged) → i < length olds → i < length news → drop i news ≡ drop i olds → get_or olds i d ≡ get_or news i d
@@ -83,11 +85,16 @@ module _ (s : Source) (stakes : Terms) (valid : IsValid stakes) (fits : AreStake
     judges-later u v tighter old new can is = record {
       decision = is.decision;
       judged = λ here. later (can here) new.loss (is.judged here);
+      best = λ here. best-of (can here) new.best (is.best here);
       other = is.other;
     } where
       later : CanBeJudged s stakes old.decision → (loss : Option Bounds) → IsSomeAnd loss (IsPairFor (of_decision stakes old.decision) s u) → IsSomeAnd loss (IsPairFor (of_decision stakes old.decision) s v)
       later could None h = absurd h
       later could (Some pair) h = pair-later s (of_decision stakes old.decision) (loss-tightens old.decision.position old.decision.kind could.state old.decision.choice could.choice) u v tighter pair h
+
+      best-of : CanBeJudged s stakes old.decision → (best : Option Best) → IsSomeAnd best (IsBestAt stakes old.decision s u) → IsSomeAnd best (IsBestAt stakes old.decision s v)
+      best-of could None h = absurd h
+      best-of could (Some best) h = best-later s stakes valid fits old.decision.position old.decision.kind could.state u v tighter old.decision.choice could.choice best h
 
     all-later : (u v : Notes) → AreLater s u v → (olds news : List Judged) → All (λ (judged : Judged). IsAt score judged → CanBeJudged s stakes judged.decision) olds → JudgesAll score stakes s u olds news → JudgesAll score stakes s v olds news
     all-later u v tighter [] [] can are = tt

@@ -6,6 +6,8 @@ use Rattle.cube_actions.specs.Scores.{MatchScore}
 use Rattle.cube_actions.specs.Stakes.{Terms}
 use Rattle.game_record.specs.declared.decision.Decision.{Decision}
 use Rattle.turn_rule.specs.Looks.{Source, Damage, Notes, Sought, Meets, MeetsFirst, IsSourceState, IsPairFor}
+use Rattle.play_analyser.specs.declared.best.Best.{Best}
+use Rattle.play_analyser.specs.Bests.{IsBest}
 use Rattle.play_analyser.specs.Choices.{IsChoice}
 use Rattle.play_analyser.specs.Sought.{MayFollowChoice, MeetsOnChoice, of_loss}
 use Rattle.record_analysis.specs.declared.analysis.Judged.{Judged}
@@ -13,6 +15,10 @@ use Rattle.record_analysis.specs.declared.analysis.Judged.{Judged}
 -- what a decision loses, as it is sought from words
 abbrev pub of_decision : Terms → Decision → Sought
 of_decision stakes decision = of_loss stakes decision.position decision.kind decision.choice
+
+-- what was best at a decision, as it is sought from words
+abbrev pub IsBestAt : Terms → Decision → Source → Notes → Best → Type 0
+IsBestAt stakes decision = IsBest stakes decision.position decision.kind decision.choice
 
 -- a decision that some words can judge: it was made in one of their states, and could be made there
 pub record CanBeJudged (source : Source) (stakes : Terms) (decision : Decision) : Type 0 where
@@ -23,13 +29,14 @@ pub record CanBeJudged (source : Source) (stakes : Terms) (decision : Decision) 
 abbrev pub IsAt : Option MatchScore → Judged → Type 0
 IsAt score judged = judged.decision.score ≡ score
 
--- What judging makes of a decision: one at the score gets the pair of what it loses by some words; another stays as it was.
+-- What judging makes of a decision: one at the score gets the pair of what it loses, and what was best, by some words; another stays as it was.
 pub record Judges (score : Option MatchScore) (stakes : Terms) (source : Source) (noted : Notes)
     (old new : Judged) : Type 0 where
   pub decision : new.decision ≡ old.decision
   pub judged : IsAt score old
       → IsSomeAnd new.loss (IsPairFor (of_decision stakes old.decision) source noted)
-  pub other : (IsAt score old → ⊥) → new.loss ≡ old.loss
+  pub best : IsAt score old → IsSomeAnd new.best (IsBestAt stakes old.decision source noted)
+  pub other : (IsAt score old → ⊥) → new ≡ old
 
 -- each of some decisions was judged that is at the score
 abbrev pub JudgesAll : Option MatchScore → Terms → Source → Notes → List Judged → List Judged

@@ -1,18 +1,20 @@
 ghost use Rattle.std.specs.Prelude.{◌≡◌, ◌<◌, ◌≤◌, All, IfOk, IfSome, None, OnErr, Some, length, map, slice_get};
-ghost use Rattle.record_analysis.specs.Analyses.{IsSmallJudged, unjudged};
+ghost use Rattle.record_analysis.specs.Analyses.{BestCanBeMade, IsSmallJudged, unjudged};
 
 use directed_fixed::Pair;
 use game_record::{Choice, Decision, Decisions, Offer, Player};
 use hyper_outside::NoMemory;
+use play_analyser::Best;
 use position_rank::Position;
 use std::alloc::Global;
 use std::marker::Model;
 
-/// A decision, and the pair of what it loses, where that was judged.
+/// A decision, and where it was judged, the pair of what it loses and what was best.
 #[derive(Clone, Copy, Debug, PartialEq, Eq)]
 pub struct Judged {
     pub decision: Decision,
     pub loss: Option<Pair>,
+    pub best: Option<Best>,
 }
 
 impl Default for Judged {
@@ -31,12 +33,13 @@ impl Default for Judged {
                 choice: Choice::Offered(Offer::NoDouble),
             },
             loss: None,
+            best: None,
         }
     }
 }
 
-/// At most 131,072 decisions of a recorded game in their order, each with the pair of what it loses,
-/// where that was judged. Both ends of a pair lie from 0 to 24 points.
+/// At most 131,072 decisions of a recorded game in their order, each with the pair of what it loses
+/// and what was best, where it was judged. Both ends of a pair lie from 0 to 24 points.
 #[derive(Drop)]
 pub struct Analysis {
     pub(crate) list: Vec<Judged>,
@@ -60,9 +63,12 @@ fn all_unjudged(alloc: Global, decisions: &Decisions) -> Result<Vec<Judged>, NoM
     let mut list = Vec::new(alloc);
     for i in 0..decisions.len() {
         let decision = *decisions.at(i);
+        // A push of a decision with no such mention has no proof in this kit.
+        let score = decision.score;
         list.push(Judged {
-            decision,
+            decision: Decision { score, ..decision },
             loss: None,
+            best: None,
         })?;
     }
     Ok(list)
@@ -92,6 +98,7 @@ impl Analysis {
         ensures all { result.now ≡ self.now }
         ensures few { length self.now ≤ 131072 }
         ensures small { All IsSmallJudged self.now }
+        ensures made { All BestCanBeMade self.now }
     {
         &self.list
     }

@@ -1,7 +1,7 @@
 ghost use Rattle.std.specs.Prelude.{◌≡◌, ◌↔◌, All, IfOk, IsTrue, OnErr};
 ghost use Rattle.cube_actions.specs.Stakes.{IsValid};
 ghost use Rattle.turn_rule.specs.Looks.{AreStakesOf, LooksUp};
-ghost use Rattle.record_analysis.specs.Analyses.{IsSmallJudged};
+ghost use Rattle.record_analysis.specs.Analyses.{BestCanBeMade, IsSmallJudged};
 ghost use Rattle.record_analysis.specs.Judging.{
   CanBeJudged,
   IsAt,
@@ -16,7 +16,7 @@ use crate::analysis::{Analysis, Judged};
 use cube_actions::{Score, Stakes};
 use game_record::Decision;
 use hyper_outside::LookStop;
-use play_analyser::loss;
+use play_analyser::weigh;
 use turn_rule::Pairs;
 
 /// Whether a decision was made in a game with this score, which outside a match is none.
@@ -26,7 +26,7 @@ fn is_at(judged: &Judged, score: Option<Score>) -> bool
     judged.decision.score == score
 }
 
-/// A decision with what it loses, if it was made in a game with this score, and else as it was.
+/// A decision with what it loses and what was best, if it was made in a game with this score, and else as it was.
 fn judged_by<P: Pairs>(
     judged: &Judged,
     stakes: &Stakes,
@@ -38,11 +38,13 @@ fn judged_by<P: Pairs>(
     requires can { IsAt score judged.now
         → CanBeJudged (P.seen pairs.old).source stakes.now judged.now.decision }
     requires small { IsSmallJudged judged.now }
+    requires made { BestCanBeMade judged.now }
     ensures looked { LooksUp (P.seen pairs.old) (P.seen pairs.new)
         (MeetsOnDecision score stakes.now judged.now (P.seen pairs.old).source)
         (Judges score stakes.now (P.seen pairs.old).source (P.seen pairs.new).notes judged.now)
         result }
     ensures small { IfOk result IsSmallJudged }
+    ensures made { IfOk result BestCanBeMade }
     ensures source { (P.seen pairs.new).source ≡ (P.seen pairs.old).source }
     ensures stays { P.stays pairs.new ≡ P.stays pairs.old }
 {
@@ -51,14 +53,15 @@ fn judged_by<P: Pairs>(
     }
     let decision = judged.decision;
     let Decision { kind, choice, .. } = decision;
-    let pair = loss(stakes, &decision.position, kind, &choice, pairs)?;
+    let weighed = weigh(stakes, &decision.position, kind, &choice, pairs)?;
     Ok(Judged {
         decision,
-        loss: Some(pair),
+        loss: Some(weighed.loss),
+        best: Some(weighed.best),
     })
 }
 
-/// Sets what each decision loses that was made in a game with this score.
+/// Sets what each decision loses, and what was best, that was made in a game with this score.
 fn judge_list<P: Pairs>(
     list: &mut [Judged],
     stakes: &Stakes,
@@ -70,6 +73,7 @@ fn judge_list<P: Pairs>(
     requires can { All (λ judged. IsAt score judged
         → CanBeJudged (P.seen pairs.old).source stakes.now judged.decision) list.old }
     requires small { All IsSmallJudged list.old }
+    requires made { All BestCanBeMade list.old }
     ensures looked { LooksUp (P.seen pairs.old) (P.seen pairs.new)
         (MeetsOnDecisions score stakes.now list.old (P.seen pairs.old).source)
         (λ _. JudgesAll score stakes.now (P.seen pairs.old).source (P.seen pairs.new).notes
@@ -77,6 +81,7 @@ fn judge_list<P: Pairs>(
     ensures stopped { OnErr result (JudgesSome score stakes.now
         (P.seen pairs.old).source (P.seen pairs.new).notes list.old list.new) }
     ensures small { All IsSmallJudged list.new }
+    ensures made { All BestCanBeMade list.new }
     ensures source { (P.seen pairs.new).source ≡ (P.seen pairs.old).source }
     ensures stays { P.stays pairs.new ≡ P.stays pairs.old }
 {
@@ -87,9 +92,9 @@ fn judge_list<P: Pairs>(
 }
 
 impl Analysis {
-    /// Sets what each decision loses that was made in a game with this score, by the words of a game
-    /// with these stakes; outside a match there is no score. The decisions stay, and so does what
-    /// others lose. After a stop those before the one at which it stopped are set, and all else is as
+    /// Sets what each decision loses that was made in a game with this score, and what was best, by
+    /// the words of a game with these stakes; outside a match there is no score. The decisions stay,
+    /// and so do the others. After a stop those before the one at which it stopped are set, and all else is as
     /// it was.
     ///
     /// It stops where a look-up does: `ReadFault` where a call of the outside failed, `BadPage` where

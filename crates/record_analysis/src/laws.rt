@@ -16,7 +16,7 @@ ghost use Rattle.turn_rule.specs.Looks.{AreStakesOf, LooksUp, Notes, Seen, Sourc
 ghost use Rattle.turn_rule.specs.States.{AreNoLooser};
 ghost use Rattle.turn_rule.specs.Truth.{AreNoLooserStakes, AreSound, AreSoundFrom};
 ghost use Rattle.turn_rule.specs.Turn.{Words};
-ghost use Rattle.record_analysis.specs.Analyses.{analysis_of, unjudged};
+ghost use Rattle.record_analysis.specs.Analyses.{IsBestFor, analysis_of, losses_alone, unjudged};
 ghost use Rattle.record_analysis.specs.Judging.{CanBeJudged, JudgesAll, MayFollowSome, MeetsOnDecisions};
 ghost use Rattle.record_analysis.specs.Totals.{IsNoLooserTotal, losses_by, total_of};
 ghost use Rattle.record_analysis.specs.Truth.{
@@ -27,7 +27,7 @@ ghost use Rattle.record_analysis.specs.Truth.{
 };
 ghost use Rattle.record_analysis.specs.declared.analysis.Judged.{Judged};
 
-use play_analyser::one_list_gives_the_loss;
+use play_analyser::{one_list_gives_the_best, one_list_gives_the_loss};
 
 /// The decisions of a record can be judged by words of its checkers and its stakes.
 pub fn right_decisions_can_be_judged()
@@ -39,7 +39,7 @@ pub fn right_decisions_can_be_judged()
 {}
 
 /// Where a source's floor and its notes are the same words on the states that may follow, judging all
-/// decisions of a game outside a match gives their analysis over these words.
+/// decisions of a game outside a match gives their losses over these words, and what was best over them.
 pub fn one_list_gives_the_analysis()
     ensures { (source : Source) (noted : Notes) (stakes : Terms) (decisions : List Decision)
         (list : List Judged) → IsTrue noted.told
@@ -48,9 +48,11 @@ pub fn one_list_gives_the_analysis()
         → ((end : End) → AgreeOn (MayFollowSome None stakes (map unjudged decisions)) end
         source.floor noted.words)
         → JudgesAll None stakes source noted (map unjudged decisions) list
-        → list ≡ analysis_of stakes noted.words decisions }
+        → (losses_alone list ≡ analysis_of stakes noted.words decisions)
+        × All (IsBestFor stakes noted.words) list }
 {
     one_list_gives_the_loss();
+    one_list_gives_the_best();
 }
 
 /// Over a sure source judging is answered.

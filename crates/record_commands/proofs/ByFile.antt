@@ -18,10 +18,11 @@ use Rattle.turn_rule.specs.Games.{IsGame}
 use Rattle.turn_rule.specs.Looks.{AreStakesOf, Damage, IsPairFor, Notes, Source}
 use Rattle.turn_rule.specs.Turn.{Words}
 use Rattle.play_analyser.specs.Regrets.{loss_of}
+use Rattle.play_analyser.specs.declared.best.Best.{Best}
 use Rattle.play_analyser.specs.Sought.{MayFollowChoice}
 use Rattle.play_analyser.proofs.MetFirst.{met-on_choice}
 use Rattle.record_analysis.specs.Analyses.{lost, unjudged}
-use Rattle.record_analysis.specs.Judging.{IsAt, Judges, JudgesAll, JudgesSome, MeetsOnDecision, MeetsOnDecisions, of_decision}
+use Rattle.record_analysis.specs.Judging.{IsAt, IsBestAt, Judges, JudgesAll, JudgesSome, MeetsOnDecision, MeetsOnDecisions, of_decision}
 use Rattle.record_analysis.specs.Truth.{IsDecisionOf}
 use Rattle.record_analysis.specs.declared.analysis.Judged.{Judged}
 use Rattle.record_study.specs.Keeping.{decisions_in}
@@ -114,9 +115,10 @@ module _ (law : LossLaw) (wanted : GameName) (bytes : List ℕ) (opened : IsOpen
   abbrev head : FileHead
   head = front_head bytes
 
-  by-loss : (decision : Decision) → IsDecisionOf (game_in head) decision → (loss : Option Bounds) → IsSomeAnd loss (IsPairFor (of_decision (stakes_of head) decision) (source_in bytes) (noted_in bytes)) → JudgesOne wanted bytes (record { decision = decision; loss = loss })
-  by-loss decision of None h = absurd h
-  by-loss decision of (Some pair) h = record { file = opened.file; pages = pages; over = λ u have. ap (λ (b : Bounds). Some b) (over u have) } where
+  by-loss : (decision : Decision) → IsDecisionOf (game_in head) decision → (loss : Option Bounds) → IsSomeAnd loss (IsPairFor (of_decision (stakes_of head) decision) (source_in bytes) (noted_in bytes)) → (best : Option Best) → IsSomeAnd best (IsBestAt (stakes_of head) decision (source_in bytes) (noted_in bytes))
+      → JudgesOne wanted bytes (record { decision = decision; loss = loss; best = best })
+  by-loss decision of None h best told = absurd h
+  by-loss decision of (Some pair) h best told_best = record { file = opened.file; pages = pages; over = λ u have. ap (λ (b : Bounds). Some b) (over u have); best = told_best } where
     pages : (q : Placement) (j : ℕ) → MayFollowIn bytes decision q j → flaw_at (header_of_file bytes) (Some bytes) q ≡ None
     pages q j may = flawless (flaw_at (header_of_file bytes) (Some bytes) q) (h.right refl q j may)
 
@@ -131,11 +133,11 @@ module _ (law : LossLaw) (wanted : GameName) (bytes : List ℕ) (opened : IsOpen
 
   one-judged : (score : Option MatchScore) (old new : Judged) → Judges score (stakes_of head) (source_in bytes) (noted_in bytes) old new → (IsAt score old → IsDecisionOf (game_in head) old.decision) → JudgesAt wanted score bytes old new
   one-judged score old new is can =
-      let same : new ≡ record { decision = old.decision; loss = new.loss } = λ i. record { decision = is.decision i; loss = new.loss } in
+      let same : new ≡ record { decision = old.decision; loss = new.loss; best = new.best } = λ i. record { decision = is.decision i; loss = new.loss; best = new.best } in
       record {
         decision = is.decision;
-        judged = λ here. subst (JudgesOne wanted bytes) (sym same) (by-loss old.decision (can here) new.loss (is.judged here));
-        other = λ apart. (let loss = is.other apart in λ i. record { decision = is.decision i; loss = loss i });
+        judged = λ here. subst (JudgesOne wanted bytes) (sym same) (by-loss old.decision (can here) new.loss (is.judged here) new.best (is.best here));
+        other = is.other;
       }
 
 module _ (s : Source) (damage : Damage) (score : Option MatchScore) (stakes : Terms) where

@@ -1,5 +1,5 @@
 -- What a decision loses, over words that agree on the states that may follow.
-use Rattle.std.proofs.Common.{◌≡◌, ◌∙◌, ◌≤ℤ◌, ◌*ℤ◌, ℕ, ℤ, pos, neg_ℤ, false, IsTrue, None, inl, inr, refl, sym, arith}
+use Rattle.std.proofs.Common.{◌≡◌, ◌∙◌, ◌≤ℤ◌, ◌*ℤ◌, ℕ, ℤ, pos, neg_ℤ, false, IsTrue, None, inl, refl, sym, arith}
 use Rattle.std.specs.Int.{int_max, int_min}
 use Rattle.std.proofs.lemmas.Int.{ints, clamps}
 use Rattle.position_rank.specs.Placement.{Placement}
@@ -103,4 +103,4 @@ module _ (game : Game) (right : IsGame game) (p : Placement) (k : ℕ) (state : 
     by_choice : (c : Choice) → IsChoice game.stakes p k c → (q : Placement) (j : ℕ) → MayFollowChoice game.stakes p k c q j → IsState game q j
     by_choice (Played roll end) is q j may = follow-turn-state game right.stakes p k state q j (inl (record { roll = roll; right = is.0; end = may.end; legal = may.legal; left = may.left }))
     by_choice (Offered offer) is q j may = follow-turn-state game right.stakes p k state q j may
-    by_choice (Answered answer) is q j may = follow-turn-state game right.stakes p k state q j (inr may)
+    by_choice (Answered answer) is q j may = follow-turn-state game right.stakes p k state q j may

@@ -20,11 +20,12 @@ use Rattle.turn_rule.specs.Games.{IsGame, kinds_of}
 use Rattle.turn_rule.specs.Looks.{Source}
 use Rattle.turn_rule.specs.Truth.{AreSound}
 use Rattle.turn_rule.specs.Turn.{Words, bound_words}
-use Rattle.record_analysis.specs.Analyses.{analysis_of, lost}
+use Rattle.record_analysis.specs.Analyses.{analysis_of, losses_alone, lost}
 use Rattle.record_analysis.specs.Judging.{IsAt}
 use Rattle.record_analysis.specs.Truth.{IsDecisionOf, IsTrueAnalysis}
 use Rattle.record_analysis.specs.declared.analysis.Judged.{Judged}
 use Rattle.record_study.specs.Keeping.{decisions_in}
+use Rattle.record_analysis.proofs.Analysed.{alone-true}
 use Rattle.record_study.proofs.AtScore.{zipped-all}
 use Rattle.record_study.proofs.Records.{Law, plain-scores}
 use Rattle.base_head.specs.Heads.{stakes_named, stakes_of}
@@ -55,13 +56,13 @@ pub rights-kept : (rec : Record) (decisions : List Decision) → All (IsRightDec
 rights-kept rec decisions right olds same (Ok list) kept = each-decision (IsRightDecision rec) list (subst (All (IsRightDecision rec)) (sym (kept ∙ same)) right)
 rights-kept rec decisions right olds same (Err refusal) kept = tt
 
--- what decisions lose over words is their analysis
-analysed : (stakes : Terms) (u : Words) (list : List Judged) → All (λ (one : Judged). one.loss ≡ Some (lost stakes u one.decision)) list → list ≡ analysis_of stakes u (decisions_in list)
+-- what decisions lose over words are the losses of their analysis
+analysed : (stakes : Terms) (u : Words) (list : List Judged) → All (λ (one : Judged). one.loss ≡ Some (lost stakes u one.decision)) list → losses_alone list ≡ analysis_of stakes u (decisions_in list)
 analysed stakes u [] all = refl
 analysed stakes u (one ∷ list) all =
     let loss = All-head (λ (one : Judged). one.loss ≡ Some (lost stakes u one.decision)) one list all in
-    ap (λ (l : Option Bounds). record { decision = one.decision; loss = l } ∷ list) loss
-    ∙ ap (λ (rest : List Judged). record { decision = one.decision; loss = Some (lost stakes u one.decision) } ∷ rest) (analysed stakes u list (All-tail (λ (one : Judged). one.loss ≡ Some (lost stakes u one.decision)) one list all))
+    ap (λ (l : Option Bounds). record { decision = one.decision; loss = l; best = None } ∷ losses_alone list) loss
+    ∙ ap (λ (rest : List Judged). record { decision = one.decision; loss = Some (lost stakes u one.decision); best = None } ∷ rest) (analysed stakes u list (All-tail (λ (one : Judged). one.loss ≡ Some (lost stakes u one.decision)) one list all))
 
 -- ---- decisions of a record outside a match
 
@@ -102,8 +103,8 @@ module _ (law : Law) (rec : Record) (plain : is_match_record rec.stakes ≡ fals
           decisions_are = same;
           judged = judged;
           true = λ u have sound.
-              subst (IsTrueAnalysis (game_in head)) (sym (analysed (stakes_of head) u news (λ i d below. (judged i d below).over u have)))
-              (truth (game_in head) judges.file.valid u sound (decisions_in news) (subst (All (IsDecisionOf (game_in head))) (sym same) own));
+              alone-true (game_in head) news (subst (IsTrueAnalysis (game_in head)) (sym (analysed (stakes_of head) u news (λ i d below. (judged i d below).over u have)))
+              (truth (game_in head) judges.file.valid u sound (decisions_in news) (subst (All (IsDecisionOf (game_in head))) (sym same) own)));
         }
 
 -- ---- all of a record

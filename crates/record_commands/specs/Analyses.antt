@@ -53,7 +53,7 @@ pub record HasAnalysed (task : Analyse) (told : Bool) (held : Contents)
     (IsReport : List ℕ → Type 0) : Type 0 where
   pub list : List Judged
   pub analysed : IsAnalysed task told held list
-  pub report : IsReport (report_shown task.shown analysed.replayed.rec.stakes list)
+  pub report : IsReport (report_shown task.shown task.board analysed.replayed.rec.stakes list)
 
 -- ---- why nothing is told of it
 

@@ -1,5 +1,5 @@
 -- What decisions of one game lose, by a file of bounds.
-use Rattle.std.specs.Prelude.{◌≡◌, ◌≢◌, ◌⊎◌, ℕ, List, map, Contains, Option, Some, None, Result, Ok, Err}
+use Rattle.std.specs.Prelude.{◌≡◌, ◌≢◌, ◌⊎◌, ℕ, List, map, Contains, Option, Some, None, IsSomeAnd, Result, Ok, Err}
 use Rattle.std.specs.List.{AllZip}
 use Rattle.hyper_outside.specs.declared.outside.LookStop.{LookStop}
 use Rattle.cube_actions.specs.Scores.{MatchScore}
@@ -9,7 +9,7 @@ use Rattle.turn_rule.specs.Looks.{States}
 use Rattle.turn_rule.specs.Turn.{Words}
 use Rattle.play_analyser.specs.Sought.{MayFollowChoice}
 use Rattle.record_analysis.specs.Analyses.{lost, unjudged}
-use Rattle.record_analysis.specs.Judging.{IsAt, JudgesAll, MeetsOnDecisions}
+use Rattle.record_analysis.specs.Judging.{IsAt, IsBestAt, JudgesAll, MeetsOnDecisions}
 use Rattle.record_analysis.specs.Truth.{IsDecisionOf}
 use Rattle.record_analysis.specs.declared.analysis.Judged.{Judged}
 use Rattle.record_study.specs.Keeping.{decisions_in}
@@ -64,13 +64,19 @@ abbrev pub MayFollowIn : List ℕ → Decision → States
 MayFollowIn bytes decision =
     MayFollowChoice (stakes_of (front_head bytes)) decision.position decision.kind decision.choice
 
--- A file judges a decision: it is of the game that is wanted, the pages on which the loss rests are right, and this is the loss over any words that
--- have the pairs of the file's right pages.
+-- A file judges a decision: it is of the game that is wanted, the pages on which the loss rests are right, this is the loss over any words that
+-- have the pairs of the file's right pages, and what was best is so by what is looked up in the file: the first of the ranking, or the advice,
+-- that is made of it.
 pub record JudgesOne (wanted : GameName) (bytes : List ℕ) (one : Judged) : Type 0 where
   pub file : IsFileOf wanted bytes
   pub pages : AreOnRightPages bytes (MayFollowIn bytes one.decision)
   pub over : (u : Words) → HavePairsOf bytes u
       → one.loss ≡ Some (lost (stakes_of (front_head bytes)) u one.decision)
+  pub best :
+      IsSomeAnd one.best
+      (IsBestAt (stakes_of (front_head bytes)) one.decision
+      (paged_source (header_of_file bytes) (Some bytes))
+      (told_notes (header_of_file bytes) (Some bytes)))
 
 -- a file of the game that is wanted, and this is wrong with the page of a state on which it rests what a decision loses
 pub record IsBadPageFor (wanted : GameName) (decision : Decision) (refusal : Refusal)

@@ -101,11 +101,11 @@ RefusesRecord name _ _ = ⊥
 
 -- ---- what is told of its decisions
 
--- the report that shows these decisions of a record, and each player's total of all
-abbrev pub report_shown : Shown → RecordStakes → List Judged → List ℕ
-report_shown Losses stakes list = analysis_text list
-report_shown Full stakes list = full_text stakes list
-report_shown (Worst most) stakes list = worst_text most stakes list
+-- the report that shows these decisions of a record, those with positions with boards where they are asked for, and each player's total of all
+abbrev pub report_shown : Shown → (board : Bool) → RecordStakes → List Judged → List ℕ
+report_shown Losses board stakes list = analysis_text list
+report_shown Full board stakes list = full_text board stakes list
+report_shown (Worst most) board stakes list = worst_text most board stakes list
 
 -- ---- what reading a record may answer
 

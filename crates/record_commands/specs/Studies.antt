@@ -37,7 +37,7 @@ pub record HasStudied (task : Study) (told : Bool) (held : Option (List ℕ))
     (IsReport : List ℕ → Type 0) : Type 0 where
   pub list : List Judged
   pub studied : IsStudied task told held list
-  pub report : IsReport (report_shown task.shown studied.replayed.rec.stakes list)
+  pub report : IsReport (report_shown task.shown task.board studied.replayed.rec.stakes list)
 
 -- the record breaks no rule, and there was no memory to study it
 pub record LacksMemory (refusal : Refusal) (held : Option (List ℕ)) : Type 0 where

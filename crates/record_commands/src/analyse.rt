@@ -111,7 +111,7 @@ pub fn run_analyse<F: Files, O: Sink>(
         Ok(analysis) => analysis,
         Err(refusal) => return Err(RunStop::Refused(refusal)),
     };
-    match write_shown(out, task.shown, &rec, &analysis) {
+    match write_shown(out, task.shown, task.board, &rec, &analysis) {
         Ok(()) => Ok(()),
         Err(Failed) => Err(RunStop::NotWritten),
     }

@@ -16,6 +16,7 @@ use record_reports::{write_analysis, write_full, write_worst};
 pub(crate) fn write_shown<O: Sink>(
     out: &mut O,
     shown: Shown,
+    board: bool,
     rec: &Record,
     analysis: &Analysis,
 ) -> Result<(), Failed>
@@ -23,11 +24,11 @@ pub(crate) fn write_shown<O: Sink>(
     requires points { AreRecordStakes rec.now.stakes }
     requires right { All (λ one. IsRightDecision rec.now one.decision) analysis.now }
     ensures { Puts (O.output out.old) (O.output out.new)
-        (report_shown shown rec.now.stakes analysis.now) result }
+        (report_shown shown board rec.now.stakes analysis.now) result }
 {
     match shown {
         Shown::Losses => write_analysis(out, analysis),
-        Shown::Full => write_full(out, rec, analysis),
-        Shown::Worst(most) => write_worst(out, most as usize, rec, analysis),
+        Shown::Full => write_full(out, board, rec, analysis),
+        Shown::Worst(most) => write_worst(out, most as usize, board, rec, analysis),
     }
 }

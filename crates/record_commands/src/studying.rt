@@ -81,7 +81,7 @@ pub fn run_study<R: Threads + Sync, F: Files, O: Sink, G: Gate + Sync>(
     let Ok(analysis) = study_replayed(team, alloc, task, &rec, decisions, gate) else {
         return Err(RunStop::Refused(Refusal::Memory));
     };
-    match write_shown(out, task.shown, &rec, &analysis) {
+    match write_shown(out, task.shown, task.board, &rec, &analysis) {
         Ok(()) => Ok(()),
         Err(Failed) => Err(RunStop::NotWritten),
     }

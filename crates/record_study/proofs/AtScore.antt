@@ -1,5 +1,5 @@
 -- Decisions of a match that are judged at one score.
-use Rattle.std.proofs.Common.{◌≡◌, ◌∙◌, List, [], ◌∷◌, map, All, IsTrue, IsOk, IsSomeAnd, Option, Result, Some, None, ap, subst, refl, arith}
+use Rattle.std.proofs.Common.{◌≡◌, ◌∙◌, List, [], ◌∷◌, map, All, IsTrue, IsOk, IsSomeAnd, Option, Result, Some, None, ap, subst, sym, refl, arith}
 use Rattle.std.specs.List.{AllZip}
 use Rattle.std.proofs.lemmas.List.Elements.{All-cons, All-head, All-tail}
 use Rattle.directed_fixed.specs.Bounds.{Bounds}
@@ -12,10 +12,12 @@ use Rattle.turn_rule.specs.Looks.{IsPairFor, LooksUp, Notes, Seen, Source, all_t
 use Rattle.turn_rule.specs.Turn.{Words}
 use Rattle.hyper_outside.specs.declared.outside.LookStop.{LookStop}
 use Rattle.interval_words.specs.WordLists.{WordList, source_of, words_in_list}
-use Rattle.record_analysis.specs.Analyses.{lost}
-use Rattle.record_analysis.specs.Judging.{CanBeJudged, IsAt, Judges, JudgesAll, MayFollowOne, MayFollowSome, MeetsOnDecisions, of_decision}
+use Rattle.record_analysis.specs.Analyses.{IsBestFor, lost}
+use Rattle.record_analysis.specs.Judging.{CanBeJudged, IsAt, IsBestAt, Judges, JudgesAll, MayFollowOne, MeetsOnDecisions, of_decision}
 use Rattle.record_analysis.specs.declared.analysis.Judged.{Judged}
-use Rattle.record_analysis.proofs.Analysed.{OneListGives}
+use Rattle.play_analyser.specs.declared.best.Best.{Best}
+use Rattle.play_analyser.specs.Bests.{IsBestOver}
+use Rattle.record_analysis.proofs.Analysed.{OneListBest, OneListGives}
 use Rattle.record_study.proofs.Records.{answered}
 
 -- at a score, a decision has what it loses over these words, where a source's floor and its notes are the same on the states that may follow
@@ -27,6 +29,17 @@ judged-at one_list source u stakes told score old new here can same is = by_loss
   by_loss (Some pair) h =
       ap (λ (b : Bounds). Some b)
       (one_list source u stakes old.decision.position old.decision.kind old.decision.choice pair told can.choice (λ end q j may. same end q j (record { at = here; follows = may })) h)
+
+-- and what was best is so over these words
+pub best-at : OneListBest → (source : Source) (u : Notes) (stakes : Terms) → IsTrue u.told → (score : Option MatchScore) (old new : Judged) → IsAt score old
+    → ((end : End) → AgreeOn (MayFollowOne score stakes old) end source.floor u.words) → Judges score stakes source u old new → IsBestFor stakes u.words new
+best-at one_best source u stakes told score old new here same is = by_decision new.decision (sym is.decision) (by_best new.best (is.best here)) where
+  by_best : (best : Option Best) → IsSomeAnd best (IsBestAt stakes old.decision source u) → IsSomeAnd best (IsBestOver stakes u.words old.decision.position old.decision.kind old.decision.choice)
+  by_best None h = absurd h
+  by_best (Some best) h = one_best source u stakes old.decision.position old.decision.kind old.decision.choice best told (λ end q j may. same end q j (record { at = here; follows = may })) h
+
+  by_decision : (d : Decision) → old.decision ≡ d → IsSomeAnd new.best (IsBestOver stakes u.words old.decision.position old.decision.kind old.decision.choice) → IsSomeAnd new.best (IsBestOver stakes u.words d.position d.kind d.choice)
+  by_decision d is h = subst (λ (x : Decision). IsSomeAnd new.best (IsBestOver stakes u.words x.position x.kind x.choice)) is h
 
 -- the law on sure sources
 abbrev pub SureLaw : Type 0

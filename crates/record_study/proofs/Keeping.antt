@@ -16,13 +16,13 @@ use Rattle.match_scores.specs.Ladders.{score_at, with_pair, game_at_score, AreWo
 use Rattle.match_scores.specs.Openings.{start_over}
 use Rattle.match_scores.proofs.Places.{apart-later}
 use Rattle.match_scores.proofs.WholeLadder.{and_then, and_then-before, and_then-last, solved-next}
-use Rattle.record_analysis.specs.Analyses.{lost}
+use Rattle.record_analysis.specs.Analyses.{IsBestFor, lost}
 use Rattle.record_analysis.specs.Judging.{CanBeJudged, IsAt, Judges, JudgesAll}
 use Rattle.record_analysis.specs.Truth.{IsDecisionOf}
 use Rattle.record_analysis.specs.declared.analysis.Judged.{Judged}
-use Rattle.record_analysis.proofs.Analysed.{OneListGives}
-use Rattle.record_study.specs.Keeping.{IsDecisionInMatch, IsJudgedBy, IsJudgedSoFar, IsKeptAt, JudgedMatch}
-use Rattle.record_study.proofs.AtScore.{judged-at, zipped-all}
+use Rattle.record_analysis.proofs.Analysed.{OneListBest, OneListGives}
+use Rattle.record_study.specs.Keeping.{IsBestByScore, IsDecisionInMatch, IsJudgedBy, IsJudgedSoFar, IsKeptAt, JudgedMatch}
+use Rattle.record_study.proofs.AtScore.{best-at, judged-at, zipped-all}
 
 -- a decision at a score is of the game of that score's words
 pub of-game : (checkers match_length : ℕ) (score : MatchScore) (starts : StartPairs) (words : WordList) → words.game ≡ game_at_score checkers score starts → IsGame words.game → (decision : Decision) → IsDecisionInMatch checkers match_length decision → decision.score ≡ Some score → IsDecisionOf words.game decision
@@ -48,7 +48,7 @@ module _ (judged : JudgedMatch) (score : MatchScore) (starts : StartPairs) (word
   pub all-can : All (λ (one : Judged). IsAt (Some score) one → CanBeJudged (source_of words) words.game.stakes one.decision) judged.list
   all-can = λ i d below here. can-judge words (get_or judged.list i d).decision (at-score (get_or judged.list i d).decision (in-match i d below) here)
 
-  module _ (one_list : OneListGives) (order : AllPairs ScoreComesBefore (ladder starts.match_length)) where
+  module _ (one_list : OneListGives) (one_best : OneListBest) (order : AllPairs ScoreComesBefore (ladder starts.match_length)) where
     abbrev count : ℕ
     count = length starts.pairs
 
@@ -65,7 +65,7 @@ module _ (judged : JudgedMatch) (score : MatchScore) (starts : StartPairs) (word
     Before old = IsDecisionInMatch judged.checkers starts.match_length old.decision × IsJudgedBy starts so_far.words old
 
     step : (old new : Judged) → Judges (Some score) words.game.stakes (source_of words) (all_told (words_in_list words)) old new → Before old → IsJudgedBy further all_words new
-    step old new is held = record { kept = kept; other = other } where
+    step old new is held = record { kept = kept; best = best; other = other } where
       -- at the score it has what it loses by these words
       here-loss : old.decision.score ≡ Some score → new.loss ≡ Some (lost words.game.stakes (words_in_list words) old.decision)
       here-loss here = judged-at one_list (source_of words) (all_told (words_in_list words)) words.game.stakes refl (Some score) old new here (can-judge words old.decision (at-score old.decision held.0 here)) (λ end q j may. refl) is
@@ -79,7 +79,7 @@ module _ (judged : JudgedMatch) (score : MatchScore) (starts : StartPairs) (word
 
       kept-old : (place : ℕ) → place < suc count → old.decision.score ≡ Some (score_at starts.match_length place) → new.loss ≡ Some (lost (all_words place).game.stakes (words_in_list (all_words place)) old.decision)
       kept-old place below there = elim (cases_lt place count) [
-        | inl earlier ↦ rw (and_then-before so_far.words count words place earlier) (is.other (apart place earlier there) ∙ held.1.kept place (record { kept = earlier; score = there }))
+        | inl earlier ↦ rw (and_then-before so_far.words count words place earlier) (ap (λ (j : Judged). j.loss) (is.other (apart place earlier there)) ∙ held.1.kept place (record { kept = earlier; score = there }))
         | inr last ↦ (let at : place ≡ count = omega (arith, below, last) in
             rw (at, and_then-last so_far.words count words) (here-loss (there ∙ ap (λ (n : ℕ). Some (score_at starts.match_length n)) at ∙ ap (λ (s : MatchScore). Some s) (sym next))))
       ]
@@ -89,12 +89,25 @@ module _ (judged : JudgedMatch) (score : MatchScore) (starts : StartPairs) (word
           kept-old place (let below = at.kept in omega (arith, below, many)) (ap (λ (d : Decision). d.score) (sym is.decision) ∙ at.score)
           ∙ ap (λ (d : Decision). Some (lost (all_words place).game.stakes (words_in_list (all_words place)) d)) (sym is.decision)
 
+      best-old : (place : ℕ) → place < suc count → old.decision.score ≡ Some (score_at starts.match_length place) → IsBestFor (all_words place).game.stakes (words_in_list (all_words place)) new
+      best-old place below there = elim (cases_lt place count) [
+        | inl earlier ↦ rw (and_then-before so_far.words count words place earlier)
+            (subst (IsBestFor (so_far.words place).game.stakes (words_in_list (so_far.words place))) (sym (is.other (apart place earlier there))) (held.1.best place (record { kept = earlier; score = there })))
+        | inr last ↦ (let at : place ≡ count = omega (arith, below, last) in
+            rw (at, and_then-last so_far.words count words)
+            (best-at one_best (source_of words) (all_told (words_in_list words)) words.game.stakes refl (Some score) old new
+            (there ∙ ap (λ (n : ℕ). Some (score_at starts.match_length n)) at ∙ ap (λ (s : MatchScore). Some s) (sym next)) (λ end q j may. refl) is))
+      ]
+
+      best : IsBestByScore further all_words new
+      best place at = best-old place (let below = at.kept in omega (arith, below, many)) (ap (λ (d : Decision). d.score) (sym is.decision) ∙ at.score)
+
       to-further : (place : ℕ) → place < suc count → old.decision.score ≡ Some (score_at starts.match_length place) → IsKeptAt further new.decision place
       to-further place below there = record { kept = omega (arith, below, many); score = ap (λ (d : Decision). d.score) is.decision ∙ there }
 
       other : ((place : ℕ) → IsKeptAt further new.decision place → ⊥) → new.loss ≡ None
       other none =
-          is.other (λ here. none count (to-further count (omega arith) (here ∙ ap (λ (s : MatchScore). Some s) next)))
+          ap (λ (j : Judged). j.loss) (is.other (λ here. none count (to-further count (omega arith) (here ∙ ap (λ (s : MatchScore). Some s) next))))
           ∙ held.1.other (λ place at. none place (to-further place (let below = at.kept in omega (arith, below)) at.score))
 
     -- after the decisions at the next score were judged by its words, all are judged so far with its start pair
@@ -131,5 +144,5 @@ none-judged checkers r match_length starts none list right fresh =
       decisions = right;
       words = λ place. list_of (game_at_score checkers last_game (no_pairs match_length)) r [];
       solved = λ place less. absurd (omega arith);
-      losses = λ i d below. record { kept = λ place at. (let none = at.kept in absurd (omega (arith, none))); other = λ none. fresh i d below };
+      losses = λ i d below. record { kept = λ place at. (let none = at.kept in absurd (omega (arith, none))); best = λ place at. (let none = at.kept in absurd (omega (arith, none))); other = λ none. fresh i d below };
     })

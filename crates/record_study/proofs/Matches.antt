@@ -200,7 +200,11 @@ module _ (payoffs : PayoffsLieWithin) (checkers r : ℕ) (starts : StartPairs) (
   )
 
   pub all-studied : (list : List Judged) → All (λ (one : Judged). IsDecisionInMatch checkers match_length one.decision) list → All (IsJudgedBy starts words) list → AreStudiedInMatch checkers match_length r (decisions_in list) list
-  all-studied list right judged = record { true = all-true list right judged; tight = all-tight list right judged }
+  all-studied list right judged = record {
+    true = all-true list right judged;
+    tight = all-tight list right judged;
+    best = record { starts = starts; of_length = refl; whole = whole; words = words; solved = is_ladder.solved; best = λ i d below. (judged i d below).best };
+  }
 
 -- ---- what was kept
 

@@ -7,7 +7,7 @@ use Rattle.game_record.specs.declared.decision.Decision.{Decision}
 use Rattle.turn_rule.specs.Games.{IsGame}
 use Rattle.interval_words.specs.WordLists.{WordList, words_in_list}
 use Rattle.match_scores.specs.Ladders.{IsSolved, game_at_score, score_at}
-use Rattle.record_analysis.specs.Analyses.{lost}
+use Rattle.record_analysis.specs.Analyses.{IsBestFor, lost}
 use Rattle.record_analysis.specs.Truth.{IsDecisionOf}
 use Rattle.record_analysis.specs.declared.analysis.Judged.{Judged}
 
@@ -33,12 +33,19 @@ pub record IsKeptAt (starts : StartPairs) (decision : Decision) (place : ℕ) : 
   pub kept : place < length starts.pairs
   pub score : decision.score ≡ Some (score_at starts.match_length place)
 
--- a decision whose score was kept has what it loses by the words of that score, and no other was judged
+-- what was best at a decision whose score was kept is so over the words of that score
+abbrev pub IsBestByScore : StartPairs → (ℕ → WordList) → Judged → Type 0
+IsBestByScore starts words judged =
+    (place : ℕ) → IsKeptAt starts judged.decision place
+    → IsBestFor (words place).game.stakes (words_in_list (words place)) judged
+
+-- a decision whose score was kept has what it loses, and what was best, by the words of that score, and no other was judged
 pub record IsJudgedBy (starts : StartPairs) (words : ℕ → WordList) (judged : Judged) : Type 0 where
   pub kept :
       (place : ℕ) → IsKeptAt starts judged.decision place
       → judged.loss ≡ Some (lost (words place).game.stakes (words_in_list (words place))
       judged.decision)
+  pub best : IsBestByScore starts words judged
   pub other : ((place : ℕ) → IsKeptAt starts judged.decision place → ⊥) → judged.loss ≡ None
 
 -- All decisions are of the match. Each start pair that is held is that of words of its score, and by these the decisions at the scores so far were

@@ -1,5 +1,5 @@
 -- Studying a recorded game: the game that it is played for is solved, and by that its decisions are judged.
-use Rattle.std.specs.Prelude.{ℕ, List}
+use Rattle.std.specs.Prelude.{ℕ, List, All}
 use Rattle.cube_actions.specs.Money.{jacoby, jacoby_beavers, money, money_beavers}
 use Rattle.cube_actions.specs.Stakes.{Terms, cubeless}
 use Rattle.game_record.specs.declared.decision.Decision.{Decision}
@@ -8,8 +8,9 @@ use Rattle.game_record.specs.declared.record.RecordStakes.{RecordStakes}
 use Rattle.game_record.specs.declared.record.RecordStakes.TheVariants.{Cubeless, Money, Jacoby, MoneyBeavers, JacobyBeavers, Match}
 use Rattle.turn_rule.specs.declared.game.Game.{Game}
 use Rattle.turn_rule.specs.Games.{game_of}
-use Rattle.turn_rule.specs.Turn.{rounds}
-use Rattle.record_analysis.specs.Analyses.{analysis_of}
+use Rattle.turn_rule.specs.Truth.{AreSound}
+use Rattle.turn_rule.specs.Turn.{Words, rounds}
+use Rattle.record_analysis.specs.Analyses.{IsBestFor, analysis_of}
 use Rattle.record_analysis.specs.Truth.{IsNoLooserAnalysis, IsTrueAnalysis}
 use Rattle.record_analysis.specs.declared.analysis.Judged.{Judged}
 
@@ -26,9 +27,11 @@ stakes_studied (Match length) = cubeless
 abbrev pub game_of_record : Record → Game
 game_of_record rec = game_of rec.checkers (stakes_studied rec.stakes)
 
--- The decisions were studied: from some number of turns on, one for all of them, each pair encloses what its decision loses exactly; and each is
--- at least as tight as over so many rounds in which all states are worked out from the round before.
+-- The decisions were studied: from some number of turns on, one for all of them, each pair encloses what its decision loses exactly; each is
+-- at least as tight as over so many rounds in which all states are worked out from the round before; and over some words that are sound, one
+-- list for all of them, is best what is told as best.
 pub record AreStudied (game : Game) (most : ℕ) (decisions : List Decision)
     (list : List Judged) : Type 0 where
   pub true : IsTrueAnalysis game list
   pub tight : IsNoLooserAnalysis list (analysis_of game.stakes (rounds game.stakes most) decisions)
+  pub best : (u : Words) × AreSound game u × All (IsBestFor game.stakes u) list

@@ -7,7 +7,7 @@ use cube_actions::{Score, Starts, ladders_are_exact};
 use hyper_outside::Failed;
 use interval_words::Closed;
 use match_scores::{Keep, start_pair};
-use play_analyser::one_list_gives_the_loss;
+use play_analyser::{one_list_gives_the_best, one_list_gives_the_loss};
 use record_analysis::{Analysis, sure_sources_judge};
 use std::marker::Model;
 
@@ -90,6 +90,7 @@ impl Keep for RecordKeep {
     fn keep(&mut self, score: Score, starts: &Starts, words: &Closed) -> Result<(), Failed> {
         ladders_are_exact();
         one_list_gives_the_loss();
+        one_list_gives_the_best();
         sure_sources_judge();
         let words = words.words();
         words.right();

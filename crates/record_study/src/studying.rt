@@ -3,7 +3,7 @@ ghost use Rattle.game_record.specs.Lines.{IsRecord};
 ghost use Rattle.game_record.specs.RightDecisions.{IsRightDecision};
 ghost use Rattle.game_record.specs.Turns.{is_match_record};
 ghost use Rattle.interval_words.specs.WordLists.{source_of, words_in_list};
-ghost use Rattle.record_analysis.specs.Analyses.{analysis_of};
+ghost use Rattle.record_analysis.specs.Analyses.{IsBestFor, analysis_of, losses_alone};
 ghost use Rattle.record_analysis.specs.Judging.{CanBeJudged};
 ghost use Rattle.record_study.specs.Studies.{AreStudied, game_of_record, stakes_studied};
 
@@ -38,8 +38,9 @@ fn analysis_by(alloc: Global, words: &Words, decisions: Decisions) -> Result<Ana
     requires few { length decisions ≤ 131072 }
     requires can { All (CanBeJudged (source_of words.now) words.now.game.stakes) decisions }
     requires plain { All (λ decision. decision.score ≡ None) decisions }
-    ensures { IfOk result (λ analysis. analysis
-        ≡ analysis_of words.now.game.stakes (words_in_list words.now) decisions) }
+    ensures { IfOk result (λ analysis. (losses_alone analysis
+        ≡ analysis_of words.now.game.stakes (words_in_list words.now) decisions)
+        × All (IsBestFor words.now.game.stakes (words_in_list words.now)) analysis) }
 {
     one_list_gives_the_analysis();
     sure_sources_judge();
@@ -52,7 +53,7 @@ fn analysis_by(alloc: Global, words: &Words, decisions: Decisions) -> Result<Ana
 
 /// Solves the game of a record outside a match by some rounds, and judges its decisions by that. From some number of turns
 /// on, one for all decisions, each pair encloses what its decision loses exactly, for every number of workers and every gate; and each
-/// is at least as tight as over so many rounds in which all states are worked out from the round before. It asks for memory, and may
+/// is at least as tight as over so many rounds in which all states are worked out from the round before. What was best is so over what was solved. It asks for memory, and may
 /// answer `NoMemory`.
 pub fn study<R: Threads + Sync, G: Gate + Sync>(
     team: &Team<R>,

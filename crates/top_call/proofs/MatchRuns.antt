@@ -109,7 +109,7 @@ pub true-match : Law → ((n : ℕ) → 1 ≤ n → n ≤ 5 → (score : MatchSc
     → HeldLaw
     → (task : LadderTask) (analyse : Analyse) (held : Contents) (before after : List Event) (put_before put_after old new : Output) → IsRightLadder task → (solved : HasSolvedLadder task before after put_before put_after)
     → HoldLadder task solved.starts solved.scores.scores held → analyse.base ≡ task.prefix → (analysed : HasAnalysed analyse true held (λ text. IsPut old new text)) → analysed.analysed.replayed.rec.stakes ≡ Match task.match_length
-    → PrintsTrueMatch analysed.analysed.replayed.rec.checkers (report_shown analyse.shown analysed.analysed.replayed.rec.stakes) (λ text. IsPut old new text)
+    → PrintsTrueMatch analysed.analysed.replayed.rec.checkers (report_shown analyse.shown analyse.board analysed.analysed.replayed.rec.stakes) (λ text. IsPut old new text)
 true-match law exact held_right task analyse held before after put_before put_after old new right solved holds named analysed stakes =
     let replayed = analysed.analysed.replayed in
     let by_base : JudgesMatch analyse.base replayed.rec replayed.decisions held analysed.list =

@@ -137,7 +137,7 @@ solved-consistent law solve before after put_before put_after refusal right solv
 
 pub true-losses : Law
     → (solve : SolveTask) (analyse : Analyse) (held : Contents) (before after : List Event) (put_before put_after old new : Output) → IsRightSolve solve → (solved : HasSolved solve before after put_before put_after)
-    → held analyse.base ≡ standing after solve.file → (analysed : HasAnalysed analyse true held (λ text. IsPut old new text)) → is_match_record analysed.analysed.replayed.rec.stakes ≡ false → PrintsTrueLosses (head_of solve solved.words.rounds) (report_shown analyse.shown analysed.analysed.replayed.rec.stakes) (λ text. IsPut old new text)
+    → held analyse.base ≡ standing after solve.file → (analysed : HasAnalysed analyse true held (λ text. IsPut old new text)) → is_match_record analysed.analysed.replayed.rec.stakes ≡ false → PrintsTrueLosses (head_of solve solved.words.rounds) (report_shown analyse.shown analyse.board analysed.analysed.replayed.rec.stakes) (λ text. IsPut old new text)
 true-losses law solve analyse held before after put_before put_after old new right solved finds analysed plain =
     let words = solved.words in
     let replayed = analysed.analysed.replayed in

@@ -79,7 +79,7 @@ pub fn analyses_by_a_solved_file_are_true()
         → (analysed : HasAnalysed analyse true held (λ text. IsPut old new text))
         → is_match_record analysed.analysed.replayed.rec.stakes ≡ false
         → PrintsTrueLosses (head_of solve solved.words.rounds)
-        (report_shown analyse.shown analysed.analysed.replayed.rec.stakes)
+        (report_shown analyse.shown analyse.board analysed.analysed.replayed.rec.stakes)
         (λ text. IsPut old new text) }
 {
     texts_are_read_back();
@@ -97,7 +97,7 @@ pub fn analyses_by_a_solved_match_are_true()
         → (analysed : HasAnalysed analyse true held (λ text. IsPut old new text))
         → analysed.analysed.replayed.rec.stakes ≡ Match ladder.match_length
         → PrintsTrueMatch analysed.analysed.replayed.rec.checkers
-        (report_shown analyse.shown analysed.analysed.replayed.rec.stakes)
+        (report_shown analyse.shown analyse.board analysed.analysed.replayed.rec.stakes)
         (λ text. IsPut old new text) }
 {
     texts_are_read_back();

@@ -144,18 +144,36 @@ static FAULTS: [&[Step]; 6] = [
 ];
 
 // The same with positions, and of those that lost most first the one that may have lost, then the earlier of the others.
-const CHOSEN_FULL: &str = "1\t5\tA\tplay\t24 / 24\talone\t-\t65\t13 / 24\t0.000000\t0.000000\n\
-1\t6\tB\tplay\t24 / 13\talone\t-\t43\t17 / 13\t0.000000\t0.000000\n\
-1\t7\tA\tplay\t13 / 17\talone\t-\t51\t7 / bar\t0.000000\t2.000000\n\
+const CHOSEN_FULL: &str =
+    "1\t5\tA\tplay\t24 / 24\talone\t-\t65\t13 / 24\t0.000000\t0.000000\t24/18 18/13\t-1.000000\t1.000000\n\
+1\t6\tB\tplay\t24 / 13\talone\t-\t43\t17 / 13\t0.000000\t0.000000\t24/20 20/17\t-1.000000\t1.000000\n\
+1\t7\tA\tplay\t13 / 17\talone\t-\t51\t7 / bar\t0.000000\t2.000000\t13/8* 8/7\t-1.000000\t1.000000\n\
 A decisions 2 loss 0.000000 2.000000\nB decisions 1 loss 0.000000 0.000000\n";
 
-const CHOSEN_WORST: &str = "1\t7\tA\tplay\t13 / 17\talone\t-\t51\t7 / bar\t0.000000\t2.000000\n\
-1\t5\tA\tplay\t24 / 24\talone\t-\t65\t13 / 24\t0.000000\t0.000000\n\
+const CHOSEN_WORST: &str =
+    "1\t7\tA\tplay\t13 / 17\talone\t-\t51\t7 / bar\t0.000000\t2.000000\t13/8* 8/7\t-1.000000\t1.000000\n\
+1\t5\tA\tplay\t24 / 24\talone\t-\t65\t13 / 24\t0.000000\t0.000000\t24/18 18/13\t-1.000000\t1.000000\n\
 A decisions 2 loss 0.000000 2.000000\nB decisions 1 loss 0.000000 0.000000\n";
 
-static SHOWN: [Step; 6] = [
+// What may have lost most stands below its board.
+const CHOSEN_DRAWN: &str = "O: 17 pips\n\
++13-14-15-16-17-18------19-20-21-22-23-24-+\n\
+| X                |   |                  |\n\
+|                  |   |                  |\n\
+|                  |   |                  |\n\
+|                  |BAR|                  |\n\
+|                  |   |                  |\n\
+|                  |   |                  |\n\
+|             O    |   |                  |\n\
++12-11-10--9--8--7-------6--5--4--3--2--1-+\n\
+X to move: 13 pips\n\
+1\t7\tA\tplay\t13 / 17\talone\t-\t51\t7 / bar\t0.000000\t2.000000\t13/8* 8/7\t-1.000000\t1.000000\n\
+A decisions 2 loss 0.000000 2.000000\nB decisions 1 loss 0.000000 0.000000\n";
+
+static SHOWN: [Step; 7] = [
     Row("analyse, c1, game, --full", 0, CHOSEN_FULL),
     Row("analyse, c1, game, --worst, 2", 0, CHOSEN_WORST),
+    Row("analyse, c1, game, --worst=1, --board", 0, CHOSEN_DRAWN),
     Row("analyse, --worst=100, c1, y", 3, "refused 3 missing y\n"),
     Row(
         "analyse, c1, game, --worst=0",

@@ -12,7 +12,7 @@ use cube_actions::Stakes;
 use directed_fixed::ONE;
 use game_record::{Answer, Choice, Offer};
 use hyper_outside::LookStop;
-use play_analyser::{CubeAdvice, cube_advice, loss, rank_plays};
+use play_analyser::{Advised, CubeAdvice, Weighed, cube_advice, rank_plays, weigh};
 use point_text::{print_down, print_up};
 use roll_table::Roll;
 use std::process::Abort;
@@ -63,14 +63,15 @@ fn advises_a_beaver(rt: HostRuntime) {
     );
 }
 
-/// What a cube action loses at `8 / 1`, in units.
-fn lost(rt: &impl Abort, choice: Choice) -> Ends
+/// What a cube action loses at `8 / 1`, and what was best there, with its pair, in units.
+fn weighed(rt: &impl Abort, choice: Choice) -> (Ends, Advised, Ends)
     requires { (p : Placement) → IsChoice jacoby_beavers p 0 choice }
 {
     let stakes = Stakes::jacoby_beavers();
     let mut pairs = GivenPairs::new(1, 3, Words::NextWins, None);
-    let found = loss(&stakes, &live(rt, "8 / 1", 1), 0, &choice, &mut pairs);
-    units(found.expect(rt, "it stopped"))
+    let found = weigh(&stakes, &live(rt, "8 / 1", 1), 0, &choice, &mut pairs);
+    let Weighed { loss, best } = found.expect(rt, "it stopped");
+    (units(loss), best.advised, units(best.pair))
 }
 
 const OFFERS: &[(&str, Offer, Ends)] = &[
@@ -86,12 +87,20 @@ const ANSWERS: &[(&str, Answer, Ends)] = &[
 
 // The beaver gives the doubler -1,908,874,354 to -1,908,874,353, and so does the double.
 #[test]
-fn tells_what_cube_actions_lose(rt: HostRuntime) {
+fn tells_what_cube_actions_lose_and_the_best_one(rt: HostRuntime) {
+    let rolling = (-238_609_295, -238_609_294);
     for (row, offer, due) in OFFERS {
-        holds(&rt, lost(&rt, Choice::Offered(*offer)) == *due, row);
+        let (loss, best, pair) = weighed(&rt, Choice::Offered(*offer));
+        holds(&rt, loss == *due, row);
+        holds(&rt, best == Advised::Offer(Offer::NoDouble), "best offer");
+        holds(&rt, pair == rolling, "what it gives");
     }
+    let beavered = (-1_908_874_354, -1_908_874_353);
     for (row, answer, due) in ANSWERS {
-        holds(&rt, lost(&rt, Choice::Answered(*answer)) == *due, row);
+        let (loss, best, pair) = weighed(&rt, Choice::Answered(*answer));
+        holds(&rt, loss == *due, row);
+        holds(&rt, best == Advised::Answer(Answer::Beaver), "best answer");
+        holds(&rt, pair == beavered, "what it leaves");
     }
 }
 

@@ -5,7 +5,7 @@ use Rattle.std.proofs.lemmas.Result.{err_from_is_err_and}
 use Rattle.turn_rule.proofs.Found.{then-ok, then-err}
 use Rattle.turn_rule.proofs.MetFirst.{met-at}
 use Rattle.record_analysis.specs.declared.analysis.Judged.{Judged}
-use Rattle.record_analysis.specs.Analyses.{IsSmallJudged}
+use Rattle.record_analysis.specs.Analyses.{BestCanBeMade, IsSmallJudged}
 use Rattle.record_analysis.specs.Judging.{CanBeJudged, IsAt, MeetsOnDecision}
 use Rattle.record_analysis.proofs.Judgings.{drop-next, judged-undamaged, judges-more, judges-some, rest-at}
 use Rattle.record_analysis.proofs.judging.judge_list.Goals as goal
@@ -59,6 +59,7 @@ loop-i-preserved g c =
       source = c.judged_by.ensures.source ∙ c.loop-i.invariant.source;
       stays = c.judged_by.ensures.stays ∙ c.loop-i.invariant.stays;
       small = All-set IsSmallJudged news i new c.in_ok-list.ensures.small c.loop-i.invariant.small;
+      made = All-set BestCanBeMade news i new c.in_ok-list.ensures.made c.loop-i.invariant.made;
       rest = drop-set-lt (i + 1) news i new (omega arith) ∙ drop-next news olds i c.loop-i.invariant.rest;
       found = then-ok s _ _ _ _ _ _ _ _ _ _ _ _ tt new tt c.loop-i.invariant.found looked
           (λ tighter before one. judges-more s c.args.stakes.now c.requires.valid c.requires.stakes c.args.score _ _ tighter olds news i d new c.requires.can here there c.loop-i.invariant.rest before one);

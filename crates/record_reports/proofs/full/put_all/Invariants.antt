@@ -8,4 +8,4 @@ use Rattle.record_reports.proofs.full.put_all.Given as goal
 -- the lines so far were put
 abbrev pub invariant-decisions : goal.invariant-decisions
 invariant-decisions g l =
-    Puts {T = Unit {0}} {E = Failed} (g.O.Sink.output l.fn.out) (g.O.Sink.output l.out) (flat_map (full_line l.rec.stakes) (take l.judged-index l.list)) (Ok tt)
+    Puts {T = Unit {0}} {E = Failed} (g.O.Sink.output l.fn.out) (g.O.Sink.output l.out) (flat_map (full_line l.board l.rec.stakes) (take l.judged-index l.list)) (Ok tt)

@@ -16,13 +16,13 @@ returns-in_err-put_all g c =
     let end = g.O.Sink.output c.put_all.new.out in
     let failed = c.in_err-put_all.field-0.0 in
     let p = err_from_is_err_and c.from_residual.result c.from_residual.ensures.1 in
-    rw p.1 (put-front start end (flat_map (full_line c.args.rec.now.stakes) list) (totals_text list) failed
-    (subst (λ (told : List Judged). Puts {T = Unit {0}} {E = Failed} start end (flat_map (full_line c.args.rec.now.stakes) told) (Err failed)) c.as_slice.ensures.all c.in_err-put_all.ensures))
+    rw p.1 (put-front start end (flat_map (full_line c.args.board c.args.rec.now.stakes) list) (totals_text list) failed
+    (subst (λ (told : List Judged). Puts {T = Unit {0}} {E = Failed} start end (flat_map (full_line c.args.board c.args.rec.now.stakes) told) (Err failed)) c.as_slice.ensures.all c.in_err-put_all.ensures))
 
 pub returns : goal.returns
 returns g c =
     let list = c.args.analysis.now in
     let start = g.O.Sink.output c.args.out.now in
     let middle = g.O.Sink.output c.put_all.new.out in
-    let lines = subst (λ (told : List Judged). Puts {T = Unit {0}} {E = Failed} start middle (flat_map (full_line c.args.rec.now.stakes) told) (Ok tt)) c.as_slice.ensures.all c.in_ok-put_all.ensures in
-    put-both start middle (g.O.Sink.output c.put_totals.new.out) (flat_map (full_line c.args.rec.now.stakes) list) (totals_text list) tt c.put_totals.result lines c.put_totals.ensures
+    let lines = subst (λ (told : List Judged). Puts {T = Unit {0}} {E = Failed} start middle (flat_map (full_line c.args.board c.args.rec.now.stakes) told) (Ok tt)) c.as_slice.ensures.all c.in_ok-put_all.ensures in
+    put-both start middle (g.O.Sink.output c.put_totals.new.out) (flat_map (full_line c.args.board c.args.rec.now.stakes) list) (totals_text list) tt c.put_totals.result lines c.put_totals.ensures

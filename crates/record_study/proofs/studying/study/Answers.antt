@@ -1,4 +1,4 @@
-use Rattle.std.proofs.Common.{◌≡◌, ◌∙◌, ℕ, List, refl, ap, subst}
+use Rattle.std.proofs.Common.{◌≡◌, ◌∙◌, ℕ, List, All, refl, ap, subst, sym}
 use Rattle.cube_actions.specs.Stakes.{Terms}
 use Rattle.turn_rule.proofs.Monotone.{same-stakes}
 use Rattle.turn_rule.specs.Games.{game_of}
@@ -6,7 +6,9 @@ use Rattle.turn_rule.specs.States.{AreNoLooser}
 use Rattle.turn_rule.specs.Turn.{rounds}
 use Rattle.turn_rule.specs.declared.game.Game.{Game}
 use Rattle.interval_words.specs.WordLists.{AreClosed, WordList, source_of, words_in_list}
-use Rattle.record_analysis.specs.Analyses.{analysis_of}
+use Rattle.record_analysis.specs.Analyses.{IsBestFor, analysis_of, losses_alone}
+use Rattle.record_analysis.specs.Truth.{IsNoLooserAnalysis, IsTrueAnalysis}
+use Rattle.record_analysis.proofs.Analysed.{alone-tight, alone-true}
 use Rattle.record_analysis.specs.declared.analysis.Judged.{Judged}
 use Rattle.worker_sweep.proofs.LastLemmas.{last-asked}
 use Rattle.record_study.specs.Studies.{AreStudied, game_of_record}
@@ -35,9 +37,10 @@ returns g c =
     (ap (λ (g : Game). g.checkers) game) (ap (λ (g : Game). g.stakes) game) c.right.ensures.game.stakes (record { kinds = refl; bound = refl }) in
     let are = decisions-of words decisions can in
     let tight : AreNoLooser words.game u (rounds stakes c.args.rounds) = subst (λ (n : ℕ). AreNoLooser words.game u (rounds stakes n)) many closed.tight in
-    let studied : AreStudied words.game c.args.rounds decisions (analysis_of stakes u decisions) = record {
-      true = c.analyses_enclose_what_is_lost.ensures.sound words.game c.right.ensures.game u closed.sound decisions are;
-      tight = c.tighter_words_give_tighter_analyses.ensures.pairs words.game c.right.ensures.game stakes (same-stakes stakes) u (rounds stakes c.args.rounds) tight decisions are;
+    let studied : (list : List Judged) → (losses_alone list ≡ analysis_of stakes u decisions) × All (IsBestFor stakes u) list → AreStudied words.game c.args.rounds decisions list = λ list is. record {
+      true = alone-true words.game list (subst (IsTrueAnalysis words.game) (sym is.0) (c.analyses_enclose_what_is_lost.ensures.sound words.game c.right.ensures.game u closed.sound decisions are));
+      tight = alone-tight list (analysis_of stakes (rounds stakes c.args.rounds) decisions) (subst (λ (js : List Judged). IsNoLooserAnalysis js (analysis_of stakes (rounds stakes c.args.rounds) decisions)) (sym is.0) (c.tighter_words_give_tighter_analyses.ensures.pairs words.game c.right.ensures.game stakes (same-stakes stakes) u (rounds stakes c.args.rounds) tight decisions are));
+      best = (u, closed.sound, is.1);
     } in
-    if-ok (λ (list : List Judged). list ≡ analysis_of stakes u decisions) (AreStudied (game_of_record rec) c.args.rounds decisions) c.analysis_by.result
-    (λ list is. rw is (subst (λ (g : Game). AreStudied g c.args.rounds decisions (analysis_of stakes u decisions)) game studied)) c.analysis_by.ensures
+    if-ok (λ (list : List Judged). (losses_alone list ≡ analysis_of stakes u decisions) × All (IsBestFor stakes u) list) (AreStudied (game_of_record rec) c.args.rounds decisions) c.analysis_by.result
+    (λ list is. subst (λ (g : Game). AreStudied g c.args.rounds decisions list) game (studied list is)) c.analysis_by.ensures

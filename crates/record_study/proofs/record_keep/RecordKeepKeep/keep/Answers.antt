@@ -23,7 +23,7 @@ invariant_of-self c =
     let valid = c.match_length-length.ensures.valid in
     judged-next judged score starts words c.self.invariant (c.requires.before ∙ ap (λ (j : JudgedMatch). j.starts) (sym c.self.view_is)) c.requires.more c.requires.is_next
     (subst (λ (j : JudgedMatch). AreWordsAt j.checkers j.rounds score starts words) (sym c.self.view_is) c.requires.closed)
-    c.one_list_gives_the_loss.ensures (c.ladders_are_exact.ensures.order starts.match_length valid.from valid.to) c.judge.new.self judges c.start_pair.result start c.add.new.self c.add.ensures
+    c.one_list_gives_the_loss.ensures c.one_list_gives_the_best.ensures (c.ladders_are_exact.ensures.order starts.match_length valid.from valid.to) c.judge.new.self judges c.start_pair.result start c.add.new.self c.add.ensures
 
 pub returns-clause-stays : goal.returns-clause-stays
 returns-clause-stays c =
