@@ -429,7 +429,7 @@ def try_cases(tally, folder, solved):
     solved.solve(["solve", "two.base", "--checkers", "2"], folder)
     solved.solve(["ladder", "match", "--checkers", "1", "--length", "5"], folder)
     solved.solve(["ladder", "m", "--checkers", "2", "--workers", "4"], folder)
-    parts = (try_words, try_mistakes, try_terminal, try_help, try_boards, try_migrations, try_three_checkers)
+    parts = (try_words, try_readings, try_mistakes, try_terminal, try_help, try_boards, try_migrations, try_three_checkers)
     parts += (try_reader, try_imports, try_decision_pages)
     for part in parts:
         with tally.going_on(part.__name__):

@@ -5,7 +5,7 @@ use Rattle.directed_fixed.specs.Bounds.{Bounds, IsWithin, IsWithinUnits}
 use Rattle.cube_actions.specs.Stakes.{point_units}
 use Rattle.word_pages.specs.declared.version.Version.{Version}
 use Rattle.word_pages.specs.declared.version.Version.TheVariants.{One, Two, Three}
-use Rattle.word_pages.specs.Flaws.{word_value}
+use Rattle.word_pages.specs.Flaws.{unpacked}
 use Rattle.word_pages.specs.Words.{Fits, word_size}
 use Rattle.word_pages.proofs.Pairs.{drop_pair}
 use Rattle.base_head.specs.Fronts.{pairs_of_words, words_of_pairs}
@@ -62,13 +62,13 @@ room-for Three i n out len most lt room is = omega (arith, lt, room, is)
 
 -- a pair is taken from the words that are left
 pub next-pair : (pairs : List Bounds) (pair : Bounds) (i : ℕ) (words : List ℕ) → 2 * i + 1 < length words
-    → pair ≡ record { lower = word_value (get_or words (2 * i) 0); upper = word_value (get_or words (2 * i + 1) 0) }
+    → pair ≡ record { lower = unpacked (get_or words (2 * i) 0); upper = unpacked (get_or words (2 * i + 1) 0) }
     → (pairs ++ pair ∷ []) ++ pairs_of_words (drop (2 * (i + 1)) words) ≡ pairs ++ pairs_of_words (drop (2 * i) words)
 next-pair pairs pair i words lt is =
     let two : 2 * (i + 1) ≡ 2 * i + 2 = omega arith in
     append_assoc pairs (pair ∷ []) (pairs_of_words (drop (2 * (i + 1)) words))
     ∙ ap (λ (p : Bounds). pairs ++ (p ∷ pairs_of_words (drop (2 * (i + 1)) words))) is
-    ∙ ap (λ (k : ℕ). pairs ++ (record { lower = word_value (get_or words (2 * i) 0); upper = word_value (get_or words (2 * i + 1) 0) } ∷ pairs_of_words (drop k words))) two
+    ∙ ap (λ (k : ℕ). pairs ++ (record { lower = unpacked (get_or words (2 * i) 0); upper = unpacked (get_or words (2 * i + 1) 0) } ∷ pairs_of_words (drop k words))) two
     ∙ ap (λ (rest : List ℕ). pairs ++ pairs_of_words rest) (sym (drop_pair (2 * i) words lt))
 
 none-left : (words : List ℕ) → length words < 2 → pairs_of_words words ≡ []

@@ -10,7 +10,7 @@ use Rattle.cube_actions.specs.declared.name.StakesName.TheVariants.{Match}
 use Rattle.cube_actions.specs.Stakes.{point_units}
 use Rattle.word_pages.specs.declared.flaws.Flaw.{Flaw}
 use Rattle.word_pages.specs.declared.version.Version.{Version}
-use Rattle.word_pages.specs.Flaws.{pairs_flaw, word_value}
+use Rattle.word_pages.specs.Flaws.{pairs_flaw, unpacked}
 use Rattle.word_pages.specs.Sealed.{sealed, is_sealed}
 use Rattle.word_pages.specs.Words.{words_bytes, words_in_bytes}
 use Rattle.base_head.specs.Faults.{checked}
@@ -54,7 +54,7 @@ abbrev pub pairs_of_words : List ℕ → List Bounds
 pairs_of_words [] = []
 pairs_of_words (word ∷ []) = []
 pairs_of_words (lower ∷ upper ∷ words) =
-    record { lower = word_value lower; upper = word_value upper } ∷ pairs_of_words words
+    record { lower = unpacked lower; upper = unpacked upper } ∷ pairs_of_words words
 
 -- the words of the starts, which follow the header
 abbrev pub start_words : Header → List ℕ → List ℕ

@@ -2,7 +2,7 @@ ghost use Rattle.std.specs.Prelude.{◌≡◌, ◌≤◌, ◌<◌, ◌+◌, ◌*
 ghost use Rattle.std.specs.Option.{option_map};
 ghost use Rattle.cube_actions.specs.Ladder.{ladder};
 ghost use Rattle.cube_actions.specs.Stakes.{point_units};
-ghost use Rattle.word_pages.specs.Flaws.{ArePairsWithin, pairs_flaw};
+ghost use Rattle.word_pages.specs.Flaws.{LieWithin, pairs_flaw};
 ghost use Rattle.word_pages.specs.Words.{words_in_bytes, words_bytes};
 ghost use Rattle.base_head.specs.Faults.{checked};
 ghost use Rattle.base_head.specs.Fronts.{bad_of, digest_in, fault_of, front_text, head_digest, pairs_of_words, starts_length, starts_read, words_of_pairs};
@@ -151,7 +151,7 @@ fn starts_of_words(match_length: u8, words: &[u64]) -> Starts
     requires from { 1 ≤ match_length }
     requires to { match_length ≤ 5 }
     requires room { length words.now ≤ 2 * length (ladder match_length) }
-    requires right { ArePairsWithin (point_units 1) words.now }
+    requires right { LieWithin (point_units 1) words.now }
     ensures { result ≡ record {
       match_length = match_length;
       pairs = pairs_of_words words.now;

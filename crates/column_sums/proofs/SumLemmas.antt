@@ -3,12 +3,12 @@ use Rattle.std.proofs.Common.{◌≡◌, ◌≤◌, ◌<◌, ◌-◌, ◌/◌, �
 use Rattle.std.proofs.lemmas.List.{get_or-take, length-take}
 use Rattle.position_rank.specs.Placement.{Placement}
 use Rattle.column_sums.specs.Cells.{no_cell, cell_of, IsCell, IsCellOrNone, IsReach}
-use Rattle.column_sums.specs.Tables.{IsTable, IsRow, IsRightAt, IsRightAfter, AreTableRight}
+use Rattle.column_sums.specs.Tables.{IsTable, IsRow, IsRightAt, IsRightAfter, AreRightIn}
 use Rattle.column_sums.specs.Rolls.{IsPairReady, IsDoubleReady}
 use Rattle.column_sums.specs.MoveLists.{IsAmongOrNone, LeadsAmong, AreReady}
 use Rattle.column_sums.specs.Leaps.{layout_at}
 use Rattle.column_sums.specs.ColumnOf.{begun_at}
-use Rattle.column_sums.specs.Sums.{AreRightTo, DoubleTables, PairTables, list_of_die, mover_placement}
+use Rattle.column_sums.specs.Sums.{AreRightTo, DoubleTables, PairTables, die_list, mover_placement}
 use Rattle.column_sums.specs.declared.cells.Reach.{Reach}
 use Rattle.column_sums.specs.declared.moves.DieList.{DieList}
 use Rattle.column_sums.specs.declared.moves.Moves.{Moves}
@@ -58,12 +58,12 @@ module _ (value : Placement → ℤ) (moves : Moves) (ready : AreReady moves) wh
     after-among reach leads = record { first = among-right reach.first leads.first; second = among-right reach.second leads.second; third = among-right reach.third leads.third }
 
   pub double-ready : (die : ℕ) (row one two three : List (Option ℤ)) (list : DieList) (i : ℕ) (none : Reach) → 1 ≤ die → die ≤ 6 → i < moves.movers → get_or three no_cell None ≡ None
-      → DoubleTables value moves die row one two three → IsDoubleReady value layouts others die (get_or (list_of_die moves die list).reaches.items i none) row one two three
+      → DoubleTables value moves die row one two three → IsDoubleReady value layouts others die (get_or (die_list moves die list).reaches.items i none) row one two three
   double-ready die row one two three list i none a b h missing tables =
       let is = ready.each die list a b in
-      let all = (list_of_die moves die list).reaches.items in
+      let all = (die_list moves die list).reaches.items in
       let near : i < length moves.listing = omega (arith, h, is.first) in
-      let second : i < (list_of_die moves die list).second = omega (arith, near, is.longer) in
+      let second : i < (die_list moves die list).second = omega (arith, near, is.longer) in
       let here : i < length all = omega (arith, second, is.second) in
       let reach = is.each i none here in
       record {
@@ -78,12 +78,12 @@ module _ (value : Placement → ℤ) (moves : Moves) (ready : AreReady moves) wh
 
   pub pair-ready : (high low : ℕ) (row after_high after_low : List (Option ℤ)) (first second : DieList) (i : ℕ) (none : Reach) → 1 ≤ high → high ≤ 6 → 1 ≤ low → low ≤ 6 → i < moves.movers
       → get_or after_high no_cell None ≡ None → get_or after_low no_cell None ≡ None → PairTables value moves high low row after_high after_low
-      → IsPairReady value layouts others high low (get_or (list_of_die moves high first).reaches.items i none) (get_or (list_of_die moves low second).reaches.items i none) row after_high after_low
+      → IsPairReady value layouts others high low (get_or (die_list moves high first).reaches.items i none) (get_or (die_list moves low second).reaches.items i none) row after_high after_low
   pair-ready high low row after_high after_low first second i none a b c d h miss_high miss_low tables =
       let by_high = ready.each high first a b in
       let by_low = ready.each low second c d in
-      let highs = (list_of_die moves high first).reaches.items in
-      let lows = (list_of_die moves low second).reaches.items in
+      let highs = (die_list moves high first).reaches.items in
+      let lows = (die_list moves low second).reaches.items in
       let near : i < length moves.listing = omega (arith, h, by_high.first) in
       let in_high : i < length highs = omega (arith, near, by_high.longer, by_high.second) in
       let in_low : i < length lows = omega (arith, near, by_low.longer, by_low.second) in
@@ -106,7 +106,7 @@ module _ (value : Placement → ℤ) (moves : Moves) (ready : AreReady moves) wh
 
 module _ (value : Placement → ℤ) (moves : Moves) (ready : AreReady moves) (die : ℕ) (list : DieList) where
   abbrev all : List Reach
-  all = (list_of_die moves die list).reaches.items
+  all = (die_list moves die list).reaches.items
 
   part : (P : Reach → Type 0) (n : ℕ) → ((i : ℕ) (none : Reach) → i < n → P (get_or all i none)) → All P (take n all)
   part P n each i none h =
@@ -116,7 +116,7 @@ module _ (value : Placement → ℤ) (moves : Moves) (ready : AreReady moves) (d
   -- one die more in the cells of the first few, where the table is right in all that they lead to
   pub filled-to : (dice : List ℕ) (end next n : ℕ) (reaches : List Reach) (from to : List (Option ℤ)) → 1 ≤ die → die ≤ 6 → reaches ≡ all → n ≡ end → end ≤ length all → get_or from no_cell None ≡ None
       → AreRightTo value dice moves from all next → ((i : ℕ) (none : Reach) → i < end → LeadsAmong all next (get_or all i none))
-      → (All (IsReach moves.steps moves.layers die) (take n reaches) → All (IsRightAfter value dice moves.steps moves.layers from) (take n reaches) → AreTableRight value (die ∷ dice) moves.steps moves.layers to (take n reaches))
+      → (All (IsReach moves.steps moves.layers die) (take n reaches) → All (IsRightAfter value dice moves.steps moves.layers from) (take n reaches) → AreRightIn value (die ∷ dice) moves.steps moves.layers to (take n reaches))
       → AreRightTo value (die ∷ dice) moves to all end
   filled-to dice end next n reaches from to a b same end-is within missing right leads filled =
       let is = ready.each die list a b in
@@ -125,10 +125,10 @@ module _ (value : Placement → ℤ) (moves : Moves) (ready : AreReady moves) (d
       part (IsRightAfter value dice moves.steps moves.layers from) end (λ i none h. after-among value moves ready dice from missing all next right (get_or all i none) (leads i none h)) in
       let moved : take end all ≡ take n reaches = ap (λ (m : ℕ). take m all) (sym end-is) ∙ ap (λ (rs : List Reach). take n rs) (sym same) in
       let done = filled (subst (All (IsReach moves.steps moves.layers die)) moved reach) (subst (All (IsRightAfter value dice moves.steps moves.layers from)) moved after) in
-      let there : AreTableRight value (die ∷ dice) moves.steps moves.layers to (take end all) = subst (λ (rs : List Reach). AreTableRight value (die ∷ dice) moves.steps moves.layers to rs) (sym moved) done in
+      let there : AreRightIn value (die ∷ dice) moves.steps moves.layers to (take end all) = subst (λ (rs : List Reach). AreRightIn value (die ∷ dice) moves.steps moves.layers to rs) (sym moved) done in
       λ i none h. subst (λ (r : Reach). IsRightAt value (die ∷ dice) moves.steps moves.layers to r.cell) (get_or-take end all i none h) (there i none (omega (arith, h, within, length-take end all)))
 
-pub same-list : (moves : Moves) → AreReady moves → (die : ℕ) (one other : DieList) → 1 ≤ die → die ≤ 6 → list_of_die moves die one ≡ list_of_die moves die other
+pub same-list : (moves : Moves) → AreReady moves → (die : ℕ) (one other : DieList) → 1 ≤ die → die ≤ 6 → die_list moves die one ≡ die_list moves die other
 same-list moves ready die one other a b = any-default moves.lists (die - 1) one other (omega (arith, a, b, ready.rooms.six))
 
 -- a mover's cell is in the first layer

@@ -15,7 +15,7 @@ use Rattle.column_sums.specs.Cascade.{best_pair, best_double, best_of_roll, best
 use Rattle.column_sums.specs.Cells.{no_cell, cell_placement}
 use Rattle.column_sums.specs.Rolls.{IsPairReady, IsDoubleReady}
 use Rattle.column_sums.specs.MoveLists.{AreReady}
-use Rattle.column_sums.specs.Sums.{DoubleTables, PairTables, IsAdded, list_of_die, mover_placement, sum_at, ways}
+use Rattle.column_sums.specs.Sums.{DoubleTables, PairTables, IsAdded, die_list, mover_placement, sum_at, ways}
 use Rattle.column_sums.specs.declared.cells.Reach.{Reach}
 use Rattle.column_sums.specs.declared.moves.DieList.{DieList}
 use Rattle.column_sums.specs.declared.moves.Moves.{Moves}
@@ -35,7 +35,7 @@ module _ (P : ℕ → ℤ → ℤ → Type 0) (start sums : List ℤ) (at : ℕ)
 -- ---- what was found of a mover is right
 
 module _ (moves : Moves) (ready : AreReady moves) (i : ℕ) (h : i < moves.movers) where
-  mover-cell : (die : ℕ) (list : DieList) (none : Reach) → 1 ≤ die → die ≤ 6 → (get_or (list_of_die moves die list).reaches.items i none).cell ≡ get_or moves.listing i 0
+  mover-cell : (die : ℕ) (list : DieList) (none : Reach) → 1 ≤ die → die ≤ 6 → (get_or (die_list moves die list).reaches.items i none).cell ≡ get_or moves.listing i 0
   mover-cell die list none a b = let is = ready.each die list a b in is.at i none (omega (arith, h, is.first))
 
   pub double-right : (die n : ℕ) (row one two three : List (Option ℤ)) (list : DieList) (reach : Reach) (best : ℤ) → 1 ≤ die → die ≤ 6 → n ≡ die → reach ≡ get_or (get_or moves.lists (n - 1) list).reaches.items i reach
@@ -43,7 +43,7 @@ module _ (moves : Moves) (ready : AreReady moves) (i : ℕ) (h : i < moves.mover
       → ((value : Placement → ℤ) (layouts others : List (List ℕ)) (d : ℕ) → IsDoubleReady value layouts others d reach row one two three → best ≡ best_double value d (cell_placement layouts others reach.cell))
       → (value : Placement → ℤ) → DoubleTables value moves die row one two three → best ≡ best_double value die (mover_placement moves i)
   double-right die n row one two three list reach best a b same is missing found value tables =
-      let at : reach ≡ get_or (list_of_die moves die list).reaches.items i reach = is ∙ ap (λ (m : ℕ). get_or (get_or moves.lists (m - 1) list).reaches.items i reach) same in
+      let at : reach ≡ get_or (die_list moves die list).reaches.items i reach = is ∙ ap (λ (m : ℕ). get_or (get_or moves.lists (m - 1) list).reaches.items i reach) same in
       let tables-are = double-ready value moves ready die row one two three list i reach a b h missing tables in
       let here = subst (λ (r : Reach). IsDoubleReady value moves.steps moves.layers die r row one two three) (sym at) tables-are in
       found value moves.steps moves.layers die here
@@ -55,13 +55,13 @@ module _ (moves : Moves) (ready : AreReady moves) (i : ℕ) (h : i < moves.mover
       → ((value : Placement → ℤ) (layouts others : List (List ℕ)) (a b : ℕ) → IsPairReady value layouts others a b by_high by_low row after_high after_low → best ≡ best_pair value a b (cell_placement layouts others by_high.cell))
       → (value : Placement → ℤ) → PairTables value moves high low row after_high after_low → best ≡ best_pair value high low (mover_placement moves i)
   pair-right high low n m row after_high after_low first second by_high by_low best a b c d e f high-is low-is miss_high miss_low found value tables =
-      let at_high : by_high ≡ get_or (list_of_die moves high first).reaches.items i by_high = high-is ∙ ap (λ (k : ℕ). get_or (get_or moves.lists (k - 1) first).reaches.items i by_high) e in
-      let at_low : by_low ≡ get_or (list_of_die moves low second).reaches.items i by_low = low-is ∙ ap (λ (k : ℕ). get_or (get_or moves.lists (k - 1) second).reaches.items i by_low) f in
+      let at_high : by_high ≡ get_or (die_list moves high first).reaches.items i by_high = high-is ∙ ap (λ (k : ℕ). get_or (get_or moves.lists (k - 1) first).reaches.items i by_high) e in
+      let at_low : by_low ≡ get_or (die_list moves low second).reaches.items i by_low = low-is ∙ ap (λ (k : ℕ). get_or (get_or moves.lists (k - 1) second).reaches.items i by_low) f in
       let one = pair-ready value moves ready high low row after_high after_low first second i by_high a b c d h miss_high miss_low tables in
-      let other : (get_or (list_of_die moves low second).reaches.items i by_high) ≡ get_or (list_of_die moves low second).reaches.items i by_low =
-      (let is = ready.each low second c d in any-default (list_of_die moves low second).reaches.items i by_high by_low (omega (arith, h, is.first, is.longer, is.second))) in
+      let other : (get_or (die_list moves low second).reaches.items i by_high) ≡ get_or (die_list moves low second).reaches.items i by_low =
+      (let is = ready.each low second c d in any-default (die_list moves low second).reaches.items i by_high by_low (omega (arith, h, is.first, is.longer, is.second))) in
       let here = subst (λ (r : Reach). IsPairReady value moves.steps moves.layers high low r by_low row after_high after_low) (sym at_high)
-      (subst (λ (r : Reach). IsPairReady value moves.steps moves.layers high low (get_or (list_of_die moves high first).reaches.items i by_high) r row after_high after_low) (other ∙ sym at_low) one) in
+      (subst (λ (r : Reach). IsPairReady value moves.steps moves.layers high low (get_or (die_list moves high first).reaches.items i by_high) r row after_high after_low) (other ∙ sym at_low) one) in
       found value moves.steps moves.layers high low here
       ∙ ap (λ (cell : ℕ). best_pair value high low (cell_placement moves.steps moves.layers cell)) (ap (λ (r : Reach). r.cell) at_high ∙ mover-cell high first by_high a b)
 

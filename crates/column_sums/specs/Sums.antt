@@ -11,8 +11,8 @@ use Rattle.column_sums.specs.declared.moves.DieList.{DieList}
 use Rattle.column_sums.specs.declared.moves.Moves.{Moves}
 
 -- the list of a die
-abbrev pub list_of_die : Moves → ℕ → DieList → DieList
-list_of_die moves die none = slice_index_or moves.lists (die - 1) none
+abbrev pub die_list : Moves → ℕ → DieList → DieList
+die_list moves die none = slice_index_or moves.lists (die - 1) none
 
 -- in the cells of the first few of these, the greatest value that these dice lead to
 abbrev pub AreRightTo : (Placement → ℤ) → List ℕ → Moves → List (Option ℤ) → List Reach → ℕ → Type 0
@@ -24,8 +24,8 @@ AreRightTo value dice moves table reaches end =
 abbrev pub AreRightEach : (Placement → ℤ) → Moves → ℕ → List (Option ℤ) → Type 0
 AreRightEach value moves die table =
     (none : DieList) → AreRightTo value (die
-    ∷ []) moves table (list_of_die moves die none).reaches.items
-    (length (list_of_die moves die none).reaches.items)
+    ∷ []) moves table (die_list moves die none).reaches.items
+    (length (die_list moves die none).reaches.items)
 
 -- a table of each die: the best with this die to play
 abbrev pub AreOnes : (Placement → ℤ) → Moves → List (List (Option ℤ)) → Type 0
@@ -40,10 +40,10 @@ ways roll = if roll.high == roll.low then 1 else 2
 pub record AreTwoAndThree (value : Placement → ℤ) (moves : Moves) (die : ℕ)
     (two three : List (Option ℤ)) : Type 0 where
   pub twice : (none : DieList)
-      → AreRightTo value (die ∷ die ∷ []) moves two (list_of_die moves die none).reaches.items
-      (list_of_die moves die none).second
+      → AreRightTo value (die ∷ die ∷ []) moves two (die_list moves die none).reaches.items
+      (die_list moves die none).second
   pub thrice : (none : DieList)
-      → AreRightTo value (die ∷ die ∷ die ∷ []) moves three (list_of_die moves die none).reaches.items
+      → AreRightTo value (die ∷ die ∷ die ∷ []) moves three (die_list moves die none).reaches.items
       (length moves.listing)
 
 -- where the checkers stand as a turn of the column begins

@@ -41,9 +41,9 @@ pub record IsRightAfter (value : Placement → ℤ) (dice : List ℕ) (layouts o
   pub third : IsRightAt value dice layouts others table reach.third
 
 -- the same in the cells of these
-abbrev pub AreTableRight : (Placement → ℤ) → List ℕ → List (List ℕ) → List (List ℕ) → List (Option ℤ)
+abbrev pub AreRightIn : (Placement → ℤ) → List ℕ → List (List ℕ) → List (List ℕ) → List (Option ℤ)
     → List Reach → Type 0
-AreTableRight value dice layouts others table reaches =
+AreRightIn value dice layouts others table reaches =
     All (λ reach. IsRightAt value dice layouts others table reach.cell) reaches
 
 -- these are within a table, and none of them is the missing cell

@@ -2,7 +2,7 @@ ghost use Rattle.std.specs.Prelude.{◌≡◌, ◌^◌, ◌<◌, ◌≤◌, ℕ,
 ghost use Rattle.position_rank.specs.Placement.{Placement};
 ghost use Rattle.directed_fixed.specs.Bounds.{IsWithinUnits};
 ghost use Rattle.column_sums.specs.Cells.{IsReach, cell_of, no_cell};
-ghost use Rattle.column_sums.specs.Tables.{IsRow, IsTableOfCells, IsReachWithin, IsRightAfter, AreTableRight, best_after};
+ghost use Rattle.column_sums.specs.Tables.{IsRow, IsTableOfCells, IsReachWithin, IsRightAfter, AreRightIn, best_after};
 
 use crate::best::Best;
 use crate::cells::{CELLS, NO_CELL, Reach};
@@ -103,7 +103,7 @@ impl Table {
             → ℤ) (dice : List ℕ) (layouts others : List (List ℕ)) (die : ℕ)
             → length layouts ≤ 3276 → All (IsReach layouts others die) reaches.now
             → All (IsRightAfter value dice layouts others from.now) reaches.now
-            → AreTableRight value (die ∷ dice) layouts others self.new reaches.now }
+            → AreRightIn value (die ∷ dice) layouts others self.new reaches.now }
     {
         fill_cells(reaches, from, &mut self.cells);
     }
@@ -140,7 +140,7 @@ fn fill_cells(reaches: &[Reach], from: &[Best], to: &mut [Best])
         → ℤ) (dice : List ℕ) (layouts others : List (List ℕ)) (die : ℕ)
         → length layouts ≤ 3276 → All (IsReach layouts others die) reaches.now
         → All (IsRightAfter value dice layouts others from.now) reaches.now
-        → AreTableRight value (die ∷ dice) layouts others to.new reaches.now }
+        → AreRightIn value (die ∷ dice) layouts others to.new reaches.now }
 {
     for reach in reaches {
         to[usize::from(reach.cell)] = best_after(from, reach);

@@ -8,7 +8,7 @@ use Rattle.turn_rule.specs.Found.{LeavesState, IsFoundOf, of_play}
 use Rattle.column_sums.specs.Leaps.{layout_at}
 use Rattle.column_sums.specs.Cells.{cell_of}
 use Rattle.column_turns.specs.Moments.{IsLater}
-use Rattle.column_turns.specs.Rows.{AreFoundTo, AreFoundRows, AreFoundRowsTo, ArePut, AreRows, IsPut, IsSameBefore, row_at}
+use Rattle.column_turns.specs.Rows.{AreFoundTo, AreFoundRows, AreFoundRowsTo, ArePut, AreRows, IsWorthPut, IsSameBefore, row_at}
 use Rattle.column_turns.proofs.Laters.{found-then}
 use Rattle.column_turns.proofs.RowCells.{same-set, cell-more, cell-none, layer-more}
 
@@ -26,7 +26,7 @@ module _ (end : End) (old : Seen) (stakes : Terms) where
         → ArePut end old.source noted stakes left layer rank first (set rows number (set (row_at rows number) (cell_of layer rank) (Some x))) (number + 1)
     put-next noted number x here before rest found =
         let row = set (row_at rows number) (cell_of layer rank) (Some x) in
-        below_more (λ (k : ℕ). IsPut end old.source noted (kind_at stakes k) left layer rank (row_at first k) (row_at (set rows number row) k)) number
+        below_more (λ (k : ℕ). IsWorthPut end old.source noted (kind_at stakes k) left layer rank (row_at first k) (row_at (set rows number row) k)) number
         (λ k below.
         let apart : k ≢ number = omega (arith, below) in
         let was = before k below in

@@ -49,9 +49,9 @@ abbrev pub row_at : List (List (Option ℤ)) → ℕ → List (Option ℤ)
 row_at rows k = slice_index_or rows k []
 
 -- in one cell of a row a value was put, which was found of what the mover has after a play that leaves these checkers
-abbrev pub IsPut : End → Source → Notes → Kind → Placement → ℕ → ℕ → List (Option ℤ)
+abbrev pub IsWorthPut : End → Source → Notes → Kind → Placement → ℕ → ℕ → List (Option ℤ)
     → List (Option ℤ) → Type 0
-IsPut end source noted kind left layer rank old new =
+IsWorthPut end source noted kind left layer rank old new =
     (x : ℤ) × (new ≡ slice_set old (cell_of layer rank) (Some x))
     × (LeavesState source kind.next left → IsFoundOf end (of_play kind left) source noted x)
 
@@ -60,7 +60,7 @@ abbrev pub ArePut : End → Source → Notes → Terms → Placement → ℕ →
     → List (List (Option ℤ)) → ℕ → Type 0
 ArePut end source noted stakes left layer rank old new count =
     (k : ℕ) → k < count
-    → IsPut end source noted (kind_at stakes k) left layer rank (row_at old k) (row_at new k)
+    → IsWorthPut end source noted (kind_at stakes k) left layer rank (row_at old k) (row_at new k)
 
 -- in each kind's row the layers before this one have the same values, and the first few cells of this one were found
 pub record AreFoundRowsTo (end : End) (source : Source) (noted : Notes) (stakes : Terms)

@@ -12,7 +12,7 @@ use Rattle.roll_table.specs.Rolls.{Dice, IsRoll}
 use Rattle.cube_actions.specs.Scores.{MatchScore}
 use Rattle.cube_actions.specs.declared.name.StakesName.{StakesName}
 use Rattle.cube_actions.specs.declared.name.StakesName.TheVariants.{Jacoby, Match}
-use Rattle.word_forms.specs.Form.{Bytes, GivenValues}
+use Rattle.word_forms.specs.Form.{Bytes, FormValues}
 use Rattle.command_line.specs.declared.command.Command.{Command}
 use Rattle.command_line.specs.declared.command.CommandName.{CommandName}
 use Rattle.command_line.specs.declared.command.CommandName.TheVariants as name
@@ -122,7 +122,7 @@ seen-live false p live = live
 -- one value after another, and then the command
 ruleset steps = (name-right, prefix-right, other-right, within-right, or-right, long-right, stakes-right, position-right, roll-right, option-right, ok-right, seen-right, seen-live, rounds-right, shown-right, width-right, away-right, name-at)
 
-values-right : (command : CommandName) (given : GivenValues) → Right (command_values command given)
+values-right : (command : CommandName) (given : FormValues) → Right (command_values command given)
 values-right name.Bound given = search steps depth 9
 values-right name.Race given = search steps depth 9
 values-right name.Solve given = search steps depth 9

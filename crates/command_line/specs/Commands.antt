@@ -5,7 +5,7 @@ use Rattle.std.specs.Str.{bytes_eq}
 use Rattle.hyper_outside.specs.declared.outside.WordsKind.{WordsKind}
 use Rattle.hyper_outside.specs.declared.outside.WordsKind.TheVariants.{Value}
 use Rattle.cube_actions.specs.declared.name.StakesName.TheVariants.{Jacoby}
-use Rattle.word_forms.specs.Form.{Bytes, Form, GivenValues, given_value, is_set}
+use Rattle.word_forms.specs.Form.{Bytes, Form, FormValues, given_value, is_set}
 use Rattle.command_line.specs.declared.command.Command.{Command}
 use Rattle.command_line.specs.declared.command.Command.TheVariants.{Bound, Race, Solve, Show, ShowList, Migrate, Advise, AdviseList, Verify, Ladder, Analyse, Study, Make, Plan, Scan, Reply, Board}
 use Rattle.command_line.specs.declared.command.CommandName.{CommandName}
@@ -42,7 +42,7 @@ bound_form = record {
   flags = codes "board" ∷ [];
 }
 
-abbrev pub bound_values : GivenValues → Asked
+abbrev pub bound_values : FormValues → Asked
 bound_values given =
     value_checked 1 (number_given 3 (given_value (codes "CHECKERS") given)) (λ checkers.
     value_checked 2 (number_given 4096 (given_value (codes "ROUNDS") given)) (λ rounds.
@@ -62,7 +62,7 @@ race_form = record {
   flags = codes "board" ∷ [];
 }
 
-abbrev pub race_values : GivenValues → Asked
+abbrev pub race_values : FormValues → Asked
 race_values given =
     value_checked 1 (number_given 3 (given_value (codes "CHECKERS") given)) (λ checkers.
     value_checked 2 (given_value (codes "POSITION") given) (λ text.
@@ -81,7 +81,7 @@ solve_form = record {
   flags = [];
 }
 
-abbrev pub solve_values : GivenValues → Asked
+abbrev pub solve_values : FormValues → Asked
 solve_values given =
     value_checked 1 (file_name (given_value (codes "FILE") given)) (λ file.
     value_checked 2 (number_or 3 3 (given_value (codes "checkers") given)) (λ checkers.
@@ -106,7 +106,7 @@ show_form = record {
   flags = codes "board" ∷ codes "id" ∷ [];
 }
 
-abbrev pub show_values : GivenValues → Asked
+abbrev pub show_values : FormValues → Asked
 show_values given =
     value_checked 1 (file_name (given_value (codes "FILE") given)) (λ file.
     value_checked 2 (given_value (codes "POSITION") given) (λ text.
@@ -125,7 +125,7 @@ show_list_form = record {
   flags = [];
 }
 
-abbrev pub show_list_values : GivenValues → Asked
+abbrev pub show_list_values : FormValues → Asked
 show_list_values given =
     value_checked 1 (file_name (given_value (codes "FILE") given)) (λ file.
     value_checked 2 (file_name (given_value (codes "positions") given)) (λ list.
@@ -141,7 +141,7 @@ show_match_form = record {
   flags = codes "crawford" ∷ codes "post" ∷ codes "board" ∷ codes "id" ∷ [];
 }
 
-abbrev pub show_at_score : (crawford post board id : Bool) → GivenValues → Asked
+abbrev pub show_at_score : (crawford post board id : Bool) → FormValues → Asked
 show_at_score crawford post board id given =
     value_checked 1 (prefix (given_value (codes "PREFIX") given)) (λ prefix.
     value_checked 2 (given_value (codes "POSITION") given) (λ text.
@@ -154,7 +154,7 @@ show_at_score crawford post board id given =
       id = id;
     }))))))
 
-abbrev pub show_match_values : GivenValues → Asked
+abbrev pub show_match_values : FormValues → Asked
 show_match_values given = show_at_score (is_set (codes "crawford") given)
     (is_set (codes "post") given) (is_set (codes "board") given) (is_set (codes "id") given) given
 
@@ -166,7 +166,7 @@ migrate_form = record {
 }
 
 -- the new name is another one
-abbrev pub migrate_values : GivenValues → Asked
+abbrev pub migrate_values : FormValues → Asked
 migrate_values given =
     value_checked 1 (file_name (given_value (codes "OLD") given)) (λ old.
     value_checked 2 (other_name old (given_value (codes "NEW") given)) (λ new.
@@ -181,7 +181,7 @@ advise_form = record {
 }
 
 -- Who asks whether to take gives the position as the side sees it that was doubled, and no roll.
-abbrev pub advise_values : GivenValues → Asked
+abbrev pub advise_values : FormValues → Asked
 advise_values given =
     let roll = given_value (codes "roll") given in
     value_checked 1 (file_name (given_value (codes "FILE") given)) (λ file.
@@ -206,7 +206,7 @@ advise_list_form = record {
   flags = [];
 }
 
-abbrev pub advise_list_values : GivenValues → Asked
+abbrev pub advise_list_values : FormValues → Asked
 advise_list_values given =
     value_checked 1 (file_name (given_value (codes "FILE") given)) (λ file.
     value_checked 2 (file_name (given_value (codes "rolls") given)) (λ list.
@@ -221,7 +221,7 @@ advise_match_form = record {
   flags = codes "crawford" ∷ codes "post" ∷ codes "board" ∷ codes "take" ∷ [];
 }
 
-abbrev pub advise_at_score : (crawford post board take : Bool) → GivenValues → Asked
+abbrev pub advise_at_score : (crawford post board take : Bool) → FormValues → Asked
 advise_at_score crawford post board take given =
     let roll = given_value (codes "roll") given in
     value_checked 1 (prefix (given_value (codes "PREFIX") given)) (λ prefix.
@@ -241,14 +241,14 @@ advise_at_score crawford post board take given =
       board = board;
     }))))))))))
 
-abbrev pub advise_match_values : GivenValues → Asked
+abbrev pub advise_match_values : FormValues → Asked
 advise_match_values given = advise_at_score (is_set (codes "crawford") given)
     (is_set (codes "post") given) (is_set (codes "board") given) (is_set (codes "take") given) given
 
 abbrev pub verify_form : Form
 verify_form = record { arguments = codes "FILE" ∷ []; options = codes "workers" ∷ []; flags = [] }
 
-abbrev pub verify_values : GivenValues → Asked
+abbrev pub verify_values : FormValues → Asked
 verify_values given =
     value_checked 1 (file_name (given_value (codes "FILE") given)) (λ file.
     value_checked 2 (number_or 64 1 (given_value (codes "workers") given)) (λ workers.
@@ -261,7 +261,7 @@ ladder_form = record {
   flags = [];
 }
 
-abbrev pub ladder_values : GivenValues → Asked
+abbrev pub ladder_values : FormValues → Asked
 ladder_values given =
     value_checked 1 (prefix (given_value (codes "PREFIX") given)) (λ prefix.
     value_checked 2 (number_or 3 3 (given_value (codes "checkers") given)) (λ checkers.
@@ -283,7 +283,7 @@ analyse_form = record {
   flags = codes "full" ∷ codes "board" ∷ [];
 }
 
-abbrev pub analyse_values : GivenValues → Asked
+abbrev pub analyse_values : FormValues → Asked
 analyse_values given =
     value_checked 1 (file_name (given_value (codes "BASE") given)) (λ base.
     value_checked 2 (file_name (given_value (codes "RECORD") given)) (λ rec.
@@ -303,7 +303,7 @@ study_form = record {
   flags = codes "full" ∷ codes "board" ∷ [];
 }
 
-abbrev pub study_values : GivenValues → Asked
+abbrev pub study_values : FormValues → Asked
 study_values given =
     value_checked 1 (file_name (given_value (codes "RECORD") given)) (λ rec.
     value_checked 2 (number_or 4096 64 (given_value (codes "rounds") given)) (λ rounds.
@@ -326,7 +326,7 @@ make_form = record {
 }
 
 -- any number of 64 bits names a record, 0 too
-abbrev pub make_values : GivenValues → Asked
+abbrev pub make_values : FormValues → Asked
 make_values given =
     value_checked 1 (long_number_given (given_value (codes "NUMBER") given)) (λ number.
     value_checked 2 (number_given 1000 (given_value (codes "GAMES") given)) (λ games.
@@ -336,7 +336,7 @@ make_values given =
 abbrev pub plan_form : Form
 plan_form = record { arguments = codes "PREFIX" ∷ []; options = codes "length" ∷ []; flags = [] }
 
-abbrev pub plan_values : GivenValues → Asked
+abbrev pub plan_values : FormValues → Asked
 plan_values given =
     value_checked 1 (prefix (given_value (codes "PREFIX") given)) (λ prefix.
     value_checked 2 (number_or 5 3 (given_value (codes "length") given)) (λ points.
@@ -350,7 +350,7 @@ scan_form = record {
 }
 
 -- a condition has no form here
-abbrev pub scan_values : GivenValues → Asked
+abbrev pub scan_values : FormValues → Asked
 scan_values given =
     value_checked 1 (file_name (given_value (codes "FILE") given)) (λ file.
     value_checked 2 (given_value (codes "CONDITION") given) (λ condition.
@@ -364,7 +364,7 @@ reply_form = record {
   flags = [];
 }
 
-abbrev pub reply_values : GivenValues → Asked
+abbrev pub reply_values : FormValues → Asked
 reply_values given =
     value_checked 1 (file_name (given_value (codes "FILE") given)) (λ file.
     value_checked 2 (given_value (codes "POSITION") given) (λ text.
@@ -376,7 +376,7 @@ reply_values given =
 abbrev pub board_form : Form
 board_form = record { arguments = codes "POSITION" ∷ []; options = []; flags = codes "id" ∷ [] }
 
-abbrev pub board_values : GivenValues → Asked
+abbrev pub board_values : FormValues → Asked
 board_values given =
     value_checked 1 (given_value (codes "POSITION") given) (λ text.
     value_read (position_given text) (λ position.
@@ -423,7 +423,7 @@ command_form name.Scan = scan_form
 command_form name.Reply = reply_form
 command_form name.Board = board_form
 
-abbrev pub command_values : CommandName → GivenValues → Asked
+abbrev pub command_values : CommandName → FormValues → Asked
 command_values name.Bound given = bound_values given
 command_values name.Race given = race_values given
 command_values name.Solve given = solve_values given

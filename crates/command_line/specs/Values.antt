@@ -26,18 +26,18 @@ is_number digits = nat_lt 0 (length digits) && all_ascii_digits digits
     && (not (slice_index digits 0 == 48) || length digits == 1)
 
 -- the number that a word writes
-abbrev pub number_in_word : Bytes → Option ℕ
-number_in_word word = if is_number word then Some (digits_value 10 word) else None
+abbrev pub whole_number : Bytes → Option ℕ
+whole_number word = if is_number word then Some (digits_value 10 word) else None
 
 -- a number from 1 to this limit
 abbrev pub number_within : ℕ → Bytes → Option ℕ
 number_within most word =
-    option_and_then (λ n. if nat_le 1 n && nat_le n most then Some n else None) (number_in_word word)
+    option_and_then (λ n. if nat_le 1 n && nat_le n most then Some n else None) (whole_number word)
 
 -- a number of at most 64 bits
 abbrev pub long_number : Bytes → Option ℕ
 long_number word =
-    option_and_then (λ n. if nat_lt n (2 ^ 64) then Some n else None) (number_in_word word)
+    option_and_then (λ n. if nat_lt n (2 ^ 64) then Some n else None) (whole_number word)
 
 abbrev pub long_number_given : Option Bytes → Option ℕ
 long_number_given given = option_and_then long_number given
@@ -58,7 +58,7 @@ usual_rounds (Some width) = 4096
 
 -- a number from 0 to 64
 abbrev pub points_of : Bytes → Option ℕ
-points_of word = option_and_then (λ n. if nat_le n 64 then Some n else None) (number_in_word word)
+points_of word = option_and_then (λ n. if nat_le n 64 then Some n else None) (whole_number word)
 
 -- the millionths that one to six digits write behind a point
 abbrev pub millionths_behind : Bytes → Option ℕ

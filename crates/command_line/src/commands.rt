@@ -1,5 +1,5 @@
 ghost use Rattle.std.specs.Prelude.{◌≡◌, Bool};
-ghost use Rattle.word_forms.specs.Form.{GivenValues};
+ghost use Rattle.word_forms.specs.Form.{FormValues};
 ghost use Rattle.word_forms.specs.Clap.{HasValues, HasFlags, TellsFlag};
 ghost use Rattle.command_line.specs.Commands.{bound_values, race_values, solve_values, show_values, show_list_values, migrate_values, advise_values, command_values, verify_values, ladder_values, analyse_values, study_values, make_values, plan_values, scan_values, reply_values, board_values, command_form, bound_form, race_form, show_form, advise_form, board_form, analyse_form, study_form, advise_list_values, show_match_form, show_at_score, show_match_values, advise_match_form, advise_at_score, advise_match_values};
 ghost use Rattle.command_line.specs.Reading.{Gives};
@@ -29,7 +29,7 @@ pub(crate) fn read_values(
     name: CommandName,
     values: &ArgMatches<'_>,
 ) -> Result<Command, WordsStop>
-    ensures { (given : GivenValues) → HasValues given values.now
+    ensures { (given : FormValues) → HasValues given values.now
         → HasFlags (command_form name) given values.now
         → Gives (command_values name given) result }
 {
@@ -57,7 +57,7 @@ pub(crate) fn read_values(
 }
 
 fn read_bound(values: &ArgMatches<'_>) -> Result<Command, WordsStop>
-    ensures { (given : GivenValues) → HasValues given values.now
+    ensures { (given : FormValues) → HasValues given values.now
         → HasFlags bound_form given values.now
         → Gives (bound_values given) result }
 {
@@ -79,7 +79,7 @@ fn read_bound(values: &ArgMatches<'_>) -> Result<Command, WordsStop>
 }
 
 fn read_race(values: &ArgMatches<'_>) -> Result<Command, WordsStop>
-    ensures { (given : GivenValues) → HasValues given values.now
+    ensures { (given : FormValues) → HasValues given values.now
         → HasFlags race_form given values.now
         → Gives (race_values given) result }
 {
@@ -97,7 +97,7 @@ fn read_race(values: &ArgMatches<'_>) -> Result<Command, WordsStop>
 }
 
 fn read_solve(alloc: Global, values: &ArgMatches<'_>) -> Result<Command, WordsStop>
-    ensures { (given : GivenValues) → HasValues given values.now
+    ensures { (given : FormValues) → HasValues given values.now
         → Gives (solve_values given) result }
 {
     let Some(file) = file_name(values.get_str("FILE")) else {
@@ -132,7 +132,7 @@ fn read_solve(alloc: Global, values: &ArgMatches<'_>) -> Result<Command, WordsSt
 }
 
 fn read_show(alloc: Global, values: &ArgMatches<'_>) -> Result<Command, WordsStop>
-    ensures { (given : GivenValues) → HasValues given values.now
+    ensures { (given : FormValues) → HasValues given values.now
         → HasFlags show_form given values.now
         → Gives (show_values given) result }
 {
@@ -151,7 +151,7 @@ fn read_show(alloc: Global, values: &ArgMatches<'_>) -> Result<Command, WordsSto
 }
 
 fn read_show_list(alloc: Global, values: &ArgMatches<'_>) -> Result<Command, WordsStop>
-    ensures { (given : GivenValues) → HasValues given values.now
+    ensures { (given : FormValues) → HasValues given values.now
         → Gives (show_list_values given) result }
 {
     let Some(file) = file_name(values.get_str("FILE")) else {
@@ -171,7 +171,7 @@ fn read_show_list(alloc: Global, values: &ArgMatches<'_>) -> Result<Command, Wor
 }
 
 fn read_show_match(alloc: Global, values: &ArgMatches<'_>) -> Result<Command, WordsStop>
-    ensures { (given : GivenValues) → HasValues given values.now
+    ensures { (given : FormValues) → HasValues given values.now
         → HasFlags show_match_form given values.now
         → Gives (show_match_values given) result }
 {
@@ -191,7 +191,7 @@ fn show_at_score(
     board: bool,
     id: bool,
 ) -> Result<Command, WordsStop>
-    ensures { (given : GivenValues) → HasValues given values.now
+    ensures { (given : FormValues) → HasValues given values.now
         → Gives (show_at_score crawford post board id given) result }
 {
     let Some(prefix) = prefix(values.get_str("PREFIX")) else {
@@ -212,7 +212,7 @@ fn show_at_score(
 }
 
 fn read_migrate(alloc: Global, values: &ArgMatches<'_>) -> Result<Command, WordsStop>
-    ensures { (given : GivenValues) → HasValues given values.now
+    ensures { (given : FormValues) → HasValues given values.now
         → Gives (migrate_values given) result }
 {
     let Some(old) = file_name(values.get_str("OLD")) else {
@@ -233,7 +233,7 @@ fn read_migrate(alloc: Global, values: &ArgMatches<'_>) -> Result<Command, Words
 }
 
 fn read_advise(alloc: Global, values: &ArgMatches<'_>) -> Result<Command, WordsStop>
-    ensures { (given : GivenValues) → HasValues given values.now
+    ensures { (given : FormValues) → HasValues given values.now
         → HasFlags advise_form given values.now
         → Gives (advise_values given) result }
 {
@@ -261,7 +261,7 @@ fn read_advise(alloc: Global, values: &ArgMatches<'_>) -> Result<Command, WordsS
 }
 
 fn read_advise_list(alloc: Global, values: &ArgMatches<'_>) -> Result<Command, WordsStop>
-    ensures { (given : GivenValues) → HasValues given values.now
+    ensures { (given : FormValues) → HasValues given values.now
         → Gives (advise_list_values given) result }
 {
     let Some(file) = file_name(values.get_str("FILE")) else {
@@ -285,7 +285,7 @@ fn read_advise_list(alloc: Global, values: &ArgMatches<'_>) -> Result<Command, W
 }
 
 fn read_advise_match(alloc: Global, values: &ArgMatches<'_>) -> Result<Command, WordsStop>
-    ensures { (given : GivenValues) → HasValues given values.now
+    ensures { (given : FormValues) → HasValues given values.now
         → HasFlags advise_match_form given values.now
         → Gives (advise_match_values given) result }
 {
@@ -305,7 +305,7 @@ fn advise_at_score(
     board: bool,
     take: bool,
 ) -> Result<Command, WordsStop>
-    ensures { (given : GivenValues) → HasValues given values.now
+    ensures { (given : FormValues) → HasValues given values.now
         → Gives (advise_at_score crawford post board take given) result }
 {
     let Some(prefix) = prefix(values.get_str("PREFIX")) else {
@@ -339,7 +339,7 @@ fn advise_at_score(
 }
 
 fn read_verify(alloc: Global, values: &ArgMatches<'_>) -> Result<Command, WordsStop>
-    ensures { (given : GivenValues) → HasValues given values.now
+    ensures { (given : FormValues) → HasValues given values.now
         → Gives (verify_values given) result }
 {
     let Some(file) = file_name(values.get_str("FILE")) else {
@@ -356,7 +356,7 @@ fn read_verify(alloc: Global, values: &ArgMatches<'_>) -> Result<Command, WordsS
 }
 
 fn read_ladder(alloc: Global, values: &ArgMatches<'_>) -> Result<Command, WordsStop>
-    ensures { (given : GivenValues) → HasValues given values.now
+    ensures { (given : FormValues) → HasValues given values.now
         → Gives (ladder_values given) result }
 {
     let Some(prefix) = prefix(values.get_str("PREFIX")) else {
@@ -387,7 +387,7 @@ fn read_ladder(alloc: Global, values: &ArgMatches<'_>) -> Result<Command, WordsS
 }
 
 fn read_analyse(alloc: Global, values: &ArgMatches<'_>) -> Result<Command, WordsStop>
-    ensures { (given : GivenValues) → HasValues given values.now
+    ensures { (given : FormValues) → HasValues given values.now
         → HasFlags analyse_form given values.now
         → Gives (analyse_values given) result }
 {
@@ -411,7 +411,7 @@ fn read_analyse(alloc: Global, values: &ArgMatches<'_>) -> Result<Command, Words
 }
 
 fn read_study(alloc: Global, values: &ArgMatches<'_>) -> Result<Command, WordsStop>
-    ensures { (given : GivenValues) → HasValues given values.now
+    ensures { (given : FormValues) → HasValues given values.now
         → HasFlags study_form given values.now
         → Gives (study_values given) result }
 {
@@ -441,7 +441,7 @@ fn read_study(alloc: Global, values: &ArgMatches<'_>) -> Result<Command, WordsSt
 }
 
 fn read_make(alloc: Global, values: &ArgMatches<'_>) -> Result<Command, WordsStop>
-    ensures { (given : GivenValues) → HasValues given values.now
+    ensures { (given : FormValues) → HasValues given values.now
         → Gives (make_values given) result }
 {
     let Some(number) = long_number_given(values.get_str("NUMBER")) else {
@@ -461,7 +461,7 @@ fn read_make(alloc: Global, values: &ArgMatches<'_>) -> Result<Command, WordsSto
 }
 
 fn read_plan(alloc: Global, values: &ArgMatches<'_>) -> Result<Command, WordsStop>
-    ensures { (given : GivenValues) → HasValues given values.now
+    ensures { (given : FormValues) → HasValues given values.now
         → Gives (plan_values given) result }
 {
     let Some(prefix) = prefix(values.get_str("PREFIX")) else {
@@ -478,7 +478,7 @@ fn read_plan(alloc: Global, values: &ArgMatches<'_>) -> Result<Command, WordsSto
 }
 
 fn read_scan(alloc: Global, values: &ArgMatches<'_>) -> Result<Command, WordsStop>
-    ensures { (given : GivenValues) → HasValues given values.now
+    ensures { (given : FormValues) → HasValues given values.now
         → Gives (scan_values given) result }
 {
     let Some(file) = file_name(values.get_str("FILE")) else {
@@ -499,7 +499,7 @@ fn read_scan(alloc: Global, values: &ArgMatches<'_>) -> Result<Command, WordsSto
 }
 
 fn read_reply(alloc: Global, values: &ArgMatches<'_>) -> Result<Command, WordsStop>
-    ensures { (given : GivenValues) → HasValues given values.now
+    ensures { (given : FormValues) → HasValues given values.now
         → Gives (reply_values given) result }
 {
     let Some(file) = file_name(values.get_str("FILE")) else {
@@ -524,7 +524,7 @@ fn read_reply(alloc: Global, values: &ArgMatches<'_>) -> Result<Command, WordsSt
 }
 
 fn read_board(values: &ArgMatches<'_>) -> Result<Command, WordsStop>
-    ensures { (given : GivenValues) → HasValues given values.now
+    ensures { (given : FormValues) → HasValues given values.now
         → HasFlags board_form given values.now
         → Gives (board_values given) result }
 {

@@ -8,7 +8,7 @@ use Rattle.cube_actions.specs.declared.name.StakesName.TheVariants.{Cubeless, Mo
 use Rattle.cube_actions.specs.Stakes.{bound_of}
 use Rattle.cube_actions.specs.Starts.{StartPairs}
 use Rattle.turn_rule.specs.declared.game.Game.{Game}
-use Rattle.word_pages.specs.Flaws.{ArePairsWithin}
+use Rattle.word_pages.specs.Flaws.{LieWithin}
 use Rattle.interval_words.specs.Core.{words_in}
 use Rattle.interval_words.specs.Numbers.{states_in, value_of}
 use Rattle.interval_words.specs.WordLists.{AreRight, list_of, pair_at}
@@ -42,11 +42,11 @@ bound-named JacobyBeavers starts = refl
 bound-named (Match score) starts = refl
 
 -- pairs within the bound are the pairs of states
-pairs-are : (bound : ℤ) (list : List ℕ) (state : ℕ) → ArePairsWithin bound list → 2 * state + 1 < length list → IsWithin bound (pair_at list state)
+pairs-are : (bound : ℤ) (list : List ℕ) (state : ℕ) → LieWithin bound list → 2 * state + 1 < length list → IsWithin bound (pair_at list state)
 unfolding value_of
 pairs-are bound list state within there = within state there
 
-pub words-right : (game : Game) (rounds : ℕ) (list : List ℕ) → length list ≡ words_in game → ArePairsWithin game.stakes.bound list → AreRight (list_of game rounds list)
+pub words-right : (game : Game) (rounds : ℕ) (list : List ℕ) → length list ≡ words_in game → LieWithin game.stakes.bound list → AreRight (list_of game rounds list)
 words-right game rounds list long within = record {
   long = long;
   within = λ state there. pairs-are game.stakes.bound list state within (omega (arith, there, long));

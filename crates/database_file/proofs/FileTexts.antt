@@ -12,7 +12,7 @@ use Rattle.turn_rule.specs.declared.game.Game.{Game}
 use Rattle.word_pages.specs.declared.flaws.Flaw.{Flaw}
 use Rattle.word_pages.specs.declared.version.Version.{Version}
 use Rattle.word_pages.specs.declared.version.Version.TheVariants.{One, Two, Three}
-use Rattle.word_pages.specs.Flaws.{ArePairsWithin}
+use Rattle.word_pages.specs.Flaws.{LieWithin}
 use Rattle.word_pages.specs.Pages.{AreBytes, pages_in, pages_text}
 use Rattle.word_pages.specs.Words.{Fits, word_size}
 use Rattle.word_pages.proofs.PageTexts.{length-pages}
@@ -99,7 +99,7 @@ record TextPages (version : Version) (head : FileHead) (list : List ℕ) : Type 
   some : 0 < words_a_page (header_of version head).kinds
   many : length list ≡ 2 * (header_of version head).kinds * (header_of version head).positions
   fit : All (Fits version) list
-  within : ArePairsWithin (bound_of head.name) list
+  within : LieWithin (bound_of head.name) list
 
 text-pages : (version : Version) (head : FileHead) (words : WordList) (bytes : List ℕ) → IsText version head words bytes → TextPages version head words.list
 text-pages version head words bytes is =
@@ -109,8 +109,8 @@ text-pages version head words bytes is =
     let same = head-read version head bytes (begins-with version head words bytes is).0 in
     let count : length words.list ≡ 2 * h.kinds * h.positions =
     is.right.long ∙ ap core.words_in (is.fitting.game ∙ ap game_in (sym same)) ∙ sym (words-many h bytes valid) in
-    let within : ArePairsWithin (bound_of head.name) words.list =
-    subst (λ (bound : ℤ). ArePairsWithin bound words.list) (ap (λ (game : Game). game.stakes.bound) is.fitting.game ∙ bound-named head.name head.starts) (right-within words is.right) in
+    let within : LieWithin (bound_of head.name) words.list =
+    subst (λ (bound : ℤ). LieWithin bound words.list) (ap (λ (game : Game). game.stakes.bound) is.fitting.game ∙ bound-named head.name head.starts) (right-within words is.right) in
     record {
       valid = valid;
       some = pages.some;

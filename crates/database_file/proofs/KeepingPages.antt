@@ -3,7 +3,7 @@ use Rattle.std.proofs.Common.{◌≡◌, ◌∙◌, ℕ, ◌*◌, ◌+◌, ◌<�
 use Rattle.std.proofs.lemmas.List.{length-replicate}
 use Rattle.std.proofs.Math.ListN.{replicate}
 use Rattle.outside_log.specs.Files.{bytes_from}
-use Rattle.word_pages.specs.Flaws.{ArePairsWithin}
+use Rattle.word_pages.specs.Flaws.{LieWithin}
 use Rattle.word_pages.proofs.Texts.{length-words_of}
 use Rattle.database_file.specs.declared.batch.Batch.{Batch}
 use Rattle.database_file.specs.declared.pages.Pages.{Pages}
@@ -39,7 +39,7 @@ module _ (pages : Pages) (batch : Batch) (read : List Found) (old new : Kept) (k
           let told = subst (λ (found : Found). AnswersOn pages (batch.first + number) all found) is (answers.each number (omega (arith, here, answers.many)) all (is_part pages batch before bytes long few)) in
           subst (λ (n : ℕ). IsPage pages n page.1.items) (sym at) (record {
             long = ap (λ (words : List ℕ). length words) told.1 ∙ length-words_of pages.version (words_on pages (batch.first + number)) _;
-            within = subst (ArePairsWithin pages.bound) (sym told.1) (page-within pages all (batch.first + number) told.0);
+            within = subst (LieWithin pages.bound) (sym told.1) (page-within pages all (batch.first + number) told.0);
           })
     ]
 

@@ -7,7 +7,7 @@ use Rattle.std.proofs.Math.ListN.{replicate}
 use Rattle.lru.specs.LruCache.{LruCache, lru_cache, promoted, put_entries}
 use Rattle.lru.proofs.CallerLemmas.{Contains-lookup, Contains-promoted, Contains-put_entries}
 use Rattle.outside_log.specs.Files.{bytes_from}
-use Rattle.word_pages.specs.Flaws.{ArePairsWithin}
+use Rattle.word_pages.specs.Flaws.{LieWithin}
 use Rattle.word_pages.proofs.Texts.{length-words_of}
 use Rattle.database_file.specs.declared.pages.Pages.{Pages}
 use Rattle.database_file.specs.Pages.{flaw_on, page_words, whole_page, words_on}
@@ -55,5 +55,5 @@ one-page pages page part old new none read =
     let is : new ≡ page_words pages (before ++ part) page = told.1 ∙ ap (λ (old : List ℕ). old ++ page_words pages (before ++ part) page) none in
     record {
       long = ap (λ (words : List ℕ). length words) is ∙ length-words_of pages.version (words_on pages page) _;
-      within = subst (ArePairsWithin pages.bound) (sym is) (page-within pages (before ++ part) page told.0);
+      within = subst (LieWithin pages.bound) (sym is) (page-within pages (before ++ part) page told.0);
     }

@@ -8,7 +8,7 @@ use Rattle.outside_log.specs.Files.{bytes_from}
 use Rattle.cube_actions.specs.Stakes.{bound_of}
 use Rattle.word_pages.specs.declared.version.Version.{Version}
 use Rattle.word_pages.specs.declared.flaws.Flaw.{Flaw}
-use Rattle.word_pages.specs.Flaws.{ArePairsWithin}
+use Rattle.word_pages.specs.Flaws.{LieWithin}
 use Rattle.interval_words.specs.Core as core
 use Rattle.base_head.specs.declared.header.Header.{Header}
 use Rattle.base_head.specs.Fronts.{bad_of, digest_in, head_in, starts_fault}
@@ -150,14 +150,14 @@ base-told oldest (Some bytes) there front at list base same is told pages given 
 
 pub list-fits : (oldest : Version) (file : Option Read) (front : Front) (bytes list : List ℕ) → IsHeader front.header → AnswersFront oldest file (Ok front)
     → (flaw_in (pages_behind front.header front.digest) bytes ≡ None) × (list ≡ words_listed (pages_behind front.header front.digest) bytes)
-    → (length list ≡ core.words_in (game_in front.head)) × ArePairsWithin (bound_of front.head.name) list
+    → (length list ≡ core.words_in (game_in front.head)) × LieWithin (bound_of front.head.name) list
 list-fits oldest None front bytes list valid told pages = absurd told
 list-fits oldest (Some file) front bytes list valid told pages =
     let h = front.header in
     let head : front.head ≡ head_in h file.bytes = told.head ∙ ap (λ (h : Header). head_in h file.bytes) (sym told.header) in
     let some = (pages-valid h front.digest valid).some in (
       ap (λ (list : List ℕ). length list) pages.1 ∙ length-words_in (pages_behind h front.digest) bytes some ∙ words-many h file.bytes valid ∙ ap (λ (head : FileHead). core.words_in (game_in head)) (sym head),
-      subst (λ bound. ArePairsWithin bound list) (ap (λ (head : FileHead). bound_of head.name) (sym head)) (subst (ArePairsWithin (bound_of h.name)) (sym pages.1)
+      subst (λ bound. LieWithin bound list) (ap (λ (head : FileHead). bound_of head.name) (sym head)) (subst (LieWithin (bound_of h.name)) (sym pages.1)
           (words-within (pages_behind h front.digest) bytes (h.kinds * 1024) (h.kinds * h.positions) (mul_assoc 2 h.kinds 1024) (mul_assoc 2 h.kinds h.positions) pages.0)),
     )
 

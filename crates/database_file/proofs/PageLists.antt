@@ -10,7 +10,7 @@ use Rattle.directed_fixed.specs.declared.word.TheConstants.{WORD_OFFSET}
 use Rattle.directed_fixed.specs.Bounds.{IsWithin}
 use Rattle.sha2.specs.Sha256.{sha256}
 use Rattle.word_pages.specs.Words.{Fits, word_size, words_in_bytes, words_bytes}
-use Rattle.word_pages.specs.Flaws.{ArePairsWithin, pair_in_words, word_value}
+use Rattle.word_pages.specs.Flaws.{LieWithin, pair_in_words, unpacked}
 use Rattle.word_pages.specs.Pages.{AreBytes, first_pages, page_flaw, page_size, page_text, pages_from, pages_in, pages_text}
 use Rattle.word_pages.proofs.Back.{words_of-text}
 use Rattle.word_pages.proofs.PageFlaws.{page_flaw-take}
@@ -99,7 +99,7 @@ AreBytes-take n bytes are k = by_place (cases_lt k n)
 
 -- a page without a flaw is the page of its words, which lie within the bound
 page-back : (pages : Pages) (bytes : List ℕ) (page : ℕ) → AreBytes bytes → flaw_on pages bytes page ≡ None
-    → (take (page_size pages.version (words_on pages page)) (drop (page * whole_page pages) bytes) ≡ page_text pages.version (binding_on pages page) (page_words pages bytes page)) × ArePairsWithin pages.bound (page_words pages bytes page)
+    → (take (page_size pages.version (words_on pages page)) (drop (page * whole_page pages) bytes) ≡ page_text pages.version (binding_on pages page) (page_words pages bytes page)) × LieWithin pages.bound (page_words pages bytes page)
 page-back pages bytes page are right =
     let n = words_on pages page in
     let size = page_size pages.version n in
@@ -108,7 +108,7 @@ page-back pages bytes page are right =
     let same = words_of-take pages.version n size there (omega arith) in
     let back = (page-exactly pages.version (binding_on pages page) pages.bound n (pages.at + page * whole_page pages) (take size there) (AreBytes-take size there (AreBytes-drop (page * whole_page pages) bytes are)) (length-take-le size there long)).0
     (page_flaw-take pages.version (binding_on pages page) pages.bound n (pages.at + page * whole_page pages) there ∙ right) in
-    (back.0 ∙ ap (page_text pages.version (binding_on pages page)) same, subst (ArePairsWithin pages.bound) same back.1)
+    (back.0 ∙ ap (page_text pages.version (binding_on pages page)) same, subst (LieWithin pages.bound) same back.1)
 
 -- how many bytes the first n pages have
 abbrev pub first_length : Pages → ℕ → ℕ
@@ -170,9 +170,9 @@ pages-back pages bytes some are long right =
 -- ---- pairs within the bound
 
 pair-of : (words others : List ℕ) (k j : ℕ) → slice_index words (2 * k) ≡ slice_index others (2 * j) → slice_index words (2 * k + 1) ≡ slice_index others (2 * j + 1) → pair_in_words words k ≡ pair_in_words others j
-pair-of words others k j lower upper = ap₂ (λ (lower : ℕ) (upper : ℕ). record { lower = word_value lower; upper = word_value upper }) lower upper
+pair-of words others k j lower upper = ap₂ (λ (lower : ℕ) (upper : ℕ). record { lower = unpacked lower; upper = unpacked upper }) lower upper
 
-within-append : (bound : ℤ) (m : ℕ) (words others : List ℕ) → length words ≡ 2 * m → ArePairsWithin bound words → ArePairsWithin bound others → ArePairsWithin bound (words ++ others)
+within-append : (bound : ℤ) (m : ℕ) (words others : List ℕ) → length words ≡ 2 * m → LieWithin bound words → LieWithin bound others → LieWithin bound (words ++ others)
 within-append bound m words others even first then k there = by_place (cases_lt (2 * k + 1) (length words))
   where
     by_place : (2 * k + 1 < length words) ⊎ (length words ≤ 2 * k + 1) → IsWithin bound (pair_in_words (words ++ others) k)
@@ -188,23 +188,23 @@ even-before : (pages : Pages) (bytes : List ℕ) (half all n : ℕ) → pages.si
 even-before pages bytes half all n size count =
     omega (arith, length-first_words pages bytes n, count, ap (λ size. n * size) size ∙ mul_left_comm n 2 half)
 
-first-within : (pages : Pages) (bytes : List ℕ) (half all n : ℕ) → pages.size ≡ 2 * half → pages.count ≡ 2 * all → ((page : ℕ) → page < n → ArePairsWithin pages.bound (page_words pages bytes page)) → ArePairsWithin pages.bound (first_words pages bytes n)
+first-within : (pages : Pages) (bytes : List ℕ) (half all n : ℕ) → pages.size ≡ 2 * half → pages.count ≡ 2 * all → ((page : ℕ) → page < n → LieWithin pages.bound (page_words pages bytes page)) → LieWithin pages.bound (first_words pages bytes n)
 first-within pages bytes half all zero size count each = λ k there. absurd (omega (arith, there))
 first-within pages bytes half all (suc n) size count each =
     within-append pages.bound (min (n * half) all) (first_words pages bytes n) (page_words pages bytes n) (even-before pages bytes half all n size count)
     (first-within pages bytes half all n size count (λ page there. each page (omega (arith, there)))) (each n (omega arith))
 
 -- the words of pages without a flaw lie within the bound
-pub page-within : (pages : Pages) (bytes : List ℕ) (page : ℕ) → flaw_on pages bytes page ≡ None → ArePairsWithin pages.bound (page_words pages bytes page)
+pub page-within : (pages : Pages) (bytes : List ℕ) (page : ℕ) → flaw_on pages bytes page ≡ None → LieWithin pages.bound (page_words pages bytes page)
 page-within pages bytes page right = none-within pages.version pages.bound (place_of pages page) (page_words pages bytes page) (none_or _ _ (none_or _ _ right).1).1
 
-pub words-within : (pages : Pages) (bytes : List ℕ) (half all : ℕ) → pages.size ≡ 2 * half → pages.count ≡ 2 * all → flaw_in pages bytes ≡ None → ArePairsWithin pages.bound (words_listed pages bytes)
+pub words-within : (pages : Pages) (bytes : List ℕ) (half all : ℕ) → pages.size ≡ 2 * half → pages.count ≡ 2 * all → flaw_in pages bytes ≡ None → LieWithin pages.bound (words_listed pages bytes)
 words-within pages bytes half all size count right =
     first-within pages bytes half all (page_count pages) size count (λ page there. page-within pages bytes page (each_right pages bytes (page_count pages) right page there))
 
 -- ---- the pages of words
 
-within-part : (bound : ℤ) (m n : ℕ) (words : List ℕ) → ArePairsWithin bound words → ArePairsWithin bound (take n (drop (2 * m) words))
+within-part : (bound : ℤ) (m n : ℕ) (words : List ℕ) → LieWithin bound words → LieWithin bound (take n (drop (2 * m) words))
 within-part bound m n words within k there =
     let long = length-take n (drop (2 * m) words) in
     let rest = length-drop (2 * m) words in
@@ -215,7 +215,7 @@ within-part bound m n words within k there =
     subst (IsWithin bound) (sym (pair-of (take n (drop (2 * m) words)) words k (m + k) lower upper)) (within (m + k) (omega (arith, there, long, rest)))
 
 -- a page of words that fit and lie within the bound has no flaw, and these are its words
-page-of : (pages : Pages) (half : ℕ) (words rest : List ℕ) (page : ℕ) → 0 < pages.size → pages.size ≡ 2 * half → length words ≡ pages.count → All (Fits pages.version) words → ArePairsWithin pages.bound words → page < page_count pages
+page-of : (pages : Pages) (half : ℕ) (words rest : List ℕ) (page : ℕ) → 0 < pages.size → pages.size ≡ 2 * half → length words ≡ pages.count → All (Fits pages.version) words → LieWithin pages.bound words → page < page_count pages
     → (flaw_on pages (pages_text pages.version pages.digest pages.size words ++ rest) page ≡ None) × (page_words pages (pages_text pages.version pages.digest pages.size words ++ rest) page ≡ take pages.size (drop (page * pages.size) words))
 page-of pages half words rest page some even count fit within there =
     let version = pages.version in
@@ -234,7 +234,7 @@ page-of pages half words rest page some even count fit within there =
     drop-append-le (page * whole_page pages) text rest room ∙ ap (λ bytes. bytes ++ rest) (page-stands version pages.digest pages.size words page some last) ∙ append_assoc (page_text version binding part) others rest in
     let fits = All-take (Fits version) pages.size (drop (page * pages.size) words) (All-drop (Fits version) (page * pages.size) words fit) in
     let place : page * pages.size ≡ 2 * (page * half) = ap (λ size. page * size) even ∙ mul_left_comm page 2 half in
-    let inside : ArePairsWithin pages.bound part = subst (λ at. ArePairsWithin pages.bound (take pages.size (drop at words))) (sym place) (within-part pages.bound (page * half) pages.size words within) in (
+    let inside : LieWithin pages.bound part = subst (λ at. LieWithin pages.bound (take pages.size (drop at words))) (sym place) (within-part pages.bound (page * half) pages.size words within) in (
       ap₂ (λ (n : ℕ) (bytes : List ℕ). page_flaw version binding pages.bound n (pages.at + page * whole_page pages) bytes) (sym n) stands ∙ page-right version binding pages.bound (pages.at + page * whole_page pages) part (others ++ rest) fits inside,
       ap₂ (λ (n : ℕ) (bytes : List ℕ). words_in_bytes version n bytes) (sym n) stands
           ∙ ap (words_in_bytes version (length part)) (append_assoc (words_bytes version part) (sha256 (binding ++ words_bytes version part)) (others ++ rest)) ∙ words_of-text version part (sha256 (binding ++ words_bytes version part) ++ (others ++ rest)) fits,
@@ -243,7 +243,7 @@ page-of pages half words rest page some even count fit within there =
     le_min : (a b : ℕ) → min a b ≤ b
     le_min a b = omega arith
 
-pages-of : (pages : Pages) (half : ℕ) (words rest : List ℕ) (n : ℕ) → 0 < pages.size → pages.size ≡ 2 * half → length words ≡ pages.count → All (Fits pages.version) words → ArePairsWithin pages.bound words → n ≤ page_count pages
+pages-of : (pages : Pages) (half : ℕ) (words rest : List ℕ) (n : ℕ) → 0 < pages.size → pages.size ≡ 2 * half → length words ≡ pages.count → All (Fits pages.version) words → LieWithin pages.bound words → n ≤ page_count pages
     → (first_flaw pages (pages_text pages.version pages.digest pages.size words ++ rest) n ≡ None) × (first_words pages (pages_text pages.version pages.digest pages.size words ++ rest) n ≡ take (n * pages.size) words)
 pages-of pages half words rest zero some even count fit within there = (refl, ap (λ n. take n words) (none pages.size))
   where
@@ -258,7 +258,7 @@ pages-of pages half words rest (suc n) some even count fit within there =
     )
 
 -- so are all pages of such words
-pub pages-right : (pages : Pages) (half : ℕ) (words rest : List ℕ) → 0 < pages.size → pages.size ≡ 2 * half → length words ≡ pages.count → All (Fits pages.version) words → ArePairsWithin pages.bound words
+pub pages-right : (pages : Pages) (half : ℕ) (words rest : List ℕ) → 0 < pages.size → pages.size ≡ 2 * half → length words ≡ pages.count → All (Fits pages.version) words → LieWithin pages.bound words
     → (flaw_in pages (pages_text pages.version pages.digest pages.size words ++ rest) ≡ None) × (words_listed pages (pages_text pages.version pages.digest pages.size words ++ rest) ≡ words)
 pages-right pages half words rest some even count fit within =
     let all = pages-of pages half words rest (page_count pages) some even count fit within (omega arith) in
@@ -267,7 +267,7 @@ pages-right pages half words rest some even count fit within =
 -- pages have no flaw exactly where they are those of their words, which lie within the bound
 pub pages-exactly : (pages : Pages) (half all : ℕ) (bytes : List ℕ) → 0 < pages.size → pages.size ≡ 2 * half → pages.count ≡ 2 * all → AreBytes bytes
     → length bytes ≡ word_size pages.version * pages.count + 32 * page_count pages → pages.bound ≤ℤ WORD_OFFSET
-    → (flaw_in pages bytes ≡ None) ↔ ((bytes ≡ pages_text pages.version pages.digest pages.size (words_listed pages bytes)) × ArePairsWithin pages.bound (words_listed pages bytes))
+    → (flaw_in pages bytes ≡ None) ↔ ((bytes ≡ pages_text pages.version pages.digest pages.size (words_listed pages bytes)) × LieWithin pages.bound (words_listed pages bytes))
 pages-exactly pages half all bytes some size count are long bound = (
   λ right. (pages-back pages bytes some are long right, words-within pages bytes half all size count right),
   λ text.

@@ -4,7 +4,7 @@ use Rattle.std.proofs.Math.Nat.{div-eq_of_lt-le, div-mul-le_self, lt-div-mul-add
 use Rattle.std.specs.Option.{option_map}
 use Rattle.interval_words.specs.WordLists.{AreRight, list_of}
 use Rattle.word_pages.specs.declared.flaws.Flaw.{Flaw}
-use Rattle.word_pages.specs.Flaws.{ArePairsWithin}
+use Rattle.word_pages.specs.Flaws.{LieWithin}
 use Rattle.word_pages.specs.Pages.{AreBytes, pages_in, pages_text}
 use Rattle.word_pages.specs.declared.version.Version.{Version}
 use Rattle.word_pages.specs.Words.{word_size}
@@ -70,7 +70,7 @@ right-file oldest bytes are right =
     let within = words-within pages rest (h.kinds * 1024) (h.kinds * h.positions) (mul_assoc 2 h.kinds 1024) two no_flaw in (
       pages-back pages rest some (AreBytes-drop k bytes are) long no_flaw,
       words-right (game_in head) h.rounds (words_of_file bytes) (length-words_in pages rest some ∙ words-many h bytes valid)
-          (subst (λ bound. ArePairsWithin bound (words_of_file bytes)) (sym (bound-named head.name head.starts)) within),
+          (subst (λ bound. LieWithin bound (words_of_file bytes)) (sym (bound-named head.name head.starts)) within),
     )
   where
     mapped_none : (flaw : Option Flaw) → option_map bad_of flaw ≡ None → flaw ≡ None

@@ -9,7 +9,7 @@ use Rattle.interval_words.specs.Numbers.{value_of}
 use Rattle.interval_words.specs.WordLists.{WordList, AreRight, states_of}
 use Rattle.word_pages.specs.declared.version.Version.{Version}
 use Rattle.word_pages.specs.Words.{Fits}
-use Rattle.word_pages.specs.Flaws.{ArePairsWithin}
+use Rattle.word_pages.specs.Flaws.{LieWithin}
 use Rattle.word_pages.proofs.Within.{within-fit}
 
 low : (name : StakesName) → bound_of name ≤ℤ WORD_OFFSET
@@ -23,7 +23,7 @@ low (Match score) = omega arith
 pub bound-low : (stakes : Terms) → IsValid stakes → stakes.bound ≤ℤ WORD_OFFSET
 bound-low stakes valid = subst (λ bound. bound ≤ℤ WORD_OFFSET) (sym valid.bound) (low stakes.name)
 
-pub right-within : (words : WordList) → AreRight words → ArePairsWithin words.game.stakes.bound words.list
+pub right-within : (words : WordList) → AreRight words → LieWithin words.game.stakes.bound words.list
 unfolding value_of
 right-within words right k lt = right.within k (omega (arith, lt, right.long))
 

@@ -16,7 +16,7 @@ use Rattle.hyper_outside.specs.declared.outside.LookStop.TheVariants as looks
 use Rattle.turn_rule.specs.Turn.{Words}
 use Rattle.turn_rule.specs.Looks.{AreStakesOf, Damage, Notes, Source, all_told}
 use Rattle.word_pages.specs.declared.flaws.Flaw.{Flaw}
-use Rattle.word_pages.specs.Flaws.{ArePairsWithin, word_value}
+use Rattle.word_pages.specs.Flaws.{LieWithin, unpacked}
 use Rattle.interval_words.specs.Numbers.{word_of}
 use Rattle.base_head.specs.Heads.{FileHead, stakes_of}
 use Rattle.base_head.specs.Headers.{IsHeader, digest_place, front_length}
@@ -55,7 +55,7 @@ flaw_at header file p = flaw_on (pages_told header file) (page_bytes header file
 -- the word of a state that its page has
 abbrev pub word_at : Header → Option (List ℕ) → Words
 word_at header file end p k =
-    word_value (slice_index (page_words (pages_told header file) (page_bytes header file) (page_of p))
+    unpacked (slice_index (page_words (pages_told header file) (page_bytes header file) (page_of p))
     (word_of end (state_on_page header.kinds p k)))
 
 -- what the bound alone tells
@@ -100,7 +100,7 @@ pub record IsSourceOfHead (source : Source) (head : FileHead) : Type 0 where
 -- as many words as the page with this number has, in pairs within the bound, the lower word at most the upper one
 pub record IsPage (pages : Pages) (page : ℕ) (words : List ℕ) : Type 0 where
   pub long : length words ≡ words_on pages page
-  pub within : ArePairsWithin pages.bound words
+  pub within : LieWithin pages.bound words
 
 -- where these are the bytes of the pages, the page has no flaw, and these are its words
 pub record IsPageOf (pages : Pages) (bytes : List ℕ) (page : ℕ) (words : List ℕ) : Type 0 where
@@ -171,7 +171,7 @@ AnswersOnePage pages bytes page (Err _) = ⊤
 abbrev pub AnswersWord : Pages → List ℕ → Spot → Result ℤ PagesStop → Type 0
 AnswersWord pages bytes spot (Ok word) =
     (flaw_on pages bytes spot.page ≡ None)
-    × (word ≡ word_value (slice_index (page_words pages bytes spot.page)
+    × (word ≡ unpacked (slice_index (page_words pages bytes spot.page)
     (word_of spot.end spot.state)))
 AnswersWord pages bytes spot (Err (BadPage flaw)) = flaw_on pages bytes spot.page ≡ Some flaw
 AnswersWord pages bytes spot (Err _) = ⊤

@@ -5,7 +5,7 @@ ghost use Rattle.hyper_outside.specs.Causes.{Rose};
 ghost use Rattle.outside_log.specs.Log.{standing};
 ghost use Rattle.outside_log.specs.Readings.{ReadsOn, is_faithful, read_faults};
 ghost use Rattle.outside_log.specs.Files.{bytes_from};
-ghost use Rattle.word_pages.specs.Flaws.{ArePairsWithin, word_value};
+ghost use Rattle.word_pages.specs.Flaws.{LieWithin, unpacked};
 ghost use Rattle.interval_words.specs.Numbers.{word_of};
 ghost use Rattle.database_file.specs.declared.pages.PagesStop.TheVariants.{ReadFault};
 ghost use Rattle.database_file.specs.Pages.{ArePages, page_count, words_on};
@@ -58,9 +58,9 @@ fn read_page<F: Files>(
 /// The word of a state at an end, among the words of its page.
 fn word_in(words: &[u64], state: usize, end: End, bound: Fixed) -> Fixed
     requires state { 2 * state + 1 < length words.now }
-    requires within { ArePairsWithin bound words.now }
+    requires within { LieWithin bound words.now }
     requires bound { bound ≤ℤ pos (2 ^ 36) }
-    ensures word { result ≡ word_value (slice_index words.now (word_of end state)) }
+    ensures word { result ≡ unpacked (slice_index words.now (word_of end state)) }
     ensures within { IsWithinUnits bound result }
 {
     match end {

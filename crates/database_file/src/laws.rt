@@ -4,7 +4,7 @@ ghost use Rattle.word_pages.specs.declared.version.Version.{Version};
 ghost use Rattle.word_pages.specs.declared.version.Version.TheVariants.{Three};
 ghost use Rattle.word_pages.specs.Sealed.{AreTwins};
 ghost use Rattle.word_pages.specs.Words.{Fits, word_size};
-ghost use Rattle.word_pages.specs.Flaws.{ArePairsWithin};
+ghost use Rattle.word_pages.specs.Flaws.{LieWithin};
 ghost use Rattle.word_pages.specs.Pages.{AreBytes, pages_text};
 ghost use Rattle.interval_words.specs.WordLists.{AreRight, WordList, list_of};
 ghost use Rattle.base_head.specs.Fronts.{digest_in, head_in};
@@ -36,10 +36,10 @@ pub fn right_pages_are_their_words()
         → pages.bound ≤ℤ pos (2 ^ 36)
         → (flaw_in pages bytes ≡ None)
         ↔ ((bytes ≡ pages_text pages.version pages.digest pages.size (words_listed pages bytes))
-        × ArePairsWithin pages.bound (words_listed pages bytes)) }
+        × LieWithin pages.bound (words_listed pages bytes)) }
     ensures pages { (pages : Pages) (half : ℕ) (words rest : List ℕ) → 0 < half
         → pages.size ≡ 2 * half → length words ≡ pages.count
-        → All (Fits pages.version) words → ArePairsWithin pages.bound words
+        → All (Fits pages.version) words → LieWithin pages.bound words
         → (flaw_in pages (pages_text pages.version pages.digest pages.size words ++ rest) ≡ None)
         × (words_listed pages (pages_text pages.version pages.digest pages.size words ++ rest)
         ≡ words) }

@@ -4,7 +4,7 @@ ghost use Rattle.cube_actions.specs.Stakes.{bound_of};
 ghost use Rattle.hyper_outside.specs.Causes.{Rose};
 ghost use Rattle.outside_log.specs.Log.{standing};
 ghost use Rattle.outside_log.specs.Readings.{ReadsOn, is_faithful, read_faults};
-ghost use Rattle.word_pages.specs.Flaws.{ArePairsWithin};
+ghost use Rattle.word_pages.specs.Flaws.{LieWithin};
 ghost use Rattle.interval_words.specs.Core.{words_in};
 ghost use Rattle.base_head.specs.Headers.{IsHeader};
 ghost use Rattle.database_file.specs.declared.stop.LoadStop.TheVariants.{ReadFault, NoMemory};
@@ -92,7 +92,7 @@ pub(crate) fn pages_behind(header: &Header, digest: [u8; 32]) -> Pages
 /// The base of a head with the words of a list.
 fn base_of(alloc: Global, head: Head, list: Vec<u64>) -> Result<Base, NoMemory>
     requires long { length list.items ≡ words_in (game_in head) }
-    requires within { ArePairsWithin (bound_of head.name) list.items }
+    requires within { LieWithin (bound_of head.name) list.items }
     ensures { IfOk result (λ base. base ≡ base_with head list.items) }
 {
     let index = LiveIndex::new(alloc, head.checkers())?;

@@ -8,8 +8,8 @@ use Rattle.game_census.specs.declared.gap.Near.{Near}
 use Rattle.game_census.specs.declared.gap.Border.{Border}
 
 -- how much more one choice leads to than another, at least and at most
-abbrev pub gap_between : Bounds → Bounds → Gap
-gap_between one another = record { low = one.lower -ℤ another.upper; up = one.upper -ℤ another.lower }
+abbrev pub gap_from : Bounds → Bounds → Gap
+gap_from one another = record { low = one.lower -ℤ another.upper; up = one.upper -ℤ another.lower }
 
 -- by how much two choices differ at most
 abbrev pub farthest : Gap → ℕ
@@ -21,11 +21,11 @@ is_decided gap = int_lt (pos 0) gap.low || int_lt gap.up (pos 0)
 
 -- how much more a take gives the doubler than a pass
 abbrev pub answer_gap : CubeAction → Gap
-answer_gap action = gap_between action.take action.pass
+answer_gap action = gap_from action.take action.pass
 
 -- how much more a double gives, as the other side answers it best, than rolling on
 abbrev pub offer_gap : Bounds → CubeAction → Gap
-offer_gap rolling action = gap_between (doubling_of action) rolling
+offer_gap rolling action = gap_from (doubling_of action) rolling
 
 -- the one found, unless the next is known to be nearer
 abbrev pub nearest : Option Near → Near → Near

@@ -1,6 +1,6 @@
 ghost use Rattle.std.specs.Prelude.{◌≡◌, ◌-ℤ◌};
 ghost use Rattle.game_census.specs.Censuses.{nowhere};
-ghost use Rattle.game_census.specs.Gaps.{gap_between, farthest, is_decided, nearest, nearest_decided, with_near};
+ghost use Rattle.game_census.specs.Gaps.{gap_from, farthest, is_decided, nearest, nearest_decided, with_near};
 
 use directed_fixed::{Fixed, Pair};
 use position_rank::Position;
@@ -22,7 +22,7 @@ fn difference(one: Fixed, another: Fixed) -> i64
 impl Gap {
     /// How much more the first leads to than the second.
     pub(crate) fn between(one: Pair, another: Pair) -> Gap
-        ensures { result ≡ gap_between one another }
+        ensures { result ≡ gap_from one another }
     {
         Gap {
             low: difference(one.lower(), another.upper()),

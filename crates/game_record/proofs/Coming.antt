@@ -8,7 +8,7 @@ use Rattle.game_record.specs.declared.line.LineKind.{LineKind}
 use Rattle.game_record.specs.declared.line.LineKind.TheVariants.{OfTitle, OfCheckers, OfStakes, OfGame, OfRoll, OfDouble, OfTake, OfPass, OfEnd, OfStop, OfClose}
 use Rattle.game_record.specs.declared.stage.Next.{Next}
 use Rattle.game_record.specs.declared.stage.Next.TheVariants.{Title, Checkers, Stakes, FirstGame, FirstRoll, Turn, Answer, Roll, End, NextGame, Close, Nothing}
-use Rattle.game_record.specs.Turns.{coming_after, kind_of_deed, on_game, on_turn, other_player, IsInGame}
+use Rattle.game_record.specs.Turns.{allowed, kind_of_deed, on_game, on_turn, other_player, IsInGame}
 use Rattle.game_record.proofs.FormLaws.{some-one}
 
 -- what a line of each kind leads to
@@ -37,7 +37,7 @@ game-next true false x e = absurd (cc)
 game-next false true x e = absurd (cc)
 game-next false false x e = sym (some-one FirstRoll x e)
 
-pub what-comes : (in_match : Bool) (next : Next) (kind : LineKind) (x : Next) → coming_after in_match next kind ≡ Some x → x ≡ coming kind
+pub what-comes : (in_match : Bool) (next : Next) (kind : LineKind) (x : Next) → allowed in_match next kind ≡ Some x → x ≡ coming kind
 what-comes im Title OfTitle x e = sym (some-one Checkers x e)
 what-comes im Checkers OfCheckers x e = sym (some-one Stakes x e)
 what-comes im Stakes OfStakes x e = sym (some-one FirstGame x e)
@@ -58,26 +58,26 @@ what-comes im Close OfClose x e = sym (some-one Nothing x e)
 what-comes im _ _ x e = absurd (cc)
 
 -- a take, a pass or a beaver comes only from the one who was doubled
-pub take-asked : (in_match : Bool) (next : Next) (player : Player) (x : Next) → coming_after in_match next (OfTake player) ≡ Some x → next ≡ Answer player
+pub take-asked : (in_match : Bool) (next : Next) (player : Player) (x : Next) → allowed in_match next (OfTake player) ≡ Some x → next ≡ Answer player
 take-asked im (Answer asked) player x e = ap Answer (turn-next asked player (Roll (other_player player)) x e).1
 take-asked im _ player x e = absurd (cc)
 
-pub pass-asked : (in_match : Bool) (next : Next) (player : Player) (x : Next) → coming_after in_match next (OfPass player) ≡ Some x → next ≡ Answer player
+pub pass-asked : (in_match : Bool) (next : Next) (player : Player) (x : Next) → allowed in_match next (OfPass player) ≡ Some x → next ≡ Answer player
 pass-asked im (Answer asked) player x e = ap Answer (turn-next asked player End x e).1
 pass-asked im _ player x e = absurd (cc)
 
-roll-within : (in_match : Bool) (next : Next) (player : Player) (x : Next) → coming_after in_match next (OfRoll player) ≡ Some x → IsInGame next
+roll-within : (in_match : Bool) (next : Next) (player : Player) (x : Next) → allowed in_match next (OfRoll player) ≡ Some x → IsInGame next
 roll-within im FirstRoll player x e = tt
 roll-within im (Turn asked) player x e = tt
 roll-within im (Roll asked) player x e = tt
 roll-within im _ player x e = absurd (cc)
 
-double-within : (in_match : Bool) (next : Next) (player : Player) (x : Next) → coming_after in_match next (OfDouble player) ≡ Some x → IsInGame next
+double-within : (in_match : Bool) (next : Next) (player : Player) (x : Next) → allowed in_match next (OfDouble player) ≡ Some x → IsInGame next
 double-within im (Turn asked) player x e = tt
 double-within im _ player x e = absurd (cc)
 
 -- what players do comes within a game
-pub acts-within : (in_match : Bool) (next : Next) (player : Player) (what : What) (x : Next) → coming_after in_match next (kind_of_deed player what) ≡ Some x → IsInGame next
+pub acts-within : (in_match : Bool) (next : Next) (player : Player) (what : What) (x : Next) → allowed in_match next (kind_of_deed player what) ≡ Some x → IsInGame next
 acts-within im next player (Rolled roll written) x e = roll-within im next player x e
 acts-within im next player Doubled x e = double-within im next player x e
 acts-within im next player Took x e = subst (λ (n : Next). IsInGame n) (sym (take-asked im next player x e)) tt
@@ -85,7 +85,7 @@ acts-within im next player Passed x e = subst (λ (n : Next). IsInGame n) (sym (
 acts-within im next player Beavered x e = subst (λ (n : Next). IsInGame n) (sym (take-asked im next player x e)) tt
 
 -- and so does the end of a game
-pub end-within : (in_match : Bool) (next x : Next) → coming_after in_match next OfEnd ≡ Some x → IsInGame next
+pub end-within : (in_match : Bool) (next x : Next) → allowed in_match next OfEnd ≡ Some x → IsInGame next
 end-within im (Turn player) x e = tt
 end-within im End x e = tt
 end-within im _ x e = absurd (cc)

@@ -16,49 +16,49 @@ use Rattle.game_record.specs.declared.line.Line.TheVariants.{Title as TitleLine,
 use Rattle.game_record.specs.declared.stage.Next.{Next}
 use Rattle.game_record.specs.declared.stage.Next.TheVariants.{Title, Checkers, Stakes, FirstGame, FirstRoll, Turn, Answer, Roll, End, NextGame, Close, Nothing}
 use Rattle.game_record.specs.declared.stage.Stage.{Stage}
-use Rattle.game_record.specs.Turns.{coming_after, IsInGame, kind_of, kind_of_deed, same_player, other_player, stage_after}
+use Rattle.game_record.specs.Turns.{allowed, IsInGame, kind_of, kind_of_deed, same_player, other_player, stage_after}
 use Rattle.game_record.specs.Lines.{game_lines, games_lines, ending_line, FitsStage, Follow}
 use Rattle.game_record.specs.Drafts.{added, ended_game, lines_between, lines_within, lines_read, Counts}
 use Rattle.game_record.proofs.FormLaws.{some-one, some-none, passed}
 
 -- lines that follow each other, and one more
-pub follow-more : (stage : Stage) (lines : List Line) (mid : Stage) (line : Line) (next : Next) → Follow stage lines mid → coming_after mid.in_match mid.next (kind_of line) ≡ Some next → FitsStage mid line → Follow stage (lines ++ line ∷ []) (stage_after mid line next)
-follow-more stage [] mid line next f comes fits = (next, subst (λ (s : Stage). coming_after s.in_match s.next (kind_of line) ≡ Some next) f comes, subst (λ (s : Stage). FitsStage s line) f fits, ap (λ (s : Stage). stage_after s line next) f)
+pub follow-more : (stage : Stage) (lines : List Line) (mid : Stage) (line : Line) (next : Next) → Follow stage lines mid → allowed mid.in_match mid.next (kind_of line) ≡ Some next → FitsStage mid line → Follow stage (lines ++ line ∷ []) (stage_after mid line next)
+follow-more stage [] mid line next f comes fits = (next, subst (λ (s : Stage). allowed s.in_match s.next (kind_of line) ≡ Some next) f comes, subst (λ (s : Stage). FitsStage s line) f fits, ap (λ (s : Stage). stage_after s line next) f)
 follow-more stage (first ∷ lines) mid line next f comes fits = (f.0, f.1, f.2, follow-more (stage_after stage first f.0) lines mid line next f.3 comes fits)
 
 -- ---- where each line may come
 
-roll-within : (m : Bool) (next : Next) (player : Player) (new : Next) → coming_after m next (OfRoll player) ≡ Some new → IsInGame next × IsInGame new
+roll-within : (m : Bool) (next : Next) (player : Player) (new : Next) → allowed m next (OfRoll player) ≡ Some new → IsInGame next × IsInGame new
 roll-within m FirstRoll player new e = (tt, subst IsInGame (some-one (Turn (other_player player)) new e) tt)
 roll-within m (Turn other) player new e = (tt, subst IsInGame (passed (same_player other player) (Turn (other_player player)) new e).1 tt)
 roll-within m (Roll other) player new e = (tt, subst IsInGame (passed (same_player other player) (Turn (other_player player)) new e).1 tt)
 roll-within m next player new e = absurd (some-none new e)
 
-double-within : (m : Bool) (next : Next) (player : Player) (new : Next) → coming_after m next (OfDouble player) ≡ Some new → IsInGame next × IsInGame new
+double-within : (m : Bool) (next : Next) (player : Player) (new : Next) → allowed m next (OfDouble player) ≡ Some new → IsInGame next × IsInGame new
 double-within m (Turn other) player new e = (tt, subst IsInGame (passed (same_player other player) (Answer (other_player player)) new e).1 tt)
 double-within m next player new e = absurd (some-none new e)
 
-take-within : (m : Bool) (next : Next) (player : Player) (new : Next) → coming_after m next (OfTake player) ≡ Some new → IsInGame next × IsInGame new
+take-within : (m : Bool) (next : Next) (player : Player) (new : Next) → allowed m next (OfTake player) ≡ Some new → IsInGame next × IsInGame new
 take-within m (Answer other) player new e = (tt, subst IsInGame (passed (same_player other player) (Roll (other_player player)) new e).1 tt)
 take-within m next player new e = absurd (some-none new e)
 
-pass-within : (m : Bool) (next : Next) (player : Player) (new : Next) → coming_after m next (OfPass player) ≡ Some new → IsInGame next × IsInGame new
+pass-within : (m : Bool) (next : Next) (player : Player) (new : Next) → allowed m next (OfPass player) ≡ Some new → IsInGame next × IsInGame new
 pass-within m (Answer other) player new e = (tt, subst IsInGame (passed (same_player other player) End new e).1 tt)
 pass-within m next player new e = absurd (some-none new e)
 
-acted-within : (m : Bool) (next : Next) (player : Player) (what : What) (new : Next) → coming_after m next (kind_of_deed player what) ≡ Some new → IsInGame next × IsInGame new
+acted-within : (m : Bool) (next : Next) (player : Player) (what : What) (new : Next) → allowed m next (kind_of_deed player what) ≡ Some new → IsInGame next × IsInGame new
 acted-within m next player (Rolled roll written) new e = roll-within m next player new e
 acted-within m next player Doubled new e = double-within m next player new e
 acted-within m next player Took new e = take-within m next player new e
 acted-within m next player Passed new e = pass-within m next player new e
 acted-within m next player Beavered new e = take-within m next player new e
 
-ended-within : (m : Bool) (next new : Next) → coming_after m next OfEnd ≡ Some new → IsInGame next × (NextGame ≡ new)
+ended-within : (m : Bool) (next new : Next) → allowed m next OfEnd ≡ Some new → IsInGame next × (NextGame ≡ new)
 ended-within m (Turn player) new e = (tt, some-one NextGame new e)
 ended-within m End new e = (tt, some-one NextGame new e)
 ended-within m next new e = absurd (some-none new e)
 
-stopped-within : (m : Bool) (next new : Next) → coming_after m next OfStop ≡ Some new → IsInGame next × (Close ≡ new)
+stopped-within : (m : Bool) (next new : Next) → allowed m next OfStop ≡ Some new → IsInGame next × (Close ≡ new)
 stopped-within m (Turn player) new e = (tt, some-one Close new e)
 stopped-within m (Roll player) new e = (tt, some-one Close new e)
 stopped-within m next new e = absurd (some-none new e)
@@ -69,7 +69,7 @@ IsBetween FirstGame = Unit {0}
 IsBetween NextGame = Unit {0}
 IsBetween _ = ⊥
 
-game-between : (m : Bool) (next : Next) (away : Bool) (new : Next) → coming_after m next (OfGame away) ≡ Some new → IsBetween next × (FirstRoll ≡ new)
+game-between : (m : Bool) (next : Next) (away : Bool) (new : Next) → allowed m next (OfGame away) ≡ Some new → IsBetween next × (FirstRoll ≡ new)
 game-between m FirstGame away new e = (tt, (passed _ FirstRoll new e).1)
 game-between m NextGame away new e = (tt, (passed _ FirstRoll new e).1)
 game-between m next away new e = absurd (some-none new e)
@@ -145,27 +145,27 @@ end-added next new games draft line ending within counts is same =
     ∙ ap (λ l. lines_within games draft ++ l ∷ []) is
     ∙ ap (λ ls. ls ++ line ∷ []) (sym (within-lines next games draft within))
 
-title-added : (m : Bool) (next new : Next) (games : ℕ) (draft : Draft) → Counts next games draft → coming_after m next OfTitle ≡ Some new → IsAdded next games draft TitleLine new games
+title-added : (m : Bool) (next new : Next) (games : ℕ) (draft : Draft) → Counts next games draft → allowed m next OfTitle ≡ Some new → IsAdded next games draft TitleLine new games
 title-added m Title new games draft c e = subst (λ n. IsAdded Title games draft TitleLine n games) (some-one Checkers new e) (refl, c)
 title-added m next new games draft c e = absurd (some-none new e)
 
-checkers-added : (m : Bool) (next new : Next) (games : ℕ) (draft : Draft) (checkers : ℕ) → Counts next games draft → coming_after m next OfCheckers ≡ Some new → IsAdded next games draft (CheckersLine checkers) new games
+checkers-added : (m : Bool) (next new : Next) (games : ℕ) (draft : Draft) (checkers : ℕ) → Counts next games draft → allowed m next OfCheckers ≡ Some new → IsAdded next games draft (CheckersLine checkers) new games
 checkers-added m Checkers new games draft checkers c e = subst (λ n. IsAdded Checkers games draft (CheckersLine checkers) n games) (some-one Stakes new e) (refl, c)
 checkers-added m next new games draft checkers c e = absurd (some-none new e)
 
-closed-added : (m : Bool) (next new : Next) (games : ℕ) (draft : Draft) → coming_after m next OfClose ≡ Some new → IsAdded next games draft Closed new games
+closed-added : (m : Bool) (next new : Next) (games : ℕ) (draft : Draft) → allowed m next OfClose ≡ Some new → IsAdded next games draft Closed new games
 closed-added m NextGame new games draft e = subst (λ n. IsAdded NextGame games draft Closed n games) (some-one Nothing new e) (refl, tt)
 closed-added m Close new games draft e = subst (λ n. IsAdded Close games draft Closed n games) (some-one Nothing new e) (refl, tt)
 closed-added m next new games draft e = absurd (some-none new e)
 
-stakes-added : (m : Bool) (next new : Next) (games : ℕ) (draft : Draft) (stakes : RecordStakes) → Counts next games draft → coming_after m next OfStakes ≡ Some new → IsAdded next games draft (StakesLine stakes) new games
+stakes-added : (m : Bool) (next new : Next) (games : ℕ) (draft : Draft) (stakes : RecordStakes) → Counts next games draft → allowed m next OfStakes ≡ Some new → IsAdded next games draft (StakesLine stakes) new games
 stakes-added m Stakes new games draft stakes c e =
     let lines = ap (λ gs. TitleLine ∷ CheckersLine draft.checkers ∷ StakesLine stakes ∷ games_lines 1 gs) c.1 in
     let count = c.0 ∙ ap length (sym c.1) in
     subst (λ n. IsAdded Stakes games draft (StakesLine stakes) n games) (some-one FirstGame new e) (lines, (count, c.2))
 stakes-added m next new games draft stakes c e = absurd (some-none new e)
 
-game-added : (m : Bool) (next new : Next) (games number : ℕ) (draft : Draft) (away : Option (ℕ × ℕ)) → Counts next games draft → coming_after m next (OfGame (is_some away)) ≡ Some new → number ≡ games + 1 → IsAdded next games draft (GameLine number away) new (games + 1)
+game-added : (m : Bool) (next new : Next) (games number : ℕ) (draft : Draft) (away : Option (ℕ × ℕ)) → Counts next games draft → allowed m next (OfGame (is_some away)) ≡ Some new → number ≡ games + 1 → IsAdded next games draft (GameLine number away) new (games + 1)
 game-added m next new games number draft away c e is =
     let place = game-between m next (is_some away) new e in
     let counts = between-count next games draft place.0 c in
@@ -175,7 +175,7 @@ game-added m next new games number draft away c e is =
     ∙ ap (λ ls. ls ++ GameLine number away ∷ []) (sym (between-lines next games draft place.0)) in
     subst (λ n. IsAdded next games draft (GameLine number away) n (games + 1)) place.1 (lines, ap (λ n. n + 1) counts.0)
 
-action-added : (m : Bool) (next new : Next) (games : ℕ) (draft : Draft) (action : Action) → Counts next games draft → coming_after m next (kind_of_deed action.player action.what) ≡ Some new → IsAdded next games draft (Acted action) new games
+action-added : (m : Bool) (next new : Next) (games : ℕ) (draft : Draft) (action : Action) → Counts next games draft → allowed m next (kind_of_deed action.player action.what) ≡ Some new → IsAdded next games draft (Acted action) new games
 action-added m next new games draft action c e =
     let place = acted-within m next action.player action.what new e in
     let more = record draft { actions = draft.actions ++ action ∷ [] } in (
@@ -186,7 +186,7 @@ action-added m next new games draft action c e =
 pushed-count : (games : List Game) (game : Game) (n : ℕ) → n ≡ length games + 1 → n ≡ length (games ++ game ∷ [])
 pushed-count games game n e = e ∙ sym (length-append games (game ∷ []))
 
-ended-added : (m : Bool) (next new : Next) (games : ℕ) (draft : Draft) (winner : Player) (points : ℕ) → Counts next games draft → coming_after m next OfEnd ≡ Some new → IsAdded next games draft (Ended winner points) new games
+ended-added : (m : Bool) (next new : Next) (games : ℕ) (draft : Draft) (winner : Player) (points : ℕ) → Counts next games draft → allowed m next OfEnd ≡ Some new → IsAdded next games draft (Ended winner points) new games
 ended-added m next new games draft winner points c e =
     let place = ended-within m next new e in
     let ending = WasEnded winner points in
@@ -195,7 +195,7 @@ ended-added m next new games draft winner points c e =
       (pushed-count draft.games (ended_game draft ending) games (within-count next games draft place.0 c), refl),
     )
 
-stopped-added : (m : Bool) (next new : Next) (games : ℕ) (draft : Draft) → Counts next games draft → coming_after m next OfStop ≡ Some new → IsAdded next games draft Stopped new games
+stopped-added : (m : Bool) (next new : Next) (games : ℕ) (draft : Draft) → Counts next games draft → allowed m next OfStop ≡ Some new → IsAdded next games draft Stopped new games
 stopped-added m next new games draft c e =
     let place = stopped-within m next new e in
     subst (λ n. IsAdded next games draft Stopped n games) place.1
@@ -206,7 +206,7 @@ abbrev pub games_with : ℕ → Line → ℕ
 games_with games (GameLine number away) = games + 1
 games_with games _ = games
 
-line-added : (m : Bool) (next new : Next) (games : ℕ) (draft : Draft) (line : Line) → Counts next games draft → coming_after m next (kind_of line) ≡ Some new → FitsStage (record { next = next; in_match = m; games = games }) line → IsAdded next games draft line new (games_with games line)
+line-added : (m : Bool) (next new : Next) (games : ℕ) (draft : Draft) (line : Line) → Counts next games draft → allowed m next (kind_of line) ≡ Some new → FitsStage (record { next = next; in_match = m; games = games }) line → IsAdded next games draft line new (games_with games line)
 line-added m next new games draft TitleLine c e f = title-added m next new games draft c e
 line-added m next new games draft (CheckersLine checkers) c e f = checkers-added m next new games draft checkers c e
 line-added m next new games draft (StakesLine stakes) c e f = stakes-added m next new games draft stakes c e
@@ -247,7 +247,7 @@ few-more games Stopped = omega arith
 few-more games Closed = omega arith
 
 -- the lines that are read with one more
-pub stage-added : (stage : Stage) (draft : Draft) (line : Line) (new : Next) → Counts stage.next stage.games draft → coming_after stage.in_match stage.next (kind_of line) ≡ Some new → FitsStage stage line → let after_it = stage_after stage line new in IsAdded stage.next stage.games draft line after_it.next after_it.games × (after_it.games ≤ stage.games + 1)
+pub stage-added : (stage : Stage) (draft : Draft) (line : Line) (new : Next) → Counts stage.next stage.games draft → allowed stage.in_match stage.next (kind_of line) ≡ Some new → FitsStage stage line → let after_it = stage_after stage line new in IsAdded stage.next stage.games draft line after_it.next after_it.games × (after_it.games ≤ stage.games + 1)
 stage-added stage draft line new c e f =
     rw (next-with stage line new, games-with stage line new) (line-added stage.in_match stage.next new stage.games draft line c e f, few-more stage.games line)
 

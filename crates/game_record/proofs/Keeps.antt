@@ -33,13 +33,13 @@ use Rattle.game_record.specs.declared.stage.Next.TheVariants.{FirstGame, Answer}
 use Rattle.game_record.specs.declared.stage.Stage.{Stage}
 use Rattle.game_record.specs.declared.standing.Standing.{Standing}
 use Rattle.game_record.specs.Cube.{shows}
-use Rattle.game_record.specs.Games.{after_answer, progress_after_double, progress_after_play, records_beavers, has_right, is_over, opening}
+use Rattle.game_record.specs.Games.{after_answer, game_after_double, game_after_play, records_beavers, has_right, is_over, opening}
 use Rattle.game_record.specs.Kinds.{game_needs, game_stakes, kind_of_turn, money_kind}
 use Rattle.game_record.specs.Lines.{games_lines, record_lines, AreRecordStakes, FitsStage, Follow, IsRecord, IsWrittenPlay, UpTo}
 use Rattle.game_record.specs.Ready.{AreLinesReady, FitsMoment, HasStanding, IfMatch, IsSetFor}
 use Rattle.game_record.specs.Replay.{Acts, Reports, after_game, first_moment, goes_on, standing_after}
 use Rattle.game_record.specs.Standings.{first_standing, at_score, IsInRange}
-use Rattle.game_record.specs.Turns.{coming_after, first_stage, is_match_record, kind_of, kind_of_deed, other_player, same_player, stage_after, IsInGame}
+use Rattle.game_record.specs.Turns.{allowed, first_stage, has_match, kind_of, kind_of_deed, other_player, same_player, stage_after, IsInGame}
 use Rattle.game_record.proofs.Coming.{acts-within, coming, end-within, take-asked, what-comes}
 use Rattle.game_record.proofs.GoOn.{ready-front}
 use Rattle.game_record.proofs.MatchPlaces.{both, few-turns, first-stands, kinds-known, other-other, taken-place, won-in-range, won-stands, IsPlace, Stands}
@@ -144,7 +144,7 @@ kinds-ready Jacoby standing player cube place = money-known player cube.owner
 kinds-ready MoneyBeavers standing player cube place = money-known player cube.owner
 kinds-ready JacobyBeavers standing player cube place = money-known player cube.owner
 
-fits-moment : (stage : Stage) (line : Line) (x : Next) (left : ℕ) (now : Moment) → Keeps stage.next stage.games left now → coming_after stage.in_match stage.next (kind_of line) ≡ Some x → FitsStage stage line → FitsMoment now line
+fits-moment : (stage : Stage) (line : Line) (x : Next) (left : ℕ) (now : Moment) → Keeps stage.next stage.games left now → allowed stage.in_match stage.next (kind_of line) ≡ Some x → FitsStage stage line → FitsMoment now line
 fits-moment stage TitleLine x left now keep comes fits = tt
 fits-moment stage (CheckersLine checkers) x left now keep comes fits = tt
 fits-moment stage (StakesLine stakes) x left now keep comes fits = tt
@@ -156,7 +156,7 @@ fits-moment stage (Ended winner points) x left now keep comes fits = fits.1
 fits-moment stage Stopped x left now keep comes fits = tt
 fits-moment stage Closed x left now keep comes fits = tt
 
-ready-here : (stage : Stage) (line : Line) (x : Next) (left : ℕ) (now : Moment) → Keeps stage.next stage.games (left + 1) now → coming_after stage.in_match stage.next (kind_of line) ≡ Some x → FitsStage stage line → IsSetFor now line
+ready-here : (stage : Stage) (line : Line) (x : Next) (left : ℕ) (now : Moment) → Keeps stage.next stage.games (left + 1) now → allowed stage.in_match stage.next (kind_of line) ≡ Some x → FitsStage stage line → IsSetFor now line
 ready-here stage line x left now keep comes fits = record {
   checkers_from = keep.checkers_from;
   checkers_to = keep.checkers_to;
@@ -178,7 +178,7 @@ going-on f false true deep a b c h = cc
 going-on f false false true a b c h = cc
 going-on f false false false a b c h = cc
 
-board-played : (checkers : ℕ) (stakes : RecordStakes) (player : Player) (roll : Dice) (end : Placement) (game : Progress) → IsBoard checkers game → is_over game ≡ false → IsRoll roll → IsLegalEnd game.position roll end → IsBoard checkers (progress_after_play stakes player end game)
+board-played : (checkers : ℕ) (stakes : RecordStakes) (player : Player) (roll : Dice) (end : Placement) (game : Progress) → IsBoard checkers game → is_over game ≡ false → IsRoll roll → IsLegalEnd game.position roll end → IsBoard checkers (game_after_play stakes player end game)
 board-played checkers stakes player roll end game board going rolled legal =
     let stays = legal_end-stays game.position roll end rolled board.position (board.live going) legal in
     let whole = stays.0 in
@@ -221,17 +221,17 @@ asked-there : (x : Next) (kind : LineKind) (now : Moment) → x ≡ coming kind 
 asked-there x kind now e h = subst (λ (n : Next). Asked n now) (sym e) h
 
 keep-act : (in_match : Bool) (next x : Next) (games left : ℕ) (now : Moment) (player : Player) (what : What) (told : List Decision) (new : Moment)
-    → Keeps next games (left + 1) now → coming_after in_match next (kind_of_deed player what) ≡ Some x → IsWrittenPlay what → Acts now player what told new → Keeps x games left new
+    → Keeps next games (left + 1) now → allowed in_match next (kind_of_deed player what) ≡ Some x → IsWrittenPlay what → Acts now player what told new → Keeps x games left new
 keep-act im next x games left now player (Rolled roll written) told new keep comes play h =
     let needed = keep.needed (acts-within im next player (Rolled roll written) x comes) in
-    let game = progress_after_play now.stakes player h.1 now.progress in
+    let game = game_after_play now.stakes player h.1 now.progress in
     subst (λ (m : Moment). Keeps x games left m) (sym h.4)
     (moved next x games left now game keep (λ _. needed) keep.place (omega arith)
     (asked-there x (OfRoll player) (goes_on now game) (what-comes im next (OfRoll player) x comes) tt)
     (board-played now.checkers now.stakes player roll h.1 now.progress keep.board h.0 play.2 (h.2.0, h.2.2)))
 keep-act im next x games left now player Doubled told new keep comes play h =
     let needed = keep.needed (acts-within im next player Doubled x comes) in
-    let game = progress_after_double now.progress in
+    let game = game_after_double now.progress in
     let right = both (now.progress.opened && not now.progress.doubled) (has_right now.stakes now.standing player now.progress.cube) h.1 in
     let by_other : has_right now.stakes now.standing (other_player (other_player player)) now.progress.cube ≡ true = rw (other-other player) right.1 in
     subst (λ (m : Moment). Keeps x games left m) (sym h.3)
@@ -293,7 +293,7 @@ passed-by next x kind games left now new keep to none asked e =
     (moved next x games left now now.progress keep (not-within x kind _ to none) keep.place (omega arith) (asked-there x kind (goes_on now now.progress) to asked) keep.board)
 
 pub keep-line : (stage : Stage) (line : Line) (x : Next) (left : ℕ) (now : Moment) (told : List Decision) (new : Moment)
-    → Keeps stage.next stage.games (left + 1) now → coming_after stage.in_match stage.next (kind_of line) ≡ Some x → FitsStage stage line → Reports now line told new → Keeps (stage_after stage line x).next (stage_after stage line x).games left new
+    → Keeps stage.next stage.games (left + 1) now → allowed stage.in_match stage.next (kind_of line) ≡ Some x → FitsStage stage line → Reports now line told new → Keeps (stage_after stage line x).next (stage_after stage line x).games left new
 keep-line stage TitleLine x left now told new keep comes fits tells = passed-by stage.next x OfTitle stage.games left now new keep (what-comes stage.in_match stage.next OfTitle x comes) (λ w. w) tt tells.1
 keep-line stage (CheckersLine checkers) x left now told new keep comes fits tells = passed-by stage.next x OfCheckers stage.games left now new keep (what-comes stage.in_match stage.next OfCheckers x comes) (λ w. w) tt tells.1
 keep-line stage (StakesLine stakes) x left now told new keep comes fits tells = passed-by stage.next x OfStakes stage.games left now new keep (what-comes stage.in_match stage.next OfStakes x comes) (λ w. w) tt tells.1
@@ -398,7 +398,7 @@ pub record-begins : (rec : Record) → IsRecord rec → Begins rec
 record-begins rec valid = go valid.end valid.follow (most-lines (record_lines rec) valid.size) where
   go : (end : Stage) → Follow first_stage (record_lines rec) end → length (record_lines rec) ≤ 65536 → Begins rec
   go end (a, comes_a, fits_a, (b, comes_b, checkers, (c, comes_c, stakes, more))) few = record {
-    stage = record { next = c; in_match = is_match_record rec.stakes; games = 0 };
+    stage = record { next = c; in_match = has_match rec.stakes; games = 0 };
     end = end;
     follow = more;
     keep = first-keeps rec c (length (games_lines 1 rec.games ++ Closed ∷ [])) checkers stakes (what-comes false b OfStakes c comes_c) (omega arith);

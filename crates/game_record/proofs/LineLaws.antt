@@ -19,7 +19,7 @@ use Rattle.game_record.specs.declared.line.Line.{Line}
 use Rattle.game_record.specs.declared.line.Line.TheVariants.{Title, Checkers, Stakes, Game as GameLine, Acted, Ended, Stopped, Closed}
 use Rattle.game_record.specs.declared.stage.Next.{Next}
 use Rattle.game_record.specs.declared.stage.Stage.{Stage}
-use Rattle.game_record.specs.Turns.{coming_after, kind_of, kind_of_deed}
+use Rattle.game_record.specs.Turns.{allowed, kind_of, kind_of_deed}
 use Rattle.game_record.specs.Lines.{steps_text, line_text, UpTo, AreRecordStakes, IsWrittenPlay, FitsStage}
 use Rattle.game_record.specs.Forms.{LineForm, TitleForm, CheckersForm, StakesForm, MatchForm, GameForm, AwayForm, RollForm, DoubleForm, TakeForm, PassForm, BeaverForm, EndForm, StopForm, CloseForm, form_of, kind_of_form, same_text}
 use Rattle.game_record.specs.Faults.{IsWrong, IsFormFault, IsLineFault}
@@ -86,10 +86,10 @@ line-kind Stopped = refl
 line-kind Closed = refl
 
 -- the text of a right line has no fault
-pub no-fault : (stage : Stage) (line : Line) (next : Next) (fault : RecordFault) → stage.games < 2 ^ 32 → coming_after stage.in_match stage.next (kind_of line) ≡ Some next → FitsStage stage line → IsLineFault stage (line_text line) fault → ⊥
+pub no-fault : (stage : Stage) (line : Line) (next : Next) (fault : RecordFault) → stage.games < 2 ^ 32 → allowed stage.in_match stage.next (kind_of line) ≡ Some next → FitsStage stage line → IsLineFault stage (line_text line) fault → ⊥
 no-fault stage line next fault low comes fits wrong =
     let formed = subst (λ (o : Option LineForm). MatchOption o (fault ≡ Shape) (λ form. IsFormFault stage form fault)) (line-read stage line low fits) wrong in
-    let placed = subst (λ (o : Option Next). MatchOption o (fault ≡ Order) (λ next. IsWrong stage (form_of_line line) fault)) (ap (coming_after stage.in_match stage.next) (line-kind line) ∙ comes) formed in
+    let placed = subst (λ (o : Option Next). MatchOption o (fault ≡ Order) (λ next. IsWrong stage (form_of_line line) fault)) (ap (allowed stage.in_match stage.next) (line-kind line) ∙ comes) formed in
     line-right stage line fault fits placed
 
 -- ---- what a form tells of its line

@@ -22,7 +22,7 @@ use Rattle.game_record.specs.declared.record.Record.{Record}
 use Rattle.game_record.specs.declared.record.What.{What}
 use Rattle.game_record.specs.declared.record.What.TheVariants.{Rolled, Doubled, Took, Passed, Beavered}
 use Rattle.game_record.specs.Drafts.{StopsBy}
-use Rattle.game_record.specs.Games.{progress_after_play}
+use Rattle.game_record.specs.Games.{game_after_play}
 use Rattle.game_record.specs.Lines.{games_lines}
 use Rattle.game_record.specs.Replay.{Acts, AllTell, BreaksAt, IsBroken, IsReplay, IsWrongAct, IsWrongLine, Reports, decided, first_moment, goes_on, may_double_now, undoubled}
 use Rattle.game_record.proofs.OneEnd.{one-end}
@@ -37,7 +37,7 @@ act-one : (now : Moment) (player : Player) (what : What) (a b : List Decision) (
 act-one now player (Rolled roll written) a b x y h k =
     let same = one-end now.progress.position roll written.items h.2.0 k.2.0 h.1 k.1 h.2.1 k.2.1 in (
       h.3 ∙ ap (λ (end : Placement). undoubled now player ++ decided now player player (Played roll end) ∷ []) same ∙ sym k.3,
-      h.4 ∙ ap (λ (end : Placement). goes_on now (progress_after_play now.stakes player end now.progress)) same ∙ sym k.4,
+      h.4 ∙ ap (λ (end : Placement). goes_on now (game_after_play now.stakes player end now.progress)) same ∙ sym k.4,
     )
 act-one now player Doubled a b x y h k = (h.2 ∙ sym k.2, h.3 ∙ sym k.3)
 act-one now player Took a b x y h k = (h.0 ∙ sym k.0, h.1 ∙ sym k.1)

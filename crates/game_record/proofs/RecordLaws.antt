@@ -12,7 +12,7 @@ use Rattle.game_record.specs.declared.record.Ending.TheVariants.{Ended as WasEnd
 use Rattle.game_record.specs.declared.line.Line.{Line}
 use Rattle.game_record.specs.declared.line.Line.TheVariants.{Acted, Closed}
 use Rattle.game_record.specs.declared.stage.Stage.{Stage}
-use Rattle.game_record.specs.Turns.{coming_after, first_stage}
+use Rattle.game_record.specs.Turns.{allowed, first_stage}
 use Rattle.game_record.specs.Lines.{lines_text, record_lines, is_too_long, ending_line, game_lines, games_lines, Follow, IsRecordText}
 use Rattle.game_record.specs.Forms.{LineForm, TitleForm, CheckersForm, StakesForm, MatchForm, GameForm, AwayForm, RollForm, DoubleForm, TakeForm, PassForm, BeaverForm, EndForm, StopForm, CloseForm, form_of, kind_of_form}
 use Rattle.game_record.specs.Faults.{IsWrong, IsFormFault, IsLineFault, IsWrongRest, IsFirstWrongLine, IsBad}
@@ -120,7 +120,7 @@ either-same (Some v) fault f g P one x y = one v x y
 line-fault-same : (stage : Stage) (line : List ℕ) (f g : RecordFault) → IsLineFault stage line f → IsLineFault stage line g → f ≡ g
 line-fault-same stage line f g x y =
     either-same (form_of line) Shape f g (λ form fault. IsFormFault stage form fault) (λ form u v.
-    either-same (coming_after stage.in_match stage.next (kind_of_form form)) Order f g (λ next fault. IsWrong stage form fault) (λ next. wrong-same stage form f g) u v) x y
+    either-same (allowed stage.in_match stage.next (kind_of_form form)) Order f g (λ next fault. IsWrong stage form fault) (λ next. wrong-same stage form f g) u v) x y
 
 rest-same : (stage : Stage) (rest : List ℕ) (f g : RecordFault) → IsWrongRest stage rest f → IsWrongRest stage rest g → f ≡ g
 rest-same stage rest f g x y = elim x [

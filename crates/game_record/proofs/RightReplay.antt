@@ -28,7 +28,7 @@ use Rattle.game_record.specs.Lines.{games_lines, FitsStage, Follow, IsRecord, Is
 use Rattle.game_record.specs.Ready.{HasStanding}
 use Rattle.game_record.specs.Replay.{Acts, AllTell, IsReplay, Reports, decided, first_moment, may_double_now, undoubled}
 use Rattle.game_record.specs.RightDecisions.{terms_for, IsAnswerTo, IsRightChoice, IsRightDecision, IsScoreIn}
-use Rattle.game_record.specs.Turns.{coming_after, kind_of, kind_of_deed, other_player, stage_after}
+use Rattle.game_record.specs.Turns.{allowed, kind_of, kind_of_deed, other_player, stage_after}
 use Rattle.game_record.proofs.Coming.{acts-within, pass-asked, take-asked}
 use Rattle.game_record.proofs.Keeps.{Asked, Keeps, has-score, keep-line, kinds-ready, record-begins}
 use Rattle.game_record.proofs.MatchPlaces.{both}
@@ -86,7 +86,7 @@ right-answer rec next games left now player answer told keep of score at right e
     (right-here rec next games left now (other_player player) player (Answered answer) keep of score asked.0 (right asked.1))
 
 right-act : (rec : Record) (in_match : Bool) (next x : Next) (games left : ℕ) (now : Moment) (player : Player) (what : What) (told : List Decision) (new : Moment)
-    → Keeps next games left now → IsOf rec now → coming_after in_match next (kind_of_deed player what) ≡ Some x → IsWrittenPlay what → Acts now player what told new → All (IsRightDecision rec) told
+    → Keeps next games left now → IsOf rec now → allowed in_match next (kind_of_deed player what) ≡ Some x → IsWrittenPlay what → Acts now player what told new → All (IsRightDecision rec) told
 right-act rec im next x games left now player (Rolled roll written) told new keep of comes play h =
     let score = has-score now.stakes now.standing keep.stands (keep.needed (acts-within im next player (Rolled roll written) x comes)) in
     let played = decided now player player (Played roll h.1) in
@@ -114,7 +114,7 @@ none : (rec : Record) (told : List Decision) → told ≡ [] → All (IsRightDec
 none rec told e = subst (λ (ds : List Decision). All (IsRightDecision rec) ds) (sym e) (All-nil (IsRightDecision rec))
 
 right-line : (rec : Record) (stage : Stage) (line : Line) (x : Next) (left : ℕ) (now : Moment) (told : List Decision) (new : Moment)
-    → Keeps stage.next stage.games left now → IsOf rec now → coming_after stage.in_match stage.next (kind_of line) ≡ Some x → FitsStage stage line → Reports now line told new → All (IsRightDecision rec) told
+    → Keeps stage.next stage.games left now → IsOf rec now → allowed stage.in_match stage.next (kind_of line) ≡ Some x → FitsStage stage line → Reports now line told new → All (IsRightDecision rec) told
 right-line rec stage TitleLine x left now told new keep of comes fits h = none rec told h.0
 right-line rec stage (CheckersLine checkers) x left now told new keep of comes fits h = none rec told h.0
 right-line rec stage (StakesLine stakes) x left now told new keep of comes fits h = none rec told h.0

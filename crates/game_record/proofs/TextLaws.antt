@@ -12,7 +12,7 @@ use Rattle.game_record.specs.declared.line.LineKind.{LineKind}
 use Rattle.game_record.specs.declared.stage.Next.{Next}
 use Rattle.game_record.specs.declared.stage.Next.TheVariants.{Nothing}
 use Rattle.game_record.specs.declared.stage.Stage.{Stage}
-use Rattle.game_record.specs.Turns.{coming_after, kind_of, stage_after, first_stage}
+use Rattle.game_record.specs.Turns.{allowed, kind_of, stage_after, first_stage}
 use Rattle.game_record.specs.Lines.{line_text, lines_text, record_lines, is_line_end, is_too_long, FitsStage, Follow, IsRecordText}
 use Rattle.game_record.specs.Forms.{cut_at}
 use Rattle.game_record.specs.Faults.{IsLineFault, IsWrongRest, IsFirstWrongLine, IsBad}
@@ -46,7 +46,7 @@ same-front tells stage (line ∷ lines) end rest (other ∷ others) other_end ot
     let texts : line_text line ≡ line_text other = ap (λ (p : List ℕ × List ℕ). p.0) cuts in
     let rests : lines_text lines ++ rest ≡ lines_text others ++ other_rest = ap (λ (p : List ℕ × List ℕ). p.1) cuts in
     let same = same-line tells stage line other small f.2 g.2 texts in
-    let nexts = some-one f.0 g.0 (sym f.1 ∙ ap (λ l. coming_after stage.in_match stage.next (kind_of l)) same ∙ g.1) in
+    let nexts = some-one f.0 g.0 (sym f.1 ∙ ap (λ l. allowed stage.in_match stage.next (kind_of l)) same ∙ g.1) in
     let stages : stage_after stage line f.0 ≡ stage_after stage other g.0 = (λ i. stage_after stage (same i) (nexts i)) in
     let fewer : (stage_after stage line f.0).games + length lines < 2 ^ 32 = omega (arith, low, stage-games stage line f.0) in
     elim (same-front tells (stage_after stage line f.0) lines end rest others other_end other_rest fewer f.3 (subst (λ (s : Stage). Follow s others other_end) (sym stages) g.3) rests) [
@@ -56,12 +56,12 @@ same-front tells stage (line ∷ lines) end rest (other ∷ others) other_end ot
 
 -- ---- what comes behind the end
 
-nothing-after : (m : Bool) (kind : LineKind) (next : Next) → coming_after m Nothing kind ≡ Some next → ⊥
+nothing-after : (m : Bool) (kind : LineKind) (next : Next) → allowed m Nothing kind ≡ Some next → ⊥
 nothing-after m kind next e = some-none next e
 
 pub none-behind : (stage : Stage) (lines : List Line) (end : Stage) → stage.next ≡ Nothing → Follow stage lines end → lines ≡ []
 none-behind stage [] end closed f = refl
-none-behind stage (line ∷ lines) end closed f = absurd (nothing-after stage.in_match (kind_of line) f.0 (ap (λ n. coming_after stage.in_match n (kind_of line)) (sym closed) ∙ f.1))
+none-behind stage (line ∷ lines) end closed f = absurd (nothing-after stage.in_match (kind_of line) f.0 (ap (λ n. allowed stage.in_match n (kind_of line)) (sym closed) ∙ f.1))
 
 pub lines-long : (lines : List Line) → length lines ≤ length (lines_text lines)
 lines-long [] = omega arith

@@ -13,7 +13,7 @@ use Rattle.game_record.specs.declared.line.Line.TheVariants.{Title as TitleLine,
 use Rattle.game_record.specs.declared.stage.Next.{Next}
 use Rattle.game_record.specs.declared.stage.Next.TheVariants.{Title, Checkers, Stakes, FirstGame, NextGame, Close, Nothing}
 use Rattle.game_record.specs.declared.stage.Stage.{Stage}
-use Rattle.game_record.specs.Turns.{coming_after, kind_of, stage_after, first_stage}
+use Rattle.game_record.specs.Turns.{allowed, kind_of, stage_after, first_stage}
 use Rattle.game_record.specs.Lines.{line_text, lines_text, games_lines, FitsStage, Follow}
 
 -- the game that is being read, with this ending
@@ -74,7 +74,7 @@ pub record TakesLine (stage : Stage) (draft : Draft) (text : List ℕ) (new_stag
     (new_draft : Draft) : Type 0 where
   pub line : Line
   pub next : Next
-  pub comes : coming_after stage.in_match stage.next (kind_of line) ≡ Some next
+  pub comes : allowed stage.in_match stage.next (kind_of line) ≡ Some next
   pub fits : FitsStage stage line
   pub says : text ≡ line_text line
   pub stage_is : new_stage ≡ stage_after stage line next

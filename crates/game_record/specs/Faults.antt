@@ -12,7 +12,7 @@ use Rattle.game_record.specs.declared.line.Line.{Line}
 use Rattle.game_record.specs.declared.stage.Next.{Next}
 use Rattle.game_record.specs.declared.stage.Next.TheVariants.{Nothing}
 use Rattle.game_record.specs.declared.stage.Stage.{Stage}
-use Rattle.game_record.specs.Turns.{coming_after, kind_of, is_match_record, first_stage}
+use Rattle.game_record.specs.Turns.{allowed, kind_of, has_match, first_stage}
 use Rattle.game_record.specs.Lines.{UpTo, MayCome, FitsStage, line_text, stakes_word, lines_text, is_too_long, Follow}
 use Rattle.game_record.specs.Forms.{LineForm, form_text, TitleForm, CheckersForm, StakesForm, MatchForm, GameForm, AwayForm, RollForm, DoubleForm, TakeForm, PassForm, BeaverForm, EndForm, StopForm, CloseForm, form_of, kind_of_form, cut_at}
 
@@ -22,7 +22,7 @@ IsNoNumber most word = (n : ℕ) → UpTo most n → word ≡ decimal n → ⊥
 
 -- the word names no stakes but perhaps a match
 abbrev pub IsNoStakes : List ℕ → Type 0
-IsNoStakes word = (stakes : RecordStakes) → is_match_record stakes ≡ false → word ≡ stakes_word stakes → ⊥
+IsNoStakes word = (stakes : RecordStakes) → has_match stakes ≡ false → word ≡ stakes_word stakes → ⊥
 
 -- the word is that of a roll which may come
 abbrev pub IsRollText : Next → List ℕ → Dice → Type 0
@@ -61,7 +61,7 @@ IsWrong stage CloseForm fault = ⊥
 
 -- a line of this form can't come here, or its words are wrong
 abbrev pub IsFormFault : Stage → LineForm → RecordFault → Type 0
-IsFormFault stage form fault = MatchOption (coming_after stage.in_match stage.next (kind_of_form form))
+IsFormFault stage form fault = MatchOption (allowed stage.in_match stage.next (kind_of_form form))
     (fault ≡ Order) (λ next. IsWrong stage form fault)
 
 -- the first thing that is wrong with this line

@@ -53,8 +53,8 @@ abbrev pub counted : RecordStakes → Cube → Won → ℕ
 counted stakes cube won = if has_jacoby_rule stakes && is_none cube.owner then 1 else won_worth won
 
 -- A player's play leaves this. If he has borne off his last checker, he has won. Else it is the other's turn.
-abbrev pub progress_after_play : RecordStakes → Player → Placement → Progress → Progress
-progress_after_play stakes player end game = record {
+abbrev pub game_after_play : RecordStakes → Player → Placement → Progress → Progress
+game_after_play stakes player end game = record {
   position = swap end;
   cube = game.cube;
   opened = true;
@@ -63,8 +63,8 @@ progress_after_play stakes player end game = record {
       (points end);
 }
 
-abbrev pub progress_after_double : Progress → Progress
-progress_after_double game = record game { doubled = true }
+abbrev pub game_after_double : Progress → Progress
+game_after_double game = record game { doubled = true }
 
 -- Who takes owns the cube at twice what it showed, and who beavers at four times. Who passes has lost one point, at what the cube showed.
 abbrev pub after_answer : Player → Answer → Progress → Progress

@@ -20,7 +20,7 @@ use Rattle.game_record.specs.declared.line.Line.TheVariants.{Title, Checkers, St
 use Rattle.game_record.specs.declared.stage.Next.{Next}
 use Rattle.game_record.specs.declared.stage.Next.TheVariants.{FirstRoll, Nothing}
 use Rattle.game_record.specs.declared.stage.Stage.{Stage}
-use Rattle.game_record.specs.Turns.{coming_after, kind_of, stage_after, first_stage}
+use Rattle.game_record.specs.Turns.{allowed, kind_of, stage_after, first_stage}
 
 abbrev pub player_text : Player → List ℕ
 player_text A = codes "A"
@@ -127,7 +127,7 @@ FitsStage stage _ = Unit {0}
 abbrev pub Follow : Stage → List Line → Stage → Type 0
 Follow stage [] end = end ≡ stage
 Follow stage (line ∷ lines) end = (next : Next)
-    × (coming_after stage.in_match stage.next (kind_of line) ≡ Some next) × FitsStage stage line
+    × (allowed stage.in_match stage.next (kind_of line) ≡ Some next) × FitsStage stage line
     × Follow (stage_after stage line next) lines end
 
 abbrev pub is_line_end : ℕ → Bool

@@ -28,7 +28,7 @@ use Rattle.game_record.specs.declared.record.What.{What}
 use Rattle.game_record.specs.declared.record.What.TheVariants.{Rolled, Doubled, Took, Passed, Beavered}
 use Rattle.game_record.specs.declared.standing.Standing.{Standing}
 use Rattle.game_record.specs.Cube.{shows}
-use Rattle.game_record.specs.Games.{after_answer, progress_after_double, progress_after_play, records_beavers, is_over, may_double, opening}
+use Rattle.game_record.specs.Games.{after_answer, game_after_double, game_after_play, records_beavers, is_over, may_double, opening}
 use Rattle.game_record.specs.Kinds.{game_needs, game_score, game_stakes, kind_number, kind_of_turn}
 use Rattle.game_record.specs.Lines.{games_lines}
 use Rattle.game_record.specs.Standings.{standing_after_win, first_standing}
@@ -91,12 +91,12 @@ Acts now player (Rolled roll written) told next =
     (is_over now.progress ≡ false)
     × (end : Placement) × Leaves now.progress.position roll written.items end
     × (told ≡ undoubled now player ++ decided now player player (Played roll end) ∷ [])
-    × (next ≡ goes_on now (progress_after_play now.stakes player end now.progress))
+    × (next ≡ goes_on now (game_after_play now.stakes player end now.progress))
 Acts now player Doubled told next =
     (is_over now.progress ≡ false)
     × (may_double_now now player ≡ true)
     × (told ≡ decided now player player (Offered Double) ∷ [])
-    × (next ≡ goes_on now (progress_after_double now.progress))
+    × (next ≡ goes_on now (game_after_double now.progress))
 Acts now player Took told next = Answers now player Take told next
 Acts now player Passed told next = Answers now player Pass told next
 Acts now player Beavered told next =

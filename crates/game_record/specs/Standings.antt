@@ -14,8 +14,8 @@ use Rattle.game_record.specs.declared.standing.Standing.{Standing}
 use Rattle.game_record.specs.Turns.{same_player}
 
 -- A and B need so many points
-abbrev pub standing_needing : ℕ → ℕ → Phase → Standing
-standing_needing a b phase = record { a = a; b = b; phase = phase }
+abbrev pub standing_at : ℕ → ℕ → Phase → Standing
+standing_at a b phase = record { a = a; b = b; phase = phase }
 
 -- As the first game begins, both need the length of the match. In a match of one point no game is the Crawford game. For money nothing is
 -- needed.

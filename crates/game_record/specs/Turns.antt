@@ -33,25 +33,25 @@ abbrev pub on_game : Bool → Bool → Option Next
 on_game in_match away = if (if in_match then away else not away) then Some FirstRoll else None
 
 -- what may come after a line of this kind, where it may come itself
-abbrev pub coming_after : Bool → Next → LineKind → Option Next
-coming_after in_match Title OfTitle = Some Checkers
-coming_after in_match Checkers OfCheckers = Some Stakes
-coming_after in_match Stakes OfStakes = Some FirstGame
-coming_after in_match FirstGame (OfGame away) = on_game in_match away
-coming_after in_match FirstRoll (OfRoll player) = Some (Turn (other_player player))
-coming_after in_match (Turn player) (OfRoll other) = on_turn player other (Turn (other_player other))
-coming_after in_match (Turn player) (OfDouble other) = on_turn player other (Answer (other_player other))
-coming_after in_match (Turn player) OfEnd = Some NextGame
-coming_after in_match (Turn player) OfStop = Some Close
-coming_after in_match (Answer player) (OfTake other) = on_turn player other (Roll (other_player other))
-coming_after in_match (Answer player) (OfPass other) = on_turn player other End
-coming_after in_match (Roll player) (OfRoll other) = on_turn player other (Turn (other_player other))
-coming_after in_match (Roll player) OfStop = Some Close
-coming_after in_match End OfEnd = Some NextGame
-coming_after in_match NextGame (OfGame away) = on_game in_match away
-coming_after in_match NextGame OfClose = Some Nothing
-coming_after in_match Close OfClose = Some Nothing
-coming_after _ _ _ = None
+abbrev pub allowed : Bool → Next → LineKind → Option Next
+allowed in_match Title OfTitle = Some Checkers
+allowed in_match Checkers OfCheckers = Some Stakes
+allowed in_match Stakes OfStakes = Some FirstGame
+allowed in_match FirstGame (OfGame away) = on_game in_match away
+allowed in_match FirstRoll (OfRoll player) = Some (Turn (other_player player))
+allowed in_match (Turn player) (OfRoll other) = on_turn player other (Turn (other_player other))
+allowed in_match (Turn player) (OfDouble other) = on_turn player other (Answer (other_player other))
+allowed in_match (Turn player) OfEnd = Some NextGame
+allowed in_match (Turn player) OfStop = Some Close
+allowed in_match (Answer player) (OfTake other) = on_turn player other (Roll (other_player other))
+allowed in_match (Answer player) (OfPass other) = on_turn player other End
+allowed in_match (Roll player) (OfRoll other) = on_turn player other (Turn (other_player other))
+allowed in_match (Roll player) OfStop = Some Close
+allowed in_match End OfEnd = Some NextGame
+allowed in_match NextGame (OfGame away) = on_game in_match away
+allowed in_match NextGame OfClose = Some Nothing
+allowed in_match Close OfClose = Some Nothing
+allowed _ _ _ = None
 
 -- a game has begun and isn't over
 abbrev pub IsInGame : Next → Type 0
@@ -80,15 +80,15 @@ kind_of Stopped = OfStop
 kind_of Closed = OfClose
 
 -- the stakes are a match
-abbrev pub is_match_record : RecordStakes → Bool
-is_match_record (Match length) = true
-is_match_record _ = false
+abbrev pub has_match : RecordStakes → Bool
+has_match (Match length) = true
+has_match _ = false
 
 -- how far a record has come with a line, after which this may come
 abbrev pub stage_after : Stage → Line → Next → Stage
 stage_after stage (StakesLine stakes) next = record stage {
   next = next;
-  in_match = is_match_record stakes;
+  in_match = has_match stakes;
 }
 stage_after stage (GameLine number away) next = record stage {
   next = next;

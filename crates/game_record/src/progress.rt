@@ -1,5 +1,5 @@
 ghost use Rattle.std.specs.Prelude.{◌≡◌, ◌+◌, ◌≤◌, ◌<◌, ◌^◌, IsTrue};
-ghost use Rattle.game_record.specs.Games.{after_answer, progress_after_double, progress_after_play, counted, records_beavers, has_jacoby_rule, has_right, is_over, may_double, opening, won_worth};
+ghost use Rattle.game_record.specs.Games.{after_answer, game_after_double, game_after_play, counted, records_beavers, has_jacoby_rule, has_right, is_over, may_double, opening, won_worth};
 ghost use Rattle.game_record.specs.Standings.{IsInRange};
 ghost use Rattle.game_record.specs.Turns.{other_player};
 
@@ -57,7 +57,7 @@ impl Progress {
 
     /// After a player's play that leaves this position, seen by him.
     pub fn after_play(&self, stakes: RecordStakes, player: Player, end: &Position) -> Progress
-        ensures { result ≡ progress_after_play stakes player end.now self.now }
+        ensures { result ≡ game_after_play stakes player end.now self.now }
     {
         let won = match points(end) {
             None => None,
@@ -77,7 +77,7 @@ impl Progress {
 
     /// After a double.
     pub fn after_double(&self) -> Progress
-        ensures { result ≡ progress_after_double self.now }
+        ensures { result ≡ game_after_double self.now }
     {
         Progress {
             position: self.position,

@@ -1,5 +1,5 @@
 ghost use Rattle.std.specs.Prelude.{◌≡◌, ◌≢◌, ◌≤◌, ◌<◌, ◌+◌, ◌↔◌, ◌⊎◌, IsTrue, decimal, IfOk, IfErr, MatchOption, Some};
-ghost use Rattle.game_record.specs.Turns.{coming_after, kind_of};
+ghost use Rattle.game_record.specs.Turns.{allowed, kind_of};
 ghost use Rattle.game_record.specs.Lines.{MayCome, FitsStage, line_text};
 ghost use Rattle.game_record.specs.FormWords.{form};
 ghost use Rattle.game_record.specs.Forms.{CheckersForm, StakesForm, MatchForm, GameForm, AwayForm, RollForm, EndForm, form_of, kind_of_form};
@@ -19,7 +19,7 @@ pub(crate) fn read_line(stage: Stage, line: &[u8]) -> Result<(Line, Next), Recor
     requires { stage.games ≤ 1048576 }
     ensures text { IfOk result (λ read. line.now ≡ line_text read.0) }
     ensures next { IfOk result (λ read.
-        coming_after stage.in_match stage.next (kind_of read.0) ≡ Some read.1) }
+        allowed stage.in_match stage.next (kind_of read.0) ≡ Some read.1) }
     ensures fits { IfOk result (λ read. FitsStage stage read.0) }
     ensures err { IfErr result (IsLineFault stage line.now) }
 {

@@ -1,6 +1,6 @@
 ghost use Rattle.std.specs.Prelude.{◌≡◌, ◌<◌, ◌++◌, List, [], ◌∷◌, length, OnOk, OnErr, slice_get, Some};
 ghost use Rattle.game_record.specs.Games.{records_beavers, has_jacoby_rule};
-ghost use Rattle.game_record.specs.Turns.{is_match_record};
+ghost use Rattle.game_record.specs.Turns.{has_match};
 
 use crate::player::Player;
 use hyper_outside::NoMemory;
@@ -33,7 +33,7 @@ pub enum RecordStakes {
 
 impl RecordStakes {
     pub(crate) fn is_match(self) -> bool
-        ensures { result ≡ is_match_record self }
+        ensures { result ≡ has_match self }
     {
         matches!(self, RecordStakes::Match(_))
     }

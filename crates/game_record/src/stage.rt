@@ -1,5 +1,5 @@
 ghost use Rattle.std.specs.Prelude.{◌≡◌, ◌≤◌, Bool};
-ghost use Rattle.game_record.specs.Turns.{IsInGame, coming_after, first_stage, on_game, on_turn, stage_after};
+ghost use Rattle.game_record.specs.Turns.{IsInGame, allowed, first_stage, on_game, on_turn, stage_after};
 
 use crate::line::{Line, LineKind};
 use crate::player::Player;
@@ -41,7 +41,7 @@ pub struct Stage {
 
 /// What may come after a line of this kind, where it may come itself.
 pub(crate) fn after(in_match: bool, next: Next, kind: LineKind) -> Option<Next>
-    ensures { result ≡ coming_after in_match next kind }
+    ensures { result ≡ allowed in_match next kind }
 {
     match next {
         Next::Title => match kind {
@@ -77,7 +77,7 @@ pub(crate) fn after(in_match: bool, next: Next, kind: LineKind) -> Option<Next>
 /// The same within a game.
 fn after_within(next: Next, kind: LineKind) -> Option<Next>
     requires { IsInGame next }
-    ensures { (in_match : Bool) → result ≡ coming_after in_match next kind }
+    ensures { (in_match : Bool) → result ≡ allowed in_match next kind }
 {
     match next {
         Next::FirstRoll => match kind {

@@ -3,7 +3,7 @@ ghost use Rattle.std.specs.Str.{IsAscii};
 ghost use Rattle.roll_table.specs.Rolls.{Dice, IsRoll};
 ghost use Rattle.roll_table.specs.Text.{roll_text};
 ghost use Rattle.play_text.specs.Notation.{IsPlayText};
-ghost use Rattle.game_record.specs.Turns.{is_match_record};
+ghost use Rattle.game_record.specs.Turns.{has_match};
 ghost use Rattle.game_record.specs.Lines.{UpTo, stakes_word};
 ghost use Rattle.game_record.specs.Forms.{same_text};
 ghost use Rattle.game_record.specs.Faults.{IsNoNumber, IsNoStakes, IsNoPlay};
@@ -38,7 +38,7 @@ pub(crate) fn is_number(word: &[u8], number: u32) -> bool
 pub(crate) fn stakes_named(word: &[u8]) -> Option<RecordStakes>
     ensures { MatchOption result
         (IsNoStakes word.now)
-        (λ stakes. (is_match_record stakes ≡ false) × (word.now ≡ stakes_word stakes)) }
+        (λ stakes. (has_match stakes ≡ false) × (word.now ≡ stakes_word stakes)) }
 {
     if is(word, "cubeless") {
         Some(RecordStakes::Cubeless)

@@ -18,7 +18,7 @@ use Rattle.interval_words.specs.Numbers.{state_of, word_of, value_of, tightest_w
 use Rattle.interval_words.specs.Core.{Core, IsKept, IsTrueOf, AreReached, words_in_core, noted, with_note, brought, without_work, without_hand, hired, settled, joined, spent}
 use Rattle.interval_words.specs.Events.{IsLoose, IsRoundDone}
 use Rattle.interval_words.specs.Seats.{AreKnown, Knows, WasHeld}
-use Rattle.interval_words.specs.Rule.{core_of, Holds, Reads, Tightens, SettlesWord}
+use Rattle.interval_words.specs.Rule.{core_of, Holds, ReadsWord, Tightens, SettlesWord}
 use Rattle.interval_words.proofs.Ends.{tight-refl, tight-trans}
 use Rattle.interval_words.proofs.TurnLaws.{all-rounds-within}
 use Rattle.interval_words.proofs.Views.{All-at, contains-at, set-at, noted-opening}
@@ -64,7 +64,7 @@ module _ (game : Game) (slots id : ℕ) (me : Mine) (alive : me.0.game ≡ Some 
       subst (λ (g : Game). WasHeld g me.0 place (value_of (get_or s.words place 0))) (one-game me.0 game named alive names)
       (record { words = s.words; views = s.views; kept = kept; stands = contains-at s.views id me.0 at; held = refl })
 
-  pub reads : (end : End) (p : Placement) (k : ℕ) → IsState game p k → Allows (Holds game) slots id me (word_of end (state_of (kinds_of game) p k)) (λ n. n) (Reads (step slots (word_of end (state_of (kinds_of game) p k)) 0 0 none) me)
+  pub reads : (end : End) (p : Placement) (k : ℕ) → IsState game p k → Allows (Holds game) slots id me (word_of end (state_of (kinds_of game) p k)) (λ n. n) (ReadsWord (step slots (word_of end (state_of (kinds_of game) p k)) 0 0 none) me)
   reads end p k state s kept _ at _ =
       let place : ℕ = word_of end (state_of (kinds_of game) p k) in
       let core : Core = core_of game s in

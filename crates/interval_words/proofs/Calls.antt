@@ -18,7 +18,7 @@ use Rattle.interval_words.specs.Numbers.{state_of, states_in, word_of, value_of,
 use Rattle.interval_words.specs.Core.{Core, IsTrueOf, words_in_core, AreReached, words_in, noted, known, first_view, with_note, brought, settled, joined}
 use Rattle.interval_words.specs.Events.{IsLoose, IsRoundDone}
 use Rattle.interval_words.specs.Seats.{GameSeat, IsNumber, MayTighten, AreKnown, Knows, WasHeld, noting, bringing, settling}
-use Rattle.interval_words.specs.Rule.{Holds, Reads, Tightens, SettlesWord}
+use Rattle.interval_words.specs.Rule.{Holds, ReadsWord, Tightens, SettlesWord}
 use Rattle.position_rank.specs.LiveRanks.{live_rank_of, live_positions}
 use Rattle.interval_words.proofs.SomeState.{some-state}
 use Rattle.interval_words.proofs.Places.{state-in, word-in}
@@ -48,11 +48,11 @@ module _ (key game : Game) (same : key ≡ game) (slots id : ℕ) (me : Mine) (v
   named : me.0.game ≡ Some game
   named = ap (λ (v : View). v.game) mine ∙ alive
 
-  pub reads-at : (end : End) (state place : ℕ) → place ≡ word_of end state → IsNumber game state → Allows (Holds key) slots id me place (λ n. n) (Reads (step slots place 0 0 none) me)
+  pub reads-at : (end : End) (state place : ℕ) → place ≡ word_of end state → IsNumber game state → Allows (Holds key) slots id me place (λ n. n) (ReadsWord (step slots place 0 0 none) me)
   reads-at end state place at is =
       let here : place ≡ word_of end (state_of (kinds_of game) is.position is.kind) = at ∙ ap (word_of end) is.number in
-      subst (λ (g : Game). Allows (Holds g) slots id me place (λ n. n) (Reads (step slots place 0 0 none) me)) (sym same)
-      (subst (λ (i : ℕ). Allows (Holds game) slots id me i (λ n. n) (Reads (step slots i 0 0 none) me)) (sym here) (reads game slots id me named end is.position is.kind is.is))
+      subst (λ (g : Game). Allows (Holds g) slots id me place (λ n. n) (ReadsWord (step slots place 0 0 none) me)) (sym same)
+      (subst (λ (i : ℕ). Allows (Holds game) slots id me i (λ n. n) (ReadsWord (step slots i 0 0 none) me)) (sym here) (reads game slots id me named end is.position is.kind is.is))
 
   pub tightens-at : (end : End) (state place word : ℕ) (value : ℤ) → place ≡ word_of end state → pos word ≡ value +ℤ pos (2 ^ 36) → MayTighten end game view state value → Allows (Holds key) slots id me place (λ n. tightest_word end n word) (Tightens (step slots place word 0 none) me)
   tightens-at end state place word value at is may =

@@ -12,7 +12,7 @@ use Rattle.interval_words.proofs.Places.{state-in}
 use Rattle.turn_rule.specs.declared.game.Game.{Game}
 use Rattle.interval_words.specs.declared.view.View.{View}
 use Rattle.interval_words.specs.Core.{Core, IsKept, IsFirstCore, IsTrueOf, AreInBound, words_in_core, first_view, without_work, without_hand, hired, settled, joined, spent}
-use Rattle.interval_words.specs.Events.{Event, opens, reads, raises, lowers, settles, splits, hires, joins, view_at, IsAlive, IsAllowed, AreAllowed, after, after_all, with_view}
+use Rattle.interval_words.specs.Events.{BoardEvent, opens, reads, raises, lowers, settles, splits, hires, joins, view_at, IsAlive, IsAllowed, AreAllowed, core_after, core_after_all, with_view}
 use Rattle.interval_words.proofs.Ends.{tight-refl}
 use Rattle.interval_words.proofs.TurnLaws.{turns-tighten, rounds-more, rounds-turn, rounds-none}
 use Rattle.interval_words.proofs.Steps.{tighter-trans, true-note, true-without_work, true-without_hand, true-hired, true-settled, true-joined, true-blank, kept-view, kept-new, kept-tightens}
@@ -32,7 +32,7 @@ alive-true core kept id alive = kept.views id spent (alive-in core.views id core
 blank-spent : (core : Core) → IsKept core → IsTrueOf core.game (words_in_core core) spent
 blank-spent core kept = true-blank core.game (words_in_core core) kept.within spent (λ named e. absurd (cc)) refl refl
 
-pub kept-event : (core : Core) (event : Event) → IsKept core → IsAllowed core event → IsKept (after core event)
+pub kept-event : (core : Core) (event : BoardEvent) → IsKept core → IsAllowed core event → IsKept (core_after core event)
 kept-event core opens kept allowed = kept-new core (first_view core.game) kept (true-blank core.game (words_in_core core) kept.within (first_view core.game) (λ named e. some-names named core.game (sym e)) refl refl)
 kept-event core (reads id end p k) kept allowed =
     kept-view core id _ kept (true-note core.game (words_in_core core) (view_at core id) end p k (words_in_core core end p k) (alive-true core kept id allowed.0) allowed.1 (tight-refl end (words_in_core core end p k)))
@@ -79,9 +79,9 @@ kept-opening core start = record {
       tighter-trans core.game _ (turn core.game.stakes (bound_words core.game.stakes)) _ (turns-tighten core.game start.game.stakes (words_in_core core) (bound_words core.game.stakes) closer)
       (tighter-trans core.game _ (bound_words core.game.stakes) _ first wider)
 
-pub kept-events : (core : Core) (events : List Event) → IsKept core → AreAllowed core events → IsKept (after_all core events)
+pub kept-events : (core : Core) (events : List BoardEvent) → IsKept core → AreAllowed core events → IsKept (core_after_all core events)
 kept-events core [] kept allowed = kept
-kept-events core (event ∷ events) kept allowed = kept-events (after core event) events (kept-event core event kept allowed.0) allowed.1
+kept-events core (event ∷ events) kept allowed = kept-events (core_after core event) events (kept-event core event kept allowed.0) allowed.1
 
 -- a new board
 module _ (checkers : ℕ) (stakes : Terms) (low : 1 ≤ checkers) (high : checkers ≤ 3) (valid : IsValid stakes) where

@@ -14,15 +14,15 @@ use Rattle.interval_words.specs.Core.{Core, words_in_core, noted, known, first_v
 
 -- An event of a view, which is told by its number among the views, and of a word, which is told by its state and its end.
 -- A raise and a lowering bring the word of a value.
-pub data Event : Type 0 where
-  opens : Event
-  reads : ℕ → End → Placement → ℕ → Event
-  raises : ℕ → Placement → ℕ → ℕ → Event
-  lowers : ℕ → Placement → ℕ → ℕ → Event
-  settles : ℕ → Event
-  splits : ℕ → Event
-  hires : ℕ → Event
-  joins : ℕ → ℕ → Event
+pub data BoardEvent : Type 0 where
+  opens : BoardEvent
+  reads : ℕ → End → Placement → ℕ → BoardEvent
+  raises : ℕ → Placement → ℕ → ℕ → BoardEvent
+  lowers : ℕ → Placement → ℕ → ℕ → BoardEvent
+  settles : ℕ → BoardEvent
+  splits : ℕ → BoardEvent
+  hires : ℕ → BoardEvent
+  joins : ℕ → ℕ → BoardEvent
 
 abbrev pub view_at : Core → ℕ → View
 view_at core id = slice_index_or core.views id spent
@@ -44,7 +44,7 @@ abbrev pub IsRoundDone : Game → View → Type 0
 IsRoundDone game view = AreNoLooser game (known game view) (rounds game.stakes (view.base + 1))
 
 -- when an event is allowed
-abbrev pub IsAllowed : Core → Event → Type 0
+abbrev pub IsAllowed : Core → BoardEvent → Type 0
 IsAllowed core opens = Unit {0}
 IsAllowed core (reads id end p k) = IsAlive core id × IsState core.game p k
 IsAllowed core (raises id p k word) =
@@ -72,26 +72,26 @@ tightened core id end p k word =
     }
 
 -- what an event changes
-abbrev pub after : Core → Event → Core
-after core opens = with_new_view core (first_view core.game)
-after core (reads id end p k) =
+abbrev pub core_after : Core → BoardEvent → Core
+core_after core opens = with_new_view core (first_view core.game)
+core_after core (reads id end p k) =
     with_view core id
     (with_note (view_at core id) (word_of end (state_of (kinds_of core.game) p k))
     (words_in_core core end p k))
-after core (raises id p k word) = tightened core id Lower p k word
-after core (lowers id p k word) = tightened core id Upper p k word
-after core (settles id) = with_view core id (settled (view_at core id))
-after core (splits id) = with_new_view core (without_work (view_at core id))
-after core (hires id) =
+core_after core (raises id p k word) = tightened core id Lower p k word
+core_after core (lowers id p k word) = tightened core id Upper p k word
+core_after core (settles id) = with_view core id (settled (view_at core id))
+core_after core (splits id) = with_new_view core (without_work (view_at core id))
+core_after core (hires id) =
     with_new_view (with_view core id (without_hand (view_at core id))) (hired (view_at core id))
-after core (joins id other) =
+core_after core (joins id other) =
     with_view (with_view core id (joined (view_at core id) (view_at core other))) other spent
 
 -- each event of a list is allowed when it comes
-abbrev pub AreAllowed : Core → List Event → Type 0
+abbrev pub AreAllowed : Core → List BoardEvent → Type 0
 AreAllowed core [] = Unit {0}
-AreAllowed core (event ∷ events) = IsAllowed core event × AreAllowed (after core event) events
+AreAllowed core (event ∷ events) = IsAllowed core event × AreAllowed (core_after core event) events
 
-abbrev pub after_all : Core → List Event → Core
-after_all core [] = core
-after_all core (event ∷ events) = after_all (after core event) events
+abbrev pub core_after_all : Core → List BoardEvent → Core
+core_after_all core [] = core
+core_after_all core (event ∷ events) = core_after_all (core_after core event) events

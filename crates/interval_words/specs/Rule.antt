@@ -15,8 +15,8 @@ abbrev pub Holds : Game → State (Unit {0}) View → Type 0
 Holds game state = IsKept (core_of game state)
 
 -- the value found is noted, and the word held it
-abbrev pub Reads : Step (Unit {0}) → Me (Unit {0}) View → ℕ → Me (Unit {0}) View → Type 0
-Reads step old found new =
+abbrev pub ReadsWord : Step (Unit {0}) → Me (Unit {0}) View → ℕ → Me (Unit {0}) View → Type 0
+ReadsWord step old found new =
     (new ≡ (with_note old.0 step.word (value_of found), old.1))
     × Knows new.0
     × ((game : Game) → old.0.game ≡ Some game → WasHeld game old.0 step.word (value_of found))

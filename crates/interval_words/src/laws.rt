@@ -12,18 +12,18 @@ ghost use Rattle.interval_words.specs.Core.{Core, IsKept, IsFirstCore, words_in_
 ghost use Rattle.interval_words.specs.Seats.{AreKnown, IsNumber};
 ghost use Rattle.turn_rule.specs.Truth.{AreSound, AreConsistent, AreEnclosing, IsScoringWithin};
 ghost use Rattle.interval_words.specs.WordLists.{WordList, AreRight, states_of, words_in_list};
-ghost use Rattle.interval_words.specs.Events.{Event, IsAllowed, AreAllowed, after, after_all};
+ghost use Rattle.interval_words.specs.Events.{BoardEvent, IsAllowed, AreAllowed, core_after, core_after_all};
 
 /// After any list of events, each allowed when it comes, from a first core.
 pub fn events_keep_the_core()
-    ensures { (core : Core) (events : List Event) → IsFirstCore core → AreAllowed core events
-        → IsKept (after_all core events) }
+    ensures { (core : Core) (events : List BoardEvent) → IsFirstCore core → AreAllowed core events
+        → IsKept (core_after_all core events) }
 {}
 
 /// Each event keeps a core, however it was reached.
 pub fn every_event_keeps_the_core()
-    ensures { (core : Core) (event : Event) → IsKept core → IsAllowed core event
-        → IsKept (after core event) }
+    ensures { (core : Core) (event : BoardEvent) → IsKept core → IsAllowed core event
+        → IsKept (core_after core event) }
 {}
 
 /// The words of a core in which everything holds are sound, and so is what a seat's notes tell.

@@ -19,9 +19,9 @@ impl TableRule<(), View, Game> for CoreRule {
 pub(crate) struct Reading;
 
 impl Play<(), View> for Reading {
-    ghost use Rattle.interval_words.specs.Rule.{Reads};
+    ghost use Rattle.interval_words.specs.Rule.{ReadsWord};
 
-    ghost then = { Reads };
+    ghost then = { ReadsWord };
 }
 
 /// A raise of a lower word, or a lowering of an upper word.

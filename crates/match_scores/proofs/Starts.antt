@@ -16,7 +16,7 @@ use Rattle.turn_rule.specs.States.{IsStateOf, AreNoLooserOf, pair_of}
 use Rattle.turn_rule.specs.Truth.{IsBoundOf, Encloses}
 use Rattle.turn_rule.proofs.Integers.{le_trans, mul_mono, add_mono, neg_le, distribute, regroup}
 use Rattle.turn_rule.proofs.Fractions.{bound-neg}
-use Rattle.match_scores.specs.Openings.{openings, centred_number, opening_worth, opened_by, thirty_starts, directed_thirty, floor_30, ceil_30, outwards_30, start_at, start_over}
+use Rattle.match_scores.specs.Openings.{openings, centred_in, opening_worth, opened_by, thirty_starts, directed_thirty, floor_30, ceil_30, outwards_30, start_at, start_over}
 use Rattle.match_scores.proofs.OpeningSums.{GoOn, each-end, rolls-mono, rolls-scaled}
 
 -- ---- 30ths
@@ -76,20 +76,20 @@ both-ends Upper u values over p k h = h.upper
 
 -- ---- openings
 
-module _ (goes : GoOn) (checkers kinds : ℕ) (low : 1 ≤ checkers) (high : checkers ≤ 3) (score : MatchScore) (inside : (side : Side) → centred_number score side < kinds) where
+module _ (goes : GoOn) (checkers kinds : ℕ) (low : 1 ≤ checkers) (high : checkers ≤ 3) (score : MatchScore) (inside : (side : Side) → centred_in score side < kinds) where
   -- words that are at least as tight where the other side rolls next
   opened-mono : (side : Side) (v w : Values) → ((p : Placement) (k : ℕ) → IsStateOf checkers kinds p k → w p k ≤ℤ v p k) → opened_by side checkers v score ≤ℤ opened_by side checkers w score
   opened-mono side v w words =
       rolls-mono (opening_worth v score side) (opening_worth w score side) (start_placement checkers) openings
-      (each-end goes checkers kinds low high (centred_number score (other_side side)) (inside (other_side side)) (λ q. opening_worth v score side q ≤ℤ opening_worth w score side q) (λ q state. neg_le _ _ (words (swap q) _ state)))
+      (each-end goes checkers kinds low high (centred_in score (other_side side)) (inside (other_side side)) (λ q. opening_worth v score side q ≤ℤ opening_worth w score side q) (λ q state. neg_le _ _ (words (swap q) _ state)))
 
   opened-bound : (side : Side) (end : End) (u : Words) (values : Values) (over : ℕ) → ((p : Placement) (k : ℕ) → IsStateOf checkers kinds p k → IsBoundOf (other end) (u (other end) p k) (values p k) over) → IsBoundOf end (opened_by side checkers (u (other end)) score) (opened_by side checkers values score) over
   opened-bound side Lower u values over words =
       rolls-scaled over (2 ^ 32) (opening_worth (u Upper) score side) (opening_worth values score side) (start_placement checkers) openings
-      (each-end goes checkers kinds low high (centred_number score (other_side side)) (inside (other_side side)) (λ q. IsBoundOf Lower (opening_worth (u Upper) score side q) (opening_worth values score side q) over) (λ q state. bound-neg Lower (u Upper (swap q) (centred_number score (other_side side))) (values (swap q) (centred_number score (other_side side))) over (words (swap q) _ state)))
+      (each-end goes checkers kinds low high (centred_in score (other_side side)) (inside (other_side side)) (λ q. IsBoundOf Lower (opening_worth (u Upper) score side q) (opening_worth values score side q) over) (λ q state. bound-neg Lower (u Upper (swap q) (centred_in score (other_side side))) (values (swap q) (centred_in score (other_side side))) over (words (swap q) _ state)))
   opened-bound side Upper u values over words =
       rolls-scaled (2 ^ 32) over (opening_worth values score side) (opening_worth (u Lower) score side) (start_placement checkers) openings
-      (each-end goes checkers kinds low high (centred_number score (other_side side)) (inside (other_side side)) (λ q. IsBoundOf Upper (opening_worth (u Lower) score side q) (opening_worth values score side q) over) (λ q state. bound-neg Upper (u Lower (swap q) (centred_number score (other_side side))) (values (swap q) (centred_number score (other_side side))) over (words (swap q) _ state)))
+      (each-end goes checkers kinds low high (centred_in score (other_side side)) (inside (other_side side)) (λ q. IsBoundOf Upper (opening_worth (u Lower) score side q) (opening_worth values score side q) over) (λ q state. bound-neg Upper (u Lower (swap q) (centred_in score (other_side side))) (values (swap q) (centred_in score (other_side side))) over (words (swap q) _ state)))
 
   -- over words in order the lower end is at most the upper end
   pub start-in_order : (u : Words) → ((p : Placement) (k : ℕ) → IsStateOf checkers kinds p k → u Lower p k ≤ℤ u Upper p k) → start_at Lower checkers u score ≤ℤ start_at Upper checkers u score

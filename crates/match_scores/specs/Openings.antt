@@ -19,12 +19,12 @@ abbrev pub openings : List (Dice × ℕ)
 openings = map (λ (roll : Dice). (roll, 1)) opening_rolls
 
 -- the kind in which a side is to roll with the cube centred
-abbrev pub centred_number : MatchScore → Side → ℕ
-centred_number score side = number_in score (record { mover = side; cube = 1; owner = None })
+abbrev pub centred_in : MatchScore → Side → ℕ
+centred_in score side = number_in score (record { mover = side; cube = 1; owner = None })
 
 -- What a side has after its opening play: what the other side hasn't, which rolls next with the cube centred. No opening play ends a game.
 abbrev pub opening_worth : Values → MatchScore → Side → Placement → ℤ
-opening_worth values score side end = neg_ℤ (values (swap end) (centred_number score (other_side side)))
+opening_worth values score side end = neg_ℤ (values (swap end) (centred_in score (other_side side)))
 
 -- over the 15 rolls, the sum of what the best opening plays of a side are worth
 abbrev pub opened_by : Side → ℕ → Values → MatchScore → ℤ

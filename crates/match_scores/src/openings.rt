@@ -10,7 +10,7 @@ ghost use Rattle.cube_actions.specs.Stakes.{point_units};
 ghost use Rattle.turn_rule.specs.Turn.{greatest};
 ghost use Rattle.turn_rule.specs.States.{IsState};
 ghost use Rattle.interval_words.specs.WordLists.{words_in_list};
-ghost use Rattle.match_scores.specs.Openings.{centred_number, opening_worth, opened_by, outwards_30, start_at, start_over};
+ghost use Rattle.match_scores.specs.Openings.{centred_in, opening_worth, opened_by, outwards_30, start_at, start_over};
 
 use cube_actions::{Score, Side};
 use directed_fixed::{End, Fixed, Pair, ceil_div, floor_div};
@@ -22,7 +22,7 @@ use turn_rule::{end_of, other_end};
 
 /// The number of the kind in which a side is to roll with the cube centred.
 fn centred(score: Score, side: Side) -> usize
-    ensures { result ≡ centred_number score side }
+    ensures { result ≡ centred_in score side }
 {
     // The centred cube is the first of its places, with the near side to roll before the far side.
     let _ = score;
@@ -45,7 +45,7 @@ fn other_side(side: Side) -> Side
 /// What a side has, at one end, after its opening play: what the other side hasn't, which rolls next.
 #[inline]
 fn worth_at(end: End, words: &Words, score: Score, side: Side, left: &Position) -> Fixed
-    requires state { IsState words.now.game (swap left.now) (centred_number score (other_side side)) }
+    requires state { IsState words.now.game (swap left.now) (centred_in score (other_side side)) }
     ensures worth { result
         ≡ opening_worth (words_in_list words.now (other end)) score side left.now }
     ensures within { IsWithinUnits words.now.game.stakes.bound result }
@@ -59,7 +59,7 @@ fn worth_at(end: End, words: &Words, score: Score, side: Side, left: &Position) 
 fn best_at(end: End, words: &Words, score: Score, side: Side, entries: &[Entry]) -> Fixed
     requires some { 0 < length entries.now }
     requires states { All (λ (left : Placement).
-        IsState words.now.game (swap left) (centred_number score (other_side side))) (ends_of entries.now) }
+        IsState words.now.game (swap left) (centred_in score (other_side side))) (ends_of entries.now) }
     ensures best { result
         ≡ greatest (opening_worth (words_in_list words.now (other end)) score side)
         (ends_of entries.now) }

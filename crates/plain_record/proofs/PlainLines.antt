@@ -8,7 +8,7 @@ use Rattle.std.proofs.lemmas.Bool.Decides.{nat_tests}
 use Rattle.std.proofs.lemmas.List.{append-nil}
 use Rattle.std.proofs.lemmas.List.Splits.{slice_split_none, slice_split_at, join_with_byte-slice_split, length-slice_split}
 use Rattle.plain_record.specs.Plain.{line_if_any, line_numbers, line_of_words, line_read, more_checkers, numbers_from, parts, plain_text, says_nothing, spaced, steps_of, way_told, word_read, words_read}
-use Rattle.plain_record.specs.PlainLines.{IsPlainLine, ended_lines, is_plain_byte, is_plain_word, is_slash}
+use Rattle.plain_record.specs.PlainLines.{IsPlainLine, ended_lines, is_plain_byte, is_plain_word, is_slash_byte}
 use Rattle.plain_record.proofs.Parts.{is_byte, more-parts}
 
 pub both : (a b : Bool) → (a && b) ≡ true → (a ≡ true) × (b ≡ true)
@@ -57,9 +57,9 @@ one-step word (p ∷ q ∷ r ∷ ps) few is = absurd (omega arith)
 
 pub plain-word : (word : List ℕ) → is_plain_word word ≡ true → words_read word ≡ word ∷ []
 plain-word word h =
-    let (front, slashes) = both (ltb 0 (length word) && list_all is_plain_byte word) (ltb (count_by is_slash word) 2) h in
+    let (front, slashes) = both (ltb 0 (length word) && list_all is_plain_byte word) (ltb (count_by is_slash_byte word) 2) h in
     let bytes = (both (ltb 0 (length word)) (list_all is_plain_byte word) front).1 in
-    let few : count_by is_slash word < 2 = grind (arith, nat_tests) in
+    let few : count_by is_slash_byte word < 2 = grind (arith, nat_tests) in
     let long = length-slice_split (is_byte 47) word in
     let short : length (parts 47 word) ≤ 2 = omega (arith, long, few) in
     ap (λ (n : ℕ). steps_of word n (parts 47 (way_told word))) (none-more word bytes)
@@ -76,7 +76,7 @@ words-stay first (word ∷ later) h =
     ap (λ (text : List ℕ). first ++ (text ++ flat_map word_read later)) one ∙ ap (λ (text : List ℕ). first ++ (32 ∷ text)) (words-stay word later more)
 
 bytes-of : (word : List ℕ) → is_plain_word word ≡ true → list_all is_plain_byte word ≡ true
-bytes-of word h = (both (ltb 0 (length word)) (list_all is_plain_byte word) (both (ltb 0 (length word) && list_all is_plain_byte word) (ltb (count_by is_slash word) 2) h).0).1
+bytes-of word h = (both (ltb 0 (length word)) (list_all is_plain_byte word) (both (ltb 0 (length word) && list_all is_plain_byte word) (ltb (count_by is_slash_byte word) 2) h).0).1
 
 split-words : (first : List ℕ) (later : List (List ℕ)) → list_all is_plain_word (first ∷ later) ≡ true → parts 32 (join_with_byte 32 (first ∷ later)) ≡ first ∷ later
 split-words first [] h = slice_split_none (is_byte 32) first (lacks-low 32 first (omega arith) (bytes-of first (both (is_plain_word first) true h).0))

@@ -10,21 +10,21 @@ abbrev pub parts : ℕ → List ℕ → List (List ℕ)
 parts byte text = slice_split (λ other. other == byte) text
 
 -- a place behind a slash without the mark of a hit
-abbrev pub unmarked : List ℕ → List ℕ
-unmarked place = if ends_with nat_eq place (codes "*")
+abbrev pub without_mark : List ℕ → List ℕ
+without_mark place = if ends_with nat_eq place (codes "*")
     then take (length place - 1) place
     else place
 
 -- the place that a checker goes to; only the first checker hits what stands there
 abbrev pub place_told : Bool → List ℕ → List ℕ
 place_told true place = place
-place_told false place = unmarked place
+place_told false place = without_mark place
 
 -- the steps of a checker that goes from a place to others in turn
 abbrev pub steps_on : Bool → List ℕ → List (List ℕ) → List (List ℕ)
 steps_on first from [] = []
 steps_on first from (to ∷ later) =
-    (from ++ codes "/" ++ place_told first to) ∷ steps_on first (unmarked to) later
+    (from ++ codes "/" ++ place_told first to) ∷ steps_on first (without_mark to) later
 
 -- how many checkers more go that way
 abbrev pub more_checkers : List ℕ → ℕ
@@ -68,8 +68,8 @@ line_of_words (first ∷ later) = first ++ flat_map word_read later
 abbrev pub line_read : List ℕ → List ℕ
 line_read line = line_of_words (parts 32 line)
 
-abbrev pub is_blank : ℕ → Bool
-is_blank byte = byte == 32 || byte == 9
+abbrev pub is_blank_byte : ℕ → Bool
+is_blank_byte byte = byte == 32 || byte == 9
 
 abbrev pub begins_with_hash : List ℕ → Bool
 begins_with_hash [] = false
@@ -77,7 +77,7 @@ begins_with_hash (byte ∷ line) = byte == 35
 
 -- an empty line, one of blanks alone, or a remark
 abbrev pub says_nothing : List ℕ → Bool
-says_nothing line = begins_with_hash line || list_all is_blank line
+says_nothing line = begins_with_hash line || list_all is_blank_byte line
 
 -- what a line adds to the plain text
 abbrev pub line_if_any : List ℕ → List ℕ

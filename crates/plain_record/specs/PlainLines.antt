@@ -6,13 +6,13 @@ use Rattle.std.specs.List.{flat_map, join_with_byte, list_all}
 abbrev pub is_plain_byte : ℕ → Bool
 is_plain_byte byte = nat_lt 40 byte
 
-abbrev pub is_slash : ℕ → Bool
-is_slash byte = byte == 47
+abbrev pub is_slash_byte : ℕ → Bool
+is_slash_byte byte = byte == 47
 
 -- it isn't empty, and is one step at most
 abbrev pub is_plain_word : List ℕ → Bool
 is_plain_word word = nat_lt 0 (length word) && list_all is_plain_byte word
-    && nat_lt (count_by is_slash word) 2
+    && nat_lt (count_by is_slash_byte word) 2
 
 -- such words with single spaces
 pub record IsPlainLine (line : List ℕ) : Type 0 where

@@ -1,13 +1,13 @@
 ghost use Rattle.std.specs.Prelude.{◌≡◌, ◌++◌, ◌<◌, OnOk, codes, true, false};
 ghost use Rattle.std.specs.List.{flat_map};
-ghost use Rattle.plain_record.specs.Plain.{line_read, more_checkers, parts, place_told, repeated, spaced, steps_on, unmarked, way_told, word_read};
+ghost use Rattle.plain_record.specs.Plain.{line_read, more_checkers, parts, place_told, repeated, spaced, steps_on, without_mark, way_told, word_read};
 
 use crate::cut::cut;
 use hyper_outside::NoMemory;
 
 /// A place without the mark of a hit.
 fn unmarked(place: &[u8]) -> &[u8]
-    ensures { result.now ≡ unmarked place.now }
+    ensures { result.now ≡ without_mark place.now }
 {
     if place.ends_with(b"*") {
         &place[..place.len() - 1]

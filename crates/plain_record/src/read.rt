@@ -1,6 +1,6 @@
 ghost use Rattle.std.specs.Prelude.{◌≡◌, ◌+◌, ◌++◌, ◌≤◌, IfOk, OnOk, length, slice_index};
 ghost use Rattle.std.specs.List.{list_all};
-ghost use Rattle.plain_record.specs.Plain.{begins_with_hash, is_blank, line_if_any, line_numbers, number_if_any, plain_text, says_nothing};
+ghost use Rattle.plain_record.specs.Plain.{begins_with_hash, is_blank_byte, line_if_any, line_numbers, number_if_any, plain_text, says_nothing};
 
 use crate::cut::first_line;
 use crate::play::add_line;
@@ -31,7 +31,7 @@ fn begins_with_hash(line: &[u8]) -> bool
 }
 
 fn is_all_blank(line: &[u8]) -> bool
-    ensures { result ≡ list_all is_blank line.now }
+    ensures { result ≡ list_all is_blank_byte line.now }
 {
     line.iter().all(|byte| *byte == b' ' || *byte == b'\t')
 }

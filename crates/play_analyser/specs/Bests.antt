@@ -54,15 +54,15 @@ answer_pair action Pass = action.pass
 answer_pair action Beaver = unwrap_or action.beaver action.take
 
 -- the offer that is advised, with its pair
-abbrev pub best_offer : Bounds → CubeAction → Best
-best_offer rolling action = record {
+abbrev pub best_of_offer : Bounds → CubeAction → Best
+best_of_offer rolling action = record {
   advised = Offer action.offer;
   pair = offer_pair rolling action action.offer;
 }
 
 -- the answer that is advised, with its pair
-abbrev pub best_answer : CubeAction → Best
-best_answer action = record {
+abbrev pub best_of_answer : CubeAction → Best
+best_of_answer action = record {
   advised = Answer action.answer;
   pair = answer_pair action action.answer;
 }
@@ -78,9 +78,9 @@ IsBestBy ranks advises (Played roll end) best =
     (ranking : Ranking) × ranks roll ranking × IsFirstRow ranking.rows.items best
 IsBestBy ranks advises (Offered offer) best =
     (advice : CubeAdvice) × advises advice
-    × IsOfAction advice.action (best_offer advice.no_double) best
+    × IsOfAction advice.action (best_of_offer advice.no_double) best
 IsBestBy ranks advises (Answered answer) best =
-    (advice : CubeAdvice) × advises advice × IsOfAction advice.action best_answer best
+    (advice : CubeAdvice) × advises advice × IsOfAction advice.action best_of_answer best
 
 -- by the ranking and the advice from a source's words
 abbrev pub IsBest : Terms → Placement → ℕ → Choice → Source → Notes → Best → Type 0

@@ -1,6 +1,6 @@
 ghost use Rattle.std.specs.Prelude.{◌≡◌, ◌<◌, ◌≤◌, length};
 ghost use Rattle.play_analyser.specs.Advice.{doubling_of, taken_of};
-ghost use Rattle.play_analyser.specs.Bests.{IsFirstRow, best_answer, best_offer, moves_of};
+ghost use Rattle.play_analyser.specs.Bests.{IsFirstRow, best_of_answer, best_of_offer, moves_of};
 
 use crate::advice::CubeAction;
 use crate::answers::doubled_pair;
@@ -93,7 +93,7 @@ pub(crate) fn doubling_of(action: &CubeAction) -> Pair
 
 /// The offer that is advised, with its pair, where rolling gives this.
 pub(crate) fn best_offer(rolling: Pair, action: &CubeAction) -> Best
-    ensures { result ≡ best_offer rolling action.now }
+    ensures { result ≡ best_of_offer rolling action.now }
 {
     let pair = match action.offer {
         Offer::NoDouble => rolling,
@@ -107,7 +107,7 @@ pub(crate) fn best_offer(rolling: Pair, action: &CubeAction) -> Best
 
 /// The answer that is advised, with its pair.
 pub(crate) fn best_answer(action: &CubeAction) -> Best
-    ensures { result ≡ best_answer action.now }
+    ensures { result ≡ best_of_answer action.now }
 {
     let pair = match action.answer {
         Answer::Take => action.take,

@@ -3,11 +3,11 @@ use Rattle.std.specs.Prelude.{ℕ, ◌+◌, ◌-◌, ◌*◌, ◌/◌, min, max,
 use Rattle.progress_line.specs.declared.line.Progress.{Progress}
 
 -- how many blocks there are in all rounds, and how many of them were passed; a block may be passed again by no worker, so there are no more
-abbrev pub whole_work : Progress → ℕ
-whole_work progress = max 1 (progress.blocks * progress.rounds)
+abbrev pub in_all : Progress → ℕ
+in_all progress = max 1 (progress.blocks * progress.rounds)
 
 abbrev pub done : Progress → ℕ
-done progress = min progress.passed (whole_work progress)
+done progress = min progress.passed (in_all progress)
 
 -- the round of the block that is passed next, at most the last
 abbrev pub round_of : Progress → ℕ
@@ -15,11 +15,11 @@ round_of progress = min progress.rounds (done progress / max 1 progress.blocks +
 
 -- how many seconds are left if the rest goes on as what is done
 abbrev pub seconds_left : Progress → ℕ
-seconds_left progress = progress.seconds * (whole_work progress - done progress) / max 1 (done progress)
+seconds_left progress = progress.seconds * (in_all progress - done progress) / max 1 (done progress)
 
 -- the share of all blocks that were passed, in percent
 abbrev pub percent_of : Progress → ℕ
-percent_of progress = 100 * done progress / whole_work progress
+percent_of progress = 100 * done progress / in_all progress
 
 -- words and a number
 abbrev pub numbered_text : List ℕ → ℕ → List ℕ

@@ -1,5 +1,5 @@
 ghost use Rattle.std.specs.Prelude.{◌≡◌, ◌≤◌, ◌+◌, ◌++◌, length};
-ghost use Rattle.progress_line.specs.Lines.{numbered_text, done, percent_of, progress_text, round_of, seconds_left, whole_work};
+ghost use Rattle.progress_line.specs.Lines.{numbered_text, done, percent_of, progress_text, round_of, seconds_left, in_all};
 
 use arrayvec::ArrayString;
 use itoa::Buffer;
@@ -18,7 +18,7 @@ pub(crate) struct Progress {
 
 impl Progress {
     fn whole(&self) -> u64
-        ensures whole_work { result ≡ whole_work self.now }
+        ensures in_all { result ≡ in_all self.now }
         ensures some { 1 ≤ result }
     {
         (u64::from(self.blocks) * u64::from(self.rounds)).max(1)
@@ -26,7 +26,7 @@ impl Progress {
 
     fn done(&self) -> u64
         ensures done { result ≡ done self.now }
-        ensures within { result ≤ whole_work self.now }
+        ensures within { result ≤ in_all self.now }
     {
         self.passed.min(self.whole())
     }

@@ -29,7 +29,7 @@ use Rattle.game_record.specs.declared.record.What.TheVariants.{Rolled, Doubled, 
 use Rattle.game_record.specs.declared.stage.Next.{Next}
 use Rattle.game_record.specs.declared.stage.Stage.{Stage}
 use Rattle.plain_record.specs.Plain.{line_numbers, plain_text}
-use Rattle.plain_record.specs.PlainLines.{IsPlainLine, ended_lines, is_plain_byte, is_plain_word, is_slash}
+use Rattle.plain_record.specs.PlainLines.{IsPlainLine, ended_lines, is_plain_byte, is_plain_word, is_slash_byte}
 use Rattle.record_commands.specs.Records.{HoldsRecord}
 use Rattle.record_commands.proofs.DecisionLines.{replay-stays}
 
@@ -58,17 +58,17 @@ solid-bytes (x ∷ word) h =
     let high : ltb 40 x ≡ true = grind (arith, nat_tests) in
     rw high (solid-bytes word later)
 
-no-slash : (word : List ℕ) → is_solid word ≡ true → count_by is_slash word ≡ 0
+no-slash : (word : List ℕ) → is_solid word ≡ true → count_by is_slash_byte word ≡ 0
 no-slash [] h = refl
 no-slash (x ∷ word) h =
     let (here, later) = both (ltb 47 x) (is_solid word) h in
     let other : eqb x 47 ≡ false = grind (arith, nat_tests) in
     rw other (no-slash word later)
 
-word-by : (word : List ℕ) → 0 < length word → list_all is_plain_byte word ≡ true → count_by is_slash word < 2 → is_plain_word word ≡ true
+word-by : (word : List ℕ) → 0 < length word → list_all is_plain_byte word ≡ true → count_by is_slash_byte word < 2 → is_plain_word word ≡ true
 word-by word some bytes few =
     let long : ltb 0 (length word) ≡ true = grind (arith, nat_tests) in
-    let one : ltb (count_by is_slash word) 2 ≡ true = grind (arith, nat_tests) in
+    let one : ltb (count_by is_slash_byte word) 2 ≡ true = grind (arith, nat_tests) in
     rw (long, bytes, one) refl
 
 solid-word : (word : List ℕ) → 0 < length word → is_solid word ≡ true → is_plain_word word ≡ true
@@ -104,7 +104,7 @@ each-in-range test a (suc n) i e low high =
 place-solid : (p : ℕ) → p ≤ 25 → is_solid (place_text p) ≡ true
 place-solid p low = each-in-range (λ p. is_solid (place_text p)) 0 26 p all-places (omega arith) (omega arith)
 
-mark-bytes : (hit : Bool) → (list_all is_plain_byte (mark hit) ≡ true) × (count_by is_slash (mark hit) ≡ 0)
+mark-bytes : (hit : Bool) → (list_all is_plain_byte (mark hit) ≡ true) × (count_by is_slash_byte (mark hit) ≡ 0)
 mark-bytes true = (refl, refl)
 mark-bytes false = (refl, refl)
 
@@ -112,8 +112,8 @@ behind-some : (a b : List ℕ) (x : ℕ) → 0 < length (a ++ x ∷ b)
 behind-some [] b x = omega arith
 behind-some (y ∷ a) b x = omega arith
 
-count-append : (a b : List ℕ) → count_by is_slash (a ++ b) ≡ count_by is_slash a + count_by is_slash b
-count-append a b = sum_by-append (λ (byte : ℕ). cond (is_slash byte) 1 0) a b
+count-append : (a b : List ℕ) → count_by is_slash_byte (a ++ b) ≡ count_by is_slash_byte a + count_by is_slash_byte b
+count-append a b = sum_by-append (λ (byte : ℕ). cond (is_slash_byte byte) 1 0) a b
 
 -- a step from one place to another
 step-of : (from to : List ℕ) (hit : Bool) → is_solid from ≡ true → is_solid to ≡ true → is_plain_word (from ++ codes "/" ++ to ++ mark hit) ≡ true
@@ -121,16 +121,16 @@ step-of from to hit f t =
     let m = mark-bytes hit in
     let word = from ++ codes "/" ++ to ++ mark hit in
     let bytes = bytes-append (from ++ codes "/" ++ to) (mark hit) (bytes-append (from ++ codes "/") to (bytes-append from (codes "/") (solid-bytes from f) refl) (solid-bytes to t)) m.0 in
-    let counted : count_by is_slash word ≡ 1 = count-of in
+    let counted : count_by is_slash_byte word ≡ 1 = count-of in
     let joined : word ≡ from ++ 47 ∷ (to ++ mark hit) = append_assoc (from ++ codes "/") to (mark hit) ∙ append_assoc from (codes "/") (to ++ mark hit) in
     word-by word (subst (λ (w : List ℕ). 0 < length w) (sym joined) (behind-some from (to ++ mark hit) 47)) bytes (omega (arith, counted))
   where
-    count-of : count_by is_slash (from ++ codes "/" ++ to ++ mark hit) ≡ 1
+    count-of : count_by is_slash_byte (from ++ codes "/" ++ to ++ mark hit) ≡ 1
     count-of =
         let a = count-append (from ++ codes "/" ++ to) (mark hit) in
         let b = count-append (from ++ codes "/") to in
         let c = count-append from (codes "/") in
-        let one : count_by is_slash (codes "/") ≡ 1 = refl in
+        let one : count_by is_slash_byte (codes "/") ≡ 1 = refl in
         let m = (mark-bytes hit).1 in
         let x = no-slash from f in
         let y = no-slash to t in

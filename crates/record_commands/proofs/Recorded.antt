@@ -10,7 +10,7 @@ use Rattle.cube_actions.specs.Stakes.{Terms}
 use Rattle.cube_actions.specs.Starts.{StartPairs}
 use Rattle.game_record.specs.Kinds.{stakes_at}
 use Rattle.game_record.specs.RightDecisions.{IsRightDecision, terms_for}
-use Rattle.game_record.specs.Turns.{is_match_record}
+use Rattle.game_record.specs.Turns.{has_match}
 use Rattle.game_record.specs.declared.decision.Decision.{Decision}
 use Rattle.game_record.specs.declared.record.Record.{Record}
 use Rattle.game_record.specs.declared.record.RecordStakes.{RecordStakes}
@@ -67,7 +67,7 @@ analysed stakes u (one ∷ list) all =
 -- ---- decisions of a record outside a match
 
 -- the stakes of the record's name are those at which each of its decisions was made
-plain-stakes : (stakes : RecordStakes) → is_match_record stakes ≡ false → (score : Option MatchScore) (starts : StartPairs) → stakes_named (stakes_recorded stakes) starts ≡ terms_for (stakes_at stakes score) starts
+plain-stakes : (stakes : RecordStakes) → has_match stakes ≡ false → (score : Option MatchScore) (starts : StartPairs) → stakes_named (stakes_recorded stakes) starts ≡ terms_for (stakes_at stakes score) starts
 plain-stakes Cubeless plain score starts = refl
 plain-stakes Money plain score starts = refl
 plain-stakes Jacoby plain score starts = refl
@@ -79,7 +79,7 @@ plain-stakes (Match length) plain score starts = absurd (false≢true (sym plain
 abbrev pub TruthLaw : Type 0
 TruthLaw = (game : Game) → IsGame game → (u : Words) → AreSound game u → (decisions : List Decision) → All (IsDecisionOf game) decisions → IsTrueAnalysis game (analysis_of game.stakes u decisions)
 
-module _ (law : Law) (rec : Record) (plain : is_match_record rec.stakes ≡ false) where
+module _ (law : Law) (rec : Record) (plain : has_match rec.stakes ≡ false) where
   pub plain-decision : (decision : Decision) → IsRightDecision rec decision → IsDecisionFor (game_recorded rec) decision
   plain-decision decision right head is game =
       let source : Source = record { checkers = head.checkers; kinds = kinds_of (game_in head); bound = (stakes_of head).bound; sure = true; floor = bound_words (stakes_of head); damage = λ _ _. None } in
@@ -110,20 +110,20 @@ module _ (law : Law) (rec : Record) (plain : is_match_record rec.stakes ≡ fals
 -- ---- all of a record
 
 module _ (name : List ℕ) (replayed : Replayed) (held : Contents) where
-  pub judging-match : is_match_record replayed.rec.stakes ≡ true → (result : Result (List Judged) Refusal) → AnswersMatch name replayed.rec replayed.decisions held result → AnswersJudging name replayed held result
+  pub judging-match : has_match replayed.rec.stakes ≡ true → (result : Result (List Judged) Refusal) → AnswersMatch name replayed.rec replayed.decisions held result → AnswersJudging name replayed held result
   judging-match is (Ok list) a = subst (λ (b : Bool). JudgesBy b name replayed held list) (sym is) a
   judging-match is (Err refusal) a = inr (subst (λ (b : Bool). RefusesBy b name replayed refusal held) (sym is) a)
 
-  pub judging-plain : is_match_record replayed.rec.stakes ≡ false → (result : Result (List Judged) Refusal) → AnswersPlain name replayed.rec replayed.decisions (held name) result → AnswersJudging name replayed held result
+  pub judging-plain : has_match replayed.rec.stakes ≡ false → (result : Result (List Judged) Refusal) → AnswersPlain name replayed.rec replayed.decisions (held name) result → AnswersJudging name replayed held result
   judging-plain is (Ok list) a = subst (λ (b : Bool). JudgesBy b name replayed held list) (sym is) a
   judging-plain is (Err refusal) a = inr (subst (λ (b : Bool). RefusesBy b name replayed refusal held) (sym is) a)
 
 -- the decisions of a record are judged by what is held
 abbrev pub JudgesHeld : List ℕ → Replayed → List Judged → Contents → Type 0
-JudgesHeld name replayed list held = JudgesBy (is_match_record replayed.rec.stakes) name replayed held list
+JudgesHeld name replayed list held = JudgesBy (has_match replayed.rec.stakes) name replayed held list
 
 -- what is answered of the files as they are after the record was read is so of them as they were
 module _ (task : Analyse) (replayed : Replayed) (held after : Contents) (same : after ≡ held) where
   pub judging-refused : OfHeld (held task.rec) (λ bytes. HoldsRecord bytes replayed) → (refusal : Refusal) → AnswersJudging task.base replayed after (Err refusal) → RefusesAnalysis task refusal held
   judging-refused holds refusal (inl outside) = inr (record { replayed = replayed; record_file = holds; cause = inl outside })
-  judging-refused holds refusal (inr cause) = inr (record { replayed = replayed; record_file = holds; cause = inr (subst (RefusesBy (is_match_record replayed.rec.stakes) task.base replayed refusal) same cause) })
+  judging-refused holds refusal (inr cause) = inr (record { replayed = replayed; record_file = holds; cause = inr (subst (RefusesBy (has_match replayed.rec.stakes) task.base replayed refusal) same cause) })

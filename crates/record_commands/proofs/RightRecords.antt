@@ -11,7 +11,7 @@ use Rattle.game_record.specs.Faults.{IsBad}
 use Rattle.game_record.specs.Lines.{IsRecord, IsRecordText}
 use Rattle.game_record.specs.Replay.{IsBroken, IsReplay}
 use Rattle.game_record.specs.RightDecisions.{IsRightDecision}
-use Rattle.game_record.specs.Turns.{is_match_record}
+use Rattle.game_record.specs.Turns.{has_match}
 use Rattle.game_record.specs.declared.decision.Decision.{Decision}
 use Rattle.game_record.specs.declared.fault.BadRecord.{BadRecord}
 use Rattle.game_record.specs.declared.fault.RecordStop.{RecordStop}
@@ -162,12 +162,12 @@ right-analysed no_fault one replay no_breach task held refusal right may = by_ca
   by_cause : RefusesAnalysis task refusal held → IsOutside refusal
   by_cause (inl r) = right-record no_fault one no_breach task.rec (held task.rec) right.replayed right.record_file refusal r
   by_cause (inr not) = by_files not.cause where
-    by_files : IsOutside refusal ⊎ RefusesBy (is_match_record not.replayed.rec.stakes) task.base not.replayed refusal held → IsOutside refusal
+    by_files : IsOutside refusal ⊎ RefusesBy (has_match not.replayed.rec.stakes) task.base not.replayed refusal held → IsOutside refusal
     by_files (inl outside) = outside
     by_files (inr cause) =
         let same = same-record one replay (held task.rec) right.replayed not.replayed right.record_file not.record_file in
-        let can = subst (λ (replayed : Replayed). CanJudgeBy (is_match_record replayed.rec.stakes) task.base replayed held) same right.base_files in
-        right-judged (is_match_record not.replayed.rec.stakes) task.base not.replayed held refusal can cause
+        let can = subst (λ (replayed : Replayed). CanJudgeBy (has_match replayed.rec.stakes) task.base replayed held) same right.base_files in
+        right-judged (has_match not.replayed.rec.stakes) task.base not.replayed held refusal can cause
 
 -- ---- files with right pages
 
@@ -180,7 +180,7 @@ can-judge wanted decision bytes has for_game =
       pages = λ q j may. has.pages q j (choice-state (game_in (front_head bytes)) has.game decision.position decision.kind of.state decision.choice of.choice q j may);
     }
 
-pub plain-can-judge : Law → (rec : RecordRead) (decisions : List Decision) (bytes : List ℕ) → All (IsRightDecision rec) decisions → is_match_record rec.stakes ≡ false → HasRightPages (game_recorded rec) bytes
+pub plain-can-judge : Law → (rec : RecordRead) (decisions : List Decision) (bytes : List ℕ) → All (IsRightDecision rec) decisions → has_match rec.stakes ≡ false → HasRightPages (game_recorded rec) bytes
     → CanJudgeAll (game_recorded rec) decisions bytes
 plain-can-judge law rec decisions bytes right plain has =
     record { front = has.front; each = λ k d below. can-judge (game_recorded rec) _ bytes has (plain-decision law rec plain _ (right k d below)) }

@@ -2,7 +2,7 @@
 use Rattle.std.specs.Prelude.{◌≡◌, ◌⊎◌, ℕ, List, All, Bool, true, false, IsTrue, Option, None, Result, Ok, Err}
 use Rattle.outside_log.specs.Files.{Contents}
 use Rattle.outside_log.specs.Sink.{Output}
-use Rattle.game_record.specs.Turns.{is_match_record}
+use Rattle.game_record.specs.Turns.{has_match}
 use Rattle.game_record.specs.declared.decision.Decision.{Decision}
 use Rattle.game_record.specs.declared.record.Record.{Record as RecordRead}
 use Rattle.turn_rule.specs.Truth.{AreSound}
@@ -46,7 +46,7 @@ pub record IsAnalysed (task : Analyse) (told : Bool) (held : Contents)
   pub replayed : Replayed
   pub record_file : IsTrue told → OfHeld (held task.rec) (λ bytes. HoldsRecord bytes replayed)
   pub base_files : IsTrue told
-      → JudgesBy (is_match_record replayed.rec.stakes) task.base replayed held list
+      → JudgesBy (has_match replayed.rec.stakes) task.base replayed held list
 
 -- The report of an analysis was put, in this way.
 pub record HasAnalysed (task : Analyse) (told : Bool) (held : Contents)
@@ -69,7 +69,7 @@ pub record RefusesReplayed (task : Analyse) (refusal : Refusal) (held : Contents
   pub replayed : Replayed
   pub record_file : OfHeld (held task.rec) (λ bytes. HoldsRecord bytes replayed)
   pub cause : IsOutside refusal
-      ⊎ RefusesBy (is_match_record replayed.rec.stakes) task.base replayed refusal held
+      ⊎ RefusesBy (has_match replayed.rec.stakes) task.base replayed refusal held
 
 -- An analysis is refused: the record is, or it breaks no rule and can't be judged by the file, or in a match by the files of its scores.
 abbrev pub RefusesAnalysis : Analyse → Refusal → Contents → Type 0
@@ -96,6 +96,6 @@ AnswersPlain name rec decisions held (Err refusal) =
 -- the decisions of a record are judged, or this refuses that
 abbrev pub AnswersJudging : List ℕ → Replayed → Contents → Result (List Judged) Refusal → Type 0
 AnswersJudging name replayed held (Ok list) =
-    JudgesBy (is_match_record replayed.rec.stakes) name replayed held list
+    JudgesBy (has_match replayed.rec.stakes) name replayed held list
 AnswersJudging name replayed held (Err refusal) = IsOutside refusal
-    ⊎ RefusesBy (is_match_record replayed.rec.stakes) name replayed refusal held
+    ⊎ RefusesBy (has_match replayed.rec.stakes) name replayed refusal held

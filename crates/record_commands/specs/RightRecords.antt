@@ -1,7 +1,7 @@
 -- Which records and files are right for what is asked of them: nothing refuses it then but a fault of the files or want of memory.
 use Rattle.std.specs.Prelude.{◌≡◌, List, ℕ, All, Bool, true, false, IfSome, Option, None}
 use Rattle.outside_log.specs.Files.{Contents}
-use Rattle.game_record.specs.Turns.{is_match_record}
+use Rattle.game_record.specs.Turns.{has_match}
 use Rattle.game_record.specs.declared.decision.Decision.{Decision}
 use Rattle.game_record.specs.declared.record.Record.{Record as RecordRead}
 use Rattle.turn_rule.specs.Games.{IsGame}
@@ -63,4 +63,4 @@ IsRightForStudying task held =
 pub record IsRightForAnalysing (task : Analyse) (held : Contents) : Type 0 where
   pub replayed : Replayed
   pub record_file : OfHeld (held task.rec) (λ bytes. HoldsRecord bytes replayed)
-  pub base_files : CanJudgeBy (is_match_record replayed.rec.stakes) task.base replayed held
+  pub base_files : CanJudgeBy (has_match replayed.rec.stakes) task.base replayed held

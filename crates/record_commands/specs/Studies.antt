@@ -1,7 +1,7 @@
 -- What the decisions of a recorded game lose, by what is solved for it.
 use Rattle.std.specs.Prelude.{◌≡◌, ◌⊎◌, ℕ, List, Bool, false, true, IsTrue, Option}
 use Rattle.outside_log.specs.Sink.{Output}
-use Rattle.game_record.specs.Turns.{is_match_record}
+use Rattle.game_record.specs.Turns.{has_match}
 use Rattle.record_analysis.specs.declared.analysis.Judged.{Judged}
 use Rattle.record_study.specs.Matches.{AreStudiedInMatch}
 use Rattle.record_study.specs.Studies.{AreStudied, game_of_record}
@@ -17,10 +17,10 @@ use Rattle.record_commands.specs.declared.record.Replayed.{Replayed}
 -- all its games. So from some number of turns on, one for all of them, each pair encloses what its decision loses exactly, in a match with its exact
 -- payoffs, with no premise on a file; and each is at least as tight as over as many rounds in which all states are worked out from the round before.
 pub record IsStudiedBy (replayed : Replayed) (most : ℕ) (list : List Judged) : Type 0 where
-  pub plain : is_match_record replayed.rec.stakes ≡ false
+  pub plain : has_match replayed.rec.stakes ≡ false
       → AreStudied (game_of_record replayed.rec) most replayed.decisions list
   pub in_match :
-      is_match_record replayed.rec.stakes ≡ true
+      has_match replayed.rec.stakes ≡ true
       → AreStudiedInMatch replayed.rec.checkers (match_length replayed.rec.stakes) most
       replayed.decisions list
 

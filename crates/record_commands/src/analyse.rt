@@ -4,7 +4,7 @@ ghost use Rattle.outside_log.specs.Log.{standing};
 ghost use Rattle.outside_log.specs.Readings.{ReadsOn, is_faithful, read_faults};
 ghost use Rattle.game_record.specs.Lines.{IsRecord};
 ghost use Rattle.game_record.specs.RightDecisions.{IsRightDecision};
-ghost use Rattle.game_record.specs.Turns.{is_match_record};
+ghost use Rattle.game_record.specs.Turns.{has_match};
 ghost use Rattle.record_study.specs.Keeping.{decisions_in};
 ghost use Rattle.equity_report.specs.declared.refusal.Refusal.TheVariants.{Read};
 ghost use Rattle.command_line.specs.Right.{IsRightAnalyse};
@@ -38,7 +38,7 @@ fn judge_plain<F: Files>(
     requires name { length name.now ≤ 255 }
     requires valid { IsRecord rec.now }
     requires right { All (IsRightDecision rec.now) (decisions_in analysis) }
-    requires plain { is_match_record rec.now.stakes ≡ false }
+    requires plain { has_match rec.now.stakes ≡ false }
     ensures told { IsTrue (is_faithful (F.log files.new))
         → AnswersPlain name.now rec.now (decisions_in analysis)
         (standing (F.log files.old) name.now) result }

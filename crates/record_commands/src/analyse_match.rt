@@ -4,7 +4,7 @@ ghost use Rattle.outside_log.specs.Log.{standing};
 ghost use Rattle.outside_log.specs.Readings.{ReadsOn, is_faithful, read_faults};
 ghost use Rattle.equity_report.specs.declared.refusal.Refusal.TheVariants.{Read};
 ghost use Rattle.game_record.specs.RightDecisions.{IsRightDecision};
-ghost use Rattle.game_record.specs.Turns.{is_match_record};
+ghost use Rattle.game_record.specs.Turns.{has_match};
 ghost use Rattle.record_study.specs.Keeping.{IsDecisionInMatch, decisions_in};
 ghost use Rattle.run_endings.specs.Endings.{IsOfShowing};
 ghost use Rattle.run_endings.specs.Scores.{score_file};
@@ -188,7 +188,7 @@ pub(crate) fn judge_match<F: Files>(
 ) -> Result<Analysis, Refusal>
     requires prefix { length prefix.now ≤ 255 }
     requires right { All (IsRightDecision rec.now) (decisions_in analysis) }
-    requires in_match { is_match_record rec.now.stakes ≡ true }
+    requires in_match { has_match rec.now.stakes ≡ true }
     ensures told { IsTrue (is_faithful (F.log files.new))
         → AnswersMatch prefix.now rec.now (decisions_in analysis)
         (standing (F.log files.old)) result }

@@ -4,7 +4,7 @@ ghost use Rattle.outside_log.specs.Log.{standing};
 ghost use Rattle.outside_log.specs.Readings.{ReadsOn, is_faithful, read_faults};
 ghost use Rattle.game_record.specs.Drafts.{StopsBy};
 ghost use Rattle.game_record.specs.Lines.{AreRecordStakes, IsRecord};
-ghost use Rattle.game_record.specs.Turns.{is_match_record};
+ghost use Rattle.game_record.specs.Turns.{has_match};
 ghost use Rattle.equity_report.specs.declared.refusal.Refusal.TheVariants.{Read};
 ghost use Rattle.record_commands.specs.Records.{AnswersRecord, AnswersText, HoldsPlain, IsRightReplayed, IsWrongPlain, TellsUnread, at_line, game_recorded, match_length, record_refusal, stakes_recorded};
 ghost use Rattle.run_endings.specs.Endings.{IsOfReplaying};
@@ -48,7 +48,7 @@ fn stakes_recorded(stakes: RecordStakes) -> StakesName
 
 /// Whether a record is one of a match.
 pub(crate) fn is_match(stakes: RecordStakes) -> bool
-    ensures { result ≡ is_match_record stakes }
+    ensures { result ≡ has_match stakes }
 {
     matches!(stakes, RecordStakes::Match(_))
 }

@@ -6,7 +6,7 @@ ghost use Rattle.cube_actions.specs.Scores.{MatchScore};
 ghost use Rattle.game_record.specs.Lines.{IsRecordText, record_lines};
 ghost use Rattle.game_record.specs.Replay.{IsReplay};
 ghost use Rattle.game_record.specs.RightDecisions.{IsRightDecision};
-ghost use Rattle.game_record.specs.Turns.{is_match_record};
+ghost use Rattle.game_record.specs.Turns.{has_match};
 ghost use Rattle.game_record.specs.declared.decision.Decision.{Decision};
 ghost use Rattle.game_record.specs.declared.record.Record.{Record as RecordRead};
 ghost use Rattle.game_record.specs.declared.record.RecordStakes.TheVariants.{Match};
@@ -52,7 +52,7 @@ pub fn right_records_are_not_refused()
 /// A file of a record's game with right pages can judge right decisions of the record, and so can, in a match, such files of its scores.
 pub fn files_with_right_pages_can_judge()
     ensures plain { (rec : RecordRead) (decisions : List Decision) (bytes : List ℕ)
-        → All (IsRightDecision rec) decisions → is_match_record rec.stakes ≡ false
+        → All (IsRightDecision rec) decisions → has_match rec.stakes ≡ false
         → HasRightPages (game_recorded rec) bytes
         → CanJudgeAll (game_recorded rec) decisions bytes }
     ensures scores { (prefix : List ℕ) (rec : RecordRead) (decisions : List Decision)

@@ -29,7 +29,7 @@ use Rattle.game_record.specs.declared.stage.Next.TheVariants.{FirstGame, FirstRo
 use Rattle.game_record.specs.declared.stage.Stage.{Stage}
 use Rattle.game_record.specs.Games.{counted, is_over, won_worth}
 use Rattle.game_record.specs.Lines.{FitsNext, Follow, IsWrittenPlay, UpTo, ending_line, game_lines, games_lines, record_lines}
-use Rattle.game_record.specs.Turns.{coming_after, first_stage, kind_of, kind_of_deed, stage_after}
+use Rattle.game_record.specs.Turns.{allowed, first_stage, kind_of, kind_of_deed, stage_after}
 use Rattle.record_maker.specs.declared.due.Due.{Due}
 use Rattle.record_maker.specs.declared.due.Due.TheVariants.{Start, Turn, Answer, Roll, Nothing}
 use Rattle.record_maker.specs.Draws.{start_drawn, two_dice}
@@ -57,7 +57,7 @@ follow-more stage (line ∷ lines) more between end (next, comes, fits, later) r
 
 -- what a player did may come where it was due
 abbrev pub Comes : Due → Player → What → Type 0
-Comes due player what = (coming_after false (next_of due) (kind_of_deed player what) ≡ Some (next_of (due_after player what))) × FitsNext (next_of due) what × IsWrittenPlay what
+Comes due player what = (allowed false (next_of due) (kind_of_deed player what) ≡ Some (next_of (due_after player what))) × FitsNext (next_of due) what × IsWrittenPlay what
 
 plays-written : (from : Progress) (player : Player) (roll : Dice) (words : Lcg) (what : What) (to : Moment) → IsRoll roll → Plays from player roll words what to → IsWrittenPlay what
 plays-written from player roll words (Rolled told written) to right (same, entry, chosen, text, game, later) = (text.hits, text.few, subst IsRoll (sym same) right)
@@ -73,14 +73,14 @@ plays-unequal from player roll words Took to apart plays = absurd plays
 plays-unequal from player roll words Passed to apart plays = absurd plays
 plays-unequal from player roll words Beavered to apart plays = absurd plays
 
-plays-first : (player : Player) (from : Progress) (roll : Dice) (words : Lcg) (what : What) (to : Moment) → Plays from player roll words what to → coming_after false FirstRoll (kind_of_deed player what) ≡ Some (next_of (due_after player what))
+plays-first : (player : Player) (from : Progress) (roll : Dice) (words : Lcg) (what : What) (to : Moment) → Plays from player roll words what to → allowed false FirstRoll (kind_of_deed player what) ≡ Some (next_of (due_after player what))
 plays-first player from roll words (Rolled told written) to plays = refl
 plays-first player from roll words Doubled to plays = absurd plays
 plays-first player from roll words Took to plays = absurd plays
 plays-first player from roll words Passed to plays = absurd plays
 plays-first player from roll words Beavered to plays = absurd plays
 
-comes-on : (player : Player) (what : What) (to : Moment) (from : Progress) (roll : Dice) (words : Lcg) → Plays from player roll words what to → coming_after false (RollNext player) (kind_of_deed player what) ≡ Some (next_of (due_after player what))
+comes-on : (player : Player) (what : What) (to : Moment) (from : Progress) (roll : Dice) (words : Lcg) → Plays from player roll words what to → allowed false (RollNext player) (kind_of_deed player what) ≡ Some (next_of (due_after player what))
 comes-on A (Rolled told written) to from roll words plays = refl
 comes-on B (Rolled told written) to from roll words plays = refl
 comes-on player Doubled to from roll words plays = absurd plays
@@ -239,7 +239,7 @@ MayBegin FirstGame = Unit {0}
 MayBegin NextGame = Unit {0}
 MayBegin _ = ⊥
 
-begin-comes : (next : Next) → MayBegin next → coming_after false next (kind_of (GameLine 0 None)) ≡ Some FirstRoll
+begin-comes : (next : Next) → MayBegin next → allowed false next (kind_of (GameLine 0 None)) ≡ Some FirstRoll
 begin-comes FirstGame may = refl
 begin-comes NextGame may = refl
 begin-comes _ may = absurd may
@@ -296,7 +296,7 @@ pub made-follows : (number count : ℕ) (rec : Record) → 1 ≤ count → IsMad
 made-follows number count rec some made =
     subst (λ (stakes : RecordStakes). Closes rec.checkers stakes rec.games) (sym made.stakes)
     (subst (λ (checkers : ℕ). Closes checkers Jacoby rec.games) (sym made.checkers) (by rec.games made.games)) where
-      close : (last : Next) → MayClose last → coming_after false last (kind_of Closed) ≡ Some NothingNext
+      close : (last : Next) → MayClose last → allowed false last (kind_of Closed) ≡ Some NothingNext
       close NextGame may = refl
       close Close may = refl
       close _ may = absurd may

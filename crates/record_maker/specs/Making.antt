@@ -15,7 +15,7 @@ use Rattle.game_record.specs.declared.record.Record.{Record}
 use Rattle.game_record.specs.declared.record.RecordStakes.TheVariants.{Jacoby}
 use Rattle.game_record.specs.declared.record.What.{What}
 use Rattle.game_record.specs.declared.record.What.TheVariants.{Rolled, Doubled, Took, Passed, Beavered}
-use Rattle.game_record.specs.Games.{after_answer, progress_after_double, progress_after_play, is_over, may_double, opening}
+use Rattle.game_record.specs.Games.{after_answer, game_after_double, game_after_play, is_over, may_double, opening}
 use Rattle.game_record.specs.Lines.{deed_text, player_text}
 use Rattle.game_record.specs.Standings.{first_standing}
 use Rattle.game_record.specs.Turns.{other_player}
@@ -40,7 +40,7 @@ Plays game player roll words (Rolled told written) next =
     (told ≡ roll) × (entry : Entry)
     × IsChosen game.position roll (word words) entry
     × IsPlayText (play_text game.position entry.play.items) written.items
-    × (next.game ≡ progress_after_play Jacoby player entry.end game)
+    × (next.game ≡ game_after_play Jacoby player entry.end game)
     × (next.words ≡ rest words)
 Plays game player roll words _ next = ⊥
 
@@ -64,7 +64,7 @@ undoubled_words now player = if has_cube now.game player then rest now.words els
 -- a player doubles or rolls
 abbrev pub TakesTurn : Moment → Player → What → Moment → Type 0
 TakesTurn now player Doubled next =
-    Doubles now player × (next.game ≡ progress_after_double now.game) × (next.words ≡ rest now.words)
+    Doubles now player × (next.game ≡ game_after_double now.game) × (next.words ≡ rest now.words)
 TakesTurn now player what next =
     (Doubles now player → ⊥) × Rolls now.game player (undoubled_words now player) what next
 

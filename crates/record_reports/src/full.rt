@@ -12,7 +12,7 @@ ghost use Rattle.game_record.specs.RightDecisions.{IsRightDecision, IsScoreIn, t
 ghost use Rattle.outside_log.specs.Sink.{Puts};
 ghost use Rattle.play_analyser.specs.Bests.{CanBeMade};
 ghost use Rattle.record_analysis.specs.Analyses.{BestCanBeMade};
-ghost use Rattle.record_reports.specs.Full.{best_fields, best_text, chosen_fields, full_line, full_text, pair_fields, place_fields, score_told, state_fields};
+ghost use Rattle.record_reports.specs.Full.{advised_fields, best_text, chosen_fields, full_line, full_text, ends_fields, place_fields, score_told, state_fields};
 
 use crate::analysis::{choice_text, player_text, put_totals};
 use cube_actions::{KindName, Score, Stakes, Starts, ladder, ladders_are_exact};
@@ -155,7 +155,7 @@ fn add_chosen(line: &mut Report, choice: &Choice)
 /// Adds both ends of a pair.
 fn add_pair(line: &mut Report, pair: Pair)
     requires { length line.old.bytes ≤ 1500 }
-    ensures bytes { line.new.bytes ≡ line.old.bytes ++ pair_fields pair }
+    ensures bytes { line.new.bytes ≡ line.old.bytes ++ ends_fields pair }
     ensures length { length line.new.bytes ≤ length line.old.bytes + 70 }
 {
     line.push_str("\t");
@@ -183,7 +183,7 @@ fn add_best(line: &mut Report, position: &Position, best: Option<Best>)
     requires made { IfSome best (λ best. CanBeMade position.now best.advised) }
     requires room { length line.old.bytes ≤ 1300 }
     ensures bytes { line.new.bytes
-        ≡ line.old.bytes ++ option_map_or (best_fields position.now) best [] }
+        ≡ line.old.bytes ++ option_map_or (advised_fields position.now) best [] }
     ensures length { length line.new.bytes ≤ length line.old.bytes + 120 }
 {
     if let Some(best) = best {

@@ -11,7 +11,7 @@ use Rattle.cube_actions.specs.Starts.{StartPairs}
 use Rattle.game_record.specs.Kinds.{stakes_at}
 use Rattle.game_record.specs.Lines.{Follow, IsRecord, UpTo, record_lines}
 use Rattle.game_record.specs.RightDecisions.{IsRightDecision, IsScoreIn, terms_for}
-use Rattle.game_record.specs.Turns.{first_stage, is_match_record}
+use Rattle.game_record.specs.Turns.{first_stage, has_match}
 use Rattle.game_record.specs.declared.decision.Decision.{Decision}
 use Rattle.game_record.specs.declared.record.Record.{Record}
 use Rattle.game_record.specs.declared.record.RecordStakes.{RecordStakes}
@@ -36,7 +36,7 @@ checkers-of rec valid = go valid.end valid.follow where
   go : (end : Stage) → Follow first_stage (record_lines rec) end → UpTo 3 rec.checkers
   go end (a, comes_a, fits_a, (b, comes_b, checkers, more)) = checkers
 
-plain-stakes : (stakes : RecordStakes) → is_match_record stakes ≡ false → (score : Option MatchScore) (starts : StartPairs) → stakes_studied stakes ≡ terms_for (stakes_at stakes score) starts
+plain-stakes : (stakes : RecordStakes) → has_match stakes ≡ false → (score : Option MatchScore) (starts : StartPairs) → stakes_studied stakes ≡ terms_for (stakes_at stakes score) starts
 plain-stakes Cubeless plain score starts = refl
 plain-stakes Money plain score starts = refl
 plain-stakes Jacoby plain score starts = refl
@@ -44,7 +44,7 @@ plain-stakes MoneyBeavers plain score starts = refl
 plain-stakes JacobyBeavers plain score starts = refl
 plain-stakes (Match length) plain score starts = absurd (false≢true (sym plain))
 
-plain-score : (stakes : RecordStakes) → is_match_record stakes ≡ false → (score : Option MatchScore) → IsScoreIn stakes score → score ≡ None
+plain-score : (stakes : RecordStakes) → has_match stakes ≡ false → (score : Option MatchScore) → IsScoreIn stakes score → score ≡ None
 plain-score Cubeless plain score is = is
 plain-score Money plain score is = is
 plain-score Jacoby plain score is = is
@@ -53,7 +53,7 @@ plain-score JacobyBeavers plain score is = is
 plain-score (Match length) plain score is = absurd (false≢true (sym plain))
 
 -- outside a match no decision has a score
-pub plain-scores : (rec : Record) → is_match_record rec.stakes ≡ false → (decisions : List Decision) → All (IsRightDecision rec) decisions → All (λ (decision : Decision). decision.score ≡ None) decisions
+pub plain-scores : (rec : Record) → has_match rec.stakes ≡ false → (decisions : List Decision) → All (IsRightDecision rec) decisions → All (λ (decision : Decision). decision.score ≡ None) decisions
 plain-scores rec plain decisions right = λ i d below. plain-score rec.stakes plain (get_or decisions i d).score (right i d below).score
 
 -- the law on right decisions
@@ -62,7 +62,7 @@ Law =
     (rec : Record) (starts : StartPairs) (decision : Decision) → IsRightDecision rec decision → (source : Source) (stakes : Terms) → source.checkers ≡ rec.checkers
     → stakes ≡ terms_for (stakes_at rec.stakes decision.score) starts → IsValid stakes → AreStakesOf source stakes → CanBeJudged source stakes decision
 
-module _ (law : Law) (rec : Record) (plain : is_match_record rec.stakes ≡ false) (starts : StartPairs) (decisions : List Decision) (right : All (IsRightDecision rec) decisions) (source : Source) (stakes : Terms) (checkers : source.checkers ≡ rec.checkers) (named : stakes ≡ stakes_studied rec.stakes) (valid : IsValid stakes) (fits : AreStakesOf source stakes) where
+module _ (law : Law) (rec : Record) (plain : has_match rec.stakes ≡ false) (starts : StartPairs) (decisions : List Decision) (right : All (IsRightDecision rec) decisions) (source : Source) (stakes : Terms) (checkers : source.checkers ≡ rec.checkers) (named : stakes ≡ stakes_studied rec.stakes) (valid : IsValid stakes) (fits : AreStakesOf source stakes) where
   pub can-be-judged : All (CanBeJudged source stakes) decisions
   can-be-judged i d below =
       let decision = get_or decisions i d in

@@ -1,7 +1,7 @@
 ghost use Rattle.std.specs.Prelude.{◌≡◌, ◌≤◌, All, IfOk, None, false, length};
 ghost use Rattle.game_record.specs.Lines.{IsRecord};
 ghost use Rattle.game_record.specs.RightDecisions.{IsRightDecision};
-ghost use Rattle.game_record.specs.Turns.{is_match_record};
+ghost use Rattle.game_record.specs.Turns.{has_match};
 ghost use Rattle.interval_words.specs.WordLists.{source_of, words_in_list};
 ghost use Rattle.record_analysis.specs.Analyses.{IsBestFor, analysis_of, losses_alone};
 ghost use Rattle.record_analysis.specs.Judging.{CanBeJudged};
@@ -64,7 +64,7 @@ pub fn study<R: Threads + Sync, G: Gate + Sync>(
     gate: &G,
 ) -> Result<Analysis, NoMemory>
     requires valid { IsRecord rec.now }
-    requires plain { is_match_record rec.now.stakes ≡ false }
+    requires plain { has_match rec.now.stakes ≡ false }
     requires right { All (IsRightDecision rec.now) decisions }
     requires few { length decisions ≤ 131072 }
     requires rounds { (1 ≤ rounds) × (rounds ≤ 4096) }

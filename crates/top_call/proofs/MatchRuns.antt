@@ -42,7 +42,7 @@ use Rattle.solve_commands.specs.Ladders.{HasSolvedLadder, SolvedScore, AreScores
 use Rattle.record_commands.specs.Analyses.{HasAnalysed, JudgesBy}
 use Rattle.record_commands.specs.MatchAnalyses.{HasTrueFile, HoldsTruth, JudgesMatch}
 use Rattle.record_commands.specs.Records.{HoldsRecord, IsRightReplayed, report_shown}
-use Rattle.game_record.specs.Turns.{is_match_record}
+use Rattle.game_record.specs.Turns.{has_match}
 use Rattle.record_commands.specs.declared.record.Replayed.{Replayed}
 use Rattle.top_call.specs.Headline.{HoldLadder, PrintsGoodAdvice, PrintsTrueMatch, PrintsTruePlan, ladder_file, ladder_head}
 use Rattle.top_call.proofs.TwoRuns.{good-from}
@@ -113,7 +113,7 @@ pub true-match : Law → ((n : ℕ) → 1 ≤ n → n ≤ 5 → (score : MatchSc
 true-match law exact held_right task analyse held before after put_before put_after old new right solved holds named analysed stakes =
     let replayed = analysed.analysed.replayed in
     let by_base : JudgesMatch analyse.base replayed.rec replayed.decisions held analysed.list =
-    subst (λ (b : Bool). JudgesBy b analyse.base replayed held analysed.list) (ap is_match_record stakes) (analysed.analysed.base_files refl) in
+    subst (λ (b : Bool). JudgesBy b analyse.base replayed held analysed.list) (ap has_match stakes) (analysed.analysed.base_files refl) in
     let judges = subst (λ (prefix : List ℕ). JudgesMatch prefix replayed.rec replayed.decisions held analysed.list) named by_base in
     let rights = subst (All (IsRightDecision replayed.rec)) (sym judges.decisions_are) (read-right held_right (held analyse.rec) replayed (analysed.analysed.record_file refl)) in
     record {

@@ -16,7 +16,7 @@ use Rattle.cube_actions.specs.Starts.{StartPairs}
 use Rattle.game_record.specs.Lines.{IsRecordText}
 use Rattle.game_record.specs.Replay.{IsReplay}
 use Rattle.game_record.specs.RightDecisions.{IsRightDecision}
-use Rattle.game_record.specs.Turns.{is_match_record}
+use Rattle.game_record.specs.Turns.{has_match}
 use Rattle.game_record.specs.declared.decision.Decision.{Decision}
 use Rattle.game_record.specs.declared.record.Record.{Record as RecordRead}
 use Rattle.game_record.specs.declared.record.RecordStakes.TheVariants.{Match as OfMatch}
@@ -170,14 +170,14 @@ right-score law task before after put_before put_after solved place inside comma
 
 -- the laws on files that can judge
 abbrev PlainLaw : Type 0
-PlainLaw = (rec : RecordRead) (decisions : List Decision) (bytes : List ℕ) → All (IsRightDecision rec) decisions → is_match_record rec.stakes ≡ false → HasRightPages (game_recorded rec) bytes → CanJudgeAll (game_recorded rec) decisions bytes
+PlainLaw = (rec : RecordRead) (decisions : List Decision) (bytes : List ℕ) → All (IsRightDecision rec) decisions → has_match rec.stakes ≡ false → HasRightPages (game_recorded rec) bytes → CanJudgeAll (game_recorded rec) decisions bytes
 
 abbrev MatchLaw : Type 0
 MatchLaw = (prefix : List ℕ) (rec : RecordRead) (decisions : List Decision) (held : Contents) (points : ℕ) → All (IsRightDecision rec) decisions → rec.stakes ≡ OfMatch points
     → ((score : MatchScore) → IsOfMatch points score → OfHeld (held (score_file prefix score)) (HasRightPages (game_at rec score))) → All (CanJudgeAtScore prefix rec held) decisions
 
 pub right-analysis : Law → PlainLaw → HeldLaw → (solve : SolveTask) (analyse : AnalyseTask) (held : Contents) (before after : List Event) (put_before put_after : Output) (replayed : Replayed) → IsRightSolve solve
-    → (solved : HasSolved solve before after put_before put_after) → held analyse.base ≡ standing after solve.file → OfHeld (held analyse.rec) (λ bytes. HoldsRecord bytes replayed) → is_match_record replayed.rec.stakes ≡ false
+    → (solved : HasSolved solve before after put_before put_after) → held analyse.base ≡ standing after solve.file → OfHeld (held analyse.rec) (λ bytes. HoldsRecord bytes replayed) → has_match replayed.rec.stakes ≡ false
     → game_recorded replayed.rec ≡ game_told (head_of solve solved.words.rounds) → IsRightFor (Analyse analyse) held
 right-analysis law judges held_right solve analyse held before after put_before put_after replayed right solved is holds plain same = record {
   replayed = replayed;
@@ -206,7 +206,7 @@ pub right-match-analysis : Law → MatchLaw → HeldLaw → ((n : ℕ) → 1 ≤
 right-match-analysis law judges held_right exact task analyse held before after put_before put_after replayed right solved files named holds stakes checkers = record {
   replayed = replayed;
   record_file = holds;
-  base_files = subst (λ (b : Bool). CanJudgeBy b analyse.base replayed held) (sym (ap is_match_record stakes)) (subst (λ (prefix : List ℕ). All (CanJudgeAtScore prefix replayed.rec held) replayed.decisions) (sym named) can);
+  base_files = subst (λ (b : Bool). CanJudgeBy b analyse.base replayed held) (sym (ap has_match stakes)) (subst (λ (prefix : List ℕ). All (CanJudgeAtScore prefix replayed.rec held) replayed.decisions) (sym named) can);
 } where
   starts : StartPairs
   starts = solved.starts

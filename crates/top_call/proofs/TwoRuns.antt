@@ -31,7 +31,7 @@ use Rattle.record_commands.specs.Analyses.{HasAnalysed, JudgesBy, JudgesPlain}
 use Rattle.record_commands.specs.Records.{report_shown}
 use Rattle.record_commands.specs.declared.record.Replayed.{Replayed}
 use Rattle.outside_log.specs.Files.{Contents}
-use Rattle.game_record.specs.Turns.{is_match_record}
+use Rattle.game_record.specs.Turns.{has_match}
 use Rattle.game_record.specs.declared.decision.Decision.{Decision}
 use Rattle.game_record.specs.declared.record.Record.{Record}
 use Rattle.record_analysis.specs.Truth.{IsTrueAnalysis}
@@ -113,7 +113,7 @@ module _ (law : Law) (head : FileHead) (words : WordList) (bytes : List ℕ) (te
       subst (λ (h : FileHead). IsTrueAnalysis (game_in h) list) (held-head law head words bytes text) (judges.true (words_in_list words) (held-pairs law head words bytes text) (sound-in _ refl))
 
 -- a record outside a match is judged by what stands under the name
-plainly : (name : List ℕ) (replayed : Replayed) (held : Contents) (list : List Judged) (file : List ℕ) → is_match_record replayed.rec.stakes ≡ false → held name ≡ Some file → JudgesBy (is_match_record replayed.rec.stakes) name replayed held list
+plainly : (name : List ℕ) (replayed : Replayed) (held : Contents) (list : List Judged) (file : List ℕ) → has_match replayed.rec.stakes ≡ false → held name ≡ Some file → JudgesBy (has_match replayed.rec.stakes) name replayed held list
     → JudgesPlain replayed.rec replayed.decisions list file
 plainly name replayed held list file plain stand judges =
     subst (λ (there : Option (List ℕ)). OfHeld there (JudgesPlain replayed.rec replayed.decisions list)) stand (subst (λ (b : Bool). JudgesBy b name replayed held list) plain judges)
@@ -137,7 +137,7 @@ solved-consistent law solve before after put_before put_after refusal right solv
 
 pub true-losses : Law
     → (solve : SolveTask) (analyse : Analyse) (held : Contents) (before after : List Event) (put_before put_after old new : Output) → IsRightSolve solve → (solved : HasSolved solve before after put_before put_after)
-    → held analyse.base ≡ standing after solve.file → (analysed : HasAnalysed analyse true held (λ text. IsPut old new text)) → is_match_record analysed.analysed.replayed.rec.stakes ≡ false → PrintsTrueLosses (head_of solve solved.words.rounds) (report_shown analyse.shown analyse.board analysed.analysed.replayed.rec.stakes) (λ text. IsPut old new text)
+    → held analyse.base ≡ standing after solve.file → (analysed : HasAnalysed analyse true held (λ text. IsPut old new text)) → has_match analysed.analysed.replayed.rec.stakes ≡ false → PrintsTrueLosses (head_of solve solved.words.rounds) (report_shown analyse.shown analyse.board analysed.analysed.replayed.rec.stakes) (λ text. IsPut old new text)
 true-losses law solve analyse held before after put_before put_after old new right solved finds analysed plain =
     let words = solved.words in
     let replayed = analysed.analysed.replayed in

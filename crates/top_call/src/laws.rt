@@ -1,6 +1,6 @@
 ghost use Rattle.std.specs.Prelude.{◌≡◌, ◌<◌, ℕ, List, Option, Some, Ok, false, true};
 ghost use Rattle.outside_log.specs.Files.{Contents};
-ghost use Rattle.game_record.specs.Turns.{is_match_record};
+ghost use Rattle.game_record.specs.Turns.{has_match};
 ghost use Rattle.outside_log.specs.Log.{Event, standing};
 ghost use Rattle.outside_log.specs.Sink.{Output};
 ghost use Rattle.word_pages.specs.declared.version.Version.TheVariants.{Three};
@@ -77,7 +77,7 @@ pub fn analyses_by_a_solved_file_are_true()
         → IsRightSolve solve → (solved : HasSolved solve before after put_before put_after)
         → held analyse.base ≡ standing after solve.file
         → (analysed : HasAnalysed analyse true held (λ text. IsPut old new text))
-        → is_match_record analysed.analysed.replayed.rec.stakes ≡ false
+        → has_match analysed.analysed.replayed.rec.stakes ≡ false
         → PrintsTrueLosses (head_of solve solved.words.rounds)
         (report_shown analyse.shown analyse.board analysed.analysed.replayed.rec.stakes)
         (λ text. IsPut old new text) }
@@ -196,7 +196,7 @@ pub fn records_are_analysed_by_a_solved_file()
         → IsRightSolve solve → (solved : HasSolved solve before after put_before put_after)
         → held analyse.base ≡ standing after solve.file
         → OfHeld (held analyse.rec) (λ bytes. HoldsRecord bytes replayed)
-        → is_match_record replayed.rec.stakes ≡ false
+        → has_match replayed.rec.stakes ≡ false
         → game_recorded replayed.rec ≡ game_told (head_of solve solved.words.rounds)
         → IsRightFor (ToAnalyse analyse) held }
 {

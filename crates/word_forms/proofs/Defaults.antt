@@ -7,13 +7,13 @@ use Rattle.std.proofs.lemmas.Slice.Eq.{bytes_eq-Decides}
 use Rattle.clap.specs.Walk.{Row, Text, has_row, with_default, with_values}
 use Rattle.clap.specs.declared.parser.matches.ValueSource.TheVariants.{CommandLine, DefaultValue}
 use Rattle.clap.specs.declared.builder.value_parser.Reading.TheVariants.{AsWritten}
-use Rattle.word_forms.specs.Form.{GivenValues, is_among, given_value}
+use Rattle.word_forms.specs.Form.{FormValues, is_among, given_value}
 use Rattle.word_forms.proofs.Rules.{flag_rule}
 
 abbrev pub row : Text × Text → Row
 row v = record { id = v.0; values = v.1 ∷ []; count = None; source = Some CommandLine; reading = AsWritten }
 
-abbrev pub rows : GivenValues → List Row
+abbrev pub rows : FormValues → List Row
 rows given = map row given
 
 abbrev pub default_row : Text → Row
@@ -86,7 +86,7 @@ module _ (id : Text) where
       twice false c None = refl
 
   -- what is read of a row, and `false` of a default
-  pub texts_are : (read : Row → Option Text) (given : GivenValues) (flags : List Text) → ((v : Text × Text) → read (row v) ≡ Some v.1) → read (default_row id) ≡ Some (codes "false")
+  pub texts_are : (read : Row → Option Text) (given : FormValues) (flags : List Text) → ((v : Text × Text) → read (row v) ≡ Some v.1) → read (default_row id) ≡ Some (codes "false")
       → option_and_then read (row_at id (with_defaults (rows given) flags)) ≡ given_value id (given ++ map (λ name. (name, codes "false")) flags)
   texts_are read given flags reads unset = ap (option_and_then read) (row_with_defaults flags (rows given)) ∙ each given
     where
@@ -99,7 +99,7 @@ module _ (id : Text) where
           go true later = unset
           go false later = later
 
-      each : (vs : GivenValues) → option_and_then read (or_default id (is_among id flags) (row_at id (rows vs))) ≡ given_value id (vs ++ map (λ name. (name, codes "false")) flags)
+      each : (vs : FormValues) → option_and_then read (or_default id (is_among id flags) (row_at id (rows vs))) ≡ given_value id (vs ++ map (λ name. (name, codes "false")) flags)
       each [] = unused flags
       each (v ∷ vs) = go (bytes_eq v.0 id) (each vs)
         where

@@ -6,7 +6,7 @@ use Rattle.std.specs.Str.{bytes_eq}
 use Rattle.std.proofs.lemmas.Slice.Eq.{bytes_eq-Decides}
 use Rattle.clap.specs.Walk.{Text}
 use Rattle.clap.specs.Values.{bool_text}
-use Rattle.word_forms.specs.Form.{Form, GivenValues, Reading, is_among, is_flag, is_set, is_given, is_whole, given_value, option_of, give, take_argument, take_value, take_known, take_flag, take_named, take_as, take_word, read_forward, nothing_read, with_flags, values_of}
+use Rattle.word_forms.specs.Form.{Form, FormValues, Reading, is_among, is_flag, is_set, is_given, is_whole, given_value, option_of, give, take_argument, take_value, take_known, take_flag, take_named, take_as, take_word, read_forward, nothing_read, with_flags, values_of}
 
 abbrev IsTrue : Option Text → Type 0
 IsTrue None = Unit {0}
@@ -19,7 +19,7 @@ abbrev first_text : Option (Text × Text) → Option Text
 first_text = option_map (λ v. v.1)
 
 -- one value more
-added : (name n t : Text) (given : GivenValues) → IsTrue (given_value name given) → (bytes_eq n name ≡ true → t ≡ codes "true") → IsTrue (given_value name (given ++ (n, t) ∷ []))
+added : (name n t : Text) (given : FormValues) → IsTrue (given_value name given) → (bytes_eq n name ≡ true → t ≡ codes "true") → IsTrue (given_value name (given ++ (n, t) ∷ []))
 added name n t [] is new = go (bytes_eq n name) refl
   where
     go : (b : Bool) → bytes_eq n name ≡ b → IsTrue (first_text (cond b (Some (n, t)) None))
@@ -34,7 +34,7 @@ added name n t (v ∷ given) is new = go (bytes_eq v.0 name) is (λ later. added
     go false here later = later here
 
 -- `false` behind the values
-told : (name : Text) (names : List Text) (given : GivenValues) → is_among name names ≡ true → IsTrue (given_value name given) → Tells (given_value name (given ++ map (λ n. (n, codes "false")) names))
+told : (name : Text) (names : List Text) (given : FormValues) → is_among name names ≡ true → IsTrue (given_value name given) → Tells (given_value name (given ++ map (λ n. (n, codes "false")) names))
 told name [] [] among is = absurd (true≢false (sym among))
 told name (n ∷ names) [] among is = go (bytes_eq n name) among (λ later. told name names [] later tt)
   where
@@ -127,11 +127,11 @@ module _ (f : Form) where
   words_right (word ∷ words) (Some r) is = words_right words (take_word f word r) (word_right word r is)
 
   -- a flag's value says whether it is set
-  pub flag_told : (words : List Text) (given : GivenValues) (name : Text) → values_of f words ≡ Some given → is_flag f name ≡ true → given_value name given ≡ Some (bool_text (is_set name given))
+  pub flag_told : (words : List Text) (given : FormValues) (name : Text) → values_of f words ≡ Some given → is_flag f name ≡ true → given_value name given ≡ Some (bool_text (is_set name given))
   flag_told words given name e flag = go (read_forward f words (Some nothing_read)) (words_right words (Some nothing_read) (record { flags = λ _ _. tt; waits = tt })) e
     where
       whole : (b : Bool) (r : Reading) → IsRight r → cond b (Some (with_flags f r.given)) None ≡ Some given → Tells (given_value name given)
-      whole true r is same = subst (λ (o : Option GivenValues). Tells (option_and_then (given_value name) o)) same (told name f.flags r.given (among_all _ _ _ flag).0 (is.flags name flag))
+      whole true r is same = subst (λ (o : Option FormValues). Tells (option_and_then (given_value name) o)) same (told name f.flags r.given (among_all _ _ _ flag).0 (is.flags name flag))
       whole false r is same = cc
 
       go : (o : Option Reading) → Goes o → option_and_then (λ (r : Reading). cond (is_whole f r) (Some (with_flags f r.given)) None) o ≡ Some given → Tells (given_value name given)

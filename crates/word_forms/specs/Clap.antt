@@ -8,7 +8,7 @@ use Rattle.clap.specs.Simple.{new_shape}
 use Rattle.clap.specs.Values.{bool_text}
 use Rattle.clap.specs.declared.builder.action.ArgAction.TheVariants.{Set, SetTrue}
 use Rattle.clap.specs.declared.parser.matches.ArgMatches.{ArgMatches}
-use Rattle.word_forms.specs.Form.{Form, Bytes, GivenValues, given_value, is_flag, is_set, values_of}
+use Rattle.word_forms.specs.Form.{Form, Bytes, FormValues, given_value, is_flag, is_set, values_of}
 use Rattle.word_forms.specs.declared.FormStop.{FormStop}
 use Rattle.word_forms.specs.declared.FormStop.TheVariants.{Form as NotOfForm, NoMemory}
 
@@ -38,12 +38,12 @@ names = map (λ s. s.now)
 abbrev pub bytes_of : List (String Global) → List Bytes
 bytes_of words = map (λ (word : String Global). string_bytes word) words
 
-abbrev pub clap_form : List (Bor Bytes) → List (Bor Bytes) → List (Bor Bytes) → Form
-clap_form arguments options flags =
+abbrev pub form_by : List (Bor Bytes) → List (Bor Bytes) → List (Bor Bytes) → Form
+form_by arguments options flags =
     record { arguments = names arguments; options = names options; flags = names flags }
 
 -- the matches have the values that were given, and no others
-abbrev pub HasValues : GivenValues → ArgMatches → Type 0
+abbrev pub HasValues : FormValues → ArgMatches → Type 0
 HasValues given m = (id : Bytes) → first_value (found_of m) id ≡ given_value id given
 
 -- a flag's text says whether it is set
@@ -51,12 +51,12 @@ abbrev pub TellsFlag : Bool → Bytes → ArgMatches → Type 0
 TellsFlag set name m = one_text (found_of m) name ≡ Some (bool_text set)
 
 -- the matches tell of each flag whether it was given
-abbrev pub HasFlags : Form → GivenValues → ArgMatches → Type 0
+abbrev pub HasFlags : Form → FormValues → ArgMatches → Type 0
 HasFlags f given m = (name : Bytes) → is_flag f name ≡ true → TellsFlag (is_set name given) name m
 
 -- the words have the form and give these values, or they haven't it, unless there was no memory
 abbrev pub IsReading : Form → List Bytes → Result ArgMatches FormStop → Type 0
 IsReading f words (Ok m) =
-    (given : GivenValues) × (values_of f words ≡ Some given) × HasValues given m × HasFlags f given m
+    (given : FormValues) × (values_of f words ≡ Some given) × HasValues given m × HasFlags f given m
 IsReading f words (Err NotOfForm) = values_of f words ≡ None
 IsReading f words (Err NoMemory) = Unit {0}

@@ -24,12 +24,12 @@ is_flag f name =
     is_among name f.flags && not (is_among name f.options) && not (is_among name f.arguments)
 
 -- values by the names that they are given to, in the order of the words
-abbrev pub GivenValues : Type 0
-GivenValues = List (Bytes × Bytes)
+abbrev pub FormValues : Type 0
+FormValues = List (Bytes × Bytes)
 
 -- what has been read so far: the values, how many of them are arguments, and the option that waits for its value
 pub record Reading : Type 0 where
-  pub given : GivenValues
+  pub given : FormValues
   pub count : ℕ
   pub waiting : Option Bytes
 
@@ -59,15 +59,15 @@ option_of (x ∷ y ∷ z ∷ rest) = if (x == 45) && (y == 45)
     else None
 option_of _ = None
 
-abbrev pub is_given : Bytes → GivenValues → Bool
+abbrev pub is_given : Bytes → FormValues → Bool
 is_given name given = list_any (λ v. bytes_eq v.0 name) given
 
 -- the value that a name was given
-abbrev pub given_value : Bytes → GivenValues → Option Bytes
+abbrev pub given_value : Bytes → FormValues → Option Bytes
 given_value name given = option_map (λ v. v.1) (find (λ v. bytes_eq v.0 name) given)
 
 -- the flag is given
-abbrev pub is_set : Bytes → GivenValues → Bool
+abbrev pub is_set : Bytes → FormValues → Bool
 is_set name given =
     option_map_or (λ value. bytes_eq value (codes "true")) (given_value name given) false
 
@@ -126,11 +126,11 @@ abbrev pub nothing_read : Reading
 nothing_read = record { given = []; count = 0; waiting = None }
 
 -- behind the values that were given stands `false` for each flag: a name's first value counts
-abbrev pub with_flags : Form → GivenValues → GivenValues
+abbrev pub with_flags : Form → FormValues → FormValues
 with_flags f given = given ++ map (λ name. (name, codes "false")) f.flags
 
 -- the values that the words give, if they have the form
-abbrev pub values_of : Form → List Bytes → Option GivenValues
+abbrev pub values_of : Form → List Bytes → Option FormValues
 values_of f words =
     option_and_then (λ (r : Reading). if is_whole f r then Some (with_flags f r.given) else None)
     (read_forward f words (Some nothing_read))

@@ -5,7 +5,7 @@ ghost use Rattle.std.specs.Prelude.{◌≡◌, ◌↔◌, ◌≤◌, IfOk, lengt
 ghost use Rattle.std.specs.List.{list_any};
 ghost use Rattle.clap.specs.Words.{app_of, rule_of};
 ghost use Rattle.word_forms.specs.Form.{is_misread};
-ghost use Rattle.word_forms.specs.Clap.{raw_argument, raw_option, raw_flag, app_for, clap_form, bytes_of, IsReading};
+ghost use Rattle.word_forms.specs.Clap.{raw_argument, raw_option, raw_flag, app_for, form_by, bytes_of, IsReading};
 
 use clap::error::ErrorKind;
 use clap::{Arg, ArgAction, ArgMatches, Command};
@@ -73,7 +73,7 @@ fn command_of<'a>(
     flags: &'a [&'a str],
 ) -> Result<Command<'a>, AllocError>
     ensures { IfOk result
-        (λ command. app_of command ≡ app_for (clap_form arguments.now options.now flags.now)) }
+        (λ command. app_of command ≡ app_for (form_by arguments.now options.now flags.now)) }
 {
     let mut command = Command::new(alloc, "")
         .no_binary_name(true)
@@ -104,7 +104,7 @@ pub fn read_form<'a>(
 ) -> Result<ArgMatches<'a>, FormStop>
     requires few { length arguments.now ≤ 1000 }
     requires right { list_any is_misread (bytes_of words.now) ≡ false }
-    ensures { IsReading (clap_form arguments.now options.now flags.now) (bytes_of words.now) result }
+    ensures { IsReading (form_by arguments.now options.now flags.now) (bytes_of words.now) result }
 {
     let command = command_of(alloc, arguments, options, flags)?;
     match command.try_get_matches_from(words) {

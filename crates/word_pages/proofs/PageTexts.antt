@@ -9,7 +9,7 @@ use Rattle.sha2.specs.Sha256.{sha256}
 use Rattle.word_pages.specs.declared.version.Version.{Version}
 use Rattle.word_pages.specs.Words.{word_size, Fits, words_bytes, words_in_bytes}
 use Rattle.word_pages.specs.Sealed.{binding_of, is_sealed_under, sealed_under}
-use Rattle.word_pages.specs.Flaws.{pairs_flaw, ArePairsWithin}
+use Rattle.word_pages.specs.Flaws.{pairs_flaw, LieWithin}
 use Rattle.word_pages.specs.Pages.{AreBytes, page_text, page_size, page_flaw, first_pages, pages_from, pages_in, pages_text}
 use Rattle.word_pages.proofs.Texts.{length-cells}
 use Rattle.word_pages.proofs.Seals.{length-sealed, is_sealed-exactly}
@@ -39,7 +39,7 @@ sealed-one binding other bytes others same =
     sym (take-append_seam bytes (sha256 (binding ++ bytes))) ∙ ap₂ (λ (k : ℕ) (text : List ℕ). take k text) count same ∙ take-append_seam others (sha256 (other ++ others))
 
 -- a page of words that fit and lie within the bound has no flaw, whatever stands behind it
-pub page-right : (version : Version) (binding : List ℕ) (bound : ℤ) (at : ℕ) (words rest : List ℕ) → All (Fits version) words → ArePairsWithin bound words
+pub page-right : (version : Version) (binding : List ℕ) (bound : ℤ) (at : ℕ) (words rest : List ℕ) → All (Fits version) words → LieWithin bound words
     → page_flaw version binding bound (length words) at (page_text version binding words ++ rest) ≡ None
 page-right version binding bound at words rest fit within =
     let page = page_text version binding words in
@@ -55,8 +55,8 @@ page-right version binding bound at words rest fit within =
 
 -- bytes of a page's length have no flaw exactly where they are the page of their words, which lie within the bound
 pub page-exactly : (version : Version) (binding : List ℕ) (bound : ℤ) (n at : ℕ) (bytes : List ℕ) → AreBytes bytes → length bytes ≡ page_size version n
-    → (page_flaw version binding bound n at bytes ≡ None → (bytes ≡ page_text version binding (words_in_bytes version n bytes)) × ArePairsWithin bound (words_in_bytes version n bytes))
-    × ((bytes ≡ page_text version binding (words_in_bytes version n bytes)) × ArePairsWithin bound (words_in_bytes version n bytes) → page_flaw version binding bound n at bytes ≡ None)
+    → (page_flaw version binding bound n at bytes ≡ None → (bytes ≡ page_text version binding (words_in_bytes version n bytes)) × LieWithin bound (words_in_bytes version n bytes))
+    × ((bytes ≡ page_text version binding (words_in_bytes version n bytes)) × LieWithin bound (words_in_bytes version n bytes) → page_flaw version binding bound n at bytes ≡ None)
 page-exactly version binding bound n at bytes are long =
     let size = page_size version n in
     let words = words_in_bytes version n bytes in

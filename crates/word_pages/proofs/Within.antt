@@ -11,7 +11,7 @@ use Rattle.hyper_outside.specs.declared.outside.PageFault.TheVariants.{Word, Cro
 use Rattle.word_pages.specs.declared.version.Version.{Version}
 use Rattle.word_pages.specs.declared.version.Version.TheVariants.{One, Two, Three}
 use Rattle.word_pages.specs.Words.{word_size, Fits}
-use Rattle.word_pages.specs.Flaws.{word_value, is_in_range, flaw_unless, pair_flaw, pairs_flaw, pair_in_words, ArePairsWithin}
+use Rattle.word_pages.specs.Flaws.{unpacked, is_in_range, flaw_unless, pair_flaw, pairs_flaw, pair_in_words, LieWithin}
 use Rattle.word_pages.proofs.PageFlaws.{no_flaw}
 
 some_flaw : {A : Type 0} (flaw : A) → Some flaw ≡ None → ⊥
@@ -47,10 +47,10 @@ is_at_most a b le = from_T (int_le a b) le.le
     from_T true t = refl
     from_T false t = absurd t
 
-in_order : (lower upper : ℕ) → not (nat_lt upper lower) ≡ true → word_value lower ≤ℤ word_value upper
+in_order : (lower upper : ℕ) → not (nat_lt upper lower) ≡ true → unpacked lower ≤ℤ unpacked upper
 in_order lower upper e = grind (arith, nat_tests)
 
-is_in_order : (lower upper : ℕ) → word_value lower ≤ℤ word_value upper → not (nat_lt upper lower) ≡ true
+is_in_order : (lower upper : ℕ) → unpacked lower ≤ℤ unpacked upper → not (nat_lt upper lower) ≡ true
 is_in_order lower upper le = grind (arith, nat_tests)
 
 higher : (a b c : ℤ) → a ≤ℤ b → b ≤ℤ c → a ≤ℤ c
@@ -58,7 +58,7 @@ higher a b c one two = grind arith
 
 -- ---- one pair
 
-pair_within : (version : Version) (bound : ℤ) (at lower upper : ℕ) → pair_flaw version bound at lower upper ≡ None → IsWithin bound (record { lower = word_value lower; upper = word_value upper })
+pair_within : (version : Version) (bound : ℤ) (at lower upper : ℕ) → pair_flaw version bound at lower upper ≡ None → IsWithin bound (record { lower = unpacked lower; upper = unpacked upper })
 pair_within version bound at lower upper none =
     let outer = none_or _ _ none in
     let inner = none_or _ _ outer.1 in
@@ -67,7 +67,7 @@ pair_within version bound at lower upper none =
     let order = is_well (not (nat_lt upper lower)) Crossed at inner.1 in
     record { from = at_most _ _ low.0; in_order = in_order lower upper order; to = at_most _ _ high.1 }
 
-within_pair : (version : Version) (bound : ℤ) (at lower upper : ℕ) → IsWithin bound (record { lower = word_value lower; upper = word_value upper }) → pair_flaw version bound at lower upper ≡ None
+within_pair : (version : Version) (bound : ℤ) (at lower upper : ℕ) → IsWithin bound (record { lower = unpacked lower; upper = unpacked upper }) → pair_flaw version bound at lower upper ≡ None
 within_pair version bound at lower upper within =
     or_none _ _ (no_flaw (is_in_range bound lower) Word at (both_true _ _ (is_at_most _ _ within.from) (is_at_most _ _ (higher _ _ _ within.in_order within.to))))
     (or_none _ _ (no_flaw (is_in_range bound upper) Word (at + word_size version) (both_true _ _ (is_at_most _ _ (higher _ _ _ within.from within.in_order)) (is_at_most _ _ within.to)))
@@ -75,14 +75,14 @@ within_pair version bound at lower upper within =
 
 -- ---- the first flaw of a pair
 
-pub out_of_range : (bound : ℤ) (word : ℕ) → (IsWithinUnits bound (word_value word) → ⊥) → is_in_range bound word ≡ false
+pub out_of_range : (bound : ℤ) (word : ℕ) → (IsWithinUnits bound (unpacked word) → ⊥) → is_in_range bound word ≡ false
 out_of_range bound word outside = by_test (is_in_range bound word) refl
   where
     by_test : (b : Bool) → is_in_range bound word ≡ b → is_in_range bound word ≡ false
     by_test false e = e
     by_test true e = let parts = both _ _ e in absurd (outside (record { from = at_most _ _ parts.0; to = at_most _ _ parts.1 }))
 
-pub in_range : (bound : ℤ) (word : ℕ) → IsWithinUnits bound (word_value word) → is_in_range bound word ≡ true
+pub in_range : (bound : ℤ) (word : ℕ) → IsWithinUnits bound (unpacked word) → is_in_range bound word ≡ true
 in_range bound word within = both_true _ _ (is_at_most _ _ within.from) (is_at_most _ _ within.to)
 
 pub lower-flaw : (version : Version) (bound : ℤ) (at lower upper : ℕ) → is_in_range bound lower ≡ false → Some (record { fault = Word; at = at }) ≡ pair_flaw version bound at lower upper
@@ -109,20 +109,20 @@ pair_next : (lower upper : ℕ) (words : List ℕ) (k : ℕ) → pair_in_words (
 pair_next lower upper words k =
     let low : 2 * suc k ≡ suc (suc (2 * k)) = omega arith in
     let high : 2 * suc k + 1 ≡ suc (suc (2 * k + 1)) = omega arith in
-    ap₂ (λ (i j : ℕ). record { lower = word_value (slice_index (lower ∷ upper ∷ words) i); upper = word_value (slice_index (lower ∷ upper ∷ words) j) }) low high
+    ap₂ (λ (i j : ℕ). record { lower = unpacked (slice_index (lower ∷ upper ∷ words) i); upper = unpacked (slice_index (lower ∷ upper ∷ words) j) }) low high
 
 -- pairs without a flaw lie within the bound
-pub none-within : (version : Version) (bound : ℤ) (at : ℕ) (words : List ℕ) → pairs_flaw version bound at words ≡ None → ArePairsWithin bound words
+pub none-within : (version : Version) (bound : ℤ) (at : ℕ) (words : List ℕ) → pairs_flaw version bound at words ≡ None → LieWithin bound words
 none-within version bound at [] none = λ k lt. absurd (omega (arith, lt))
 none-within version bound at (word ∷ []) none = λ k lt. absurd (omega (arith, lt))
 none-within version bound at (lower ∷ upper ∷ words) none = each (none-within version bound (at + 2 * word_size version) words (none_or _ _ none).1)
   where
-    each : ArePairsWithin bound words → ArePairsWithin bound (lower ∷ upper ∷ words)
+    each : LieWithin bound words → LieWithin bound (lower ∷ upper ∷ words)
     each rest zero lt = pair_within version bound at lower upper (none_or _ _ none).0
     each rest (suc k) lt = subst (IsWithin bound) (sym (pair_next lower upper words k)) (rest k (omega (arith, lt)))
 
 -- and those within it have none
-pub within-none : (version : Version) (bound : ℤ) (at : ℕ) (words : List ℕ) → ArePairsWithin bound words → pairs_flaw version bound at words ≡ None
+pub within-none : (version : Version) (bound : ℤ) (at : ℕ) (words : List ℕ) → LieWithin bound words → pairs_flaw version bound at words ≡ None
 within-none version bound at [] within = refl
 within-none version bound at (word ∷ []) within = refl
 within-none version bound at (lower ∷ upper ∷ words) within =
@@ -131,12 +131,12 @@ within-none version bound at (lower ∷ upper ∷ words) within =
 
 -- ---- their words fit
 
-low_fits : (version : Version) (bound : ℤ) (word : ℕ) → bound ≤ℤ WORD_OFFSET → word_value word ≤ℤ bound → Fits version word
+low_fits : (version : Version) (bound : ℤ) (word : ℕ) → bound ≤ℤ WORD_OFFSET → unpacked word ≤ℤ bound → Fits version word
 low_fits One bound word most le = grind arith
 low_fits Two bound word most le = grind arith
 low_fits Three bound word most le = grind arith
 
-pub within-fit : (version : Version) (bound : ℤ) (n : ℕ) (words : List ℕ) → bound ≤ℤ WORD_OFFSET → length words ≡ 2 * n → ArePairsWithin bound words → All (Fits version) words
+pub within-fit : (version : Version) (bound : ℤ) (n : ℕ) (words : List ℕ) → bound ≤ℤ WORD_OFFSET → length words ≡ 2 * n → LieWithin bound words → All (Fits version) words
 within-fit version bound n words most even within = All-from_get_or (Fits version) words 0 (λ i lt. each i lt (cases_lt i (2 * (i / 2) + 1)))
   where
     each : (i : ℕ) → i < length words → (i < 2 * (i / 2) + 1) ⊎ (2 * (i / 2) + 1 ≤ i) → Fits version (get_or words i 0)

@@ -9,12 +9,12 @@ use Rattle.word_pages.specs.declared.flaws.Flaw.{Flaw}
 use Rattle.word_pages.specs.Words.{word_size}
 
 -- the value that a word stands for
-abbrev pub word_value : ℕ → ℤ
-word_value word = pos word -ℤ pos (2 ^ 36)
+abbrev pub unpacked : ℕ → ℤ
+unpacked word = pos word -ℤ pos (2 ^ 36)
 
 -- the word's value lies within the bound on both sides of 0
 abbrev pub is_in_range : ℤ → ℕ → Bool
-is_in_range bound word = int_le (neg_ℤ bound) (word_value word) && int_le (word_value word) bound
+is_in_range bound word = int_le (neg_ℤ bound) (unpacked word) && int_le (unpacked word) bound
 
 -- nothing where all is well, else this fault here
 abbrev pub flaw_unless : Bool → PageFault → ℕ → Option Flaw
@@ -38,10 +38,10 @@ pairs_flaw version bound at (lower ∷ upper ∷ words) = option_or
 -- the pair with this number, counted from 0
 abbrev pub pair_in_words : List ℕ → ℕ → Bounds
 pair_in_words words k = record {
-  lower = word_value (slice_index words (2 * k));
-  upper = word_value (slice_index words (2 * k + 1));
+  lower = unpacked (slice_index words (2 * k));
+  upper = unpacked (slice_index words (2 * k + 1));
 }
 
 -- each pair lies within the bound, the lower word at most the upper one
-abbrev pub ArePairsWithin : ℤ → List ℕ → Type 0
-ArePairsWithin bound words = (k : ℕ) → 2 * k + 1 < length words → IsWithin bound (pair_in_words words k)
+abbrev pub LieWithin : ℤ → List ℕ → Type 0
+LieWithin bound words = (k : ℕ) → 2 * k + 1 < length words → IsWithin bound (pair_in_words words k)

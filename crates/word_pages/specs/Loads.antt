@@ -11,7 +11,8 @@ use Rattle.word_pages.specs.Pages.{page_flaw}
 abbrev pub AnswersPage : {T : Type 0} → Version → List ℕ → ℤ → ℕ → ℕ → List ℕ → List ℕ
     → Result T PageStop → Type 0
 AnswersPage version binding bound count at bytes words (Ok x) =
-    (page_flaw version binding bound count at bytes ≡ None) × (words ≡ words_in_bytes version count bytes)
+    (page_flaw version binding bound count at bytes ≡ None)
+    × (words ≡ words_in_bytes version count bytes)
 AnswersPage version binding bound count at bytes words (Err (BadPage flaw)) =
     page_flaw version binding bound count at bytes ≡ Some flaw
 AnswersPage version binding bound count at bytes words (Err ReadFault) = ⊤

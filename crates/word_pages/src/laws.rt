@@ -4,7 +4,7 @@ ghost use Rattle.word_pages.specs.declared.version.Version.{Version};
 ghost use Rattle.word_pages.specs.declared.version.Version.TheVariants.{One, Two, Three};
 ghost use Rattle.word_pages.specs.Words.{word_size, Fits, word_text, words_bytes, words_in_bytes};
 ghost use Rattle.word_pages.specs.Sealed.{AreTwins, binding_of, is_sealed_under, sealed_under};
-ghost use Rattle.word_pages.specs.Flaws.{word_value, pairs_flaw, ArePairsWithin};
+ghost use Rattle.word_pages.specs.Flaws.{unpacked, pairs_flaw, LieWithin};
 ghost use Rattle.word_pages.specs.Pages.{AreBytes, page_text, page_size, page_flaw, pages_from, pages_in, pages_text};
 
 /// Words that fit are read back from their bytes, whatever stands behind these, and the words of bytes are written as these bytes.
@@ -63,9 +63,9 @@ pub fn pages_are_bound()
 /// Pairs have no flaw exactly where each lies within the bound, and their words fit in each version then.
 pub fn right_pairs_are_within()
     ensures exactly { (version : Version) (bound : ℤ) (at : ℕ) (words : List ℕ)
-        → (pairs_flaw version bound at words ≡ None) ↔ ArePairsWithin bound words }
+        → (pairs_flaw version bound at words ≡ None) ↔ LieWithin bound words }
     ensures fit { (version : Version) (bound : ℤ) (count : ℕ) (words : List ℕ)
-        → bound ≤ℤ pos (2 ^ 36) → length words ≡ 2 * count → ArePairsWithin bound words
+        → bound ≤ℤ pos (2 ^ 36) → length words ≡ 2 * count → LieWithin bound words
         → All (Fits version) words }
 {}
 
@@ -76,9 +76,9 @@ pub fn right_pages_are_texts()
         (bytes : List ℕ) → AreBytes bytes → length bytes ≡ page_size version count
         → (page_flaw version binding bound count at bytes ≡ None)
         ↔ ((bytes ≡ page_text version binding (words_in_bytes version count bytes))
-        × ArePairsWithin bound (words_in_bytes version count bytes)) }
+        × LieWithin bound (words_in_bytes version count bytes)) }
     ensures page { (version : Version) (binding : List ℕ) (bound : ℤ) (at : ℕ) (words rest : List ℕ)
-        → All (Fits version) words → ArePairsWithin bound words
+        → All (Fits version) words → LieWithin bound words
         → page_flaw version binding bound (length words) at
         (page_text version binding words ++ rest) ≡ None }
     ensures front { (version : Version) (binding : List ℕ) (bound : ℤ) (count at : ℕ)
@@ -99,17 +99,17 @@ pub fn pages_stand_in_order()
 
 /// Three points lost, three won, one and two, and the pair of one point, as the words of files have them.
 pub fn word_examples()
-    ensures lost { word_value 0xd00000000 ≡ neg_ℤ (pos (3 * 2 ^ 32)) }
+    ensures lost { unpacked 0xd00000000 ≡ neg_ℤ (pos (3 * 2 ^ 32)) }
     ensures lost_in_8 { word_text One 0xd00000000 ≡ 0 ∷ 0 ∷ 0 ∷ 0xd ∷ 0 ∷ 0 ∷ 0 ∷ 0 ∷ [] }
     ensures lost_in_5 { word_text Two 0xd00000000 ≡ 0xd ∷ 0 ∷ 0 ∷ 0 ∷ 0 ∷ [] }
-    ensures won { word_value 0x1300000000 ≡ pos (3 * 2 ^ 32) }
+    ensures won { unpacked 0x1300000000 ≡ pos (3 * 2 ^ 32) }
     ensures won_in_8 { word_text One 0x1300000000 ≡ 0 ∷ 0 ∷ 0 ∷ 0x13 ∷ 0 ∷ 0 ∷ 0 ∷ 0 ∷ [] }
     ensures won_in_5 { word_text Two 0x1300000000 ≡ 0x13 ∷ 0 ∷ 0 ∷ 0 ∷ 0 ∷ [] }
-    ensures third { word_value 0xd2aaaaaaa ≡ neg_ℤ (pos 12169074006) }
+    ensures third { unpacked 0xd2aaaaaaa ≡ neg_ℤ (pos 12169074006) }
     ensures third_in_5 { word_text Two 0xd2aaaaaaa ≡ 0xd ∷ 0x2a ∷ 0xaa ∷ 0xaa ∷ 0xaa ∷ [] }
     ensures pair { words_bytes Two (0x1200000000 ∷ 0x1200000000 ∷ [])
         ≡ 0x12 ∷ 0 ∷ 0 ∷ 0 ∷ 0 ∷ 0x12 ∷ 0 ∷ 0 ∷ 0 ∷ 0 ∷ [] }
-    ensures points { word_value 0x1200000000 ≡ pos (2 * 2 ^ 32) }
+    ensures points { unpacked 0x1200000000 ≡ pos (2 * 2 ^ 32) }
 {}
 
 /// The first flaw of pairs with its place: the first word out of range comes before the order of the two, and a pair before the next.

@@ -1,6 +1,6 @@
 //! What is solved for a recorded game, and what its decisions lose by that.
 ghost use Rattle.std.specs.Prelude.{◌≡◌, false};
-ghost use Rattle.game_record.specs.Turns.{is_match_record};
+ghost use Rattle.game_record.specs.Turns.{has_match};
 
 use crate::tests::asserts::{holds, same};
 use crate::tests::games::ONE_CHECKER;

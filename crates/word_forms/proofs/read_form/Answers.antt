@@ -2,13 +2,13 @@ use Rattle.std.proofs.Common.{◌∙◌}
 use Rattle.std.proofs.lemmas.List.{length-map}
 use Rattle.word_forms.proofs.Walks.{small_form}
 use Rattle.clap.specs.Words.{app_of}
-use Rattle.word_forms.specs.Clap.{clap_form, bytes_of}
+use Rattle.word_forms.specs.Clap.{form_by, bytes_of}
 use Rattle.word_forms.proofs.Readings.{read_ok, stop_is, is_free}
 use Rattle.word_forms.proofs.read_form.Goals as goal
 
 pub returns-in-Ok : goal.returns-in-Ok
 returns-in-Ok c =
-    let f = clap_form c.args.arguments.now c.args.options.now c.args.flags.now in
+    let f = form_by c.args.arguments.now c.args.options.now c.args.flags.now in
     let words = bytes_of c.args.words.now in
     let app = app_of c.in_ok-command.command in
     let small : small_form f = rw length-map c.requires.few in
@@ -17,7 +17,7 @@ returns-in-Ok c =
 
 pub returns-in-Err : goal.returns-in-Err
 returns-in-Err c =
-    let f = clap_form c.args.arguments.now c.args.options.now c.args.flags.now in
+    let f = form_by c.args.arguments.now c.args.options.now c.args.flags.now in
     let words = bytes_of c.args.words.now in
     let app = app_of c.in_ok-command.command in
     let small : small_form f = rw length-map c.requires.few in

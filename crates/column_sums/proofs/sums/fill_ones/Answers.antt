@@ -2,7 +2,7 @@ use Rattle.std.proofs.Common.{◌<◌, ◌+◌, ◌∙◌, All, [], ◌∷◌, L
 use Rattle.column_sums.specs.declared.cells.Reach.{Reach}
 use Rattle.column_sums.specs.declared.moves.DieList.{DieList}
 use Rattle.column_sums.specs.Cells.{IsReach}
-use Rattle.column_sums.specs.Tables.{IsReachWithin, IsRightAfter, AreTableRight}
+use Rattle.column_sums.specs.Tables.{IsReachWithin, IsRightAfter, AreRightIn}
 use Rattle.column_sums.specs.MoveLists.{IsDieList}
 use Rattle.column_sums.specs.Sums.{AreRightTo}
 use Rattle.column_sums.proofs.Places.{any-default, put-more}
@@ -40,6 +40,6 @@ loop-d-preserved c =
           let after : All (IsRightAfter value [] moves.steps moves.layers row) all = λ k none h. row-after value moves ready row (d + 1) _ c.requires.row tabled (is.each k none h) in
           let done = c.fill.ensures.filled value [] moves.steps moves.layers (d + 1) ready.few (subst (All (IsReach moves.steps moves.layers (d + 1))) (sym c.deref.ensures.value) is.each)
           (subst (All (IsRightAfter value [] moves.steps moves.layers row)) (sym c.deref.ensures.value) after) in
-          let there : AreTableRight value ((d + 1) ∷ []) moves.steps moves.layers new all = subst (λ (rs : List Reach). AreTableRight value ((d + 1) ∷ []) moves.steps moves.layers new rs) c.deref.ensures.value done in
+          let there : AreRightIn value ((d + 1) ∷ []) moves.steps moves.layers new all = subst (λ (rs : List Reach). AreRightIn value ((d + 1) ∷ []) moves.steps moves.layers new rs) c.deref.ensures.value done in
           subst (λ (l : DieList). AreRightTo value ((d + 1) ∷ []) moves new l.reaches.items (length l.reaches.items)) (any-default moves.lists d item list (omega (arith, c.loop-d-test.true, ready.rooms.six))) there));
     }

@@ -1,7 +1,7 @@
 use Rattle.std.proofs.Common.{◌∙◌, ℕ, List, Vec, Global, length, slice_index, sym, ap, subst, arith}
 use Rattle.std.specs.Option.{option_copied}
 use Rattle.outside_log.specs.Files.{bytes_from}
-use Rattle.word_pages.specs.Flaws.{ArePairsWithin, word_value}
+use Rattle.word_pages.specs.Flaws.{LieWithin, unpacked}
 use Rattle.interval_words.specs.Numbers.{word_of}
 use Rattle.database_file.specs.Paged.{IsPage, IsPageOf}
 use Rattle.database_file.proofs.KeptPages.{added, found, moved, used}
@@ -20,14 +20,14 @@ pub word_in-requires-clause-within : goal.word_in-requires-clause-within
 word_in-requires-clause-within g c =
     let pages = c.args.pages.now in
     let page = found (λ e. IsPage pages e.0 e.1.items) c.args.kept.now.entries c.args.spot.page c.in-Some.words.now c.requires.right (sym c.get.ensures.value ∙ ap option_copied c.in-Some.is) in
-    subst (ArePairsWithin pages.bound) (sym c.deref.ensures.value) page.within
+    subst (LieWithin pages.bound) (sym c.deref.ensures.value) page.within
 
 pub returns-in-Some-clause-told : goal.returns-in-Some-clause-told
 returns-in-Some-clause-told g c tells =
     let pages = c.args.pages.now in
     let bytes = bytes_from pages.at (standing (g.F.Files.log c.args.files.now) c.args.name.now) in
     let page = found (λ e. IsPageOf pages bytes e.0 e.1.items) c.args.kept.now.entries c.args.spot.page c.in-Some.words.now (c.requires.of_file tells) (sym c.get.ensures.value ∙ ap option_copied c.in-Some.is) in
-    (page.right, c.word_in.ensures.word ∙ ap (λ (words : List ℕ). word_value (slice_index words (word_of c.args.spot.end c.args.spot.state))) (c.deref.ensures.value ∙ page.holds))
+    (page.right, c.word_in.ensures.word ∙ ap (λ (words : List ℕ). unpacked (slice_index words (word_of c.args.spot.end c.args.spot.state))) (c.deref.ensures.value ∙ page.holds))
 
 pub returns-in-Some-clause-right : goal.returns-in-Some-clause-right
 returns-in-Some-clause-right g c =

@@ -1,7 +1,7 @@
 use Rattle.std.proofs.Common.{ℤ, ◌≡◌, ◌∙◌, ℕ, sym, ap, ap₂, subst}
 use Rattle.cube_actions.specs.Stakes.{Terms}
 use Rattle.turn_rule.specs.Games.{game_of}
-use Rattle.word_pages.specs.Flaws.{ArePairsWithin}
+use Rattle.word_pages.specs.Flaws.{LieWithin}
 use Rattle.interval_words.specs.Core.{words_in}
 use Rattle.database_file.specs.Texts.{game_in}
 use Rattle.database_file.proofs.Bases.{bound-named, words-right}
@@ -14,4 +14,4 @@ of_right_list-words-requires c =
     let game : game_of c.in_ok-index.index c.stakes.result ≡ game_in head = ap₂ (λ (checkers : ℕ) (stakes : Terms). game_of checkers stakes) (c.in_ok-index.ensures ∙ c.checkers.ensures.checkers) c.stakes.ensures.stakes in
     let bound = bound-named head.name head.starts in
     words-right (game_of c.in_ok-index.index c.stakes.result) c.rounds.result list (c.requires.long ∙ sym (ap words_in game))
-    (subst (λ (bound : ℤ). ArePairsWithin bound list) (sym (ap (λ (stakes : Terms). stakes.bound) c.stakes.ensures.stakes ∙ bound)) c.requires.within)
+    (subst (λ (bound : ℤ). LieWithin bound list) (sym (ap (λ (stakes : Terms). stakes.bound) c.stakes.ensures.stakes ∙ bound)) c.requires.within)

@@ -4,13 +4,13 @@ use Rattle.directed_fixed.specs.Bounds.{IsWithinUnits, other}
 use Rattle.cube_actions.specs.Scores.{other_side}
 use Rattle.turn_rule.specs.States.{IsState}
 use Rattle.interval_words.specs.WordLists.{words_in_list}
-use Rattle.match_scores.specs.Openings.{centred_number, opening_worth}
+use Rattle.match_scores.specs.Openings.{centred_in, opening_worth}
 use Rattle.match_scores.proofs.OpeningSums.{best-next, max-within, listed-state}
 use Rattle.match_scores.proofs.openings.best_at.Goals as goal
 
 pub worth_at-requires : goal.worth_at-requires
 worth_at-requires c = record {
-  state = listed-state c.args.entries.now c.loop-i.i c.index-entries-i.result (λ (left : Placement). IsState c.args.words.now.game (swap left) (centred_number c.args.score (other_side c.args.side))) c.loop-i-test.true c.requires.states;
+  state = listed-state c.args.entries.now c.loop-i.i c.index-entries-i.result (λ (left : Placement). IsState c.args.words.now.game (swap left) (centred_in c.args.score (other_side c.args.side))) c.loop-i-test.true c.requires.states;
 }
 
 pub loop-i-preserved : goal.loop-i-preserved

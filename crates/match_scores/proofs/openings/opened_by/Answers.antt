@@ -8,7 +8,7 @@ use Rattle.directed_fixed.specs.Bounds.{other}
 use Rattle.cube_actions.specs.Scores.{other_side}
 use Rattle.turn_rule.specs.Games.{kinds_of}
 use Rattle.interval_words.specs.WordLists.{words_in_list}
-use Rattle.match_scores.specs.Openings.{opening_worth, centred_number}
+use Rattle.match_scores.specs.Openings.{opening_worth, centred_in}
 use Rattle.match_scores.proofs.Centred.{centred-kind, bound-of-match}
 use Rattle.match_scores.proofs.OpeningSums.{listed-states, roll-at, roll-next, within-next}
 use Rattle.match_scores.proofs.openings.opened_by.Goals as goal
@@ -21,7 +21,7 @@ best_at-requires-clause-states c =
     (subst (λ (roll : Dice). (q : Placement) → Contains (ends_of c.plays.new.list.items) q ↔ IsLegalEnd c.start-start.result roll q) (sym c.roll-item.is) c.plays.ensures.ends) in
     rw (c.as_slice.ensures.value)
     (listed-states c.opening_plays_go_on.ensures game.checkers (kinds_of game) (rw c.checkers.ensures.checkers at c.checkers.ensures.low) (rw c.checkers.ensures.checkers at c.checkers.ensures.high)
-    (centred_number c.args.score (other_side c.args.side)) (centred-kind game.stakes c.args.score (other_side c.args.side) c.requires.name (rw c.stakes.ensures at (sym c.kinds-kinds.ensures.kinds ∙ c.kinds-kinds.ensures.named)))
+    (centred_in c.args.score (other_side c.args.side)) (centred-kind game.stakes c.args.score (other_side c.args.side) c.requires.name (rw c.stakes.ensures at (sym c.kinds-kinds.ensures.kinds ∙ c.kinds-kinds.ensures.named)))
     c.roll-item.result roll.2 (ends_of c.plays.new.list.items) (λ q listed. (legal q).0 listed))
 
 pub loop-roll-preserved : goal.loop-roll-preserved

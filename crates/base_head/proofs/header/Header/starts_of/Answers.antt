@@ -4,7 +4,7 @@ use Rattle.std.proofs.lemmas.List.{length-take-le}
 use Rattle.cube_actions.specs.Stakes.{point_units}
 use Rattle.cube_actions.specs.Starts.{StartPairs}
 use Rattle.word_pages.specs.declared.flaws.Flaw.{Flaw}
-use Rattle.word_pages.specs.Flaws.{ArePairsWithin, pairs_flaw}
+use Rattle.word_pages.specs.Flaws.{LieWithin, pairs_flaw}
 use Rattle.word_pages.specs.Words.{words_in_bytes}
 use Rattle.word_pages.proofs.Within.{none-within}
 use Rattle.base_head.specs.Faults.{checked}
@@ -38,7 +38,7 @@ starts_of_words-requires-clause-right c =
     let none : pairs_flaw header.version (point_units 1) 64 (words_in_bytes header.version (2 * header.starts) c.args.bytes.now) ≡ None =
     ap₂ (λ (b : ℤ) (n : ℕ). pairs_flaw header.version b 64 (words_in_bytes header.version n c.args.bytes.now)) (sym c.whole.ensures) (sym count) ∙ sym c.in_ok-read_pairs.ensures.flaw in
     let words = c.in_ok-read_pairs.ensures.words ∙ ap (λ (n : ℕ). words_in_bytes header.version n c.args.bytes.now) count in
-    subst (λ (list : List ℕ). ArePairsWithin (point_units 1) list) (sym words) (none-within header.version (point_units 1) 64 (words_in_bytes header.version (2 * header.starts) c.args.bytes.now) none)
+    subst (λ (list : List ℕ). LieWithin (point_units 1) list) (sym words) (none-within header.version (point_units 1) 64 (words_in_bytes header.version (2 * header.starts) c.args.bytes.now) none)
 
 pub returns : goal.returns
 returns c =
