@@ -11,7 +11,7 @@ use Rattle.cube_actions.specs.declared.name.StakesName.{StakesName}
 use Rattle.cube_actions.specs.declared.name.StakesName.TheVariants.{Match}
 use Rattle.game_record.specs.declared.decision.Decision.{Decision}
 use Rattle.game_record.specs.RightDecisions.{IsRightDecision}
-use Rattle.game_record.specs.Turns.{is_match}
+use Rattle.game_record.specs.Turns.{has_match}
 use Rattle.game_record.specs.declared.record.Record.{Record as RecordRead}
 use Rattle.game_record.specs.declared.record.RecordStakes.{RecordStakes}
 use Rattle.game_record.specs.declared.record.RecordStakes.TheVariants.{Cubeless, Money, Jacoby, MoneyBeavers, JacobyBeavers, Match as OfMatch}
@@ -41,7 +41,7 @@ use Rattle.record_commands.proofs.Recorded.{each-decision}
 -- ---- decisions of a match
 
 -- the stakes of a match are those of its length
-match-stakes : (stakes : RecordStakes) → is_match stakes ≡ true → stakes ≡ OfMatch (match_length stakes)
+match-stakes : (stakes : RecordStakes) → has_match stakes ≡ true → stakes ≡ OfMatch (match_length stakes)
 match-stakes Cubeless is = cc
 match-stakes Money is = cc
 match-stakes Jacoby is = cc
@@ -50,7 +50,7 @@ match-stakes JacobyBeavers is = cc
 match-stakes (OfMatch points) is = refl
 
 -- the decisions of a record of a match are of it
-pub all-in-match : Law → (rec : RecordRead) → is_match rec.stakes ≡ true → (list : List Judged) → All (IsRightDecision rec) (decisions_in list) → All (λ (one : Judged). IsDecisionInMatch rec.checkers (match_length rec.stakes) one.decision) list
+pub all-in-match : Law → (rec : RecordRead) → has_match rec.stakes ≡ true → (list : List Judged) → All (IsRightDecision rec) (decisions_in list) → All (λ (one : Judged). IsDecisionInMatch rec.checkers (match_length rec.stakes) one.decision) list
 all-in-match law rec is list right = each-decision (IsDecisionInMatch rec.checkers (match_length rec.stakes)) list (in-match law rec (match_length rec.stakes) (match-stakes rec.stakes is) (decisions_in list) right)
 
 -- the game of a score's file
