@@ -1,6 +1,6 @@
 //! What each decision of a recorded game loses.
-ghost use Rattle.std.specs.Prelude.{◌≡◌, ◌≤◌, Err, false};
-ghost use Rattle.hyper_outside.specs.Causes.{risen_count};
+ghost use Rattle.std.specs.Prelude.{◌≡◌, ◌≤◌, pos, IfErr, IfOk, false};
+ghost use Rattle.hyper_outside.specs.Causes.{Rose};
 ghost use Rattle.hyper_outside.specs.declared.outside.LookStop.TheVariants.{ReadFault};
 ghost use Rattle.record_tests.specs.TestPairs.{untold_cube, untold_zero_pairs};
 
@@ -85,18 +85,24 @@ fn adds_up_what_each_player_loses(rt: HostRuntime) {
     }
 }
 
-/// Words that aren't told, of which none can be had.
+/// Words that aren't told: the first few are 0, and no others can be had.
 #[derive(Drop)]
 struct Failing {
+    left: u32,
     faults: u64,
 }
 
 impl Failing {
-    fn fail(&mut self) -> Result<Fixed, LookStop>
-        ensures stop { result ≡ Err ReadFault }
-        ensures later { self.old.faults ≤ risen_count self.old.faults }
-        ensures risen_count { self.new ≡ record self.old { faults = risen_count self.old.faults } }
+    fn next(&mut self) -> Result<Fixed, LookStop>
+        ensures ok { IfOk result (λ value. value ≡ pos 0) }
+        ensures stop { IfErr result (λ stop. stop ≡ ReadFault) }
+        ensures later { self.old.faults ≤ self.new.faults }
+        ensures rose { IfErr result (λ stop. Rose self.old.faults self.new.faults) }
     {
+        if self.left > 0 {
+            self.left -= 1;
+            return Ok(Fixed::whole(0));
+        }
         self.faults = self.faults.saturating_add(1);
         Err(LookStop::ReadFault)
     }
@@ -112,11 +118,11 @@ impl Pairs for Failing {
     } };
 
     fn lower_of(&mut self, _position: &Position, _kind: usize) -> Result<Fixed, LookStop> {
-        self.fail()
+        self.next()
     }
 
     fn upper_of(&mut self, _position: &Position, _kind: usize) -> Result<Fixed, LookStop> {
-        self.fail()
+        self.next()
     }
 
     ghost floor_within = { λ s tells. Prim.absurd (Prim.cc) };
@@ -124,12 +130,12 @@ impl Pairs for Failing {
     ghost notes_within = { λ s tells. Prim.absurd (Prim.cc) };
 }
 
-/// The first play has no other, so it loses nothing whatever the words are. The next decision, whether
-/// to double, rests on words.
+/// The first decision is the only play of a roll, which rests on two words. The next one, whether to double, has none left.
 #[test]
 fn keeps_what_was_judged_before_a_stop(rt: HostRuntime) {
     let mut analysis = decisions(&rt);
-    let judging = analysis.judge(&Stakes::jacoby(), None, &mut Failing { faults: 0 });
+    let mut pairs = Failing { left: 2, faults: 0 };
+    let judging = analysis.judge(&Stakes::jacoby(), None, &mut pairs);
     same(&rt, &judging, &Err(LookStop::ReadFault), &"a stop");
     let judged = (
         analysis.total(Player::A).decisions,

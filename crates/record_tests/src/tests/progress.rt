@@ -40,42 +40,54 @@ impl Eprint for Stage {
 
 /// Rounds, blocks of a round, blocks passed, seconds gone, and the line.
 const LINES: [(u32, u32, u64, u64, &str); 7] = [
-    (64, 3276, 0, 0, "\rround 1 of 64, 0 %, 0 s gone\x1b[K"),
+    (
+        64,
+        3276,
+        0,
+        0,
+        "\r\x1b[?7lround 1 of 64, 0 %, 0 s gone\x1b[K\x1b[?7h",
+    ),
     (
         64,
         3276,
         104832,
         120,
-        "\rround 33 of 64, 50 %, 120 s gone, 120 s left\x1b[K",
+        "\r\x1b[?7lround 33 of 64, 50 %, 120 s gone, 120 s left\x1b[K\x1b[?7h",
     ),
     (
         64,
         3276,
         209664,
         240,
-        "\rround 64 of 64, 100 %, 240 s gone, 0 s left\x1b[K",
+        "\r\x1b[?7lround 64 of 64, 100 %, 240 s gone, 0 s left\x1b[K\x1b[?7h",
     ),
-    (10, 10, 9, 7, "\rround 1 of 10, 9 %, 7 s gone\x1b[K"),
+    (
+        10,
+        10,
+        9,
+        7,
+        "\r\x1b[?7lround 1 of 10, 9 %, 7 s gone\x1b[K\x1b[?7h",
+    ),
     (
         10,
         10,
         10,
         7,
-        "\rround 2 of 10, 10 %, 7 s gone, 63 s left\x1b[K",
+        "\r\x1b[?7lround 2 of 10, 10 %, 7 s gone, 63 s left\x1b[K\x1b[?7h",
     ),
     (
         1,
         26,
         13,
         7,
-        "\rround 1 of 1, 50 %, 7 s gone, 7 s left\x1b[K",
+        "\r\x1b[?7lround 1 of 1, 50 %, 7 s gone, 7 s left\x1b[K\x1b[?7h",
     ),
     (
         2,
         26,
         60,
         9,
-        "\rround 2 of 2, 100 %, 9 s gone, 0 s left\x1b[K",
+        "\r\x1b[?7lround 2 of 2, 100 %, 9 s gone, 0 s left\x1b[K\x1b[?7h",
     ),
 ];
 
