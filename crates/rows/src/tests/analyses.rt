@@ -102,12 +102,15 @@ fn analyses_are_refused_in_order(rt: HostRuntime) -> Result<(), Fail> {
     run(&rt, &[&FILES, &ROWS])
 }
 
-// A play that is the only one rests on no page, so that one with a turned bit counts only for the other game. Its digest stands behind 601 positions of
-// three kinds.
+// What is best is looked up of an only play too. The digest of the page stands behind 601 positions of three kinds.
 static DAMAGED: [Step; 4] = [
     File("j1", Length(18_158)),
     Change("j1", Bit(100)),
-    Row("analyse, j1, forced", 0, FORCED_TEXT),
+    Row(
+        "analyse, j1, forced",
+        4,
+        "refused 4 file page-digest 18126\n",
+    ),
     Row("analyse, j1, game", 4, "refused 4 file page-digest 18126\n"),
 ];
 

@@ -155,17 +155,17 @@ fn a_wrong_condition_asks_for_no_file(rt: HostRuntime) -> Result<(), Fail> {
 
 const TWO: &str = "scan, c1, pips=2 opips<3";
 
-// A search that finds two states. Each line is a put of its own, of which five bytes are put.
+// A search that finds two states. Their lines are put together, and then their number, of which so many bytes are put.
 static PUTS: [Step; 7] = [
     FailPut(1, 5),
     Row(TWO, 7, "alonerefused 7 write\n"),
-    FailPut(2, 5),
+    FailPut(1, 36),
     Row(
         TWO,
         7,
         "alone 2 / 1 -1.000000 1.000000\nalonerefused 7 write\n",
     ),
-    FailPut(3, 5),
+    FailPut(2, 5),
     Row(
         TWO,
         7,
