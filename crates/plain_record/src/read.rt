@@ -62,7 +62,7 @@ fn take_line(
     Ok(())
 }
 
-/// What the text of a record is read as. It takes time as long as the text, asks for memory, and may answer `NoMemory`.
+/// What the text of a record is read as. It asks for memory, and may answer `NoMemory`.
 pub fn read_plain(alloc: Global, text: &[u8]) -> Result<PlainRecord, NoMemory>
     requires { length text.now ≤ 1048576 }
     ensures text { IfOk result (λ plain. plain.text.items ≡ plain_text text.now) }
