@@ -4,6 +4,7 @@ import hashlib
 import struct
 
 from base import live_rank
+from tally import BASE_START
 
 HEAD = 64
 DIGEST = 32
@@ -11,12 +12,45 @@ POSITIONS = {1: 601, 2: 106552, 3: 7953353}
 A_PAGE = 1024
 WORD = 5
 PAIR = 2 * WORD
+POINT = 1 << 32
+# The fields of a head from the version to the starts, of one checker without a cube, for money and by the Jacoby rule after 8 rounds, and at 2-2 in a
+# match to two points after 16.
+CUBELESS = (3, 1, 0, 0, 0, 0, 0, 1, 8, 0)
+MONEY = (3, 1, 1, 0, 0, 0, 0, 3, 8, 0)
+JACOBY = (3, 1, 2, 0, 0, 0, 0, 3, 8, 0)
+MATCH = (3, 1, 3, 2, 2, 0, 2, 6, 16, 2)
 # The places of the cube for money.
 KINDS = ("centred", "mine", "theirs")
 
 
 def digest(text):
     return hashlib.sha256(text).digest()
+
+
+def header(fields, positions):
+    """The first bytes of a file."""
+    return BASE_START + struct.pack(">10I2Q", *fields, positions, 0)
+
+
+def as_words(units):
+    return b"".join((it + 2**36).to_bytes(WORD, "big") for it in units)
+
+
+def front(fields, starts=()):
+    """What stands before the pages of a file of one checker, with the words of its starts."""
+    text = header(fields, POSITIONS[1]) + as_words(starts)
+    return text + digest(text)
+
+
+def of_one_checker(fields, pairs, widest, starts=()):
+    """A file of one checker with the words of its starts, in which each pair is from one of these values below 0 to it above, but for those of these
+    live ranks in the first kind."""
+    text, kinds = front(fields, starts), fields[7]
+    states = [(-widest, widest)] * (POSITIONS[1] * kinds)
+    for rank, pair in pairs.items():
+        states[rank * kinds] = pair
+    page = b"".join(map(as_words, states))
+    return text + page + digest(text[-DIGEST:] + struct.pack(">Q", 0) + page)
 
 
 def page_length(kinds):

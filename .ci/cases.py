@@ -1,4 +1,4 @@
-"""Runs that only a real system can show: of words that are no text, on a terminal, of large files; boards; a reader of files."""
+"""Runs on a real system: words that are no text, a terminal, large files; boards; a reader of files; and tables of words, records and files."""
 
 import csv
 import filecmp
@@ -12,11 +12,16 @@ from xml.etree import ElementTree
 
 import base_file
 from base import Base, lines, live_rank, read_places
+from command_words import try_command_words
+from damaged_files import try_damaged_files
 from decision_pages import try_decision_pages
 from documents import large_files
 from imports import try_imports
 from mistakes import try_mistakes
+from plays import try_plays
+from record_lines import try_record_lines
 from tally import PROGRAM, SCRIPT, SECONDS, TOP, old_file, run
+from worked import try_worked
 
 # What the script `hypergammon` asks for, where the program itself is run, many times.
 LARGE_PAGES = {**os.environ, "GLIBC_TUNABLES": "glibc.malloc.hugetlb=1"}
@@ -182,6 +187,13 @@ class Shown(NamedTuple):
     after: str
 
 
+# Matches of two points, which have three scores, on a terminal, and all rounds that are made.
+SEVERAL = (
+    (("ladder", "t", "--checkers", "1", "--length", "2", "--rounds", "4"), 12),
+    (("study", "points.rec", "--rounds", "2"), 6),
+)
+
+
 def shown_cases(folder):
     """The runs on a terminal."""
     row = large_files()[SMALL]
@@ -239,14 +251,22 @@ def try_readings(tally, folder):
         tally.note(f"a record with {reading.name}", differences("answer", study(reading.text, folder), (status, due)))
 
 
+def faults_of_terminal(got, rounds):
+    """A terminal has to get lines of progress that tell how many rounds there are, each with nothing in its place before anything is put."""
+    line = rb"\r\x1b\[\?7lround \d+ of %d, \d+ %%, \d+ s gone(, \d+ s left)?\x1b\[K\x1b\[\?7h" % rounds
+    if not re.fullmatch(rb"((%s)+\r\x1b\[K)+" % line, got):
+        yield f"the terminal got {got}, due are lines of progress of {rounds} rounds"
+
+
 def try_terminal(tally, folder):
+    for words, rounds in SEVERAL:
+        status, _, got = on_terminal(words, folder)
+        tally.note(f"on a terminal: {' '.join(words)}", differences("status", status, 0) + list(faults_of_terminal(got, rounds)))
     for shown in shown_cases(folder):
         (folder / shown.file).write_bytes(shown.before)
         status, output, got = on_terminal(shown.words, folder)
-        line = rb"\r\x1b\[\?7lround \d+ of %d, \d+ %%, \d+ s gone(, \d+ s left)?\x1b\[K\x1b\[\?7h" % shown.rounds
         faults = differences("status", status, 0) + differences("output", output, shown.report)
-        if not re.fullmatch(rb"(%s)+\r\x1b\[K" % line, got):
-            faults.append(f"the terminal got {got}, due are lines of progress")
+        faults += faults_of_terminal(got, shown.rounds)
         digest = base_file.digest((folder / shown.file).read_bytes()).hex()
         faults += differences("the file's SHA-256 is", digest, shown.after)
         tally.note(f"on a terminal: {' '.join(shown.words)}", faults)
@@ -386,6 +406,8 @@ def try_migrations(tally, folder):
     try_older_versions(tally, folder)
     try_pages(tally, folder)
     try_migrate(tally, folder, "two.base")
+    # One with the start pairs of the scores before.
+    try_migrate(tally, folder, "match.2.3.n")
 
 
 def spread_positions(checkers):
@@ -415,10 +437,19 @@ def faults_of_reader(name, rows, folder):
         yield from differences(f"pairs of {position}", shown_of((shown, position), folder)[2:], list(lines(base, position)))
 
 
+# Some live ranks, by the file of so many checkers.
+RANKS = {
+    SMALL: (("1 / 1", 0), ("6 / 1", 120), ("24 / 24", 574), ("bar / bar", 600)),
+    "two.base": (("6 off / 1 off", 6230), ("bar bar / bar bar", 106_551)),
+    "three.base": (("24 23 22 / 24 23 22", 6_947_152), ("bar bar bar / bar bar bar", 7_953_352)),
+}
+
+
 def try_reader(tally, folder):
     """The reader on every kind of file: of each number of checkers, of versions 1 and 2, and of each score of a match."""
     for name, checkers in ((SMALL, 1), ("two.base", 2), ("three.base", 3)):
-        tally.note(f"import/base.py {name}", list(faults_of_reader(name, spread_positions(checkers), folder))[:5])
+        rows = spread_positions(checkers) + [{"position": position, "rank": str(rank)} for position, rank in RANKS[name]]
+        tally.note(f"import/base.py {name}", list(faults_of_reader(name, rows, folder))[:5])
     for name in (*OLDER_VERSIONS, *sorted(it.name for it in folder.glob("match.*"))):
         tally.note(f"import/base.py {name}", list(faults_of_reader(name, spread_positions(1)[::20], folder))[:5])
 
@@ -430,7 +461,8 @@ def try_cases(tally, folder, solved):
     solved.solve(["ladder", "match", "--checkers", "1", "--length", "5"], folder)
     solved.solve(["ladder", "m", "--checkers", "2", "--workers", "4"], folder)
     parts = (try_words, try_readings, try_mistakes, try_terminal, try_help, try_boards, try_migrations, try_three_checkers)
-    parts += (try_reader, try_imports, try_decision_pages)
+    parts += (try_reader, try_plays, try_worked, try_imports, try_decision_pages)
+    parts += (try_reader, try_imports, try_decision_pages, try_command_words, try_record_lines, try_damaged_files)
     for part in parts:
         with tally.going_on(part.__name__):
             part(tally, folder)

@@ -19,6 +19,18 @@ MATCH = b"hypergammon record 1\ncheckers 1\nstakes match 2\ngame 1 away 2 2\nA 2
 TWO = b"hypergammon record 1\ncheckers 2\nstakes jacoby\ngame 1\nA 31 24/21/20\nB 21 24/22 23/22\nA 66 20/14/8 23/17/11\n"
 LEFT = b"stop\nclose\n"
 
+# A's checkers stand on 11 and 1, both of B's on A's point 5: so from 11 either die of 42 can be played, but not both.
+HELD_UP = b"""\
+hypergammon record 1
+checkers 2
+stakes money
+game 1
+A 65 24/19 23/17
+B 61 24/18 23/22
+A 66 19/13 17/11 13/7* 7/1
+B 52 bar/20 22/20
+"""
+
 # What stands in the files that are read beside those that are solved.
 RECORDS = {
     "game.rec": GAME,
@@ -38,6 +50,7 @@ RECORDS = {
     "home.rec": TWO + b"B 21 22/20 22/21\nA 61 8/2 11/10\nB 21 20/18 21/20\nA 21 2/off 10/9\n" + LEFT,
     "closed.rec": TWO + b"B 11 22/21/20(2)\nA 63 11/5 8/5\n" + LEFT,
     "few.rec": GAME.replace(b" 21/20", b""),
+    "higher.rec": HELD_UP + b"A 42 11/9\n" + LEFT,
     "cube.rec": GAME.replace(b"A 31", b"A double\nB take\nA 31").replace(b"game 1\n", b"game 1\nB 21 24/22 22/21\n").replace(b"jacoby", b"cubeless"),
     "end.rec": GAME.replace(b"stop", b"end A 1"),
     "open.rec": GAME.replace(b"close\n", b""),
@@ -66,6 +79,7 @@ PLAYS = (
     ("home", 11, 4, "21 can't be played 2/off 10/9: a checker can't be borne off while another is farther behind"),
     ("closed", 9, 5, "63 can't be played 11/5 8/5: two or more checkers of the other side hold the point of a step"),
     ("few", 5, 7, "31 can't be played 24/21: more steps can be made, so they have to be"),
+    ("higher", 9, 8, "42 can't be played 11/9: the higher die can be played, so it has to be"),
 )
 
 MISTAKES = (

@@ -17,6 +17,7 @@ import threading
 import time
 
 import base_file
+from mistakes import LEFT, TWO
 from tally import BASE_START, PROGRAM, RECORD_START, SCRIPT, Ran, has_note, old_file, run
 
 # After how many seconds a run of these small games counts as one that doesn't end.
@@ -438,8 +439,24 @@ def changing_files(room):
     yield from differences("it was replaced often enough", counts["changes"] >= 200, True)
 
 
+def workers(room):
+    """Each worker of a command has a thread of its own, one of them that in which the command began."""
+    folder = room.new("workers")
+    ask(("solve", "two.base", "--checkers", "2", "--rounds", "1"), folder)
+    (folder / "two.rec").write_bytes(TWO + LEFT)
+    of_two, twice = ("--checkers", "2"), ("--rounds", "2")
+    solved = (("solve", "new", *of_two, *twice), ("ladder", "new", "--length", "1", *of_two, *twice), ("study", "two.rec", *twice))
+    for words in (*solved, ("verify", "two.base")):
+        running, most = begin((*words, "--workers", "5"), folder), 0
+        while running.poll() is None:
+            with contextlib.suppress(FileNotFoundError):
+                most = max(most, len(os.listdir(f"/proc/{running.pid}/task")))
+        yield from differences(words, end(running).status, 0)
+        yield from differences((*words, "has so many threads"), most, 5)
+
+
 PARTS = (pipes, lists, small_pieces, no_files, other_kinds, refused_files, one_file, links, limits, ended_runs, killed_runs, paired_runs)
-PARTS += (changing_files,)
+PARTS += (changing_files, workers)
 
 
 def try_outside(tally, folder):

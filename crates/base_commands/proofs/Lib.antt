@@ -1,4 +1,4 @@
-pub mod Fitting
+mod Fitting
 mod ListLines
 mod LookedUp
 mod ShowLaws
@@ -10,4 +10,3 @@ mod PlanLaws
 mod PlanFiles
 mod ScanFiles
 mod ReplyFiles
-pub mod RightFiles

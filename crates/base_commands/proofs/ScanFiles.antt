@@ -1,11 +1,9 @@
 -- The file whose states are searched, and why a search is refused.
-use Rattle.std.proofs.Common.{◌≡◌, ◌+◌, ◌-◌, ℕ, zero, suc, Bool, List, length, drop, Option, Ok, sym, subst, arith}
+use Rattle.std.proofs.Common.{◌≡◌, ◌-◌, ℕ, Bool, List, Option, Ok, subst}
 use Rattle.std.specs.List.{All}
-use Rattle.std.proofs.lemmas.List.{take-append-drop}
 use Rattle.position_text.specs.Text.{words}
 use Rattle.base_scan.specs.declared.condition.Test.{Test}
 use Rattle.base_scan.specs.declared.found.State.{State}
-use Rattle.base_scan.specs.Conditions.{AreConditionWords, IsFirstBad}
 use Rattle.base_scan.specs.Found.{AreFound, IsFoundState, meeting}
 use Rattle.interval_words.specs.WordLists.{WordList}
 use Rattle.database_file.specs.Bases.{AnswersBase}
@@ -28,14 +26,3 @@ has-scanned task told held groups text base read words is states all right IsRep
   found = subst (λ (w : WordList). AreFound w groups states) is (record { all = all; right = right });
   report = report;
 }
-
--- ---- texts of conditions
-
--- a text that is a condition's has no first wrong word
-no-bad-before : (groups : List (List Test)) (all : List (List ℕ)) (n rest : ℕ) → AreConditionWords groups all → IsFirstBad all n → length all ≡ n + rest → ⊥
-no-bad-before groups all n zero are bad long = bad.end (omega (arith, long)) groups are
-no-bad-before groups all n (suc rest) are bad long =
-    bad.here (omega (arith, long)) (groups, drop (n + 1) all, subst (AreConditionWords groups) (sym (take-append-drop (n + 1) all)) are)
-
-pub no-bad : (groups : List (List Test)) (all : List (List ℕ)) (n : ℕ) → AreConditionWords groups all → IsFirstBad all n → ⊥
-no-bad groups all n are bad = no-bad-before groups all n (length all - n) are bad (omega (arith, bad.inside))

@@ -10,4 +10,3 @@ pub mod Migrates
 pub mod Plans
 pub mod Scans
 pub mod Replies
-pub mod RightFiles

@@ -58,7 +58,7 @@ pub struct Test {
 }
 
 /// How a test is joined to those before it.
-#[derive(Clone, Copy, Debug, Default, PartialEq, Eq)]
+#[derive(Clone, Copy, Default)]
 pub(crate) enum Joint {
     /// It is in their group.
     #[default]
@@ -68,14 +68,14 @@ pub(crate) enum Joint {
 }
 
 /// A test of a condition.
-#[derive(Clone, Copy, Debug, Default, PartialEq, Eq)]
+#[derive(Clone, Copy, Default)]
 pub(crate) struct Joined {
     pub(crate) joint: Joint,
     pub(crate) test: Test,
 }
 
 /// What a word of a condition is.
-#[derive(Clone, Copy, Debug, PartialEq, Eq)]
+#[derive(Clone, Copy)]
 pub(crate) enum Part {
     /// The bar between two groups.
     Bar,

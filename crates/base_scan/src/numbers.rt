@@ -22,7 +22,7 @@ use play_analyser::{CubeAdvice, cube_advice, one_list_gives_the_advice};
 use position_rank::Position;
 
 /// How far a look at a state goes. A test that asks for more says yes.
-#[derive(Clone, Copy, Debug)]
+#[derive(Clone, Copy)]
 pub(crate) enum Depth {
     /// To the checkers of both sides.
     Checkers,
@@ -33,7 +33,7 @@ pub(crate) enum Depth {
 }
 
 /// A state with what tests ask of it.
-#[derive(Clone, Copy, Debug)]
+#[derive(Clone, Copy)]
 pub(crate) struct Seen {
     pub(crate) position: Position,
     pub(crate) kind: usize,

@@ -8,7 +8,7 @@ use position_rank::{Layout, OtherPoints, layout_count};
 use std::alloc::Global;
 
 /// What tests ask of a side's checkers.
-#[derive(Clone, Copy, Debug)]
+#[derive(Clone, Copy)]
 pub(crate) struct Side {
     /// The sum of their places.
     pub(crate) pips: u32,
@@ -19,7 +19,7 @@ pub(crate) struct Side {
 }
 
 /// A layout with what a search asks of it.
-#[derive(Clone, Copy, Debug)]
+#[derive(Clone, Copy)]
 pub(crate) struct Listed {
     pub(crate) layout: Layout,
     /// Its points where it is that of the side that doesn't move.

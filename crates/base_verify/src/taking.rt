@@ -1,6 +1,7 @@
 ghost use Rattle.std.specs.Prelude.{◌≡◌, ◌<◌, ◌+◌, IfOk, IsTrue, length};
 ghost use Rattle.position_rank.specs.Ranks.{layouts};
 ghost use Rattle.interval_words.specs.WordLists.{WordList};
+ghost use Rattle.column_turns.specs.Columns.{IsRoomOf};
 ghost use Rattle.base_verify.specs.Columns.{AreHeld, AreToldHeld, ColumnsHold};
 
 use crate::columns::column_holds;
@@ -10,6 +11,33 @@ use interval_words::Words;
 use position_rank::layout_count;
 use std::alloc::Global;
 use std::sync::atomic::{AtomicU64, Ordering};
+
+/// Marks the columns that a worker takes and finds to hold, in this room.
+fn mark_columns<G: Gate>(
+    words: &Words,
+    gate: &G,
+    next: &AtomicU64,
+    worker: u32,
+    turns: &mut ColumnTurns,
+    marks: &mut [bool],
+)
+    requires room { IsRoomOf words.now.game turns.old }
+    requires held { AreHeld words.now marks.old }
+    ensures { AreHeld words.now marks.new }
+{
+    let count = marks.len();
+    for _ in 0..count {
+        let other = next.fetch_add(1, Ordering::SeqCst) as usize;
+        if other >= count {
+            return;
+        }
+        gate.pass(worker, other as u64);
+        if !column_holds(words, turns, other) {
+            return;
+        }
+        marks[other] = true;
+    }
+}
 
 /// The marks of the columns that a worker takes and finds to hold. It takes the one whose number is
 /// `next`, again and again, so that each worker takes as many as it has time for, and stops where
@@ -24,19 +52,9 @@ pub(crate) fn take_columns<G: Gate>(
     ensures { IfOk result (λ marks. AreHeld words.now marks.items) }
 {
     let count = layout_count(words.checkers()) as usize;
-    let mut turns = ColumnTurns::new(alloc, words.checkers(), words.stakes())?;
     let mut marks = vec![in alloc; false; count]?;
-    for _ in 0..count {
-        let other = next.fetch_add(1, Ordering::SeqCst) as usize;
-        if other >= count {
-            break;
-        }
-        gate.pass(worker, other as u64);
-        if !column_holds(words, &mut turns, other) {
-            break;
-        }
-        marks[other] = true;
-    }
+    let mut turns = ColumnTurns::new(alloc, words.checkers(), words.stakes())?;
+    mark_columns(words, gate, next, worker, &mut turns, &mut marks);
     Ok(marks)
 }
 

@@ -1,10 +1,13 @@
 -- Moments one after another.
-use Rattle.std.proofs.Common.{◌∙◌, ℤ, arith, subst}
+use Rattle.std.proofs.Common.{◌∙◌, ℤ, refl, arith, subst}
 use Rattle.directed_fixed.specs.declared.bounds.End.{End}
 use Rattle.turn_rule.specs.Looks.{Source, Seen, Sought, AreLater}
 use Rattle.turn_rule.specs.Found.{IsFoundOf}
-use Rattle.turn_rule.proofs.Found.{notes-trans, found-later}
+use Rattle.turn_rule.proofs.Found.{notes-refl, notes-trans, found-later}
 use Rattle.column_turns.specs.Moments.{IsLater}
+
+pub later-refl : (a : Seen) → IsLater a a
+later-refl a = record { source = refl; notes = notes-refl a.source a.notes; faults = omega arith }
 
 -- the notes of a later moment, in terms of the first one's source
 pub later-notes : (a b c : Seen) → IsLater a b → IsLater b c → AreLater a.source b.notes c.notes

@@ -36,6 +36,19 @@ pub record HasRoom (layouts : List (List ℕ)) (kinds : ℕ) (sums : List ℤ) :
   pub many : length sums ≡ length layouts * kinds
   pub small : All (IsWithinUnits (pos (2 ^ 42))) sums
 
+-- there is room for a value of each of so many layouts, and for one of each in each kind
+pub record HasRoomFor (many kinds capacity : ℕ) (sums low high : List ℤ) (turns : List Bounds)
+    (lower_cells upper_cells : List (List (Option ℤ))) : Type 0 where
+  pub movers : many ≤ capacity
+  pub one : length sums ≡ many
+  pub lower : length low ≡ many * kinds
+  pub small_lower : All (IsWithinUnits (pos (2 ^ 42))) low
+  pub upper : length high ≡ many * kinds
+  pub small_upper : All (IsWithinUnits (pos (2 ^ 42))) high
+  pub pairs : length turns ≡ many * kinds
+  pub lower_rows : AreRows kinds lower_cells
+  pub upper_rows : AreRows kinds upper_cells
+
 -- a column of a game of so many checkers, with room for its movers, its sums and its pairs
 pub record IsColumn (checkers capacity : ℕ) (column : ColumnPairs)
     (lower_cells upper_cells : List (List (Option ℤ))) (one lower upper : List ℤ) : Type 0 where

@@ -1,4 +1,4 @@
-ghost use Rattle.std.specs.Prelude.{◌≡◌, ◌<◌, ◌≤◌, ◌*◌, ◌^◌, ℕ, pos, All, IfOk, IsTrue, length, slice_index, slice_index_or};
+ghost use Rattle.std.specs.Prelude.{◌≡◌, ◌<◌, ◌≤◌, ◌*◌, ◌^◌, ℕ, pos, All, IfOk, IsTrue, length, slice_index, slice_index_or, vec_capacity};
 ghost use Rattle.position_rank.specs.Placement.{IsPosition};
 ghost use Rattle.directed_fixed.specs.Bounds.{IsWithinUnits};
 ghost use Rattle.cube_actions.specs.Stakes.{nothing};
@@ -6,6 +6,7 @@ ghost use Rattle.turn_rule.specs.Looks.{AreStakesOf};
 ghost use Rattle.turn_rule.specs.Layouts.{AreLayouts};
 ghost use Rattle.column_sums.specs.Leaps.{layout_at};
 ghost use Rattle.column_turns.specs.Moments.{IsLater};
+ghost use Rattle.column_turns.specs.Columns.{HasRoomFor};
 ghost use Rattle.column_turns.specs.Rows.{AreRows};
 ghost use Rattle.column_turns.specs.Turns.{mover_at, place_in, AreLiveMovers, AreTurnsOf};
 
@@ -88,6 +89,38 @@ fn empty_rows(alloc: Global, kinds: usize) -> Result<Vec<Row>, NoMemory>
     Ok(rows)
 }
 
+/// Room to work out a column's turns in, beside the column itself.
+#[derive(Drop)]
+struct Room {
+    movers: Vec<u16>,
+    one: Vec<Fixed>,
+    lower: Vec<Fixed>,
+    upper: Vec<Fixed>,
+    pairs: Vec<Pair>,
+    lower_rows: Vec<Row>,
+    upper_rows: Vec<Row>,
+}
+
+/// Room for so many layouts and kinds.
+fn room_for(alloc: Global, many: usize, kinds: usize) -> Result<Room, NoMemory>
+    requires many { many ≤ 3276 }
+    requires kinds { kinds ≤ 14 }
+    ensures { IfOk result (λ room. HasRoomFor many kinds (vec_capacity room.movers) room.one.items
+        room.lower.items room.upper.items room.pairs.items
+        room.lower_rows.items room.upper_rows.items) }
+{
+    let places = many * kinds;
+    Ok(Room {
+        movers: Vec::with_capacity(alloc, many)?,
+        one: zeros(alloc, many)?,
+        lower: zeros(alloc, places)?,
+        upper: zeros(alloc, places)?,
+        pairs: zero_pairs(alloc, places)?,
+        lower_rows: empty_rows(alloc, kinds)?,
+        upper_rows: empty_rows(alloc, kinds)?,
+    })
+}
+
 impl ColumnTurns {
     /// No column yet, of a game of one to three checkers a side with these stakes. It asks for memory, and may answer `NoMemory`.
     pub fn new(alloc: Global, checkers: u8, stakes: &Stakes) -> Result<ColumnTurns, NoMemory>
@@ -97,20 +130,21 @@ impl ColumnTurns {
         ensures kinds { IfOk result (λ turns. turns.kinds ≡ length stakes.now.kinds) }
     {
         let column = Column::new(alloc, checkers)?;
-        let many = column.many();
         let kinds = stakes.kinds();
+        // On an error the column is dropped at this place alone.
+        let room = room_for(alloc, column.many(), kinds)?;
         Ok(ColumnTurns {
             checkers,
             kinds,
             column,
-            lower_rows: empty_rows(alloc, kinds)?,
-            upper_rows: empty_rows(alloc, kinds)?,
+            lower_rows: room.lower_rows,
+            upper_rows: room.upper_rows,
             other: Position::start(checkers).mover(),
-            movers: Vec::with_capacity(alloc, many)?,
-            one: zeros(alloc, many)?,
-            lower: zeros(alloc, many * kinds)?,
-            upper: zeros(alloc, many * kinds)?,
-            pairs: zero_pairs(alloc, many * kinds)?,
+            movers: room.movers,
+            one: room.one,
+            lower: room.lower,
+            upper: room.upper,
+            pairs: room.pairs,
         })
     }
 

@@ -120,28 +120,26 @@ seen-live true p live = live-swap p live
 seen-live false p live = live
 
 -- one value after another, and then the command
-ruleset steps = (name-right, prefix-right, other-right, within-right, or-right, long-right, stakes-right, position-right, roll-right, option-right, ok-right, seen-right, seen-live, rounds-right, shown-right, width-right, away-right, name-at)
-
 values-right : (command : CommandName) (given : FormValues) → Right (command_values command given)
-values-right name.Bound given = search steps depth 9
-values-right name.Race given = search steps depth 9
-values-right name.Solve given = search steps depth 9
-values-right name.Show given = search steps depth 9
-values-right name.ShowList given = search steps depth 9
-values-right name.ShowMatch given = search steps depth 9
-values-right name.Migrate given = search steps depth 9
-values-right name.Advise given = search steps depth 9
-values-right name.AdviseList given = search steps depth 9
-values-right name.AdviseMatch given = search steps depth 11
-values-right name.Verify given = search steps depth 9
-values-right name.Ladder given = search steps depth 9
-values-right name.Analyse given = search steps depth 9
-values-right name.Study given = search steps depth 9
-values-right name.Make given = search steps depth 9
-values-right name.Plan given = search steps depth 9
-values-right name.Scan given = search steps depth 9
-values-right name.Reply given = search steps depth 9
-values-right name.Board given = search steps depth 9
+values-right name.Bound given = search (within-right, option-right, position-right, ok-right) depth 9
+values-right name.Race given = search (within-right, option-right, position-right, ok-right) depth 9
+values-right name.Solve given = search (name-right, or-right, stakes-right, rounds-right, width-right, ok-right) depth 9
+values-right name.Show given = search (name-right, option-right, position-right, ok-right) depth 9
+values-right name.ShowList given = search (name-right, or-right, ok-right) depth 9
+values-right name.ShowMatch given = search (prefix-right, option-right, away-right, position-right, name-at, ok-right) depth 9
+values-right name.Migrate given = search (name-right, other-right, or-right, ok-right) depth 9
+values-right name.Advise given = search (name-right, option-right, position-right, roll-right, seen-right, seen-live, ok-right) depth 9
+values-right name.AdviseList given = search (name-right, option-right, or-right, ok-right) depth 9
+values-right name.AdviseMatch given = search (prefix-right, option-right, away-right, position-right, roll-right, seen-right, seen-live, name-at, ok-right) depth 11
+values-right name.Verify given = search (name-right, or-right, ok-right) depth 9
+values-right name.Ladder given = search (prefix-right, or-right, ok-right) depth 9
+values-right name.Analyse given = search (name-right, shown-right, ok-right) depth 9
+values-right name.Study given = search (name-right, or-right, shown-right, ok-right) depth 9
+values-right name.Make given = search (long-right, within-right, name-right, ok-right) depth 9
+values-right name.Plan given = search (prefix-right, or-right, ok-right) depth 9
+values-right name.Scan given = search (name-right, option-right, or-right, ok-right) depth 9
+values-right name.Reply given = search (name-right, option-right, or-right, position-right, ok-right) depth 9
+values-right name.Board given = search (option-right, position-right, ok-right) depth 9
 
 right : (words : List Bytes) → Right (reading words)
 right [] = record { is = tt }

@@ -1,5 +1,4 @@
 pub mod Ladder
-pub mod MatchExamples
 pub mod MatchKinds
 pub mod Matches
 pub mod Money

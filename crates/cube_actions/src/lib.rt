@@ -2,7 +2,6 @@
 #![tactic(auto)]
 
 mod kind;
-mod laws;
 mod match_kind;
 mod match_laws;
 mod name;
@@ -16,11 +15,7 @@ mod stakes;
 mod starts;
 
 pub use kind::{Double, Kind, Taken};
-pub use laws::{bound_examples, cubeless_example, score_examples};
-pub use match_laws::{
-    cubes_come_of_the_score, kind_count_examples, ladder_examples, ladders_are_exact,
-    match_examples, wins_lead_down_the_ladder,
-};
+pub use match_laws::{cubes_come_of_the_score, ladders_are_exact, wins_lead_down_the_ladder};
 pub use name::{KindName, StakesName};
 pub use name_laws::names_tell_kinds;
 pub use names::every_name;

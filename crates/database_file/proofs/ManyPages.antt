@@ -153,3 +153,7 @@ pub flaw-is : (pages : Pages) (bytes words : List ℕ) (page : ℕ) (flaw : Flaw
 flaw-is pages bytes words page flaw there read is =
     let left : (page_count pages - suc page) + suc page ≡ page_count pages = omega (arith, there) in
     ap (λ k. first_flaw pages bytes k) (sym left) ∙ flaw-stays pages bytes (suc page) (page_count pages - suc page) flaw (or-some _ _ flaw read.right is)
+
+-- what was written in place of the front of a list is as long as that front
+pub same_length : {A : Type 0} (k : ℕ) (new old : List A) → length new ≡ length (take k old) → length (new ++ drop k old) ≡ length old
+same_length k new old same = omega (arith, length-append new (drop k old), same, length-take k old, length-drop k old)

@@ -6,3 +6,7 @@ use Rattle.base_head.specs.Heads.{FileHead}
 pub record FileBase : Type 0 where
   pub head : FileHead
   pub words : WordList
+
+-- the base of this head and these words
+abbrev pub head_with_words : FileHead → WordList → FileBase
+head_with_words head words = record { head = head; words = words }

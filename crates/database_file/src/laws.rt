@@ -14,7 +14,7 @@ ghost use Rattle.database_file.specs.declared.pages.Pages.{Pages};
 ghost use Rattle.database_file.specs.Texts.{IsText, game_in, words_a_page};
 ghost use Rattle.database_file.specs.Faults.{fault_from, file_fault, header_of_file, pages_behind, pages_in_file, whole};
 ghost use Rattle.database_file.specs.Places.{digested, head_part, page_part};
-ghost use Rattle.database_file.specs.FileBases.{FileBase};
+ghost use Rattle.database_file.specs.FileBases.{FileBase, head_with_words};
 ghost use Rattle.database_file.specs.Bases.{IsBaseFrom, words_of_file};
 ghost use Rattle.position_rank.specs.Placement.{Placement};
 ghost use Rattle.directed_fixed.specs.declared.bounds.End.{End};
@@ -71,7 +71,7 @@ pub fn texts_are_read_back()
         ↔ ((head : FileHead) × (words : WordList) × IsText Three head words bytes) }
     ensures held { (oldest version : Version) (head : FileHead) (words : WordList)
         (bytes : List ℕ) → IsSince oldest version → IsText version head words bytes
-        → IsBaseFrom oldest (whole bytes) (record { head = head; words = words }) }
+        → IsBaseFrom oldest (whole bytes) (head_with_words head words) }
     ensures loaded { (oldest : Version) (bytes : List ℕ) (base : FileBase) → AreBytes bytes
         → IsBaseFrom oldest (whole bytes) base
         → (version : Version) × IsSince oldest version

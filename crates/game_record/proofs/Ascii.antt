@@ -1,7 +1,6 @@
 -- Texts of plays and rolls have bytes below 128 alone.
 use Rattle.std.proofs.Common.{◌≡◌, ℕ, ◌+◌, ◌<◌, ◌≤◌, Bool, true, false, ltb, List, [], ◌∷◌, ◌++◌, map, codes, zero, suc, inl, inr, refl, sym, subst, arith}
-use Rattle.std.proofs.lemmas.Bool.{cases_lt}
-use Rattle.std.proofs.lemmas.Bool.Decides.{nat_tests}
+use Rattle.std.proofs.lemmas.Bool.{cases_lt, ltb-true, lt-ltb}
 use Rattle.std.proofs.lemmas.Str.Ascii.{IsAscii-from_all}
 use Rattle.std.specs.Fmt.{digits}
 use Rattle.std.specs.Str.{IsAscii}
@@ -22,7 +21,7 @@ ascii-append (x ∷ xs) ys h k = let both = both-true (ltb x 128) (ascii xs) h i
 
 all-ascii : (xs : List ℕ) → ascii xs ≡ true → All (λ b. b < 128) xs
 all-ascii [] h k d low = absurd (omega arith)
-all-ascii (x ∷ xs) h zero d low = let first = (both-true (ltb x 128) (ascii xs) h).0 in grind (arith, nat_tests)
+all-ascii (x ∷ xs) h zero d low = ltb-true x 128 (both-true (ltb x 128) (ascii xs) h).0
 all-ascii (x ∷ xs) h (suc k) d low = all-ascii xs (both-true (ltb x 128) (ascii xs) h).1 k d (omega arith)
 
 pub is-ascii : (xs : List ℕ) → ascii xs ≡ true → IsAscii xs
@@ -69,6 +68,6 @@ ascii-play text steps play = subst IsAscii (sym play.words) (is-ascii (play_of_w
 -- a roll's text is one
 pub ascii-roll : (roll : Dice) → IsRoll roll → IsAscii (roll_text roll)
 ascii-roll roll valid =
-    let high : ltb (48 + roll.high) 128 ≡ true = grind (arith, nat_tests, valid.to) in
-    let low : ltb (48 + roll.low) 128 ≡ true = grind (arith, nat_tests, valid.to, valid.in_order) in
+    let high : ltb (48 + roll.high) 128 ≡ true = lt-ltb (48 + roll.high) 128 (omega (arith, valid.to)) in
+    let low : ltb (48 + roll.low) 128 ≡ true = lt-ltb (48 + roll.low) 128 (omega (arith, valid.to, valid.in_order)) in
     is-ascii (roll_text roll) (rw high (rw low refl))

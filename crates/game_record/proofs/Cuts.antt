@@ -1,5 +1,6 @@
 -- Where a text is cut.
 use Rattle.std.proofs.Common.{◌≡◌, ℕ, ◌+◌, Bool, true, false, not, eqb, ltb, cond, List, [], ◌∷◌, length, take, drop, Option, Some, None, refl, sym, ◌∙◌, ap, suc, arith}
+use Rattle.std.proofs.lemmas.Bool.{lt-ltb}
 use Rattle.std.specs.List.{position_or_len}
 use Rattle.std.proofs.lemmas.Bool.Decides.{nat_tests}
 use Rattle.game_record.specs.Forms.{cut_at, with_front}
@@ -26,7 +27,7 @@ one_on x text at =
 pub cut_is : (byte : ℕ) (text : List ℕ) → cut_at byte text ≡ parts_if text (position_or_len (is_byte byte) text)
 cut_is byte [] = refl
 cut_is byte (x ∷ text) = elim (eqb x byte) as (λ b. cond b (Some ([], text)) (with_front x (cut_at byte text)) ≡ parts_if (x ∷ text) (cond (not b) (1 + position_or_len (is_byte byte) text) 0)) [
-  | true ↦ (let low : ltb 0 (suc (length text)) ≡ true = grind (arith, nat_tests) in rw low refl)
+  | true ↦ (let low : ltb 0 (suc (length text)) ≡ true = lt-ltb 0 (suc (length text)) (omega arith) in rw low refl)
   | false ↦ ap (with_front x) (cut_is byte text) ∙ sym (one_on x text (position_or_len (is_byte byte) text))
 ]
 

@@ -1,6 +1,6 @@
 -- A line is the text of its form.
-use Rattle.std.proofs.Common.{◌≡◌, ℕ, Bool, true, false, cond, ◌&&◌, eqb, nat_eq, List, [], ◌∷◌, ◌++◌, codes, ◌⊎◌, inl, inr, Option, Some, None, unwrap_or, refl, sym, ◌∙◌, ap, append_assoc, arith}
-use Rattle.std.proofs.lemmas.Bool.Decides.{nat_tests}
+use Rattle.std.proofs.Common.{◌≡◌, ℕ, Bool, true, false, cond, ◌&&◌, eqb, nat_eq, List, [], ◌∷◌, ◌++◌, codes, ◌⊎◌, inl, inr, Option, Some, None, unwrap_or, refl, sym, ◌∙◌, ap, append_assoc}
+use Rattle.std.proofs.lemmas.Bool.{eqb-true}
 use Rattle.position_text.proofs.PlaceTexts.{both-true}
 use Rattle.game_record.specs.declared.player.Player.{Player}
 use Rattle.game_record.specs.declared.player.Player.TheVariants.{A, B}
@@ -28,7 +28,7 @@ same-text [] (y ∷ b) e = absurd (cc)
 same-text (x ∷ a) [] e = absurd (cc)
 same-text (x ∷ a) (y ∷ b) e =
     let both = both-true (nat_eq x y) (same_text a b) e in
-    let first : x ≡ y = grind (arith, nat_tests, both.0) in
+    let first : x ≡ y = eqb-true x y both.0 in
     ap (λ z. z ∷ a) first ∙ ap (λ z. y ∷ z) (same-text a b both.1)
 
 front-back : (x byte : ℕ) (text : List ℕ) (o : Option (List ℕ × List ℕ)) (a b : List ℕ) → ((c d : List ℕ) → o ≡ Some (c, d) → text ≡ c ++ byte ∷ d) → with_front x o ≡ Some (a, b) → x ∷ text ≡ a ++ byte ∷ b
@@ -41,7 +41,7 @@ front-back x byte text (Some parts) a b f e =
 pub cut-text : (byte : ℕ) (text a b : List ℕ) → cut_at byte text ≡ Some (a, b) → text ≡ a ++ byte ∷ b
 cut-text byte [] a b e = absurd (some-none (a, b) e)
 cut-text byte (x ∷ text) a b e = elim (chosen (eqb x byte) (Some ([], text)) (with_front x (cut_at byte text)) (Some (a, b)) e) [
-  | inl here ↦ (let same : x ≡ byte = grind (arith, nat_tests, here.0) in ap (λ y. y ∷ text) same ∙ ap (λ (p : List ℕ × List ℕ). p.0 ++ byte ∷ p.1) (some-one ([], text) (a, b) here.1))
+  | inl here ↦ (let same : x ≡ byte = eqb-true x byte here.0 in ap (λ y. y ∷ text) same ∙ ap (λ (p : List ℕ × List ℕ). p.0 ++ byte ∷ p.1) (some-one ([], text) (a, b) here.1))
   | inr later ↦ front-back x byte text (cut_at byte text) a b (cut-text byte text) later.1
 ]
 

@@ -1,6 +1,6 @@
 -- A right line has the form of what it says.
 use Rattle.std.proofs.Common.{◌≡◌, ℕ, ◌+◌, ◌<◌, ◌^◌, true, false, cond, eqb, nat_le, List, [], ◌∷◌, ◌++◌, length, codes, decimal, Option, Some, None, refl, ◌∙◌, ap, subst, append_assoc, arith}
-use Rattle.std.proofs.lemmas.Bool.Decides.{nat_tests}
+use Rattle.std.proofs.lemmas.Bool.{le-leb, ne_eqb}
 use Rattle.std.proofs.lemmas.List.{append-nil}
 use Rattle.roll_table.specs.Rolls.{Dice, IsRoll}
 use Rattle.roll_table.specs.Text.{roll_text}
@@ -78,15 +78,15 @@ end-read A points h = ap (λ b. cond b (Some (EndForm A (decimal points))) None)
 end-read B points h = ap (λ b. cond b (Some (EndForm B (decimal points))) None) (word-decimal points h)
 
 die-lacks : (byte n : ℕ) → byte < 48 → lacks byte ((48 + n) ∷ []) ≡ true
-die-lacks byte n low = let other : eqb (48 + n) byte ≡ false = grind (arith, nat_tests, low) in rw other refl
+die-lacks byte n low = let other : eqb (48 + n) byte ≡ false = ne_eqb (48 + n) byte (λ e. omega (arith, low, e)) in rw other refl
 
 pub roll-lacks : (byte : ℕ) (roll : Dice) → byte < 48 → lacks byte (roll_text roll) ≡ true
 roll-lacks byte roll low = lacks-append byte ((48 + roll.high) ∷ []) ((48 + roll.low) ∷ []) (die-lacks byte roll.high low) (die-lacks byte roll.low low)
 
 digit-first : (roll : Dice) → IsRoll roll → begins_with_digit (roll_text roll) ≡ true
 digit-first roll valid =
-    let low : nat_le 48 (48 + roll.high) ≡ true = grind (arith, nat_tests) in
-    let high : nat_le (48 + roll.high) 57 ≡ true = grind (arith, nat_tests, valid.to) in
+    let low : nat_le 48 (48 + roll.high) ≡ true = le-leb 48 (48 + roll.high) (omega arith) in
+    let high : nat_le (48 + roll.high) 57 ≡ true = le-leb (48 + roll.high) 57 (omega (arith, valid.to)) in
     rw (low, high) refl
 
 no-deed : (roll : Dice) (rest : List ℕ) (y : ℕ) (ys : List ℕ) → IsRoll roll → 60 < y → same_text (roll_text roll ++ codes " " ++ rest) (y ∷ ys) ≡ false

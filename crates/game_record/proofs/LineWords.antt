@@ -1,7 +1,6 @@
 -- Words of lines: which bytes they lack, and how they are cut.
 use Rattle.std.proofs.Common.{◌≡◌, ℕ, zero, suc, ◌+◌, ◌<◌, ◌≤◌, ◌%◌, ◌^◌, Bool, true, false, not, ◌&&◌, eqb, ltb, nat_eq, List, [], ◌∷◌, ◌++◌, length, map, codes, decimal, Some, None, inl, inr, refl, sym, ◌∙◌, ap, subst, arith}
-use Rattle.std.proofs.lemmas.Bool.{cases_lt}
-use Rattle.std.proofs.lemmas.Bool.Decides.{nat_tests}
+use Rattle.std.proofs.lemmas.Bool.{cases_lt, ltb-true, lt-ltb, eq-eqb, ne_eqb}
 use Rattle.std.proofs.lemmas.Fmt.{decimal_by_steps, decimal_nonempty}
 use Rattle.std.proofs.lemmas.List.{append-nil}
 use Rattle.std.specs.Fmt.{digits}
@@ -22,7 +21,7 @@ cut-none byte (x ∷ text) h =
     rw (not-true _ both.0) (ap (with_front x) (cut-none byte text both.1))
 
 pub cut-some : (byte : ℕ) (text rest : List ℕ) → lacks byte text ≡ true → cut_at byte (text ++ byte ∷ rest) ≡ Some (text, rest)
-cut-some byte [] rest h = let same : eqb byte byte ≡ true = grind (arith, nat_tests) in rw same refl
+cut-some byte [] rest h = let same : eqb byte byte ≡ true = eq-eqb byte byte refl in rw same refl
 cut-some byte (x ∷ text) rest h =
     let both = both-true (not (eqb x byte)) (lacks byte text) h in
     rw (not-true _ both.0) (ap (with_front x) (cut-some byte text rest both.1))
@@ -35,18 +34,18 @@ none-is (x ∷ text) h =
 
 pub word-is : (text : List ℕ) → lacks 32 text ≡ true → 0 < length text → is_word text ≡ true
 word-is text h some =
-    let long : ltb 0 (length text) ≡ true = grind (arith, nat_tests, some) in
+    let long : ltb 0 (length text) ≡ true = lt-ltb 0 (length text) some in
     rw (long, none-is text h) refl
 
 pub other-word : (x y : ℕ) (xs ys : List ℕ) → (x ≡ y → ⊥) → same_text (x ∷ xs) (y ∷ ys) ≡ false
-other-word x y xs ys h = let other : nat_eq x y ≡ false = grind (arith, nat_tests, h) in rw other refl
+other-word x y xs ys h = let other : nat_eq x y ≡ false = ne_eqb x y h in rw other refl
 
 -- ---- numbers
 
 pub lacks-decimal : (byte n : ℕ) → byte < 48 → n < 2 ^ 64 → lacks byte (decimal n) ≡ true
 lacks-decimal byte n low = decimal_by_steps (λ n ds. lacks byte ds ≡ true) (λ n small. one n) (λ n ds big h. lacks-append byte ds ((48 + n % 10) ∷ []) h (one (n % 10))) n where
   one : (n : ℕ) → lacks byte ((48 + n) ∷ []) ≡ true
-  one n = let other : eqb (48 + n) byte ≡ false = grind (arith, nat_tests, low) in rw other refl
+  one n = let other : eqb (48 + n) byte ≡ false = ne_eqb (48 + n) byte (λ e. omega (arith, low, e)) in rw other refl
 
 pub word-decimal : (n : ℕ) → n < 2 ^ 64 → is_word (decimal n) ≡ true
 word-decimal n h = word-is (decimal n) (lacks-decimal 32 n (omega arith) h) (decimal_nonempty n h)
@@ -54,7 +53,7 @@ word-decimal n h = word-is (decimal n) (lacks-decimal 32 n (omega arith) h) (dec
 -- ---- plays
 
 lacks-mark : (byte : ℕ) (hit : Bool) → byte < 42 → lacks byte (mark hit) ≡ true
-lacks-mark byte true low = let other : eqb 42 byte ≡ false = grind (arith, nat_tests, low) in rw other refl
+lacks-mark byte true low = let other : eqb 42 byte ≡ false = ne_eqb 42 byte (λ e. omega (arith, low, e)) in rw other refl
 lacks-mark byte false low = refl
 
 all-places : list_all (λ p. lacks 10 (place_text p) && ltb 0 (length (place_text p))) (range_with_len 0 26) ≡ true
@@ -75,7 +74,7 @@ place-facts p low = both-true (lacks 10 (place_text p)) (ltb 0 (length (place_te
 
 lacks-step : (byte : ℕ) (step : Step) → byte < 42 → ((p : ℕ) → p ≤ 25 → lacks byte (place_text p) ≡ true) → lacks byte (step_text step) ≡ true
 lacks-step byte step low places =
-    let slash : lacks byte (codes "/") ≡ true = (let other : eqb 47 byte ≡ false = grind (arith, nat_tests, low) in rw other refl) in
+    let slash : lacks byte (codes "/") ≡ true = (let other : eqb 47 byte ≡ false = ne_eqb 47 byte (λ e. omega (arith, low, e)) in rw other refl) in
     lacks-append byte (place_text step.from ++ codes "/" ++ place_text step.to) (mark step.hit)
     (lacks-append byte (place_text step.from ++ codes "/") (place_text step.to) (lacks-append byte (place_text step.from) (codes "/") (places step.from step.within) slash) (places step.to (omega (arith, step.within, step.falls))))
     (lacks-mark byte step.hit low)
@@ -112,7 +111,7 @@ longer (x ∷ xs) ys h = omega arith
 
 step-some : (step : Step) → 0 < length (step_text step)
 step-some step =
-    let first : 0 < length (place_text step.from) = (let long = (place-facts step.from step.within).1 in grind (arith, nat_tests)) in
+    let first : 0 < length (place_text step.from) = ltb-true 0 (length (place_text step.from)) (place-facts step.from step.within).1 in
     longer (place_text step.from ++ codes "/" ++ place_text step.to) (mark step.hit) (longer (place_text step.from ++ codes "/") (place_text step.to) (longer (place_text step.from) (codes "/") first))
 
 joined-words : (step : Step) (steps : List Step) → are_words (join_with_byte 32 (map step_text (step ∷ steps))) ≡ true

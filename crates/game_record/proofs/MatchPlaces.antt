@@ -1,6 +1,6 @@
 -- In a match the score stays one of it, and the cube where it has a kind.
 use Rattle.std.proofs.Common.{◌≡◌, ◌≤◌, ◌<◌, ◌+◌, ◌-◌, ◌^◌, ℕ, zero, suc, Bool, true, false, not, ◌&&◌, ◌||◌, cond, nat_le, nat_lt, min, max, List, [], ◌∷◌, map, Option, Some, None, ◌⊎◌, inl, inr, refl, ap, subst, ◌∙◌, arith}
-use Rattle.std.proofs.lemmas.Bool.{cases_lt}
+use Rattle.std.proofs.lemmas.Bool.{cases_lt, le-leb, lt-leb}
 use Rattle.std.proofs.lemmas.Bool.Decides.{nat_tests}
 use Rattle.std.specs.Prelude.{◌==◌}
 use Rattle.std.specs.List.{filter, Contains}
@@ -57,12 +57,12 @@ side-needs standing player = elim (cases_lt standing.b standing.a) [
   | inr more ↦ near player more
 ] where
   far : (player : Player) → standing.b < standing.a → side_needs (at_score standing) (side_of standing player) ≡ points_needed standing player
-  far A less = let test : nat_le standing.a standing.b ≡ false = grind (arith, nat_tests) in rw test (omega arith)
-  far B less = let test : nat_le standing.a standing.b ≡ false = grind (arith, nat_tests) in rw test (omega arith)
+  far A less = let test : nat_le standing.a standing.b ≡ false = lt-leb standing.a standing.b less in rw test (omega arith)
+  far B less = let test : nat_le standing.a standing.b ≡ false = lt-leb standing.a standing.b less in rw test (omega arith)
 
   near : (player : Player) → standing.a ≤ standing.b → side_needs (at_score standing) (side_of standing player) ≡ points_needed standing player
-  near A more = let test : nat_le standing.a standing.b ≡ true = grind (arith, nat_tests) in rw test (omega arith)
-  near B more = let test : nat_le standing.a standing.b ≡ true = grind (arith, nat_tests) in rw test (omega arith)
+  near A more = let test : nat_le standing.a standing.b ≡ true = le-leb standing.a standing.b more in rw test (omega arith)
+  near B more = let test : nat_le standing.a standing.b ≡ true = le-leb standing.a standing.b more in rw test (omega arith)
 
 pub other-side : (standing : Standing) (player : Player) → other_side (side_of standing player) ≡ side_of standing (other_player player)
 other-side standing player = go player (nat_le standing.a standing.b) where

@@ -1,6 +1,6 @@
 -- A play that is written for a roll leaves one position.
 use Rattle.std.proofs.Common.{◌≡◌, ◌≢◌, ◌≤◌, ℕ, zero, suc, max, Bool, true, false, cond, eqb, List, [], ◌∷◌, replicate, get_or, Some, inl, inr, refl, sym, ap, subst, ◌∙◌, arith}
-use Rattle.std.proofs.lemmas.Bool.Decides.{nat_tests}
+use Rattle.std.proofs.lemmas.Bool.{eqb-false}
 use Rattle.std.specs.List.{slice_get, remove}
 use Rattle.position_rank.specs.Placement.{Placement}
 use Rattle.roll_table.specs.Rolls.{Dice, dice_of}
@@ -91,4 +91,4 @@ pub one-end : (p : Placement) (roll : Dice) (steps : List Step) (moves others : 
 one-end p roll steps moves others q r a b = by (eqb roll.high roll.low) refl a b where
   by : (b : Bool) → eqb roll.high roll.low ≡ b → IsWritten p (cond b (roll.high ∷ roll.high ∷ roll.high ∷ roll.high ∷ []) (roll.high ∷ roll.low ∷ [])) steps moves q → IsWritten p (cond b (roll.high ∷ roll.high ∷ roll.high ∷ roll.high ∷ []) (roll.high ∷ roll.low ∷ [])) steps others r → q ≡ r
   by true e s t = ends-alike 4 roll.high p steps moves others q r s t
-  by false e s t = ends-two roll.high roll.low (λ same. absurd (grind (arith, nat_tests))) p steps moves others q r s t
+  by false e s t = ends-two roll.high roll.low (eqb-false roll.high roll.low e) p steps moves others q r s t

@@ -1,6 +1,6 @@
 -- A text is read in one way.
 use Rattle.std.proofs.Common.{cond, ◌≡◌, ℕ, ◌+◌, ◌<◌, ◌≤◌, ◌^◌, Bool, true, false, ltb, ◌||◌, List, [], ◌∷◌, ◌++◌, length, Some, ◌⊎◌, inl, inr, refl, sym, ◌∙◌, ap, subst, append_assoc, arith}
-use Rattle.std.proofs.lemmas.Bool.Decides.{nat_tests}
+use Rattle.std.proofs.lemmas.Bool.{ltb-false}
 use Rattle.std.proofs.lemmas.List.{append-nil, length-append}
 use Rattle.std.specs.List.{count_by}
 use Rattle.std.proofs.lemmas.List.Sums.{sum_by-append}
@@ -74,7 +74,7 @@ lines-long (line ∷ lines) =
 pub few-lines : (text : List ℕ) (lines : List Line) (rest : List ℕ) → is_too_long text ≡ false → text ≡ lines_text lines ++ rest → length lines ≤ 1048576
 few-lines text lines rest size e =
     let both = neither (ltb 1048576 (length text)) (ltb 65536 (count_by is_line_end text)) size in
-    let short : length text ≤ 1048576 = grind (arith, nat_tests, both) in
+    let short : length text ≤ 1048576 = ltb-false 1048576 (length text) both in
     let long = ap length e ∙ length-append (lines_text lines) rest in
     omega (arith, short, long, lines-long lines) where
       neither : (a b : Bool) → (a || b) ≡ false → a ≡ false
@@ -142,7 +142,7 @@ ends-many (line ∷ lines) =
 pub most-lines : (lines : List Line) → is_too_long (lines_text lines) ≡ false → length lines ≤ 65536
 most-lines lines size =
     let many = neither (ltb 1048576 (length (lines_text lines))) (ltb 65536 (count_by is_line_end (lines_text lines))) size in
-    let few : count_by is_line_end (lines_text lines) ≤ 65536 = grind (arith, nat_tests, many) in
+    let few : count_by is_line_end (lines_text lines) ≤ 65536 = ltb-false 65536 (count_by is_line_end (lines_text lines)) many in
     omega (arith, few, ends-many lines) where
       neither : (a b : Bool) → (a || b) ≡ false → b ≡ false
       neither true b e = absurd (cc)

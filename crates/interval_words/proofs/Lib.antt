@@ -13,4 +13,3 @@ pub mod Narrow
 pub mod Lists
 pub mod EachNumber
 pub mod Closing
-pub mod NearExample

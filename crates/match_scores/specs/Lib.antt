@@ -2,4 +2,3 @@ pub mod Openings
 pub mod Payoffs
 pub mod Ladders
 pub mod Keepers
-pub mod Examples

@@ -13,7 +13,7 @@ use interval_words::Closed;
 use move_rules::opening_plays_go_on;
 use std::alloc::Global;
 use std::thread::Threads;
-use worker_sweep::run_rounds;
+use worker_sweep::words_after_rounds;
 use worker_team::Team;
 
 /// Why a ladder wasn't solved to its end. The scores that were handed over are its first ones.
@@ -43,7 +43,7 @@ fn solve_score<R: Threads + Sync, G: Gate + Sync>(
     ensures name { IfOk result (λ closed. closed.game.stakes.name ≡ Match score) }
 {
     let stakes = Stakes::of_score(score, starts);
-    let closed = run_rounds(team, alloc, checkers, &stakes, rounds, None, gate)?.closed;
+    let closed = words_after_rounds(team, alloc, checkers, &stakes, rounds, None, gate)?;
     // Words are of a game of one to three checkers and valid stakes.
     closed.words().right();
     Ok(closed)

@@ -1,7 +1,6 @@
 //! The scores of a match, solved from the last game backwards.
 #![tactic(auto)]
 
-mod examples;
 mod keep;
 mod ladder;
 mod ladder_laws;
@@ -9,7 +8,6 @@ mod openings;
 mod score_laws;
 mod start_laws;
 
-pub use examples::{exact_start_examples, exact_win_examples, start_examples};
 pub use keep::Keep;
 pub use ladder::{LadderStop, solve_ladder};
 pub use ladder_laws::solved_ladders_are_true_and_tight;

@@ -13,4 +13,5 @@ pub mod WrittenLaws
 mod NoFault
 pub mod CountsAbove
 mod OpeningPlays
+mod MoveCases
 mod WonCases

@@ -5,5 +5,4 @@ pub mod Order
 pub mod Listing
 pub mod Faults
 pub mod Written
-pub mod Examples
 pub mod Payoff

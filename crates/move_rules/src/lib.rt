@@ -2,18 +2,15 @@
 #![tactic(auto)]
 
 mod applied;
-mod examples;
 mod laws;
 mod listing;
 mod matched;
 mod moves;
 mod payoff;
-mod payoff_laws;
 mod play;
 mod written;
 
 pub use applied::{BadPlay, apply};
-pub use examples::{worked_examples, worked_moves};
 pub use laws::{
     legal_ends_are_exact, legal_ends_stay_live, legal_plays_have_no_fault, opening_plays_go_on,
     written_legal_plays_have_no_fault,
@@ -22,6 +19,5 @@ pub use listing::plays;
 pub use matched::{hits, match_play};
 pub use moves::after_move;
 pub use payoff::{Won, points};
-pub use payoff_laws::worked_payoffs;
 pub use play::{Entry, MOST_PLAYS, Move, Play, PlayList};
 pub use written::{Step, Written};

@@ -5,7 +5,6 @@ mod advice;
 mod among;
 mod answers;
 mod best;
-mod examples;
 mod laws;
 mod look_laws;
 mod losses;
@@ -14,7 +13,6 @@ mod ranking;
 
 pub use advice::{CubeAction, CubeAdvice, cube_advice, cube_advice_of};
 pub use best::{Advised, Best, Moves};
-pub use examples::{advice_examples, loss_examples};
 pub use laws::{losses_enclose_regrets, tighter_words_give_tighter_losses};
 pub use look_laws::{
     advised_actions_lose_at_most_their_bounds, best_plays_lose_at_most_their_bounds,

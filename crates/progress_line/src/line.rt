@@ -5,7 +5,7 @@ use arrayvec::ArrayString;
 use itoa::Buffer;
 
 /// How far a solve has come.
-#[derive(Clone, Copy, Debug, PartialEq, Eq)]
+#[derive(Clone, Copy)]
 pub(crate) struct Progress {
     pub rounds: u32,
     /// How many blocks a round has.

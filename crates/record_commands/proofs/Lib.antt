@@ -1,9 +1,7 @@
-mod Losses
+pub mod Losses
 mod ByFile
-mod Recorded
-mod Matches
-mod MatchTruth
-mod RightRecords
+pub mod Recorded
+pub mod Matches
+pub mod MatchTruth
+pub mod ReadRecords
 mod Studied
-mod DecisionLines
-mod RecordTexts

@@ -4,4 +4,3 @@ pub mod Makes
 pub mod ByFile
 pub mod MatchAnalyses
 pub mod Analyses
-pub mod RightRecords

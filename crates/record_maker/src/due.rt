@@ -4,7 +4,7 @@ ghost use Rattle.record_maker.specs.Making.{due_after, is_turn};
 use game_record::{Action, Player, What};
 
 /// What is to come in a game.
-#[derive(Clone, Copy, Debug, PartialEq, Eq)]
+#[derive(Clone, Copy)]
 pub(crate) enum Due {
     /// The first roll, of the player who wins it.
     Start,

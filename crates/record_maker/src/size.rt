@@ -2,7 +2,7 @@ ghost use Rattle.std.specs.Prelude.{◌≡◌, ◌+◌, ◌<◌, ◌^◌};
 ghost use Rattle.record_maker.specs.Sizes.{is_full};
 
 /// How much text a record has.
-#[derive(Clone, Copy, Debug, PartialEq, Eq)]
+#[derive(Clone, Copy)]
 pub(crate) struct Size {
     pub(crate) lines: u32,
     /// With the one at the end of each line.

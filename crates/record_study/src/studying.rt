@@ -17,7 +17,7 @@ use record_analysis::{
 };
 use std::alloc::Global;
 use std::thread::Threads;
-use worker_sweep::run_rounds;
+use worker_sweep::words_after_rounds;
 use worker_team::Team;
 
 /// What a record is played for. A match has no stakes of its own, and gets those of a game without a cube.
@@ -74,7 +74,7 @@ pub fn study<R: Threads + Sync, G: Gate + Sync>(
     analyses_enclose_what_is_lost();
     tighter_words_give_tighter_analyses();
     let stakes = stakes_of(rec.stakes);
-    let closed = run_rounds(team, alloc, rec.checkers, &stakes, rounds, None, gate)?.closed;
+    let closed = words_after_rounds(team, alloc, rec.checkers, &stakes, rounds, None, gate)?;
     let words = closed.words();
     words.right();
     analysis_by(alloc, words, decisions)

@@ -2,26 +2,53 @@ use crate::call::{Call, is_option, option_name};
 use crate::sentence::{Part, Text, say};
 use hyper_outside::{BadWords, WordsKind};
 
+/// What may stand for arguments and options, by their names.
+const VALUES: &[(&str, &str)] = &[
+    ("CHECKERS", "1, 2 or 3"),
+    ("checkers", "1, 2 or 3"),
+    ("ROUNDS", "a whole number from 1 to 4096"),
+    ("rounds", "a whole number from 1 to 4096"),
+    ("workers", "a whole number from 1 to 64"),
+    ("worst", "a whole number from 1 to 100"),
+    (
+        "width",
+        "points from 0.000001 to 64, with at most six decimals, as 0.001",
+    ),
+    ("length", "a whole number from 1 to 5"),
+    ("GAMES", "a whole number from 1 to 1000"),
+    ("NUMBER", "a whole number from 0 to 18446744073709551615"),
+    (
+        "stakes",
+        "cubeless, money, jacoby, money-beavers or jacoby-beavers",
+    ),
+    (
+        "kind",
+        "alone, centred, mine or theirs, or in a match as near:1:centred",
+    ),
+    ("roll", "two digits from 1 to 6, as 61"),
+    (
+        "away",
+        "the points that you and the other side still need, 1 to 5 each, as 2-3",
+    ),
+    ("cube", "centred, mine or theirs"),
+    (
+        "value",
+        "1 for a cube in the middle, or 2, 4 or 8 for one that a side has",
+    ),
+    (
+        "PREFIX",
+        "1 to 240 bytes, with which the names of a match's files begin",
+    ),
+];
+
 /// What may stand for an argument or an option of this name.
 fn may_stand(name: &str) -> Part<'static> {
-    Part::Text(match name {
-        "CHECKERS" | "checkers" => "1, 2 or 3",
-        "ROUNDS" | "rounds" => "a whole number from 1 to 4096",
-        "workers" => "a whole number from 1 to 64",
-        "worst" => "a whole number from 1 to 100",
-        "width" => "points from 0.000001 to 64, with at most six decimals, as 0.001",
-        "length" => "a whole number from 1 to 5",
-        "GAMES" => "a whole number from 1 to 1000",
-        "NUMBER" => "a whole number from 0 to 18446744073709551615",
-        "stakes" => "cubeless, money, jacoby, money-beavers or jacoby-beavers",
-        "kind" => "alone, centred, mine or theirs, or in a match as near:1:centred",
-        "roll" => "two digits from 1 to 6, as 61",
-        "away" => "the points that you and the other side still need, 1 to 5 each, as 2-3",
-        "cube" => "centred, mine or theirs",
-        "value" => "1 for a cube in the middle, or 2, 4 or 8 for one that a side has",
-        "PREFIX" => "1 to 240 bytes, with which the names of a match's files begin",
-        _ => "a file's name, 1 to 255 bytes",
-    })
+    for (named, value) in VALUES {
+        if *named == name {
+            return Part::Text(value);
+        }
+    }
+    Part::Text("a file's name, 1 to 255 bytes")
 }
 
 fn add_no_command(text: &mut Text, words: &[String]) {

@@ -1,17 +1,8 @@
-mod analyses;
 mod checks;
-mod columns;
-mod given_pairs;
 mod kinds;
 mod match_starts;
-mod moves;
 mod numbers;
 mod outside;
 mod plans;
 mod positions;
-mod race_rounds;
-mod races;
 mod rolls;
-mod states;
-mod tables;
-mod turns;

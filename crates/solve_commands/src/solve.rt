@@ -24,7 +24,7 @@ use solve_reports::{Solved, write_solved};
 use std::alloc::Global;
 use std::thread::Threads;
 use word_pages::Version;
-use worker_sweep::run_rounds;
+use worker_sweep::words_after_rounds;
 use worker_team::Team;
 
 /// The words after the rounds of the workers, of whose greatest number the gate is told.
@@ -40,17 +40,14 @@ fn solved_words<R: Threads + Sync, G: Gate + Sync>(
     let stakes = head_of(task, task.rounds).stakes();
     let rounds = task.rounds;
     gate.expect(rounds, layout_count(task.checkers));
-    Ok(
-        run_rounds(
-            team,
-            alloc,
-            task.checkers,
-            &stakes,
-            rounds,
-            task.width,
-            gate,
-        )?
-        .closed,
+    words_after_rounds(
+        team,
+        alloc,
+        task.checkers,
+        &stakes,
+        rounds,
+        task.width,
+        gate,
     )
 }
 

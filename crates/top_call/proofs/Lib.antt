@@ -1,6 +1,1 @@
 pub mod Endings
-mod HeldWords
-mod TwoRuns
-mod MatchRuns
-mod RightRuns
-mod SolvedFiles

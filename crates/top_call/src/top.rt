@@ -41,69 +41,64 @@ fn unread_refusal(stop: WordsStop) -> Refusal
 fn perform<R: Threads + Sync, F: Files, O: Sink, N: Sink, G: Gate + Sync>(
     rt: &R,
     alloc: Global,
-    command: Command,
+    command: &Command,
     files: &mut F,
     out: &mut O,
     notes: &mut N,
     gate: &G,
     wrong: &mut LineFront,
 ) -> Result<(), RunStop>
-    requires { IsRightCommand command }
-    ensures ends { Ends command result }
-    ensures has_run { HasRun command (F.log files.old) (F.log files.new)
+    requires { IsRightCommand command.now }
+    ensures ends { Ends command.now result }
+    ensures has_run { HasRun command.now (F.log files.old) (F.log files.new)
         (O.output out.old) (O.output out.new) result }
     ensures cause { result ≡ Err NotWritten
         → Rose (failures (F.log files.old)) (failures (F.log files.new))
         ⊎ Rose (O.output out.old).faults (O.output out.new).faults }
     ensures read_cause { result ≡ Err (Refused Read)
         → Rose (read_faults (F.log files.old)) (read_faults (F.log files.new)) }
-    ensures kept { KeepsFiles command (F.log files.old) (F.log files.new) result }
-    ensures untouched { LeavesFiles command result → files.new ≡ files.old }
-    ensures noted { NotesBefore (is_list command) result
+    ensures kept { KeepsFiles command.now (F.log files.old) (F.log files.new) result }
+    ensures untouched { LeavesFiles command.now result → files.new ≡ files.old }
+    ensures noted { NotesBefore (is_list command.now) result
         (N.output notes.old) (N.output notes.new) }
 {
     match command {
-        Command::Bound(task) => run_bound(alloc, &task, out),
-        Command::Race(task) => run_race(alloc, &task, out),
+        Command::Bound(task) => run_bound(alloc, task, out),
+        Command::Race(task) => run_race(alloc, task, out),
         Command::Solve(task) => {
-            let team = Team::new(rt, task.workers);
-            run_solve(&team, alloc, &task, files, out, gate)
+            run_solve(&Team::new(rt, task.workers), alloc, task, files, out, gate)
         }
-        Command::Show(task) => run_show(alloc, &task, files, out),
+        Command::Show(task) => run_show(alloc, task, files, out),
         Command::ShowList(task) => {
             let team = Team::new(rt, task.workers);
-            run_show_list(&team, alloc, &task, files, out, notes, gate)
+            run_show_list(&team, alloc, task, files, out, notes, gate)
         }
         Command::Migrate(task) => {
-            let team = Team::new(rt, task.workers);
-            run_migrate(&team, alloc, &task, files, out, gate)
+            run_migrate(&Team::new(rt, task.workers), alloc, task, files, out, gate)
         }
-        Command::Advise(task) => run_advise(alloc, &task, files, out),
+        Command::Advise(task) => run_advise(alloc, task, files, out),
         Command::AdviseList(task) => {
             let team = Team::new(rt, task.workers);
-            run_advise_list(&team, alloc, &task, files, out, notes, gate)
+            run_advise_list(&team, alloc, task, files, out, notes, gate)
         }
         Command::Verify(task) => {
-            let team = Team::new(rt, task.workers);
-            run_verify(&team, alloc, &task, files, out, gate)
+            run_verify(&Team::new(rt, task.workers), alloc, task, files, out, gate)
         }
         Command::Ladder(task) => {
-            let team = Team::new(rt, task.workers);
-            run_ladder(&team, alloc, &task, files, out, gate)
+            run_ladder(&Team::new(rt, task.workers), alloc, task, files, out, gate)
         }
         Command::Study(task) => {
             let team = Team::new(rt, task.workers);
-            run_study(&team, alloc, &task, files, out, wrong, gate)
+            run_study(&team, alloc, task, files, out, wrong, gate)
         }
-        Command::Make(task) => run_make(&Team::new(rt, 1), alloc, &task, files, out, gate),
-        Command::Analyse(task) => run_analyse(alloc, &task, files, out, wrong),
-        Command::Plan(task) => run_plan(&Team::new(rt, 1), alloc, &task, files, out, gate),
+        Command::Make(task) => run_make(&Team::new(rt, 1), alloc, task, files, out, gate),
+        Command::Analyse(task) => run_analyse(alloc, task, files, out, wrong),
+        Command::Plan(task) => run_plan(&Team::new(rt, 1), alloc, task, files, out, gate),
         Command::Scan(task) => {
-            let team = Team::new(rt, task.workers);
-            run_scan(&team, alloc, &task, files, out, gate)
+            run_scan(&Team::new(rt, task.workers), alloc, task, files, out, gate)
         }
-        Command::Reply(task) => run_reply(&Team::new(rt, 1), alloc, &task, files, out, gate),
-        Command::Board(task) => run_board(&task, out),
+        Command::Reply(task) => run_reply(&Team::new(rt, 1), alloc, task, files, out, gate),
+        Command::Board(task) => run_board(task, out),
     }
 }
 
@@ -222,7 +217,7 @@ pub fn run<R: Threads + Sync, F: Files, O: Sink, N: Sink, G: Gate + Sync>(
     let mut wrong = LineFront::new();
     match read_words(alloc, words) {
         Ok(command) => {
-            let ending = perform(rt, alloc, command, files, out, notes, gate, &mut wrong);
+            let ending = perform(rt, alloc, &command, files, out, notes, gate, &mut wrong);
             conclude(words, out, notes, ending, &wrong)
         }
         Err(stop) => conclude(

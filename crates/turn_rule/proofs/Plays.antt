@@ -1,5 +1,5 @@
 -- What plays are worth over looked up words.
-use Rattle.std.proofs.Common.{◌≡◌, ◌<◌, ◌+◌, ◌++◌, ◌∙◌, ℕ, zero, suc, ℤ, neg_ℤ, List, [], ◌∷◌, length, take, get_or, ◌⊎◌, inl, inr, Option, None, Ok, add-one, ap, sym, subst, arith}
+use Rattle.std.proofs.Common.{◌≡◌, ◌<◌, ◌+◌, ◌++◌, ◌∙◌, ℕ, zero, suc, ℤ, neg_ℤ, List, [], ◌∷◌, length, take, get_or, ◌⊎◌, inl, inr, Option, None, Ok, add-one, refl, ap, sym, subst, arith}
 use Rattle.std.specs.Int.{int_max}
 use Rattle.std.proofs.lemmas.List.{take_more}
 use Rattle.position_rank.specs.Placement.{Placement, swap}
@@ -43,7 +43,27 @@ greatest-next f [] (suc i) r low high e = absurd (omega arith)
 greatest-next f (first ∷ rest) (suc i) r low high e =
     ap (greatest f) (take_more (first ∷ rest) (suc i) r high ∙ ap (λ (x : Placement). take (suc i) (first ∷ rest) ++ x ∷ []) (sym e)) ∙ greatest-append f first r (take i rest)
 
+taken : (qs : List Placement) (q : Placement) → 0 < length qs → q ≡ get_or qs 0 q → take 1 qs ≡ q ∷ []
+taken [] q h e = absurd (omega arith)
+taken (first ∷ rest) q h e = ap (λ (x : Placement). x ∷ []) (sym e)
+
+-- one play alone
+one-play : {m : Damage → Type 0} (m' : Damage → Type 0) (end : End) (s : Source) (kind : Kind) (u v : Notes) (a b : ℕ) (q : Placement) (x : ℤ) → FindsFrom end s u v a b m (IsLeft kind.next q) s.bound (λ n. worth end kind n q) (Ok x)
+    → FindsFrom end s u v a b m' (MayFollowEnds kind.next (q ∷ [])) s.bound (λ n. greatest (worth end kind n) (q ∷ [])) (Ok x)
+one-play m' end s kind u v a b q x looked =
+    mapped-ok s u v a b _ _ _ _ x x looked
+    (λ found. found-as end s v (IsLeft kind.next q) (MayFollowEnds kind.next (q ∷ [])) s.bound s.bound (λ n. worth end kind n q) (λ n. greatest (worth end kind n) (q ∷ [])) x x found.within
+    (λ p k h. elim h.1 [ inl same ↦ subst (λ (r : Placement). IsLeft kind.next r p k) same h.2 | inr none ↦ absurd none ])
+    (λ w. refl) refl found)
+
 module _ (end : End) (s : Source) (kind : Kind) (ends : List Placement) where
+  -- the first play
+  pub first-play : {m : Damage → Type 0} (m' : Damage → Type 0) (u v : Notes) (a b : ℕ) (q : Placement) (x : ℤ) → 0 < length ends → q ≡ get_or ends 0 q → FindsFrom end s u v a b m (IsLeft kind.next q) s.bound (λ n. worth end kind n q) (Ok x)
+      → FindsFrom end s u v a b m' (MayFollowEnds kind.next (take 1 ends)) s.bound (λ n. greatest (worth end kind n) (take 1 ends)) (Ok x)
+  first-play m' u v a b q x some is looked =
+      subst (λ (qs : List Placement). FindsFrom end s u v a b m' (MayFollowEnds kind.next qs) s.bound (λ n. greatest (worth end kind n) qs) (Ok x)) (sym (taken ends q some is))
+      (one-play m' end s kind u v a b q x looked)
+
   -- a play after others
   pub next-play : {m m' : Damage → Type 0} (m'' : Damage → Type 0) (u v w : Notes) (a b c : ℕ) (i : ℕ) (q : Placement) (x y z : ℤ) → 0 < i → i < length ends → q ≡ get_or ends i q → z ≡ int_max x y
       → FindsFrom end s u v a b m (MayFollowEnds kind.next (take i ends)) s.bound (λ n. greatest (worth end kind n) (take i ends)) (Ok x) → FindsFrom end s v w b c m' (IsLeft kind.next q) s.bound (λ n. worth end kind n q) (Ok y)

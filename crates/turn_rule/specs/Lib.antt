@@ -9,4 +9,3 @@ pub mod Rolled
 pub mod Exact
 pub mod Truth
 pub mod Following
-pub mod Examples

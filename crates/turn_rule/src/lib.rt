@@ -19,12 +19,10 @@ mod worth;
 pub use bounds::{roll_bounds, turn_bounds};
 pub use ends::RollEnds;
 pub use exact_laws::{
-    bound_of_examples, consistent_words_enclose, each_sound_word_is_sound, exact_cube_examples,
-    exact_doubled_examples, exact_examples, exact_values_stay_within_the_bound,
-    rounds_are_consistent, rounds_are_sound, rounds_enclose_longer_games, scoring_examples,
-    sound_examples, tighter_examples, tighter_stakes_tighten_rounds, tighter_stakes_tighten_turns,
-    turns_enclose_one_turn_more, words_no_tighter_than_a_round_are_sound,
-    words_no_tighter_than_a_round_enclose_longer_games,
+    consistent_words_enclose, each_sound_word_is_sound, exact_values_stay_within_the_bound,
+    rounds_are_consistent, rounds_are_sound, rounds_enclose_longer_games,
+    tighter_stakes_tighten_rounds, tighter_stakes_tighten_turns, turns_enclose_one_turn_more,
+    words_no_tighter_than_a_round_are_sound, words_no_tighter_than_a_round_enclose_longer_games,
 };
 pub use following_laws::{
     bounds_that_follow_give_bounds, equal_words_that_follow_give_equal_values,
@@ -34,9 +32,8 @@ pub use following_laws::{
 pub use from_sums::pair_from_sums;
 pub use game::Game;
 pub use laws::{
-    doubled_examples, rounded_examples, rounds_stay_within_the_bound, rounds_tighten,
-    tighter_words_tighten_turns, turns_look_at_states_alone, turns_stay_within_the_bound,
-    worked_examples,
+    rounds_stay_within_the_bound, rounds_tighten, tighter_words_tighten_turns,
+    turns_look_at_states_alone, turns_stay_within_the_bound,
 };
 pub use layouts::all_layouts;
 pub use look_laws::{one_list_gives_the_roll, one_list_gives_the_turn, sure_sources_answer};

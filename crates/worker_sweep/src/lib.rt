@@ -9,6 +9,6 @@ mod sweep;
 mod worker;
 
 pub use blocks::blocks_of;
-pub use rounds::{Solved, run_rounds};
+pub use rounds::{Solved, run_rounds, words_after_rounds};
 pub use sweep::sweep_block;
 pub use worker::Worker;

@@ -6,7 +6,7 @@ ghost use Rattle.interval_words.specs.Seats.{SitsAt, KeepsNotes};
 ghost use Rattle.interval_words.specs.WordLists.{AreClosed, AreNarrow, words_in_list};
 ghost use Rattle.worker_sweep.specs.Blocks.{blocks as blocks_in};
 ghost use Rattle.block_claims.specs.Views.{fresh};
-ghost use Rattle.worker_sweep.specs.Workers.{WorksAt, IsAtWork, IsReady, HaveGoneThrough, HasMarksOf};
+ghost use Rattle.worker_sweep.specs.Workers.{WorksAt, IsAtWork, IsReady, HaveGoneThrough, HasMarksOf, unmarked_worker};
 ghost use Rattle.worker_sweep.specs.LastRounds.{IsLastRound};
 ghost use Rattle.worker_sweep.specs.Shares.{HasDone, IsOnLeft, IsDivided, with_hands, shares_of, works_of, hands_of, all_claims};
 
@@ -218,6 +218,32 @@ fn make_crew(
     Ok(crew)
 }
 
+/// So many workers, and their owner, who works from the seats that are left.
+fn make_workers(
+    alloc: Global,
+    board: &Board,
+    claims: &Claims,
+    mut seat: BoardSeat,
+    mut claim_seat: ClaimSeat,
+    workers: u32,
+) -> Result<(Vec<Worker>, Worker), NoMemory>
+    requires seat { SitsAt board.now seat }
+    requires claims { claim_seat.table ≡ claims.now.table }
+    requires many { workers ≤ 64 }
+    requires hands { seat.view.hands ≡ all_hands }
+    ensures many { IfOk result (λ made. length made.0.items ≡ workers) }
+    ensures crew { IfOk result
+        (λ made. All (IsReady board.now claims.now seat.view.base) made.0.items) }
+    ensures done { IfOk result (λ made. All (HasDone board.now.game 0) (shares_of made.0.items)) }
+    ensures owner { IfOk result (λ made. made.1
+        ≡ unmarked_worker (with_hands seat (all_hands - workers)) claim_seat 0
+        (blocks_in board.now.game.checkers)) }
+{
+    let crew = make_crew(alloc, board, claims, &mut seat, &mut claim_seat, workers)?;
+    let owner = Worker::new(alloc, board, seat, claim_seat, 0)?;
+    Ok((crew, owner))
+}
+
 /// Solves a game of one to three checkers a side by 1 to 4,096 rounds of a team's workers, each in a thread of its own
 /// where one can be started, else in turn.
 ///
@@ -249,17 +275,16 @@ pub fn run_rounds<R: Threads + Sync, G: Gate + Sync>(
     ensures divided { IfOk result (λ solved. IsDivided solved.closed.game solved.closed.rounds
         team.now solved.claims solved.crew.items solved.owner) }
 {
-    let (board, mut seat) = Board::new(alloc, checkers, stakes)?;
-    let (claims, mut claim_seat) = Claims::new(alloc, block_count(&board))?;
-    let mut crew = make_crew(
+    let (board, seat) = Board::new(alloc, checkers, stakes)?;
+    let (claims, claim_seat) = Claims::new(alloc, block_count(&board))?;
+    let (mut crew, mut owner) = make_workers(
         alloc,
         &board,
         &claims,
-        &mut seat,
-        &mut claim_seat,
+        seat,
+        claim_seat,
         team.workers(),
     )?;
-    let mut owner = Worker::new(alloc, &board, seat, claim_seat, 0)?;
     let made = run_each(
         team, &board, &claims, gate, &mut owner, &mut crew, rounds, goal,
     );
@@ -275,4 +300,25 @@ pub fn run_rounds<R: Threads + Sync, G: Gate + Sync>(
         crew,
         owner,
     })
+}
+
+/// The closed words that `run_rounds` finds, where nobody asks who has done what.
+pub fn words_after_rounds<R: Threads + Sync, G: Gate + Sync>(
+    team: &Team<R>,
+    alloc: Global,
+    checkers: u8,
+    stakes: &Stakes,
+    rounds: u32,
+    goal: Option<Fixed>,
+    gate: &G,
+) -> Result<Closed, NoMemory>
+    requires low { 1 ≤ checkers }
+    requires high { checkers ≤ 3 }
+    requires rounds { (1 ≤ rounds) × (rounds ≤ 4096) }
+    ensures game { IfOk result (λ closed. closed.game ≡ game_of checkers stakes.now) }
+    ensures closed { IfOk result (λ closed. AreClosed closed) }
+    ensures rounds { IfOk result (λ closed. IsLastRound closed.game goal rounds
+        (words_in_list closed) closed.rounds) }
+{
+    Ok(run_rounds(team, alloc, checkers, stakes, rounds, goal, gate)?.closed)
 }

@@ -1,9 +1,10 @@
 //! Words of a file, each moved by one unit beyond its turn, are told.
-ghost use Rattle.std.specs.Prelude.{◌≡◌, ◌<◌, ◌≤◌, ◌+◌, ◌*◌, ◌^◌, ℕ};
+ghost use Rattle.std.specs.Prelude.{◌≡◌, ◌<◌, ◌+◌, ◌*◌, ◌^◌, ℕ};
 ghost use Rattle.turn_rule.specs.Games.{kinds_of};
 ghost use Rattle.turn_rule.specs.States.{IsState};
 
 use crate::tests::asserts::{holds, same};
+use crate::tests::gates::Counting;
 use crate::tests::plain::{plain_words, word_of};
 use base_head::Head;
 use base_verify::{Finding, VerifyStop, state_holds, verify};
@@ -22,7 +23,7 @@ use std::thread::Threads;
 use word_pages::Version;
 use worker_team::Team;
 
-/// How many states a test draws.
+/// How many states are drawn from a number.
 const DRAWS: u32 = 25;
 
 /// After how many rounds of a plain table the words are taken.
@@ -31,6 +32,8 @@ const ROUNDS: u32 = 4;
 /// A word that is moved by one unit beyond its turn.
 #[derive(Clone, Copy)]
 struct Moved {
+    /// The live rank of its position.
+    rank: u64,
     /// Where it stands among the words.
     place: usize,
     word: u64,
@@ -43,9 +46,8 @@ fn game() -> Head {
     Head::of_stakes(2, StakesName::Cubeless, ROUNDS)
 }
 
-/// The words of the game after so many rounds of a plain table.
-fn words_after(rt: &impl Abort, alloc: Global, rounds: u32) -> Words {
-    let head = game();
+/// The words of a game after so many rounds of a plain table.
+fn words_after(rt: &impl Abort, alloc: Global, head: &Head, rounds: u32) -> Words {
     plain_words(rt, alloc, head.checkers(), &head.stakes(), rounds)
 }
 
@@ -103,6 +105,7 @@ fn moved_by(rt: &impl Abort, words: &Words, turns: &Words, drawn: &mut u64) -> O
     };
     let stored = tighter(rt, side, turn, words.pair_at(state))?;
     Some(Moved {
+        rank,
         place,
         word: word_of(rt, stored),
         finding: Finding {
@@ -125,14 +128,14 @@ fn draw(rt: &impl Abort, words: &Words, turns: &Words, drawn: &mut u64) -> Moved
     panic!(rt; "no word can be moved");
 }
 
-/// The base of a file of these words, one of which is another one.
+/// The base of a file with this head and these words, one of which is another one.
 fn base_with<R: Abort + Threads + Sync + AllocGlobal>(
     rt: &R,
+    head: &Head,
     words: &Words,
     place: usize,
     word: u64,
 ) -> Base {
-    let head = game();
     let mut list = Vec::new(rt.alloc());
     list.extend_from_slice(words.list()).expect(rt, "no memory");
     if let Some(moved) = list.get_mut(place) {
@@ -142,7 +145,7 @@ fn base_with<R: Abort + Threads + Sync + AllocGlobal>(
     let words = Words::from_list(index, &head.stakes(), head.rounds(), list).expect(rt, "no words");
     let mut files = MemFiles::new(rt.alloc());
     files.start("base").expect(rt, "it was not begun");
-    append_base(&mut files, "base", &head, &words, Version::Three).expect(rt, "it was not written");
+    append_base(&mut files, "base", head, &words, Version::Three).expect(rt, "it was not written");
     files.finish("base").expect(rt, "it was not put in place");
     let Ok(base) = load_base(
         &Team::new(rt, 4),
@@ -184,14 +187,20 @@ fn first_of_all(base: &Base) -> Option<Finding> {
     None
 }
 
+/// The first finding in the states of the position of this live rank.
+fn found_at(rt: &impl Abort, base: &Base, rank: u64) -> Option<Finding> {
+    let index = base.words().index();
+    assert!(rt; rank < index.count());
+    first_at(base, &index.unrank(rank), &mut PlayList::new())
+}
+
 /// What so many workers find.
 fn found_by<R: Abort + Threads + Sync + AllocGlobal>(
     rt: &R,
     base: &Base,
     workers: u32,
-) -> Option<Finding>
-    requires { (1 ≤ workers) × (workers ≤ 64) }
-{
+) -> Option<Finding> {
+    assert!(rt; workers >= 1 && workers <= 64);
     match verify(&Team::new(rt, workers), rt.alloc(), base, &OpenGate) {
         Ok(()) => None,
         Err(VerifyStop::Inconsistent(finding)) => Some(finding),
@@ -215,14 +224,19 @@ fn is_wanted(rt: &impl Abort, found: Option<Finding>, wanted: &Finding, number: 
 
 /// Of each drawn word that is moved `verify` tells the first state that doesn't hold, which is
 /// the word's own: the turns of all others rest on words that are no looser than before.
-fn are_told<R: Abort + Threads + Sync + AllocGlobal>(rt: &R, seed: u64) {
-    let words = words_after(rt, rt.alloc(), ROUNDS);
-    let turns = words_after(rt, rt.alloc(), ROUNDS + 1);
+fn is_told_from<R: Abort + Threads + Sync + AllocGlobal>(
+    rt: &R,
+    words: &Words,
+    turns: &Words,
+    seed: u64,
+) {
+    let game = game();
     let mut drawn = seed;
     for number in 0..DRAWS {
-        let moved = draw(rt, &words, &turns, &mut drawn);
-        let base = base_with(rt, &words, moved.place, moved.word);
-        is_wanted(rt, first_of_all(&base), &moved.finding, number);
+        let moved = draw(rt, words, turns, &mut drawn);
+        let base = base_with(rt, &game, words, moved.place, moved.word);
+        let found = found_at(rt, &base, moved.rank);
+        is_wanted(rt, found, &moved.finding, number);
         is_wanted(
             rt,
             found_by(rt, &base, 1 + number % 4),
@@ -232,10 +246,21 @@ fn are_told<R: Abort + Threads + Sync + AllocGlobal>(rt: &R, seed: u64) {
     }
 }
 
+/// The same from each of some numbers.
+fn are_told<R: Abort + Threads + Sync + AllocGlobal>(rt: &R, seeds: &[u64]) {
+    let game = game();
+    let words = words_after(rt, rt.alloc(), &game, ROUNDS);
+    let turns = words_after(rt, rt.alloc(), &game, ROUNDS + 1);
+    for seed in seeds {
+        is_told_from(rt, &words, &turns, *seed);
+    }
+}
+
 #[test]
 fn unmoved_words_hold(rt: HostRuntime) {
-    let words = words_after(&rt, rt.alloc(), ROUNDS);
-    let base = base_with(&rt, &words, words.list().len(), 0);
+    let game = game();
+    let words = words_after(&rt, rt.alloc(), &game, ROUNDS);
+    let base = base_with(&rt, &game, &words, words.list().len(), 0);
     holds(&rt, first_of_all(&base).is_none(), &"a state after another");
     for workers in [1, 3, 64] {
         holds(&rt, found_by(&rt, &base, workers).is_none(), &workers);
@@ -243,41 +268,34 @@ fn unmoved_words_hold(rt: HostRuntime) {
 }
 
 #[test]
-fn drawn_from_1(rt: HostRuntime) {
-    are_told(&rt, 1);
+fn drawn_from_1_and_2(rt: HostRuntime) {
+    are_told(&rt, &[1, 2]);
 }
 
 #[test]
-fn drawn_from_2(rt: HostRuntime) {
-    are_told(&rt, 2);
+fn drawn_from_3_and_4(rt: HostRuntime) {
+    are_told(&rt, &[3, 4]);
 }
 
 #[test]
-fn drawn_from_3(rt: HostRuntime) {
-    are_told(&rt, 3);
+fn drawn_from_5_and_6(rt: HostRuntime) {
+    are_told(&rt, &[5, 6]);
 }
 
 #[test]
-fn drawn_from_4(rt: HostRuntime) {
-    are_told(&rt, 4);
+fn drawn_from_7_and_8(rt: HostRuntime) {
+    are_told(&rt, &[7, 8]);
 }
 
 #[test]
-fn drawn_from_5(rt: HostRuntime) {
-    are_told(&rt, 5);
-}
-
-#[test]
-fn drawn_from_6(rt: HostRuntime) {
-    are_told(&rt, 6);
-}
-
-#[test]
-fn drawn_from_7(rt: HostRuntime) {
-    are_told(&rt, 7);
-}
-
-#[test]
-fn drawn_from_8(rt: HostRuntime) {
-    are_told(&rt, 8);
+fn each_column_passes_once(rt: HostRuntime) {
+    let game = Head::of_stakes(1, StakesName::Cubeless, ROUNDS);
+    let words = words_after(&rt, rt.alloc(), &game, ROUNDS);
+    let base = base_with(&rt, &game, &words, words.list().len(), 0);
+    for workers in [1, 3, 64] {
+        let gate = Counting::new(&rt, rt.alloc(), workers);
+        let answer = verify(&Team::new(&rt, workers), rt.alloc(), &base, &gate);
+        holds(&rt, answer.is_ok(), &workers);
+        gate.check(&rt, 1);
+    }
 }

@@ -1,48 +1,11 @@
-//! Kinds of state: those for money, those of matches, and their texts.
+//! The kinds of state of matches.
 
-use crate::tests::checks::{holds, holds_of};
-use crate::tests::match_starts::starts;
-use crate::tests::states::{Ends, units};
-use cube_actions::Side::{Far, Near};
-use cube_actions::{Double, KindName, Phase, Score, Side, Stakes, Taken, ladder};
-use cube_text::{print_kind, print_score, read_kind};
+use crate::tests::checks::holds_of;
+use crate::tests::match_starts::{Ends, starts, units};
+use cube_actions::{Double, Phase, Score, Stakes, Taken};
+use cube_text::print_kind;
 use directed_fixed::{ONE, Pair};
 use std::process::Abort;
-
-// Matches of so many points, with the scores of each.
-const LADDERS: &[(u8, &str)] = &[
-    (1, "1.1.p"),
-    (2, "1.1.p 1.2.c 2.2.n"),
-    (3, "1.1.p 1.2.p 1.2.c 1.3.c 2.2.n 2.3.n 3.3.n"),
-    (
-        4,
-        "1.1.p 1.2.p 1.2.c 1.3.p 1.3.c 2.2.n 1.4.c 2.3.n 2.4.n 3.3.n 3.4.n 4.4.n",
-    ),
-    (
-        5,
-        "1.1.p 1.2.p 1.2.c 1.3.p 1.3.c 2.2.n 1.4.p 1.4.c 2.3.n 1.5.c 2.4.n 3.3.n 2.5.n 3.4.n 3.5.n 4.4.n 4.5.n 5.5.n",
-    ),
-];
-
-/// Whether a match of so many points has these scores.
-fn are_scores(length: u8, texts: &str) -> bool {
-    if length < 1 || length > 5 {
-        return false;
-    }
-    let scores = ladder(length);
-    scores.len() == texts.split(' ').count()
-        && scores
-            .iter()
-            .zip(texts.split(' '))
-            .all(|(score, text)| print_score(*score).as_str() == text)
-}
-
-#[test]
-fn ladders_have_their_scores(rt: HostRuntime) {
-    for (length, texts) in LADDERS {
-        holds(&rt, are_scores(*length, texts), texts);
-    }
-}
 
 /// The answers to a double: the kind in which the doubler rolls on, and how often its value counts.
 type Answers = &'static [(usize, u8)];
@@ -98,58 +61,6 @@ fn check_kinds(rt: &impl Abort, title: &str, stakes: &Stakes, rows: &[Row]) {
 }
 
 const WON: Ends = (ONE, ONE);
-
-/// What a single game, a gammon and a backgammon win.
-const FULL: [Ends; 3] = [
-    (4_294_967_296, 4_294_967_296),
-    (8_589_934_592, 8_589_934_592),
-    (12_884_901_888, 12_884_901_888),
-];
-
-const SINGLE: [Ends; 3] = [(4_294_967_296, 4_294_967_296); 3];
-
-const TAKE: Option<(Ends, Answers)> = Some((WON, &[(2, 2)]));
-
-const BEAVER: Option<(Ends, Answers)> = Some((WON, &[(2, 2), (2, 4)]));
-
-const MONEY: &[Row] = &[
-    ("centred", 0, FULL, TAKE),
-    ("mine", 2, FULL, TAKE),
-    ("theirs", 1, FULL, None),
-];
-
-const JACOBY: &[Row] = &[
-    ("centred", 0, SINGLE, TAKE),
-    ("mine", 2, FULL, TAKE),
-    ("theirs", 1, FULL, None),
-];
-
-const MONEY_BEAVERS: &[Row] = &[
-    ("centred", 0, FULL, BEAVER),
-    ("mine", 2, FULL, BEAVER),
-    ("theirs", 1, FULL, None),
-];
-
-const JACOBY_BEAVERS: &[Row] = &[
-    ("centred", 0, SINGLE, BEAVER),
-    ("mine", 2, FULL, BEAVER),
-    ("theirs", 1, FULL, None),
-];
-
-#[test]
-fn kinds_for_money(rt: HostRuntime) {
-    let cubeless = Stakes::cubeless().copied();
-    check_kinds(&rt, "cubeless", &cubeless, &[("alone", 0, FULL, None)]);
-    check_kinds(&rt, "money", &Stakes::money(), MONEY);
-    check_kinds(&rt, "jacoby", &Stakes::jacoby(), JACOBY);
-    check_kinds(&rt, "beavers", &Stakes::money_beavers(), MONEY_BEAVERS);
-    check_kinds(
-        &rt,
-        "jacoby beavers",
-        &Stakes::jacoby_beavers(),
-        JACOBY_BEAVERS,
-    );
-}
 
 /// A game of a match: its score, how many points the match is played to, and the starts of the scores before it.
 type Game = (u8, u8, Phase, u8, &'static [Ends]);
@@ -276,67 +187,4 @@ fn kinds_of_matches(rt: HostRuntime) {
     check_kinds(&rt, "two and three", &two_and_three, TWO_AND_THREE_KINDS);
     let crawford = stakes_of(&rt, CRAWFORD);
     check_kinds(&rt, "Crawford", &crawford, CRAWFORD_KINDS);
-}
-
-/// The mover, what the cube shows and who owns it.
-type InMatch = (Side, u8, Option<Side>);
-
-const MONEY_TEXTS: &[(&str, KindName)] = &[
-    ("alone", KindName::Alone),
-    ("centred", KindName::Centred),
-    ("mine", KindName::Mine),
-    ("theirs", KindName::Theirs),
-];
-
-const MATCH_TEXTS: &[(&str, InMatch)] = &[
-    ("near:1:centred", (Near, 1, None)),
-    ("far:1:centred", (Far, 1, None)),
-    ("near:2:near", (Near, 2, Some(Near))),
-    ("far:2:far", (Far, 2, Some(Far))),
-    ("near:4:far", (Near, 4, Some(Far))),
-    ("far:8:near", (Far, 8, Some(Near))),
-];
-
-/// Whether this is a kind's text.
-fn is_text(text: &str, name: KindName) -> bool {
-    print_kind(name).as_str() == text && read_kind(text) == Some(name)
-}
-
-#[test]
-fn texts_of_kinds(rt: HostRuntime) {
-    for (text, name) in MONEY_TEXTS {
-        holds(&rt, is_text(text, *name), text);
-    }
-    for (text, (mover, cube, owner)) in MATCH_TEXTS {
-        let name = KindName::InMatch {
-            mover: *mover,
-            cube: *cube,
-            owner: *owner,
-        };
-        holds(&rt, is_text(text, name), text);
-    }
-}
-
-const NO_TEXTS: &[&str] = &[
-    "",
-    "mine ",
-    "Mine",
-    "near",
-    "near:1",
-    "near:1:near",
-    "far:2:centred",
-    "near:3:far",
-    "near:02:far",
-    "near:16:far",
-    "near: 2:far",
-    "near:2:far:",
-    "both:1:centred",
-    "near:1:centre",
-];
-
-#[test]
-fn texts_of_no_kind(rt: HostRuntime) {
-    for text in NO_TEXTS {
-        holds(&rt, read_kind(text).is_none(), text);
-    }
 }

@@ -6,7 +6,7 @@ use crate::tests::checks::{holds, holds_at};
 use hyper_outside::{Failed, Gate, NoMemory, OpenGate};
 use memory_files::{HonestSink, MemFiles, MemSink};
 use outside_log::{Files, Sink, WholeStop, begins_otherwise, fill, read_whole};
-use std::alloc::Global;
+use std::alloc::{AllocError, Global};
 use std::process::Abort;
 use std::test::Fail;
 use std::{env, fs, process};
@@ -128,9 +128,10 @@ enum Step {
 
 /// Whether a whole file has these bytes, or can't be read for this reason.
 fn is_whole(found: Result<Vec<u8>, WholeStop>, due: Result<&[u8], WholeStop>) -> bool {
-    match found {
-        Ok(bytes) => Ok(bytes.as_slice()) == due,
-        Err(stop) => Err(stop) == due,
+    match (found, due) {
+        (Ok(bytes), Ok(due)) => bytes.as_slice() == due,
+        (Err(stop), Err(due)) => stop == due,
+        _ => false,
     }
 }
 
@@ -180,15 +181,6 @@ fn make_calls<F: Files>(
     }
 }
 
-/// Puts the file `old`, and lists calls that are to fail.
-fn set_up(files: &mut MemFiles, old: &[u8], failing: &[u64]) -> Result<(), NoMemory> {
-    files.with_file("old", old)?;
-    for call in failing {
-        files.fail_call(*call)?;
-    }
-    Ok(())
-}
-
 const READ_BACK: &[(Name, Step)] = &[
     (Old, Size(Ok(Some(5)))),
     (New, Size(Ok(None))),
@@ -197,13 +189,6 @@ const READ_BACK: &[(Name, Step)] = &[
     (Old, Read(5, Ok(0), b"loll")),
     (Old, Read(9, Ok(0), b"loll")),
 ];
-
-#[test]
-fn mem_files_read_back(rt: HostRuntime) {
-    let mut files = MemFiles::new(rt.alloc());
-    holds(&rt, set_up(&mut files, b"hello", &[]).is_ok(), "memory");
-    make_calls(&rt, rt.alloc(), &mut files, &NAMES, READ_BACK);
-}
 
 // Each read gives two bytes at most, so that the one before the last is the 13th call.
 const BEGINS: &[(Name, Step)] = &[
@@ -217,15 +202,6 @@ const BEGINS: &[(Name, Step)] = &[
     (Old, Start(Ok(()))),
     (Old, Begins(b"hell", Ok(false))),
 ];
-
-#[test]
-fn mem_files_tell_how_they_begin(rt: HostRuntime) {
-    let mut files = MemFiles::new(rt.alloc());
-    let failing = set_up(&mut files, b"hello", &[14]);
-    holds(&rt, failing.is_ok(), "memory");
-    files.short_reads(2);
-    make_calls(&rt, rt.alloc(), &mut files, &NAMES, BEGINS);
-}
 
 // Files are written one after the other, and each stands under its name once it has ended. What was begun is gone after a failure, after
 // it was given up, and after another was begun.
@@ -264,14 +240,6 @@ const WRITTEN_ASIDE: &[(Name, Step)] = &[
     (Old, GiveUp),
 ];
 
-#[test]
-fn mem_files_write_aside(rt: HostRuntime) {
-    let mut files = MemFiles::new(rt.alloc());
-    make_calls(&rt, rt.alloc(), &mut files, &NAMES, WRITTEN_ASIDE);
-    holds(&rt, files.held("new") == Some(b"abcdef".as_slice()), "new");
-    holds(&rt, files.held("more").is_none(), "more");
-}
-
 const CALLS_FAIL: &[(Name, Step)] = &[
     (Old, Start(Ok(()))),
     (Old, Append(b"gh", Err(Failed))),
@@ -285,14 +253,6 @@ const CALLS_FAIL: &[(Name, Step)] = &[
     (Old, Whole(5, Ok(b"hello"))),
 ];
 
-#[test]
-fn mem_files_fail_on_demand(rt: HostRuntime) {
-    let mut files = MemFiles::new(rt.alloc());
-    let failing = set_up(&mut files, b"hello", &[2, 3, 5, 8]);
-    holds(&rt, failing.is_ok(), "memory");
-    make_calls(&rt, rt.alloc(), &mut files, &NAMES, CALLS_FAIL);
-}
-
 // The 15th call is of size, and the third after it the second read.
 const SHORT_READS: &[(Name, Step)] = &[
     (Old, Read(1, Ok(2), b"el..")),
@@ -305,13 +265,42 @@ const SHORT_READS: &[(Name, Step)] = &[
     (Old, Whole(9, Err(WholeStop::ReadFault))),
 ];
 
+/// Files in memory: what `old` has, the calls that are to fail, how much a read gives at most, the calls, and what `new` has then.
+type InMemory = (
+    &'static [u8],
+    &'static [u64],
+    usize,
+    &'static [(Name, Step)],
+    Option<&'static [u8]>,
+);
+
+const IN_MEMORY: &[InMemory] = &[
+    (b"hello", &[], 99, READ_BACK, None),
+    (b"hello", &[14], 2, BEGINS, None),
+    (b"", &[], 99, WRITTEN_ASIDE, Some(b"abcdef")),
+    (b"hello", &[2, 3, 5, 8], 99, CALLS_FAIL, None),
+    (b"hello you", &[15, 18], 2, SHORT_READS, None),
+];
+
+/// Files in memory with these bytes under `old`, of which these calls are to fail.
+fn in_memory(alloc: Global, old: &[u8], failing: &[u64]) -> Result<MemFiles, NoMemory> {
+    let mut files = MemFiles::new(alloc);
+    files.with_file("old", old)?;
+    for call in failing {
+        files.fail_call(*call)?;
+    }
+    Ok(files)
+}
+
 #[test]
-fn short_reads_fill_all_the_same(rt: HostRuntime) {
-    let mut files = MemFiles::new(rt.alloc());
-    let failing = set_up(&mut files, b"hello you", &[15, 18]);
-    holds(&rt, failing.is_ok(), "memory");
-    files.short_reads(2);
-    make_calls(&rt, rt.alloc(), &mut files, &NAMES, SHORT_READS);
+fn files_in_memory(rt: HostRuntime) {
+    for (old, failing, most, calls, new) in IN_MEMORY {
+        let mut files = in_memory(rt.alloc(), old, failing).expect(&rt, "memory");
+        files.short_reads((*most).max(1));
+        make_calls(&rt, rt.alloc(), &mut files, &NAMES, calls);
+        holds(&rt, files.held("new") == *new, "new");
+        holds(&rt, files.held("more").is_none(), "more");
+    }
 }
 
 const WRITTEN: &[(Name, Step)] = &[
@@ -337,30 +326,50 @@ const WRITTEN: &[(Name, Step)] = &[
     (New, Size(Ok(Some(0)))),
 ];
 
+/// The paths of the names in a folder.
+#[derive(Drop)]
+struct Paths {
+    old: String,
+    new: String,
+    more: String,
+}
+
+impl Paths {
+    fn of(alloc: Global, folder: &str) -> Result<Paths, AllocError> {
+        Ok(Paths {
+            old: format!(in alloc; "{folder}/old")?,
+            new: format!(in alloc; "{folder}/new")?,
+            more: format!(in alloc; "{folder}/none/file")?,
+        })
+    }
+
+    fn names<'a>(&'a self, folder: &'a str) -> Names<'a> {
+        Names {
+            old: self.old.as_str(),
+            new: self.new.as_str(),
+            more: self.more.as_str(),
+            folder,
+        }
+    }
+}
+
 // A folder can't be read or written as a file, nothing is in a folder that isn't there, and what is written stands aside until `finish`. No
 // file is left but those of the names.
 #[test]
 fn real_files_read_back(rt: HostRuntime) -> Result<(), Fail> {
     let id = process::id(rt.process());
     let folder = format!(in rt.alloc(); "{}/rule_tests.{id}", env::temp_dir(&rt)?.display())?;
-    let old = format!(in rt.alloc(); "{folder}/old")?;
-    let new = format!(in rt.alloc(); "{folder}/new")?;
-    let lost = format!(in rt.alloc(); "{folder}/none/file")?;
-    let names = Names {
-        old: old.as_str(),
-        new: new.as_str(),
-        more: lost.as_str(),
-        folder: folder.as_str(),
-    };
-    fs::create_dir(&rt, folder.as_str())?;
+    let paths = Paths::of(rt.alloc(), folder.as_str())?;
+    let names = paths.names(folder.as_str());
+    fs::create_dir(&rt, names.folder)?;
     let mut files = RealFiles::new(&rt, rt.alloc());
     make_calls(&rt, rt.alloc(), &mut files, &names, WRITTEN);
-    fs::remove_file(&rt, new.as_str())?;
+    fs::remove_file(&rt, names.new)?;
     let mut files = RealFiles::new(&rt, rt.alloc());
     make_calls(&rt, rt.alloc(), &mut files, &names, WRITTEN_ASIDE);
     // The first may not be there.
-    let _removed = fs::remove_file(&rt, old.as_str());
-    fs::remove_file(&rt, new.as_str())?;
-    fs::remove_dir(&rt, folder.as_str())?;
+    let _removed = fs::remove_file(&rt, names.old);
+    fs::remove_file(&rt, names.new)?;
+    fs::remove_dir(&rt, names.folder)?;
     Ok(())
 }

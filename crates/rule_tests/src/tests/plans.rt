@@ -1,8 +1,7 @@
 //! Plans of matches: take points, gammon prices and the text.
 
 use crate::tests::checks::{holds, holds_at};
-use crate::tests::match_starts::{starts, within};
-use crate::tests::states::Ends;
+use crate::tests::match_starts::{Ends, starts, within};
 use cube_actions::{Starts, ladder};
 use directed_fixed::ONE;
 use match_plan::{Millionths, gammon_price, take_point, write_plan};
@@ -144,20 +143,12 @@ const AFTER_CRAWFORD_PLAN: &str = "1.1.p start 0.000000 0.000000
 3.3.n far take 0.333333 0.333334 price 1.000000 1.000000
 ";
 
-/// Puts the plan of a match to a sink in memory, of which the first call adds only a front of so many bytes if there is one.
-fn put_plan(rt: &impl Abort, alloc: Global, starts: &Starts, failing: Option<usize>) -> MemSink {
+/// What is put of the plan of a match, if all is.
+fn put_plan(rt: &impl Abort, alloc: Global, starts: &Starts) -> MemSink {
     assert!(rt; starts.len() == ladder(starts.match_length()).len());
     let mut sink = MemSink::new(alloc);
     holds(rt, sink.room(4096).is_ok(), "memory");
-    if let Some(front) = failing {
-        holds(rt, sink.fail_call(1, front).is_ok(), "memory");
-    }
-    let put = write_plan(&mut sink, starts);
-    holds(
-        rt,
-        put.is_err() == failing.is_some(),
-        "whether the put failed",
-    );
+    holds(rt, write_plan(&mut sink, starts).is_ok(), "all is put");
     sink
 }
 
@@ -172,14 +163,7 @@ const PLANS: &[(u8, &[Ends], &str)] = &[
 fn plans_of_matches(rt: HostRuntime) {
     for (length, pairs, plan) in PLANS {
         let starts = starts(&rt, *length, pairs);
-        let sink = put_plan(&rt, rt.alloc(), &starts, None);
+        let sink = put_plan(&rt, rt.alloc(), &starts);
         holds(&rt, sink.put_bytes() == plan.as_bytes(), plan);
     }
-}
-
-#[test]
-fn a_plan_that_is_not_put(rt: HostRuntime) {
-    let starts = starts(&rt, 1, &[EVEN]);
-    let sink = put_plan(&rt, rt.alloc(), &starts, Some(6));
-    holds(&rt, sink.put_bytes() == b"1.1.p ".as_slice(), "a front");
 }

@@ -1,10 +1,78 @@
-use Rattle.std.proofs.Common.{◌<◌, ◌+◌, ◌∙◌, Some, length, set, arith}
+use Rattle.std.proofs.Common.{◌<◌, ◌+◌, ◌∙◌, ℕ, Some, length, set, refl, arith}
 use Rattle.directed_fixed.specs.declared.bounds.End.TheVariants.{Lower, Upper}
+use Rattle.cube_actions.specs.Stakes.{Terms, IsValid, kind_at, no_kind}
+use Rattle.turn_rule.specs.Looks.{Source, AreStakesOf}
 use Rattle.column_sums.specs.Cells.{cell_of}
 use Rattle.column_turns.specs.Rows.{row_at}
-use Rattle.column_turns.proofs.Laters.{later-trans}
+use Rattle.turn_rule.proofs.RollSums.{wins-within}
+use Rattle.column_turns.proofs.Laters.{later-refl, later-trans}
 use Rattle.column_turns.proofs.RowsFound.{put-later, put-next, put-rest}
 use Rattle.column_turns.proofs.rows.fill_cell.Goals as goal
+
+next-within : (s : Source) (stakes : Terms) → IsValid stakes → AreStakesOf s stakes → (k : ℕ) → k < length stakes.kinds → (kind_at stakes k).next < s.kinds
+next-within s stakes valid fits k here = rw fits.kinds (valid.kinds k no_kind here).next
+
+pub loop-number-init : goal.loop-number-init
+loop-number-init g c = record {
+  lower = c.requires.lower;
+  upper = c.requires.upper;
+  put_lower = λ k below. absurd (omega (arith, below));
+  put_upper = λ k below. absurd (omega (arith, below));
+  rest_lower = λ k from. refl;
+  rest_upper = λ k from. refl;
+  later = later-refl _;
+  stays = refl;
+}
+
+pub play_worth-low-requires-clause-sure : goal.play_worth-low-requires-clause-sure
+play_worth-low-requires-clause-sure g c = rw c.loop-number.invariant.later.source c.requires.sure
+
+pub play_worth-low-requires-clause-many : goal.play_worth-low-requires-clause-many
+play_worth-low-requires-clause-many g c = rw c.loop-number.invariant.later.source c.requires.many
+
+pub play_worth-low-requires-clause-won : goal.play_worth-low-requires-clause-won
+play_worth-low-requires-clause-won g c = c.points-won.ensures
+
+pub play_worth-low-requires-clause-live : goal.play_worth-low-requires-clause-live
+play_worth-low-requires-clause-live g c = rw c.swap.ensures.swap at c.is_live-live.ensures
+
+pub play_worth-low-requires-clause-next : goal.play_worth-low-requires-clause-next
+play_worth-low-requires-clause-next g c =
+    let here : c.loop-number.number < length c.args.stakes.now.kinds = omega (arith, c.loop-number-test.true, c.kinds-number-end.ensures.kinds) in
+    rw (c.loop-number.invariant.later.source, c.kind-kind.ensures.kind) (next-within _ _ c.kind-kind.ensures.valid c.requires.stakes c.loop-number.number here)
+
+pub play_worth-low-requires-clause-wins : goal.play_worth-low-requires-clause-wins
+play_worth-low-requires-clause-wins g c =
+    let here : c.loop-number.number < length c.args.stakes.now.kinds = omega (arith, c.loop-number-test.true, c.kinds-number-end.ensures.kinds) in
+    rw (c.loop-number.invariant.later.source, c.kind-kind.ensures.kind) (wins-within _ _ c.kind-kind.ensures.valid c.requires.stakes c.loop-number.number here)
+
+pub play_worth-low-requires-clause-square : goal.play_worth-low-requires-clause-square
+play_worth-low-requires-clause-square g c = c.requires.square
+
+pub play_worth-high-requires-clause-sure : goal.play_worth-high-requires-clause-sure
+play_worth-high-requires-clause-sure g c = rw (c.play_worth-low.ensures.later.source, c.loop-number.invariant.later.source) c.requires.sure
+
+pub play_worth-high-requires-clause-many : goal.play_worth-high-requires-clause-many
+play_worth-high-requires-clause-many g c = rw (c.play_worth-low.ensures.later.source, c.loop-number.invariant.later.source) c.requires.many
+
+pub play_worth-high-requires-clause-won : goal.play_worth-high-requires-clause-won
+play_worth-high-requires-clause-won g c = c.points-won.ensures
+
+pub play_worth-high-requires-clause-live : goal.play_worth-high-requires-clause-live
+play_worth-high-requires-clause-live g c = rw c.swap.ensures.swap at c.is_live-live.ensures
+
+pub play_worth-high-requires-clause-next : goal.play_worth-high-requires-clause-next
+play_worth-high-requires-clause-next g c =
+    let here : c.loop-number.number < length c.args.stakes.now.kinds = omega (arith, c.loop-number-test.true, c.kinds-number-end.ensures.kinds) in
+    rw (c.play_worth-low.ensures.later.source, c.loop-number.invariant.later.source, c.kind-kind.ensures.kind) (next-within _ _ c.kind-kind.ensures.valid c.requires.stakes c.loop-number.number here)
+
+pub play_worth-high-requires-clause-wins : goal.play_worth-high-requires-clause-wins
+play_worth-high-requires-clause-wins g c =
+    let here : c.loop-number.number < length c.args.stakes.now.kinds = omega (arith, c.loop-number-test.true, c.kinds-number-end.ensures.kinds) in
+    rw (c.play_worth-low.ensures.later.source, c.loop-number.invariant.later.source, c.kind-kind.ensures.kind) (wins-within _ _ c.kind-kind.ensures.valid c.requires.stakes c.loop-number.number here)
+
+pub play_worth-high-requires-clause-square : goal.play_worth-high-requires-clause-square
+play_worth-high-requires-clause-square g c = c.requires.square
 
 pub loop-number-preserved : goal.loop-number-preserved
 loop-number-preserved g c =

@@ -1,5 +1,6 @@
-use Rattle.std.proofs.Common.{◌≡◌, ◌∙◌, ◌++◌, ◌*◌, ◌≤◌, ◌<◌, ◌-◌, ℕ, List, Result, Vec, length, take, drop, sym, subst, arith}
-use Rattle.std.proofs.lemmas.List.{length-take, length-take-le, take-append-le}
+use Rattle.std.proofs.Common.{◌≡◌, ◌∙◌, ◌++◌, ◌*◌, ◌≤◌, ◌<◌, ◌-◌, ℕ, List, Result, Vec, refl, length, take, drop, sym, subst, arith}
+use Rattle.std.proofs.lemmas.List.{length-append, length-take, length-take-le, take-append-le}
+use Rattle.std.proofs.lemmas.Result.{err_from_is_err_and}
 use Rattle.std.specs.Global.{Global}
 use Rattle.database_file.specs.declared.batch.Batch.{Batch}
 use Rattle.database_file.specs.declared.pages.Pages.{Pages}
@@ -8,6 +9,7 @@ use Rattle.database_file.specs.Batches.{AnswersEach, batch_size}
 use Rattle.database_file.specs.Pages.{whole_page}
 use Rattle.database_file.proofs.Batches.{batch_fits, is_read}
 use Rattle.outside_log.specs.Log.{standing}
+use Rattle.database_file.proofs.ManyPages.{same_length}
 use Rattle.database_file.proofs.batch.read_batch.Goals as goal
 
 -- the buffer has room for the batch
@@ -53,3 +55,62 @@ returns-clause-read g c =
       is_batch = λ tells. is_read pages batch c.place_of.result count (standing (g.F.Files.log c.args.files.now) c.args.name.now) (take size c.args.buf.now) new c.place_of.ensures.place
           (sym (whole_front pages batch size c.args.buf.now c.batch_size-size.ensures c.requires.some c.requires.bytes) ∙ c.batch_size-size.ensures) (c.in_ok-count.ensures.fills tells);
     }
+
+pub batch_size-size-requires-clause-pages : goal.batch_size-size-requires-clause-pages
+batch_size-size-requires-clause-pages g c = c.requires.pages
+
+pub batch_size-size-requires-clause-some : goal.batch_size-size-requires-clause-some
+batch_size-size-requires-clause-some g c = c.requires.some
+
+pub batch_size-size-requires-clause-there : goal.batch_size-size-requires-clause-there
+batch_size-size-requires-clause-there g c = c.requires.there
+
+pub place_of-requires-clause-pages : goal.place_of-requires-clause-pages
+place_of-requires-clause-pages g c = c.requires.pages
+
+pub place_of-requires-clause-there : goal.place_of-requires-clause-there
+place_of-requires-clause-there g c = omega (arith, c.requires.some, c.requires.there)
+
+pub slice_bounds-read_each-end : goal.slice_bounds-read_each-end
+slice_bounds-read_each-end g c = omega (arith, c.in_ok-count.ensures.within, length-append c.fill.new.buf (drop c.batch_size-size.result c.args.buf.now), c.fill.auto.buf)
+
+pub read_each-requires-clause-pages : goal.read_each-requires-clause-pages
+read_each-requires-clause-pages g c κs _ = c.requires.pages
+
+pub read_each-requires-clause-some : goal.read_each-requires-clause-some
+read_each-requires-clause-some g c κs _ = c.requires.some
+
+pub read_each-requires-clause-there : goal.read_each-requires-clause-there
+read_each-requires-clause-there g c κs _ = c.requires.there
+
+pub read_each-requires-clause-room : goal.read_each-requires-clause-room
+read_each-requires-clause-room g c κs _ = c.requires.room
+
+pub returns-in_err-count-clause-read : goal.returns-in_err-count-clause-read
+returns-in_err-count-clause-read g c = let p = err_from_is_err_and c.from_residual.result c.from_residual.ensures.1 in rw p.1 tt
+
+pub returns-in_err-count-clause-buf : goal.returns-in_err-count-clause-buf
+returns-in_err-count-clause-buf g c = same_length c.batch_size-size.result c.fill.new.buf c.args.buf.now c.fill.auto.buf
+
+pub returns-in_err-count-clause-kept : goal.returns-in_err-count-clause-kept
+returns-in_err-count-clause-kept g c = refl
+
+pub returns-in_err-count-clause-cause : goal.returns-in_err-count-clause-cause
+returns-in_err-count-clause-cause g c =
+    let p = err_from_is_err_and c.from_residual.result c.from_residual.ensures.1 in
+    record { later = c.in_err-count.ensures.cause.later; failed = rw p.1 c.in_err-count.ensures.cause.failed }
+
+pub returns-in_err-count-clause-reads : goal.returns-in_err-count-clause-reads
+returns-in_err-count-clause-reads g c = c.fill.ensures.reads
+
+pub returns-clause-buf : goal.returns-clause-buf
+returns-clause-buf g c = same_length c.batch_size-size.result c.fill.new.buf c.args.buf.now c.fill.auto.buf
+
+pub returns-clause-kept : goal.returns-clause-kept
+returns-clause-kept g c = c.read_each.auto.read
+
+pub returns-clause-cause : goal.returns-clause-cause
+returns-clause-cause g c = record { later = c.in_ok-count.ensures.cause.later; failed = tt }
+
+pub returns-clause-reads : goal.returns-clause-reads
+returns-clause-reads g c = c.fill.ensures.reads

@@ -1,4 +1,5 @@
-use Rattle.std.proofs.Common.{◌∙◌, ℕ, List, Vec, Global, length, slice_index, sym, ap, subst, arith}
+use Rattle.std.proofs.Common.{refl, ◌∙◌, ℕ, List, Vec, Global, length, slice_index, sym, ap, subst, arith}
+use Rattle.std.proofs.lemmas.Result.{err_from_is_err_and}
 use Rattle.std.specs.Option.{option_copied}
 use Rattle.outside_log.specs.Files.{bytes_from}
 use Rattle.word_pages.specs.Flaws.{LieWithin, unpacked}
@@ -76,3 +77,36 @@ returns-clause-of_file g c all =
 
 pub returns-in-Some-clause-reads : goal.returns-in-Some-clause-reads
 returns-in-Some-clause-reads g c = reads-none _
+
+pub returns-in_err-words-clause-within : goal.returns-in_err-words-clause-within
+returns-in_err-words-clause-within g c = let p = err_from_is_err_and c.from_residual.result c.from_residual.ensures.1 in rw p.1 tt
+
+pub returns-in_err-words-clause-later : goal.returns-in_err-words-clause-later
+returns-in_err-words-clause-later g c = c.read_page.ensures.later
+
+pub returns-in_err-words-clause-reads : goal.returns-in_err-words-clause-reads
+returns-in_err-words-clause-reads g c = c.read_page.ensures.reads
+
+pub returns-in_err-put-clause-within : goal.returns-in_err-put-clause-within
+returns-in_err-put-clause-within g c = let p = err_from_is_err_and c.from_residual-in_err-put.result c.from_residual-in_err-put.ensures.1 in rw p.1 tt
+
+pub returns-in_err-put-clause-later : goal.returns-in_err-put-clause-later
+returns-in_err-put-clause-later g c = c.read_page.ensures.later
+
+pub returns-in_err-put-clause-reads : goal.returns-in_err-put-clause-reads
+returns-in_err-put-clause-reads g c = c.read_page.ensures.reads
+
+pub returns-in_err-put-clause-told : goal.returns-in_err-put-clause-told
+returns-in_err-put-clause-told g c _ = let p = err_from_is_err_and c.from_residual-in_err-put.result c.from_residual-in_err-put.ensures.1 in rw (p.1, p.2) tt
+
+pub returns-in-Some-clause-unread : goal.returns-in-Some-clause-unread
+returns-in-Some-clause-unread g c _ = refl
+
+pub returns-in-Some-clause-later : goal.returns-in-Some-clause-later
+returns-in-Some-clause-later g c = omega arith
+
+pub returns-clause-later : goal.returns-clause-later
+returns-clause-later g c = c.read_page.ensures.later
+
+pub returns-clause-reads : goal.returns-clause-reads
+returns-clause-reads g c = c.read_page.ensures.reads

@@ -1,3 +1,4 @@
+use Rattle.std.proofs.lemmas.Result.{err_from_is_err_and}
 use Rattle.std.proofs.Common.{◌∙◌, ap}
 use Rattle.std.specs.Option.{option_map}
 use Rattle.database_file.specs.Faults.{whole}
@@ -43,3 +44,24 @@ returns-clause-of_file g c =
     (λ tells.
     digest-told-is c.args.oldest (standing (g.F.Files.log c.args.files.now) c.args.name.now) (standing (g.F.Files.log files) base.name) c.in_ok-front.front base.header base.digest (c.in_ok-front.ensures.told tells) (ap (λ (base : PagedFile). base.header) is) (ap (λ (base : PagedFile). base.digest) is)
     (ap (standing (g.F.Files.log files)) (ap (λ (base : PagedFile). base.name) is) ∙ reads-file c.in_ok-front.ensures.reads c.args.name.now))
+
+pub returns-in_err-front-clause-later : goal.returns-in_err-front-clause-later
+returns-in_err-front-clause-later g c = c.read_front.ensures.later
+
+pub returns-in_err-front-clause-reads : goal.returns-in_err-front-clause-reads
+returns-in_err-front-clause-reads g c = c.read_front.ensures.reads
+
+pub returns-in_err-front-clause-name : goal.returns-in_err-front-clause-name
+returns-in_err-front-clause-name g c = let p = err_from_is_err_and c.from_residual.result c.from_residual.ensures.1 in rw p.1 tt
+
+pub returns-in_err-front-clause-none : goal.returns-in_err-front-clause-none
+returns-in_err-front-clause-none g c = let p = err_from_is_err_and c.from_residual.result c.from_residual.ensures.1 in rw p.1 tt
+
+pub returns-in_err-front-clause-of_file : goal.returns-in_err-front-clause-of_file
+returns-in_err-front-clause-of_file g c = let p = err_from_is_err_and c.from_residual.result c.from_residual.ensures.1 in rw p.1 tt
+
+pub returns-clause-later : goal.returns-clause-later
+returns-clause-later g c = c.read_front.ensures.later
+
+pub returns-clause-reads : goal.returns-clause-reads
+returns-clause-reads g c = c.read_front.ensures.reads

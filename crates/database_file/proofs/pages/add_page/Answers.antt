@@ -1,12 +1,13 @@
 use Rattle.std.proofs.Common.{◌≡◌, ◌∙◌, ◌≤◌, ◌++◌, ◌*◌, ℕ, List, Err, length, take, arith, ap}
 use Rattle.std.specs.Bool.{⊤}
 use Rattle.std.proofs.lemmas.List.{length-take, length-take-le}
+use Rattle.std.proofs.lemmas.Result.{err_from_is_err_and}
 use Rattle.outside_log.specs.Files.{bytes_from}
 use Rattle.word_pages.specs.declared.load.PageStop.{PageStop}
 use Rattle.word_pages.specs.Pages.{page_size}
 use Rattle.database_file.specs.declared.pages.Pages.{Pages}
 use Rattle.database_file.specs.Pages.{whole_page, words_on}
-use Rattle.database_file.proofs.ManyPages.{adds, bytes_behind, fault_only, stands_behind, stops}
+use Rattle.database_file.proofs.ManyPages.{adds, bytes_behind, fault_only, same_length, stands_behind, stops}
 use Rattle.outside_log.specs.Log.{standing}
 use Rattle.database_file.proofs.pages.add_page.Goals as goal
 
@@ -60,3 +61,60 @@ returns-clause-told g c tells =
     (length-take-le c.words_on-count.result c.args.cells.now (omega (arith, c.words_on-count.ensures.words, c.requires.cells)) ∙ c.words_on-count.ensures.words) c.place_of.ensures.place (c.as_slice.ensures.value ∙ c.binding_on.ensures)
     (ap (λ at. bytes_from at file) c.place_of.ensures.place ∙ bytes_behind pages.at (c.args.page * whole_page pages) file)
     (c.in_ok-load_page.ensures.told tells) c.in_ok-extend_from_slice.ensures.items
+
+pub words_on-count-requires-clause-pages : goal.words_on-count-requires-clause-pages
+words_on-count-requires-clause-pages g c = c.requires.pages
+
+pub words_on-count-requires-clause-there : goal.words_on-count-requires-clause-there
+words_on-count-requires-clause-there g c = c.requires.there
+
+pub page_size-size-requires : goal.page_size-size-requires
+page_size-size-requires g c = omega (arith, c.words_on-count.ensures.words, c.requires.pages.few)
+
+pub slice_bounds-cells-end : goal.slice_bounds-cells-end
+slice_bounds-cells-end g c = omega (arith, c.words_on-count.ensures.words, c.requires.cells)
+
+pub place_of-requires-clause-pages : goal.place_of-requires-clause-pages
+place_of-requires-clause-pages g c = c.requires.pages
+
+pub place_of-requires-clause-there : goal.place_of-requires-clause-there
+place_of-requires-clause-there g c = c.requires.there
+
+pub returns-in_err-load_page-clause-buf : goal.returns-in_err-load_page-clause-buf
+returns-in_err-load_page-clause-buf g c = same_length c.page_size-size.result c.load_page.new.buf c.args.buf.now c.load_page.auto.buf
+
+pub returns-in_err-load_page-clause-kept : goal.returns-in_err-load_page-clause-kept
+returns-in_err-load_page-clause-kept g c = same_length c.words_on-count.result c.load_page.new.words c.args.cells.now c.load_page.auto.words
+
+pub returns-in_err-load_page-clause-later : goal.returns-in_err-load_page-clause-later
+returns-in_err-load_page-clause-later g c = c.load_page.ensures.later
+
+pub returns-in_err-load_page-clause-reads : goal.returns-in_err-load_page-clause-reads
+returns-in_err-load_page-clause-reads g c = c.load_page.ensures.reads
+
+pub returns-in_err-extend_from_slice-clause-told : goal.returns-in_err-extend_from_slice-clause-told
+returns-in_err-extend_from_slice-clause-told g c tells = let p = err_from_is_err_and c.from_residual-in_err-extend_from_slice.result c.from_residual-in_err-extend_from_slice.ensures.1 in rw (p.1, p.2) tt
+
+pub returns-in_err-extend_from_slice-clause-buf : goal.returns-in_err-extend_from_slice-clause-buf
+returns-in_err-extend_from_slice-clause-buf g c = same_length c.page_size-size.result c.load_page.new.buf c.args.buf.now c.load_page.auto.buf
+
+pub returns-in_err-extend_from_slice-clause-kept : goal.returns-in_err-extend_from_slice-clause-kept
+returns-in_err-extend_from_slice-clause-kept g c = same_length c.words_on-count.result c.load_page.new.words c.args.cells.now c.load_page.auto.words
+
+pub returns-in_err-extend_from_slice-clause-later : goal.returns-in_err-extend_from_slice-clause-later
+returns-in_err-extend_from_slice-clause-later g c = c.load_page.ensures.later
+
+pub returns-in_err-extend_from_slice-clause-reads : goal.returns-in_err-extend_from_slice-clause-reads
+returns-in_err-extend_from_slice-clause-reads g c = c.load_page.ensures.reads
+
+pub returns-clause-buf : goal.returns-clause-buf
+returns-clause-buf g c = same_length c.page_size-size.result c.load_page.new.buf c.args.buf.now c.load_page.auto.buf
+
+pub returns-clause-kept : goal.returns-clause-kept
+returns-clause-kept g c = same_length c.words_on-count.result c.load_page.new.words c.args.cells.now c.load_page.auto.words
+
+pub returns-clause-later : goal.returns-clause-later
+returns-clause-later g c = c.load_page.ensures.later
+
+pub returns-clause-reads : goal.returns-clause-reads
+returns-clause-reads g c = c.load_page.ensures.reads

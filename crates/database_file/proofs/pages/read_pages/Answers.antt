@@ -1,4 +1,4 @@
-use Rattle.std.proofs.Common.{◌∙◌, ◌<◌, ◌++◌, ℕ, List, Option, Result, Err, Vec, length, arith, ap, subst}
+use Rattle.std.proofs.Common.{◌∙◌, ◌<◌, ◌++◌, ℕ, List, [], Option, Result, Err, Vec, length, arith, ap, subst}
 use Rattle.std.specs.Bool.{⊤}
 use Rattle.std.specs.Global.{Global}
 use Rattle.std.proofs.lemmas.Result.{err_from_is_err_and}
@@ -10,8 +10,7 @@ use Rattle.database_file.specs.Pages.{page_count}
 use Rattle.database_file.proofs.ManyPages.{kept, read-front}
 use Rattle.database_file.proofs.Batches.{answers_batch, long_after}
 use Rattle.outside_log.specs.Log.{standing}
-use Rattle.outside_log.proofs.Readings.{reads-both}
-use Rattle.outside_log.proofs.Readings.{reads-before, reads-file}
+use Rattle.outside_log.proofs.Readings.{reads-both, reads-none, reads-before, reads-file}
 use Rattle.database_file.proofs.pages.read_pages.Goals as goal
 
 pub returns-in_err-add_batch-clause-read : goal.returns-in_err-add_batch-clause-read
@@ -61,3 +60,75 @@ batches-preserved g c =
 
 pub returns-in_err-add_batch-clause-reads : goal.returns-in_err-add_batch-clause-reads
 returns-in_err-add_batch-clause-reads g c = reads-both _ _ _ c.batches.invariant.reads c.add_batch.ensures.reads
+
+pub page_count-count-requires : goal.page_count-count-requires
+page_count-count-requires g c = c.requires.pages
+
+pub batch_count-requires : goal.batch_count-requires
+batch_count-requires g c = c.requires.pages
+
+pub page_size-requires : goal.page_size-requires
+page_size-requires g c = omega (arith, c.requires.pages.few)
+
+pub expect-requires : goal.expect-requires
+expect-requires g c κs = λ within. within
+
+pub pass-requires : goal.pass-requires
+pass-requires g c κs = λ within. within
+
+pub returns-in_err-buf-clause-told : goal.returns-in_err-buf-clause-told
+returns-in_err-buf-clause-told g c tells = let p = err_from_is_err_and c.from_residual.result c.from_residual.ensures.1 in rw (p.1, p.2) tt
+
+pub returns-in_err-buf-clause-read : goal.returns-in_err-buf-clause-read
+returns-in_err-buf-clause-read g c = let p = err_from_is_err_and c.from_residual.result c.from_residual.ensures.1 in ([], rw (p.1, p.2) tt)
+
+pub returns-in_err-buf-clause-later : goal.returns-in_err-buf-clause-later
+returns-in_err-buf-clause-later g c = omega arith
+
+pub returns-in_err-buf-clause-reads : goal.returns-in_err-buf-clause-reads
+returns-in_err-buf-clause-reads g c = reads-none _
+
+pub returns-in_err-read-clause-reads : goal.returns-in_err-read-clause-reads
+returns-in_err-read-clause-reads g c = reads-none _
+
+pub returns-in_err-words-clause-reads : goal.returns-in_err-words-clause-reads
+returns-in_err-words-clause-reads g c = reads-none _
+
+pub returns-in_err-read-clause-later : goal.returns-in_err-read-clause-later
+returns-in_err-read-clause-later g c = omega arith
+
+pub returns-in_err-words-clause-later : goal.returns-in_err-words-clause-later
+returns-in_err-words-clause-later g c = omega arith
+
+pub returns-in_err-words-clause-told : goal.returns-in_err-words-clause-told
+returns-in_err-words-clause-told g c tells = let p = err_from_is_err_and c.from_residual-in_err-words.result c.from_residual-in_err-words.ensures.1 in rw (p.1, p.2) tt
+
+pub returns-in_err-words-clause-read : goal.returns-in_err-words-clause-read
+returns-in_err-words-clause-read g c = let p = err_from_is_err_and c.from_residual-in_err-words.result c.from_residual-in_err-words.ensures.1 in ([], rw (p.1, p.2) tt)
+
+pub overflow_add-first : goal.overflow_add-first
+overflow_add-first g c = omega (arith, c.batches-test.true, c.page_count-count.type_inv, c.min-most.ensures)
+
+pub add_batch-requires-clause-pages : goal.add_batch-requires-clause-pages
+add_batch-requires-clause-pages g c κs _ = c.requires.pages
+
+pub add_batch-requires-clause-some : goal.add_batch-requires-clause-some
+add_batch-requires-clause-some g c κs _ = omega (arith, c.batches-test.true, c.min-past.ensures, c.min-most.ensures)
+
+pub add_batch-requires-clause-there : goal.add_batch-requires-clause-there
+add_batch-requires-clause-there g c κs _ = omega (arith, c.min-past.ensures, c.page_count-count.ensures)
+
+pub add_batch-requires-clause-room : goal.add_batch-requires-clause-room
+add_batch-requires-clause-room g c κs _ = omega (arith, c.min-past.ensures, c.batches.invariant.room, ap (λ (read : List (Result (Vec ℕ Global) PagesStop)). length read) c.deref_mut-in-batches.ensures.value)
+
+pub returns-in_err-add_batch-clause-later : goal.returns-in_err-add_batch-clause-later
+returns-in_err-add_batch-clause-later g c = omega (arith, c.batches.invariant.later, c.add_batch.ensures.later)
+
+pub batches-smaller : goal.batches-smaller
+batches-smaller g c = omega (arith, c.batches-test.true, c.min-past.ensures, c.min-most.ensures)
+
+pub returns-clause-later : goal.returns-clause-later
+returns-clause-later g c = c.batches.invariant.later
+
+pub returns-clause-reads : goal.returns-clause-reads
+returns-clause-reads g c = c.batches.invariant.reads

@@ -1,5 +1,5 @@
 use Rattle.std.proofs.Common.{◌∙◌}
-use Rattle.record_commands.proofs.RightRecords.{right-at-lines, stopped}
+use Rattle.record_commands.proofs.ReadRecords.{right-at-lines, stopped}
 use Rattle.record_commands.proofs.record.replay_text.Goals as goal
 
 pub returns-in-Ok-in_text-clause-right : goal.returns-in-Ok-in_text-clause-right

@@ -60,7 +60,7 @@ returns-clause-divided g c =
       once = c.has_each_once.ensures;
       worked = ap works_of (take-first long c.hand_all.new.crew _ handed) ∙ (c.hand_all.ensures.works ∙ (ap works_of same ∙ works-shares crew));
       handed = ap hands_of (take-first long c.hand_all.new.crew _ handed) ∙ (c.hand_all.ensures.hands ∙ (ap hands_of same ∙ hands-shares crew));
-      hands = omega (arith, ap (λ s. s.view.hands) (c.split-known.ensures.seat ∙ c.into_seats-owner.ensures.board), c.run_each-made.ensures.hands, ap (λ w. w.seat.view.hands) c.in_ok-owner.ensures, ap (λ s. s.view.hands) c.in_ok-crew.ensures.seat, c.workers.ensures.is, c.workers.ensures.high);
+      hands = omega (arith, ap (λ s. s.view.hands) (c.split-known.ensures.seat ∙ c.into_seats-owner.ensures.board), c.run_each-made.ensures.hands, ap (λ w. w.seat.view.hands) c.in_ok-crew.ensures.owner, ap (λ s. s.view.hands) c.in_ok-board.ensures.seat, c.workers.ensures.is, c.workers.ensures.high);
       done = subst (λ (n : ℕ). All (HasDone c.in_ok-closed.closed.game n) (shares_of crew)) made (subst (λ (g : Game). All (HasDone g c.run_each-made.result) (shares_of crew)) game c.run_each-made.ensures.done);
       rest =
           subst (λ (n : ℕ). All (IsOnLeft c.in_ok-closed.closed.game n (shares_of crew)) c.split-known.new.seat.view.work) made

@@ -1,3 +1,4 @@
+use Rattle.std.proofs.lemmas.Result.{err_from_is_err_and}
 use Rattle.std.proofs.Common.{◌≡◌, ◌∙◌, Ok, Err, refl, sym, ap, subst}
 use Rattle.database_file.specs.Faults.{pages_behind}
 use Rattle.database_file.specs.Pages.{ArePages}
@@ -80,3 +81,21 @@ returns-clause-of_file g c =
       pages = of-file (pages_behind c.self.inside.front.header c.self.inside.front.digest) c.pages_behind-pages.result (is_faithful (g.F.Files.log c.word_on.new.files)) (held _) (held c.as_str.result.now) c.word_on.new.kept.entries c.word_on.new.kept.entries
           (sym c.pages_behind-pages.ensures) (ap held (sym c.as_str.ensures.value)) refl c.in_ok-word.ensures.of_file;
     }
+
+pub word_on-requires-clause-right : goal.word_on-requires-clause-right
+word_on-requires-clause-right g c = subst (λ (pages : Pages). ArePagesKept pages c.self.inside.kept.entries) (sym c.pages_behind-pages.ensures) c.self.invariant.right
+
+pub returns-in_err-word-clause-within : goal.returns-in_err-word-clause-within
+returns-in_err-word-clause-within g c = let p = err_from_is_err_and c.from_residual.result c.from_residual.ensures.1 in rw p.1 tt
+
+pub returns-in_err-word-clause-later : goal.returns-in_err-word-clause-later
+returns-in_err-word-clause-later g c = c.word_on.ensures.later
+
+pub returns-in_err-word-clause-reads : goal.returns-in_err-word-clause-reads
+returns-in_err-word-clause-reads g c = c.word_on.ensures.reads
+
+pub returns-clause-later : goal.returns-clause-later
+returns-clause-later g c = c.word_on.ensures.later
+
+pub returns-clause-reads : goal.returns-clause-reads
+returns-clause-reads g c = c.word_on.ensures.reads

@@ -1,7 +1,9 @@
 use Rattle.std.proofs.Common.{◌≡◌, ◌∙◌, pos, ◌*ℤ◌}
+use Rattle.std.proofs.lemmas.Result.{err_from_is_err_and}
 use Rattle.directed_fixed.specs.declared.bounds.End.{End}
 use Rattle.turn_rule.specs.Turn.{Words, roll_value}
 use Rattle.turn_rule.specs.Looks.{MayFollow}
+use Rattle.turn_rule.proofs.Found.{then-err}
 use Rattle.turn_rule.proofs.Values.{paired, roll-order}
 use Rattle.turn_rule.proofs.ends.RollEnds.roll_bounds.Goals as goal
 
@@ -17,3 +19,9 @@ returns-clause-looked g c =
     paired _ s (MayFollow stakes p k) (pos c.args.factor *ℤ s.bound) (λ (end : End) (u : Words). roll_value end stakes u p k c.args.factor) _ _ last _ _ _ c.in_ok-lower.lower c.in_ok-upper.upper _ c.pair_of.ensures.lower c.pair_of.ensures.upper
     (λ told. roll-order s stakes c.in_ok-lower.ensures.valid c.requires.stakes last.words (within told) p k c.requires.state c.args.factor)
     c.in_ok-lower.ensures.found (rw c.in_ok-lower.ensures.source at c.in_ok-upper.ensures.found)
+
+pub returns-in_err-upper-clause-looked : goal.returns-in_err-upper-clause-looked
+returns-in_err-upper-clause-looked g c =
+    let s = (g.P.Pairs.seen c.args.pairs.now).source in
+    let p = err_from_is_err_and c.from_residual-in_err-upper.result c.from_residual-in_err-upper.ensures.1 in
+    rw (p.1, p.2) (then-err s _ _ _ _ _ _ _ _ _ _ _ _ c.in_ok-lower.lower _ c.in_ok-lower.ensures.found (rw c.in_ok-lower.ensures.source at c.in_err-upper.ensures.found) (λ damage told met. met))

@@ -1,7 +1,0 @@
-use Rattle.std.proofs.Common.{refl}
-use Rattle.cube_actions.specs.MatchKinds.{match_kinds}
-use Rattle.cube_actions.proofs.match_laws.kind_count_examples.Goals as goal
-
-pub returns : goal.returns
-unfolding match_kinds
-returns c = record { last_game = refl; crawford = λ _. refl; after_crawford = refl; two_each = refl; five_each = refl }

@@ -1,7 +1,0 @@
-use Rattle.std.proofs.Common.{refl}
-use Rattle.cube_actions.specs.Ladder.{in_order, ladder}
-use Rattle.cube_actions.proofs.match_laws.ladder_examples.Goals as goal
-
-pub returns : goal.returns
-unfolding ladder in_order
-returns c = record { three = refl; one = refl; two = refl; four = refl; five = refl }

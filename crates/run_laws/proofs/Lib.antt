@@ -1,0 +1,11 @@
+mod RightLoads
+mod ConditionTexts
+mod RightFiles
+mod RightRecords
+mod DecisionLines
+mod RecordTexts
+mod HeldWords
+mod TwoRuns
+mod MatchRuns
+mod RightRuns
+mod SolvedFiles

@@ -1,0 +1,5 @@
+pub mod RightFiles
+pub mod RightRecords
+pub mod RightRuns
+pub mod Headline
+pub mod SolvedFiles

@@ -1,5 +1,0 @@
-use Rattle.top_call.proofs.MatchRuns.{good-score}
-use Rattle.top_call.proofs.laws.advice_at_a_solved_score_loses_at_most_its_printed_bounds.Goals as goal
-
-pub returns : goal.returns
-returns c = good-score c.texts_are_read_back.ensures.held

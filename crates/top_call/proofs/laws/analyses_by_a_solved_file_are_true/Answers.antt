@@ -1,5 +1,0 @@
-use Rattle.top_call.proofs.TwoRuns.{true-losses}
-use Rattle.top_call.proofs.laws.analyses_by_a_solved_file_are_true.Goals as goal
-
-pub returns : goal.returns
-returns c = true-losses c.texts_are_read_back.ensures.held

@@ -1,5 +1,0 @@
-use Rattle.top_call.proofs.TwoRuns.{solved-consistent}
-use Rattle.top_call.proofs.laws.solved_files_are_consistent.Goals as goal
-
-pub returns : goal.returns
-returns c = solved-consistent c.texts_are_read_back.ensures.held

@@ -1,5 +1,0 @@
-use Rattle.top_call.proofs.SolvedFiles.{right-solved}
-use Rattle.top_call.proofs.laws.solved_files_are_right.Goals as goal
-
-pub returns : goal.returns
-returns c = right-solved c.texts_are_read_back.ensures.held

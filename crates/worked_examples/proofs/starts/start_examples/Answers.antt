@@ -1,0 +1,11 @@
+-- By computation, opening by opening.
+use Rattle.std.proofs.Common.{refl}
+use Rattle.position_rank.specs.Packed.{counts_of}
+use Rattle.roll_table.specs.Rolls.{all_rolls, opening_rolls}
+use Rattle.move_rules.specs.Ends.{legal_ends, legal_lines, all_lines, lines, lines_from, places, after_move}
+use Rattle.cube_actions.specs.MatchKinds.{match_kinds}
+use Rattle.worked_examples.proofs.starts.start_examples.Goals as goal
+
+pub returns : goal.returns
+unfolding all_rolls opening_rolls counts_of legal_ends legal_lines all_lines lines lines_from places after_move match_kinds
+returns c = record { sure = refl; lost = refl; even = refl; unknown = refl; half = refl; rounded = refl }

@@ -1,0 +1,4 @@
+pub mod Matches
+pub mod Moves
+pub mod Starts
+pub mod Turns
