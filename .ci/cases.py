@@ -21,6 +21,7 @@ from mistakes import try_mistakes
 from plays import try_plays
 from record_lines import try_record_lines
 from tally import PROGRAM, SCRIPT, SECONDS, TOP, old_file, run
+from turns import try_turns
 from worked import try_worked
 
 # What the script `hypergammon` asks for, where the program itself is run, many times.
@@ -461,8 +462,8 @@ def try_cases(tally, folder, solved):
     solved.solve(["ladder", "match", "--checkers", "1", "--length", "5"], folder)
     solved.solve(["ladder", "m", "--checkers", "2", "--workers", "4"], folder)
     parts = (try_words, try_readings, try_mistakes, try_terminal, try_help, try_boards, try_migrations, try_three_checkers)
-    parts += (try_reader, try_plays, try_worked, try_imports, try_decision_pages)
-    parts += (try_reader, try_imports, try_decision_pages, try_command_words, try_record_lines, try_damaged_files)
+    parts += (try_reader, try_plays, try_worked, try_turns, try_imports, try_decision_pages)
+    parts += (try_command_words, try_record_lines, try_damaged_files)
     for part in parts:
         with tally.going_on(part.__name__):
             part(tally, folder)

@@ -71,6 +71,10 @@ advise;x;y;--roll= => 1 words word 3
 advise;x;6 / 19;--roll=12;--kind=z => 1 words value 3
 advise;x;6 / 19;--roll=12 => 2 position 4
 advise;x;6 / 1;--roll;7 => 2 roll 1
+advise;x;6 / 1;--roll;611 => 2 roll 1
+advise;x;6 / 1;--roll;07 => 2 roll 1
+advise;x;6 / 1;--roll;17 => 2 roll 1
+advise;x;6 / 1;--roll;60 => 2 roll 1
 ladder => 1 words form 0
 ladder;x;y => 1 words form 0
 ladder;x;--stakes=money => 1 words form 0
@@ -154,6 +158,19 @@ board => 1 words form 0
 board;6 / 1;x => 1 words form 0
 board;6 / 1;--kind=mine => 1 words form 0
 board;6 / 19 => 2 position 4
+board;6 / 1 / 1 => 2 position 1
+board;06 / 1 => 2 position 2
+board;26 / 1 => 2 position 2
+board;0 / 1 1 => 2 position 2
+board;+6 / 1 => 2 position 2
+board;6 6 6 6 / none => 2 position 2
+board;/ => 2 position 3
+board;/ 1 => 2 position 3
+board;1 / 24 24 => 2 position 3
+board;6 6 6 6 / 1 1 1 1 => 2 position 3
+board;1 / 24 => 2 position 4
+board;off 1 / 24 24 => 2 position 4
+board;bar bar / off off => 2 position 5
 show;x;off 6 / 3 1 => 3 missing x
 verify;x;--workers;64 => 3 missing x
 verify;--workers=3;x => 3 missing x
@@ -186,6 +203,7 @@ advise;x;24 / 2;--away=5-4;--take;--cube;theirs;--value=4 => 3 missing x.4.5.n
 # each win is a single one: 26 points of 36. From 12 four rolls win a gammon at once; of the others only
 # the bound is known after one plain round. One worker rests on the columns that it tightened earlier in the same round.
 ANSWERED = """\
+bound;1;1;10 / 9 => position 10 / 9;rounds 1
 bound;2;3;6 bar / 18 24 => position bar 6 / 24 18;rounds 3
 show;two.base;off 6 / 3 1 => position 6 off / 3 1;checkers 2 stakes jacoby rounds 64
 advise;two.base;OFF  B/2 bar;--roll=1 2 => position bar off / bar 2;roll 21 kind centred

@@ -53,9 +53,8 @@ def sequences(board, dice):
         yield (), (), tuple(tuple(sorted(side)) for side in board)
 
 
-def plays(position, roll):
+def ends(board, roll):
     """The text of the first play to each end: of the longest, and of those of one move by the higher die, where there are any."""
-    board = tuple(map(list, map(read_places, position.split("/"))))
     orders = [roll * 2] if roll[0] == roll[1] else [roll, roll[::-1]]
     found = [it for dice in orders for it in sequences(board, dice)]
     longest = max(len(used) for used, _, _ in found)
@@ -65,7 +64,12 @@ def plays(position, roll):
     texts = {}
     for _, steps, end in best:
         texts.setdefault(end, " ".join(steps) or "-")
-    return sorted(texts.values())
+    return texts
+
+
+def plays(position, roll):
+    """The texts of the plays of a roll, in their order."""
+    return sorted(ends(tuple(map(list, map(read_places, position.split("/")))), roll).values())
 
 
 def listed(position, roll, folder):

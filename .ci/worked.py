@@ -3,6 +3,7 @@
 import csv
 from typing import NamedTuple, Optional
 
+import base_file
 from tally import PROGRAM, TOP, run
 
 ONE = 1 << 32
@@ -137,6 +138,88 @@ KINDS = ("near:1:centred", "far:1:centred", "near:2:near", "far:2:far", "near:4:
 NO_KINDS = ("mine ", "Mine", "near", "near:1", "near:1:near", "far:2:centred", "near:3:far", "near:02:far", "near:16:far")
 NO_KINDS += ("near: 2:far", "near:2:far:", "both:1:centred", "near:1:centre")
 
+EVEN, OPEN = (0, 0), (-ONE, ONE)
+HALF, THREE_QUARTERS, QUARTER = (ONE // 2, ONE // 2), (3 * ONE // 4, 3 * ONE // 4), (ONE // 4, ONE // 4)
+
+
+class Plan(NamedTuple):
+    """The plan of a match: the fields of the head of its first game's file, the pairs of the starts before, how far from 0 each pair in the file
+    goes to both sides, and so the start's, and the plan."""
+
+    fields: tuple
+    starts: tuple
+    widest: int
+    lines: str
+
+
+NO_PRICE, WHOLE, HALVES = "0.000000 0.000000", "1.000000 1.000000", "0.500000 0.500000"
+
+# From 1-1 a game is even; where near needs one point and far two, near has half a match. So at 2-2 a point won is half a match, and two are the whole
+# of it. Of a start that is open so are the numbers behind it.
+PLANS = (
+    Plan(
+        base_file.MATCH,
+        (EVEN, HALF),
+        ONE // 4,
+        f"""\
+1.1.p start 0.000000 0.000000
+1.1.p near take none price {NO_PRICE}
+1.1.p far take none price {NO_PRICE}
+1.2.c start {HALVES}
+1.2.c near take none price {NO_PRICE}
+1.2.c far take none price {WHOLE}
+2.2.n start -0.250000 0.250000
+2.2.n near take 0.250000 0.250000 price {HALVES}
+2.2.n far take 0.250000 0.250000 price {HALVES}
+""",
+    ),
+    Plan(
+        base_file.MATCH,
+        (OPEN, OPEN),
+        ONE,
+        f"""\
+1.1.p start -1.000000 1.000000
+1.1.p near take none price {NO_PRICE}
+1.1.p far take none price {NO_PRICE}
+1.2.c start -1.000000 1.000000
+1.2.c near take none price open
+1.2.c far take none price open
+2.2.n start -1.000000 1.000000
+2.2.n near take 0.000000 1.000000 price open
+2.2.n far take 0.000000 1.000000 price open
+""",
+    ),
+    # The start pairs differ, so that a wrong score, side or end shows.
+    Plan(
+        (3, 1, 3, 3, 3, 0, 3, 10, 16, 6),
+        (EVEN, HALF, HALF, THREE_QUARTERS, EVEN, QUARTER),
+        0,
+        f"""\
+1.1.p start 0.000000 0.000000
+1.1.p near take none price {NO_PRICE}
+1.1.p far take none price {NO_PRICE}
+1.2.p start {HALVES}
+1.2.p near take {HALVES} price {NO_PRICE}
+1.2.p far take none price {WHOLE}
+1.2.c start {HALVES}
+1.2.c near take none price {NO_PRICE}
+1.2.c far take none price {WHOLE}
+1.3.c start 0.750000 0.750000
+1.3.c near take none price {NO_PRICE}
+1.3.c far take none price {WHOLE}
+2.2.n start 0.000000 0.000000
+2.2.n near take 0.250000 0.250000 price {HALVES}
+2.2.n far take 0.250000 0.250000 price {HALVES}
+2.3.n start 0.250000 0.250000
+2.3.n near take 0.333333 0.333334 price 0.333333 0.333334
+2.3.n far take 0.166666 0.166667 price 0.666666 0.666667
+3.3.n start 0.000000 0.000000
+3.3.n near take 0.333333 0.333334 price {WHOLE}
+3.3.n far take 0.333333 0.333334 price {WHOLE}
+""",
+    ),
+)
+
 FIRST_ROLL = "hypergammon record 1\ncheckers 1\nstakes jacoby\ngame 1\nA 31 PLAY\nstop\nclose\n"
 
 # What is told of a first roll of 31 with this text behind it: it is no line, no play, or a play that can't be made, for the fault that its first
@@ -254,6 +337,15 @@ def try_kinds(tally, folder):
         note(tally, f"the kind {kind!r}", answer(("advise", "to5.5.5.n", "24 / 24", "--kind", kind), folder), due)
 
 
+def try_plans(tally, folder):
+    for plan in PLANS:
+        length = plan.fields[6]
+        text = base_file.of_one_checker(plan.fields, {}, plan.widest, [unit for ends in plan.starts for unit in ends])
+        (folder / f"made.{length}.{length}.n").write_bytes(text)
+        found = answer(("plan", "made", "--length", str(length)), folder)
+        note(tally, f"a plan of {length} points", found, [*plan.lines.splitlines(), 0])
+
+
 def try_play_texts(tally, folder):
     for text, fault in PLAY_TEXTS:
         (folder / "text.rec").write_text(FIRST_ROLL.replace("PLAY", text))
@@ -261,5 +353,5 @@ def try_play_texts(tally, folder):
 
 
 def try_worked(tally, folder):
-    for part in (try_races, try_all_races, try_stakes, try_actions, try_kinds, try_play_texts):
+    for part in (try_races, try_all_races, try_stakes, try_actions, try_kinds, try_plans, try_play_texts):
         part(tally, folder)

@@ -1,9 +1,6 @@
 mod asserts;
-mod drawn;
 mod gates;
 mod lists;
 mod meetings;
-mod plain;
 mod positions;
 mod progress;
-mod sweeps;

@@ -112,6 +112,15 @@ fn met<R: Threads + Sync + Abort + AllocGlobal>(
     closed
 }
 
+#[test]
+fn each_block_passes_once_a_round(rt: HostRuntime) {
+    let gate = Counting::new(&rt, rt.alloc(), 4);
+    let team = Team::new(&rt, 4);
+    let solved = words_after_rounds(&team, rt.alloc(), 1, &Stakes::money(), 3, None, &gate);
+    solved.expect(&rt, "no memory");
+    gate.check(&rt, 3);
+}
+
 /// Whoever has block 1 waits there until the others have come to all others: so it comes last, and one worker passes one block. From
 /// `12 / 1` 4 rolls win 2 points, 30 lose 2, and 6 and 5 lead to a position of the same column, of which only the bound is known: from
 /// (8 - 60 - 6) / 36 to (8 - 60 + 6) / 36 of a point. One thread, a table of its own, or rounds over the words of the round before end
