@@ -1,0 +1,5 @@
+pub mod Calls
+pub mod Disks
+pub mod MemFiles
+pub mod Pile
+pub mod Telling
