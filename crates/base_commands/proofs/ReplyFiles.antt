@@ -3,6 +3,7 @@ use Rattle.std.proofs.Common.{◌≡◌, ◌∙◌, ℕ, Bool, List, Option, Ok,
 use Rattle.position_rank.specs.Placement.{Placement}
 use Rattle.turn_rule.specs.States.{pair_of}
 use Rattle.interval_words.specs.WordLists.{WordList, words_in_list}
+use Rattle.best_reply.specs.Replies.{Follower, Replier}
 use Rattle.base_reports.specs.Replies.{reply_text}
 use Rattle.base_commands.specs.declared.reply.FoundReply.{FoundReply}
 use Rattle.base_commands.specs.declared.reply.LoadedFile.{LoadedFile}
@@ -11,10 +12,10 @@ use Rattle.base_commands.specs.Replies.{AnswersLoaded, AreReplies, HasReplied, H
 
 -- the pairs of a table after as many rounds are those that are asked for
 pub after-rounds : (words : WordList) (rounds : ℕ) (p : Placement) (k : ℕ) (swept : WordList) (round : ℕ) → swept ≡ words → round ≡ rounds → (found : FoundReply)
-    → found.follow ≡ pair_of (replies_to swept round).follow p k → found.reply ≡ pair_of (replies_to swept round).reply p k → found.base ≡ pair_of (words_in_list words) p k → AreReplies words rounds p k found
+    → found.follow ≡ pair_of (replies_to swept round Follower) p k → found.reply ≡ pair_of (replies_to swept round Replier) p k → found.base ≡ pair_of (words_in_list words) p k → AreReplies words rounds p k found
 after-rounds words rounds p k swept round is last found follow reply base = record {
-  follow = follow ∙ (λ i. pair_of (replies_to (is i) (last i)).follow p k);
-  reply = reply ∙ (λ i. pair_of (replies_to (is i) (last i)).reply p k);
+  follow = follow ∙ (λ i. pair_of (replies_to (is i) (last i) Follower) p k);
+  reply = reply ∙ (λ i. pair_of (replies_to (is i) (last i) Replier) p k);
   base = base;
 }
 

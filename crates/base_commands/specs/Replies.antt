@@ -1,12 +1,13 @@
 -- What following the advice of a file's words is worth, and what is told of it.
-use Rattle.std.specs.Prelude.{◌≡◌, ◌≤◌, ℕ, List, sum, Bool, Option, Result, Ok, Err}
+use Rattle.std.specs.Prelude.{◌≡◌, ◌≤◌, ◌*◌, ◌^◌, ℕ, List, sum, Bool, Option, Result, Ok, Err}
 use Rattle.position_rank.specs.Placement.{Placement}
 use Rattle.outside_log.specs.Sink.{Output}
 use Rattle.turn_rule.specs.Exact.{Scoring, exact}
 use Rattle.turn_rule.specs.States.{pair_of}
 use Rattle.interval_words.specs.WordLists.{WordList, words_in_list}
-use Rattle.best_reply.specs.Replies.{AreScored, IsBetween, Worths, same_worths, worths}
-use Rattle.best_reply.specs.ReplyPairs.{EncloseWorths, ReplyWords, reply_rounds}
+use Rattle.turn_rule.specs.Truth.{Encloses}
+use Rattle.best_reply.specs.Replies.{AreScored, Follower, IsBetween, Mover, Replier, Worths, same_worths, worths}
+use Rattle.best_reply.specs.ReplyPairs.{ReplyWords, reply_rounds}
 use Rattle.best_reply.specs.Tables.{policy_of}
 use Rattle.database_file.specs.Bases.{AnswersBase}
 use Rattle.database_file.specs.FileBases.{FileBase}
@@ -37,9 +38,9 @@ worths_by words = worths (policy_of words) words.game.stakes
 pub record HoldsReplying (words : WordList) (rounds : ℕ) (p : Placement) (k : ℕ) : Type 0 where
   pub encloses :
       (scoring : Scoring) (ends : Worths) → AreScored words.game scoring ends → (turns : ℕ)
-      → rounds ≤ turns
-      → EncloseWorths words.game scoring turns (replies_to words rounds)
-      (worths_by words scoring ends turns) p k
+      → rounds ≤ turns → (mover : Mover)
+      → Encloses (pair_of (replies_to words rounds mover) p k)
+      (worths_by words scoring ends turns mover p k) (scoring.scale * 36 ^ turns)
   pub between :
       (scoring : Scoring) (turns : ℕ)
       → IsBetween (worths_by words scoring (same_worths scoring.unfinished) turns)
@@ -50,16 +51,16 @@ pub record HoldsReplying (words : WordList) (rounds : ℕ) (p : Placement) (k : 
 -- both sides' pairs of a state after so many rounds, and that of the words themselves
 pub record AreReplies (words : WordList) (rounds : ℕ) (p : Placement) (k : ℕ)
     (found : FoundReply) : Type 0 where
-  pub follow : found.follow ≡ pair_of (replies_to words rounds).follow p k
-  pub reply : found.reply ≡ pair_of (replies_to words rounds).reply p k
+  pub follow : found.follow ≡ pair_of (replies_to words rounds Follower) p k
+  pub reply : found.reply ≡ pair_of (replies_to words rounds Replier) p k
   pub base : found.base ≡ pair_of (words_in_list words) p k
 
 -- the report of these pairs
 abbrev pub replied_text : Placement → ℕ → AskedKind → WordList → List ℕ
 replied_text p rounds kind words =
     reply_text p kind.name
-    (pair_of (replies_to words rounds).follow p kind.number)
-    (pair_of (replies_to words rounds).reply p kind.number)
+    (pair_of (replies_to words rounds Follower) p kind.number)
+    (pair_of (replies_to words rounds Replier) p kind.number)
     (pair_of (words_in_list words) p kind.number)
 
 -- A reply was told: a head and words were read from the file, of the one that is held where all answers were faithful; the position and the kind that

@@ -17,7 +17,7 @@ use Rattle.turn_rule.proofs.Integers.{le_refl, max_mono, mul_mono, neg_le}
 use Rattle.turn_rule.proofs.Greatest.{all_rolls-right, sum-mono}
 use Rattle.turn_rule.proofs.Within.{least-mono}
 use Rattle.best_reply.specs.Policies.{Policy, IsLegalPolicy}
-use Rattle.best_reply.specs.Replies.{IsBetween, better_of_by, before_turn_by, rolled_by, same_worths, worths}
+use Rattle.best_reply.specs.Replies.{Follower, IsBetween, Replier, better_of_by, before_turn_by, rolled_by, same_worths, worths}
 use Rattle.best_reply.proofs.SumsBy.{sum_by-best}
 
 -- what each position is worth after the turn, by the one and by the other values
@@ -67,6 +67,6 @@ between policy legal stakes scoring (suc turns) p k =
     let later = worths policy stakes scoring (same_worths scoring.unfinished) turns in
     let best = exact stakes scoring turns in
     record {
-      follow = turn-best stakes scoring turns best later.reply (λ q j. (between policy legal stakes scoring turns q j).reply) policy legal p k;
-      reply = turn-rises stakes scoring turns later.follow best (λ q j. (between policy legal stakes scoring turns q j).follow) p k;
+      follow = turn-best stakes scoring turns best (later Replier) (λ q j. (between policy legal stakes scoring turns q j).reply) policy legal p k;
+      reply = turn-rises stakes scoring turns (later Follower) best (λ q j. (between policy legal stakes scoring turns q j).follow) p k;
     }

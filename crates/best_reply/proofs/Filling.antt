@@ -15,18 +15,20 @@ use Rattle.column_turns.proofs.Places.{places-same}
 use Rattle.turn_rule.specs.Games.{IsGame, kinds_of}
 use Rattle.turn_rule.specs.Turn.{Words, bound_pair, bound_words}
 use Rattle.turn_rule.specs.States.{Agree, AreWithin, IsState, pair_of}
+use Rattle.turn_rule.proofs.Agreement.{turn-agree}
 use Rattle.turn_rule.proofs.Within.{opening-within, turn-within}
 use Rattle.interval_words.specs.Numbers.{state_of, states_in}
 use Rattle.interval_words.specs.WordLists.{WordList, states_of, words_in_list}
 use Rattle.interval_words.proofs.Places.{state-in}
 use Rattle.best_reply.specs.declared.sweep.Banks.{Banks}
 use Rattle.best_reply.specs.Policies.{IsLegalPolicy}
-use Rattle.best_reply.specs.ReplyPairs.{AgreeReplies, reply_rounds, turn_by}
-use Rattle.best_reply.specs.Sides.{AreBanksOf, AreRightBanks, AreSwept, AreReplyRounds, both_words, turned_words}
+use Rattle.best_reply.specs.Replies.{Follower, Replier}
+use Rattle.best_reply.specs.ReplyPairs.{reply_rounds, turn_by}
+use Rattle.best_reply.specs.Sides.{AreBanksOf, AreRightBanks, AreSwept, AreReplyRounds, IsReplyTurned, both_words, turned_words}
 use Rattle.best_reply.specs.Tables.{IsBankOf, IsFilledTo, ArePairsPut, IsRightBank, StatePairs, follow_sum, policy_of, sums_in, turn_from, words_by}
 use Rattle.best_reply.proofs.Doubled.{from-same, turn-followed}
 use Rattle.best_reply.proofs.Lines.{legal-advised}
-use Rattle.best_reply.proofs.Rounds.{round-agrees, turn_by-stays}
+use Rattle.best_reply.proofs.Rounds.{turn_by-agrees, turn_by-stays}
 
 -- ---- the kinds of one position
 
@@ -145,18 +147,16 @@ module _ (words : WordList) (game_is : IsGame words.game) where
   legal p k roll = legal-advised game.stakes (words_in_list words) p k roll
 
   -- once each has been swept
-  pub all-swept : (old new : Banks) → AreSwept words old new → AgreeReplies game (both_words new) (turned_words words (both_words old))
-  all-swept old new swept = record {
-    follow = all-filled game (turned_words words (both_words old)).follow new.follow swept.follow;
-    reply = all-filled game (turned_words words (both_words old)).reply new.reply swept.reply;
-  }
+  pub all-swept : (old new : Banks) → AreSwept words old new → IsReplyTurned (record { words = words; both = old }) (record { words = words; both = new })
+  all-swept old new swept Follower = all-filled game (turned_words words (both_words old) Follower) new.follow swept.follow
+  all-swept old new swept Replier = all-filled game (turned_words words (both_words old) Replier) new.reply swept.reply
 
   pub swept-right : (old new : Banks) → AreRightBanks game old → AreSwept words old new → AreRightBanks game new
   swept-right old new right swept =
       let same = all-swept old new swept in
       record {
-        follow = record { full = swept.follow.full; within = agree-within game (words_by new.follow) (turned_words words (both_words old)).follow same.follow (turn_by-stays (policy_of words) legal game game_is.stakes (words_by old.reply) right.reply.within) };
-        reply = record { full = swept.reply.full; within = agree-within game (words_by new.reply) (turned_words words (both_words old)).reply same.reply (turn-within game game_is.stakes (words_by old.follow) right.follow.within) };
+        follow = record { full = swept.follow.full; within = agree-within game (words_by new.follow) (turned_words words (both_words old) Follower) (same Follower) (turn_by-stays (policy_of words) legal game game_is.stakes (words_by old.reply) right.reply.within) };
+        reply = record { full = swept.reply.full; within = agree-within game (words_by new.reply) (turned_words words (both_words old) Replier) (same Replier) (turn-within game game_is.stakes (words_by old.follow) right.follow.within) };
       }
 
   agree-trans : (u v w : Words) → Agree game u v → Agree game v w → Agree game u w
@@ -164,13 +164,13 @@ module _ (words : WordList) (game_is : IsGame words.game) where
 
   -- one round more
   pub round-more : (old new : Banks) (r : ℕ) → AreSwept words old new → AreReplyRounds (record { words = words; both = old }) r → AreReplyRounds (record { words = words; both = new }) (suc r)
-  round-more old new r swept has =
-      let turned = all-swept old new swept in
-      let next = round-agrees (policy_of words) legal game game_is.stakes r (both_words old) has in
-      record {
-        follow = agree-trans (words_by new.follow) (turned_words words (both_words old)).follow (reply_rounds (policy_of words) game.stakes (suc r)).follow turned.follow next.follow;
-        reply = agree-trans (words_by new.reply) (turned_words words (both_words old)).reply (reply_rounds (policy_of words) game.stakes (suc r)).reply turned.reply next.reply;
-      }
+  unfolding reply_rounds
+  round-more old new r swept has Follower =
+      agree-trans (words_by new.follow) (turned_words words (both_words old) Follower) (reply_rounds (policy_of words) game.stakes (suc r) Follower) (all-swept old new swept Follower)
+      (turn_by-agrees (policy_of words) legal game game_is.stakes (words_by old.reply) (reply_rounds (policy_of words) game.stakes r Replier) (has Replier))
+  round-more old new r swept has Replier =
+      agree-trans (words_by new.reply) (turned_words words (both_words old) Replier) (reply_rounds (policy_of words) game.stakes (suc r) Replier) (all-swept old new swept Replier)
+      (turn-agree game game_is.stakes (words_by old.follow) (reply_rounds (policy_of words) game.stakes r Follower) (has Follower))
 
   -- ---- before the first round
 
@@ -201,14 +201,15 @@ module _ (words : WordList) (game_is : IsGame words.game) where
 
   pub opening-rounds : (both : Banks) → Agree game (words_by both.follow) (bound_words game.stakes) → Agree game (words_by both.reply) (bound_words game.stakes) → AreReplyRounds (record { words = words; both = both }) 0
   unfolding reply_rounds
-  opening-rounds both follow reply = record { follow = follow; reply = reply }
+  opening-rounds both follow reply Follower = follow
+  opening-rounds both follow reply Replier = reply
 
   -- so they are right
   pub opening-ready : (both : Banks) → AreBanksOf game both → AreReplyRounds (record { words = words; both = both }) 0 → AreRightBanks game both
   unfolding reply_rounds
   opening-ready both full has = record {
-    follow = record { full = full.follow; within = agree-within game (words_by both.follow) (bound_words game.stakes) has.follow (opening-within game game_is.stakes) };
-    reply = record { full = full.reply; within = agree-within game (words_by both.reply) (bound_words game.stakes) has.reply (opening-within game game_is.stakes) };
+    follow = record { full = full.follow; within = agree-within game (words_by both.follow) (bound_words game.stakes) (has Follower) (opening-within game game_is.stakes) };
+    reply = record { full = full.reply; within = agree-within game (words_by both.reply) (bound_words game.stakes) (has Replier) (opening-within game game_is.stakes) };
   }
 
 -- where there is a state, there is a position

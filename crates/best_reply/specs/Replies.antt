@@ -44,30 +44,33 @@ before_turn_by policy stakes scoring turns later p k =
     better_of_by policy stakes scoring turns later p k
     (rolled_by policy stakes scoring turns later p k) (kind_at stakes k).double
 
--- what each position is worth to the side to move, where that is the follower, and where it is the replier
-pub record Worths : Type 0 where
-  pub follow : Values
-  pub reply : Values
+-- who is to move
+pub data Mover : Type 0 where
+  Follower : Mover
+  Replier : Mover
 
--- both are worth the same
+-- what each position is worth to who is to move
+abbrev pub Worths : Type 0
+Worths = Mover → Values
+
+-- the same to both
 abbrev pub same_worths : Values → Worths
-same_worths values = record { follow = values; reply = values }
+same_worths values mover = values
 
 -- in a game of so many turns, over the scale times 36 for each turn; an unfinished end has a worth of its own for either to move
 unfoldable pub worths : Policy → Terms → Scoring → Worths → ℕ → Worths
-worths policy stakes scoring ends zero = ends
-worths policy stakes scoring ends (suc turns) = record {
-  follow =
-      before_turn_by policy stakes scoring turns (worths policy stakes scoring ends turns).reply;
-  reply = before_turn stakes scoring turns (worths policy stakes scoring ends turns).follow;
-}
+worths policy stakes scoring ends zero mover = ends mover
+worths policy stakes scoring ends (suc turns) Follower =
+    before_turn_by policy stakes scoring turns (worths policy stakes scoring ends turns Replier)
+worths policy stakes scoring ends (suc turns) Replier =
+    before_turn stakes scoring turns (worths policy stakes scoring ends turns Follower)
 
--- the game is scored within its stakes, and an unfinished end is worth anything within the bound, to either side to move
-pub record AreScored (game : Game) (scoring : Scoring) (ends : Worths) : Type 0 where
-  pub follow : IsScoring game (record scoring { unfinished = ends.follow })
-  pub reply : IsScoring game (record scoring { unfinished = ends.reply })
+-- whoever is to move, it is a scoring of the game with what an unfinished end is worth to him
+abbrev pub AreScored : Game → Scoring → Worths → Type 0
+AreScored game scoring ends =
+    (mover : Mover) → IsScoring game (record scoring { unfinished = ends mover })
 
 -- following gives no more than best play on both sides, and replying no less
 pub record IsBetween (worths : Worths) (values : Values) (p : Placement) (k : ℕ) : Type 0 where
-  pub follow : worths.follow p k ≤ℤ values p k
-  pub reply : values p k ≤ℤ worths.reply p k
+  pub follow : worths Follower p k ≤ℤ values p k
+  pub reply : values p k ≤ℤ worths Replier p k

@@ -1,6 +1,7 @@
 ghost use Rattle.std.specs.Prelude.{◌≡◌, ◌+◌, ℕ, IfOk};
 ghost use Rattle.turn_rule.specs.Games.{IsGame};
 ghost use Rattle.turn_rule.specs.States.{IsState, pair_of};
+ghost use Rattle.best_reply.specs.Replies.{Follower, Replier};
 ghost use Rattle.best_reply.specs.ReplyPairs.{reply_rounds};
 ghost use Rattle.best_reply.specs.Tables.{policy_of, words_by};
 ghost use Rattle.best_reply.specs.Sides.{AreBanksOf, AreReplyRounds, IsReplyTurned};
@@ -99,7 +100,7 @@ impl<'a> ReplyTable<'a> {
         ensures rounds { (r : ℕ) → AreReplyRounds self.now r
             → let words = self.now.words in
             result ≡ pair_of
-            (reply_rounds (policy_of words) words.game.stakes r).follow position.now kind }
+            (reply_rounds (policy_of words) words.game.stakes r Follower) position.now kind }
     {
         let rank = self.words.index().rank(position);
         self.current.follow.pair(rank, kind)
@@ -112,7 +113,7 @@ impl<'a> ReplyTable<'a> {
         ensures rounds { (r : ℕ) → AreReplyRounds self.now r
             → let words = self.now.words in
             result ≡ pair_of
-            (reply_rounds (policy_of words) words.game.stakes r).reply position.now kind }
+            (reply_rounds (policy_of words) words.game.stakes r Replier) position.now kind }
     {
         let rank = self.words.index().rank(position);
         self.current.reply.pair(rank, kind)

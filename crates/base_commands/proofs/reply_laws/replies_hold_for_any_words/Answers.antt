@@ -7,7 +7,7 @@ returns c = λ words game rounds p k state.
     let policy = policy_of words in
     let legal = c.one_play_is_advised.ensures.legal words.game.stakes (words_in_list words) in
     record {
-      encloses = λ scoring ends scored turns most.
-          c.reply_rounds_enclose_longer_games.ensures words.game game policy legal scoring ends scored rounds turns most p k state;
+      encloses = λ scoring ends scored turns most mover.
+          c.reply_rounds_enclose_longer_games.ensures words.game game policy legal scoring ends scored rounds turns most mover p k state;
       between = λ scoring turns. c.following_gives_no_more_and_replying_no_less.ensures policy legal words.game.stakes scoring turns p k;
     }

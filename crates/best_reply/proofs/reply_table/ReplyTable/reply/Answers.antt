@@ -1,6 +1,7 @@
 use Rattle.std.proofs.Common.{◌<◌, ◌∙◌, ℕ, ap, sym, subst, arith}
 use Rattle.position_rank.specs.LiveRanks.{live_positions}
 use Rattle.turn_rule.specs.States.{IsState, pair_of}
+use Rattle.best_reply.specs.Replies.{Replier}
 use Rattle.best_reply.specs.ReplyPairs.{reply_rounds}
 use Rattle.best_reply.specs.Sides.{ReplyState}
 use Rattle.best_reply.specs.Tables.{policy_of, words_by}
@@ -29,4 +30,4 @@ returns-clause-rounds c = λ r has.
     let words = c.args.self.now.words in
     let is = looked-up c.self.inside.current.reply p k c.rank-rank.result c.pair.result c.rank-rank.ensures.rank c.pair.ensures
     ∙ ap (λ (s : ReplyState). pair_of (words_by s.both.reply) p k) c.self.view_is in
-    same-pair (words_by c.args.self.now.both.reply) (reply_rounds (policy_of words) words.game.stakes r).reply p k c.pair.result is (λ end. has.reply end p k c.requires)
+    same-pair (words_by c.args.self.now.both.reply) (reply_rounds (policy_of words) words.game.stakes r Replier) p k c.pair.result is (λ end. has Replier end p k c.requires)
