@@ -228,7 +228,7 @@ keep-act im next x games left now player (Rolled roll written) told new keep com
     subst (λ (m : Moment). Keeps x games left m) (sym h.4)
     (moved next x games left now game keep (λ _. needed) keep.place (omega arith)
     (asked-there x (OfRoll player) (goes_on now game) (what-comes im next (OfRoll player) x comes) tt)
-    (board-played now.checkers now.stakes player roll h.1 now.progress keep.board h.0 play.2 (h.2.0, h.2.2)))
+    (board-played now.checkers now.stakes player roll h.1 now.progress keep.board h.0 play.2 (h.2.moves, h.2.legal)))
 keep-act im next x games left now player Doubled told new keep comes play h =
     let needed = keep.needed (acts-within im next player Doubled x comes) in
     let game = game_after_double now.progress in

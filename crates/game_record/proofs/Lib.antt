@@ -11,7 +11,6 @@ mod LineLaws
 mod LineWords
 mod MatchPlaces
 mod Numbers
-mod OneEnd
 mod OneReplay
 mod Printing
 mod ReadingLaws

@@ -1,12 +1,11 @@
 -- Lines tell one list of decisions, or one of them breaks a rule.
 use Rattle.std.proofs.Common.{◌≡◌, ◌≤◌, ◌*◌, Bool, true, false, cond, List, [], ◌∷◌, ◌++◌, length, Result, Ok, Err, IfErr, inl, inr, refl, ap, sym, subst, ◌∙◌, arith, length-append}
 use Rattle.position_rank.specs.Placement.{Placement}
-use Rattle.roll_table.specs.Rolls.{Dice, dice_of}
+use Rattle.roll_table.specs.Rolls.{Dice}
 use Rattle.move_rules.specs.declared.applied.BadPlay.{BadPlay}
-use Rattle.move_rules.specs.declared.play.Move.{Move}
 use Rattle.move_rules.specs.declared.written.Step.{Step}
-use Rattle.move_rules.specs.Sequences.{IsLegal}
-use Rattle.move_rules.specs.Written.{IsWritten, IsWrittenFault}
+use Rattle.move_rules.specs.Written.{Leaves, IsWrittenFault}
+use Rattle.move_rules.proofs.WrittenLaws.{leaves-one}
 use Rattle.game_record.specs.declared.decision.Choice.TheVariants.{Offered, Played}
 use Rattle.game_record.specs.declared.decision.Decision.{Decision}
 use Rattle.game_record.specs.declared.decision.Offer.TheVariants.{NoDouble}
@@ -25,17 +24,16 @@ use Rattle.game_record.specs.Drafts.{StopsBy}
 use Rattle.game_record.specs.Games.{game_after_play}
 use Rattle.game_record.specs.Lines.{games_lines}
 use Rattle.game_record.specs.Replay.{Acts, AllTell, BreaksAt, IsBroken, IsReplay, IsWrongAct, IsWrongLine, Reports, decided, first_moment, goes_on, may_double_now, undoubled}
-use Rattle.game_record.proofs.OneEnd.{one-end}
 
--- steps that are written for a legal play have no fault
+-- a written play that is right has no fault
 abbrev pub LegalPlaysAreRight : Type 0
-LegalPlaysAreRight = (p : Placement) (roll : Dice) (steps : List Step) (moves : List Move) (q : Placement) (fault : BadPlay) → IsWritten p (dice_of roll) steps moves q → IsLegal p roll moves q → IsWrittenFault p roll steps fault → ⊥
+LegalPlaysAreRight = (p : Placement) (roll : Dice) (steps : List Step) (q : Placement) (fault : BadPlay) → Leaves p roll steps q → IsWrittenFault p roll steps fault → ⊥
 
 -- ---- one list
 
 act-one : (now : Moment) (player : Player) (what : What) (a b : List Decision) (x y : Moment) → Acts now player what a x → Acts now player what b y → (a ≡ b) × (x ≡ y)
 act-one now player (Rolled roll written) a b x y h k =
-    let same = one-end now.progress.position roll written.items h.2.0 k.2.0 h.1 k.1 h.2.1 k.2.1 in (
+    let same = leaves-one now.progress.position roll written.items h.1 k.1 h.2 k.2 in (
       h.3 ∙ ap (λ (end : Placement). undoubled now player ++ decided now player player (Played roll end) ∷ []) same ∙ sym k.3,
       h.4 ∙ ap (λ (end : Placement). goes_on now (game_after_play now.stakes player end now.progress)) same ∙ sym k.4,
     )
@@ -68,7 +66,7 @@ one-replay rec told others h k = all-one-way (games_lines 1 rec.games) (first_mo
 
 act-right : LegalPlaysAreRight → (now : Moment) (player : Player) (what : What) (told : List Decision) (next : Moment) (fault : RecordFault) → Acts now player what told next → IsWrongAct now player what fault → ⊥
 act-right legal now player (Rolled roll written) told next fault h (inl over) = let clash : true ≡ false = sym over.0 ∙ h.0 in cc
-act-right legal now player (Rolled roll written) told next fault h (inr wrong) = legal now.progress.position roll written.items h.2.0 h.1 wrong.1 h.2.1 h.2.2 wrong.2
+act-right legal now player (Rolled roll written) told next fault h (inr wrong) = legal now.progress.position roll written.items h.1 wrong.1 h.2 wrong.2
 act-right legal now player Doubled told next fault h (inl over) = let clash : true ≡ false = sym over.0 ∙ h.0 in cc
 act-right legal now player Doubled told next fault h (inr wrong) = let clash : true ≡ false = sym h.1 ∙ wrong.1 in cc
 act-right legal now player Took told next fault h wrong = wrong

@@ -90,7 +90,7 @@ right-act : (rec : Record) (in_match : Bool) (next x : Next) (games left : ℕ) 
 right-act rec im next x games left now player (Rolled roll written) told new keep of comes play h =
     let score = has-score now.stakes now.standing keep.stands (keep.needed (acts-within im next player (Rolled roll written) x comes)) in
     let played = decided now player player (Played roll h.1) in
-    let last = one rec played (played ∷ []) refl (right-here rec next games left now player player (Played roll h.1) keep of score h.0 (λ starts. (play.2, (h.2.0, h.2.2)))) in
+    let last = one rec played (played ∷ []) refl (right-here rec next games left now player player (Played roll h.1) keep of score h.0 (λ starts. (play.2, (h.2.moves, h.2.legal)))) in
     subst (λ (ds : List Decision). All (IsRightDecision rec) ds) (sym h.3)
     (All-append (IsRightDecision rec) (undoubled now player) (played ∷ []) (right-undoubled rec next games left now player keep of score h.0) last)
 right-act rec im next x games left now player Doubled told new keep of comes play h =

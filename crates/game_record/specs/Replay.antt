@@ -1,12 +1,8 @@
 -- How a record is replayed, line by line: the decisions that its lines tell, and the first line that breaks a rule.
 use Rattle.std.specs.Prelude.{◌≡◌, ◌≢◌, ◌⊎◌, ℕ, ◌+◌, ◌*◌, Bool, true, false, List, [], ◌∷◌, ◌++◌, Some, if◌then◌else◌}
-use Rattle.move_rules.specs.Sequences.{IsLegal}
-use Rattle.move_rules.specs.Written.{IsWritten, IsWrittenFault}
+use Rattle.move_rules.specs.Written.{Leaves, IsWrittenFault}
 use Rattle.move_rules.specs.declared.applied.BadPlay.{BadPlay}
-use Rattle.move_rules.specs.declared.play.Move.{Move}
-use Rattle.move_rules.specs.declared.written.Step.{Step}
 use Rattle.position_rank.specs.Placement.{Placement}
-use Rattle.roll_table.specs.Rolls.{Dice, dice_of}
 use Rattle.game_record.specs.declared.decision.Answer.{Answer}
 use Rattle.game_record.specs.declared.decision.Answer.TheVariants.{Take, Pass, Beaver}
 use Rattle.game_record.specs.declared.decision.Choice.{Choice}
@@ -70,11 +66,6 @@ undoubled now player = if may_double_now now player
     else []
 
 -- ---- right lines
-
--- what a play leaves that is written for the roll and legal, seen by the same player
-abbrev pub Leaves : Placement → Dice → List Step → Placement → Type 0
-Leaves position roll steps end = (moves : List Move)
-    × IsWritten position (dice_of roll) steps moves end × IsLegal position roll moves end
 
 -- the game goes on in the next line
 abbrev pub goes_on : Moment → Progress → Moment

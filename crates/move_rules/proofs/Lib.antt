@@ -11,6 +11,7 @@ pub mod SomeEnd
 pub mod FaultLaws
 pub mod WrittenLaws
 mod NoFault
+mod WrittenLegal
 pub mod CountsAbove
 mod OpeningPlays
 mod MoveCases

@@ -1,5 +1,5 @@
 -- A legal play has no fault, and a written play that is one has none.
-use Rattle.std.proofs.Common.{◌≡◌, ◌≢◌, ◌<◌, ◌≤◌, ◌⊎◌, ◌↔◌, IsTrue, ℕ, zero, suc, max, Bool, true, false, cond, eqb, List, [], ◌∷◌, length, replicate, map, get_or, Some, inl, inr, refl, sym, ap, subst, ◌∙◌, arith}
+use Rattle.std.proofs.Common.{◌≡◌, ◌≢◌, ◌<◌, ◌≤◌, ◌⊎◌, ◌↔◌, IsTrue, ℕ, zero, suc, Bool, true, false, cond, eqb, List, [], ◌∷◌, length, replicate, map, get_or, Some, inl, inr, refl, sym, ap, subst, ◌∙◌, arith}
 use Rattle.std.proofs.lemmas.Bool.Decides.{nat_tests}
 use Rattle.std.specs.List.{slice_get, remove}
 use Rattle.position_rank.specs.Placement.{Placement, above}
@@ -11,9 +11,10 @@ use Rattle.move_rules.specs.declared.applied.BadPlay.TheVariants.{WrongDice, NoC
 use Rattle.move_rules.specs.Moves.{MayLeave, IsMove}
 use Rattle.move_rules.specs.Sequences.{IsSequence, IsLegal}
 use Rattle.move_rules.specs.Faults.{HasFault, IsFirstWrong, IsWholeFault, IsFault}
-use Rattle.move_rules.specs.Written.{TakesLastOff, IsSmallest, IsDieOf, IsHit, IsStep, IsWritten, IsWrongStep, IsWrongWritten, IsWrittenFault}
+use Rattle.move_rules.specs.Written.{IsSmallest, IsGreatest, IsDieOf, IsHit, IsStep, IsWritten, Leaves, IsWrongStep, IsWrongWritten, IsWrittenFault}
 use Rattle.move_rules.proofs.EndsExact.{after_move-complete, same_dice}
 use Rattle.move_rules.proofs.FaultLaws.{Contains-got}
+use Rattle.move_rules.proofs.WrittenLegal.{IsTakenAs, written-legal}
 
 leaves : (p : Placement) (die from : ℕ) (q : Placement) → IsMove p die from q → MayLeave p from
 leaves p die from q (inl runs) = runs.leaves
@@ -113,12 +114,11 @@ legal-right p roll moves q fault legal (inr whole) = legal-whole p roll moves q 
 
 -- ---- written plays
 
-top_die : (p : Placement) (dice : List ℕ) (from die : ℕ) → TakesLastOff p dice from die → die ≡ max (get_or dice 0 0) (get_or dice 1 0)
-top_die p dice from die (off, reaches, lower, less, inl e) = rw e (omega arith)
-top_die p dice from die (off, reaches, lower, less, inr e) = rw e (omega arith)
-
 least_die : (dice : List ℕ) (from die other : ℕ) → IsSmallest dice from die → IsSmallest dice from other → die ≤ other
 least_die dice from die other a b = let k = b.0 in rw k.2 at (a.2 k.0 other k.1 (rw k.2 b.1))
+
+greatest_die : (dice : List ℕ) (from die other : ℕ) → IsGreatest dice from die → IsGreatest dice from other → other ≤ die
+greatest_die dice from die other a b = let k = b.0 in rw k.2 at (a.2 k.0 other k.1)
 
 both_ways : (a b : ℕ) → a ≤ b → b ≤ a → a ≡ b
 both_ways a b h k = omega arith
@@ -130,9 +130,9 @@ one_die_of p dice step a b (inl h) (inr (inl k)) = let above = h.0 in let off = 
 one_die_of p dice step a b (inl h) (inr (inr k)) = let above = h.0 in let off = k.0 in absurd (omega (arith, above, off))
 one_die_of p dice step a b (inr (inl h)) (inl k) = let above = k.0 in let off = h.0 in absurd (omega (arith, above, off))
 one_die_of p dice step a b (inr (inr h)) (inl k) = let above = k.0 in let off = h.0 in absurd (omega (arith, above, off))
-one_die_of p dice step a b (inr (inl h)) (inr (inl k)) = top_die p dice step.from a h.1 ∙ sym (top_die p dice step.from b k.1)
-one_die_of p dice step a b (inr (inl h)) (inr (inr k)) = absurd (k.1 a h.1)
-one_die_of p dice step a b (inr (inr h)) (inr (inl k)) = absurd (h.1 b k.1)
+one_die_of p dice step a b (inr (inl h)) (inr (inl k)) = both_ways a b (greatest_die dice step.from b a k.2 h.2) (greatest_die dice step.from a b h.2 k.2)
+one_die_of p dice step a b (inr (inl h)) (inr (inr k)) = absurd (k.1 h.1)
+one_die_of p dice step a b (inr (inr h)) (inr (inl k)) = absurd (h.1 k.1)
 one_die_of p dice step a b (inr (inr h)) (inr (inr k)) = both_ways a b (least_die dice step.from a b h.2 k.2) (least_die dice step.from b a k.2 h.2)
 
 as_made : (m : Move) (from die : ℕ) → m.from ≡ from → m.die ≡ die → m ≡ record { from = from; die = die }
@@ -151,9 +151,9 @@ right_step p dice step m i next fault right (inl (e, none)) = none m.die right.d
 right_step p dice step m i next fault right (inr (inl (die, is, wrong))) =
     let same = as_made m step.from die right.from (one_die_of p dice step m.die die right.die is) in
     right_move p dice i m next fault right.left right.made (subst (λ (x : Move). HasFault p dice x fault) (sym same) wrong.fault_is)
-right_step p dice step m i next fault right (inr (inr (e, die, is, left, r, made, unlike))) =
+right_step p dice step m i next fault right (inr (inr (e, die, is, marked))) =
     let same = as_made m step.from die right.from (one_die_of p dice step m.die die right.die is) in
-    unlike (subst (λ (x : Move). IsTrue step.hit ↔ IsHit p x) same right.mark)
+    marked.mark (subst (λ (x : Move). IsTrue step.hit ↔ IsHit p x) same right.mark)
 
 written-alike : (n d : ℕ) (p : Placement) (steps : List Step) (moves : List Move) (q : Placement) (fault : BadPlay) → IsWritten p (replicate n d) steps moves q → IsWrongWritten p (replicate n d) steps fault → ⊥
 written-alike n d p [] [] q fault s w = w
@@ -229,15 +229,19 @@ moves-two a b apart p (step ∷ steps) (m ∷ moves) (o ∷ others) q r (i, next
       go zero (suc (suc j)) e k s t = absurd (grind arith)
       go (suc zero) (suc (suc j)) e k s t = absurd (grind arith)
 
--- steps that are written for a legal play have no fault
-pub written-right : (p : Placement) (roll : Dice) (steps : List Step) (moves : List Move) (q : Placement) (fault : BadPlay) → IsWritten p (dice_of roll) steps moves q → IsLegal p roll moves q → IsWrittenFault p roll steps fault → ⊥
-written-right p roll steps moves q fault written legal (inl wrong) = by (eqb roll.high roll.low) refl written wrong where
+-- what is taken has no fault
+taken-right : (p : Placement) (roll : Dice) (steps : List Step) (q : Placement) (fault : BadPlay) → IsTakenAs p roll steps q → IsWrittenFault p roll steps fault → ⊥
+taken-right p roll steps q fault (moves, written, legal) (inl wrong) = by (eqb roll.high roll.low) refl written wrong where
   by : (b : Bool) → eqb roll.high roll.low ≡ b → IsWritten p (cond b (roll.high ∷ roll.high ∷ roll.high ∷ roll.high ∷ []) (roll.high ∷ roll.low ∷ [])) steps moves q → IsWrongWritten p (cond b (roll.high ∷ roll.high ∷ roll.high ∷ roll.high ∷ []) (roll.high ∷ roll.low ∷ [])) steps fault → ⊥
   by true e s w = written-alike 4 roll.high p steps moves q fault s w
   by false e s w = written-two roll.high roll.low (λ same. absurd (grind (arith, nat_tests))) p steps moves q fault s w
-written-right p roll steps moves q fault written legal (inr (others, end, other, whole)) =
+taken-right p roll steps q fault (moves, written, legal) (inr (others, end, other, whole)) =
     let same = by (eqb roll.high roll.low) refl other written in
     legal-whole p roll moves q fault legal (subst (λ (xs : List Move). IsWholeFault p roll xs fault) same whole) where
       by : (b : Bool) → eqb roll.high roll.low ≡ b → IsWritten p (cond b (roll.high ∷ roll.high ∷ roll.high ∷ roll.high ∷ []) (roll.high ∷ roll.low ∷ [])) steps others end → IsWritten p (cond b (roll.high ∷ roll.high ∷ roll.high ∷ roll.high ∷ []) (roll.high ∷ roll.low ∷ [])) steps moves q → others ≡ moves
       by true e s t = moves-alike 4 roll.high p steps others moves end q s t
       by false e s t = moves-two roll.high roll.low (λ same. absurd (grind (arith, nat_tests))) p steps others moves end q s t
+
+-- nor has a written play that is right
+pub written-right : (p : Placement) (roll : Dice) (steps : List Step) (q : Placement) (fault : BadPlay) → Leaves p roll steps q → IsWrittenFault p roll steps fault → ⊥
+written-right p roll steps q fault right wrong = taken-right p roll steps q fault (written-legal p roll right.moves q steps right.roll_is right.legal right.written) wrong

@@ -1,41 +1,25 @@
--- The dice of written steps.
-use Rattle.std.proofs.Common.{◌≡◌, ◌≢◌, ◌≤◌, ◌<◌, ◌+◌, ℕ, max, Bool, true, false, IsTrue, List, [], ◌∷◌, ◌++◌, length, drop, get_or, ◌⊎◌, Option, inl, inr, refl, ap, subst, sym, arith, append_assoc, length-append, add-one, drop-cons}
-use Rattle.std.proofs.lemmas.Bool.{cases_lt}
+-- The dice of written steps, and where they lead.
+use Rattle.std.proofs.Common.{◌≡◌, ◌≤◌, ◌<◌, ◌+◌, ◌-◌, ◌∙◌, ℕ, Bool, true, false, IsTrue, List, [], ◌∷◌, ◌++◌, length, drop, get_or, unwrap_or, Option, inl, inr, refl, ap, subst, sym, arith, append_assoc, length-append, add-one, drop-cons}
 use Rattle.std.proofs.lemmas.List.{append-nil}
 use Rattle.std.specs.Prelude.{◌↔◌}
 use mathlib.Core.Bool.{beq}
 use Rattle.std.specs.List.{All, remove}
 use Rattle.std.specs.Option.{MatchOption}
-use Rattle.position_rank.specs.Placement.{Placement}
+use Rattle.position_rank.specs.Placement.{Placement, moved, hit}
+use Rattle.roll_table.specs.Rolls.{Dice, dice_of}
+use Rattle.move_rules.specs.Ends.{next_board}
+use Rattle.move_rules.specs.Moves.{IsMove}
 use Rattle.move_rules.specs.Sequences.{IsSequence}
-use Rattle.move_rules.specs.Written.{TakesLastOff, IsSmallest, IsStep, IsWritten, IsWrongStep, IsWrongWritten}
+use Rattle.move_rules.specs.Written.{AreStepsOf, IsSmallest, IsDieOf, IsStep, IsWritten, Leaves, IsWrongStep, IsWrongWritten}
 use Rattle.move_rules.specs.declared.play.Move.{Move}
 use Rattle.move_rules.specs.declared.written.Step.{Step}
 use Rattle.move_rules.specs.declared.applied.BadPlay.{BadPlay}
+use Rattle.move_rules.proofs.EndsExact.{after_move-complete}
 use Rattle.move_rules.proofs.FaultLaws.{All-remove}
 
 -- the smallest so far of some dice
 abbrev pub SmallestSoFar : List ℕ → ℕ → Option ℕ → Type 0
 SmallestSoFar dice from best = MatchOption best (All (λ die. die < from) dice) (IsSmallest dice from)
-
--- ---- the last checker off
-
-pub takes-off : (dice : List ℕ) (from one another higher : ℕ) → length dice ≡ 2 → one ≡ get_or dice 0 0 → another ≡ get_or dice 1 0 → higher ≡ max one another → one ≢ another → from ≤ higher
-    → (lower : ℕ) × (lower < higher) × ((dice ≡ higher ∷ lower ∷ []) ⊎ (dice ≡ lower ∷ higher ∷ []))
-takes-off [] from one another higher two a b h apart long = absurd (omega arith)
-takes-off (x ∷ []) from one another higher two a b h apart long = absurd (omega arith)
-takes-off (x ∷ y ∷ z ∷ dice) from one another higher two a b h apart long = absurd (omega arith)
-takes-off (x ∷ y ∷ []) from one another higher two a b h apart long = elim (cases_lt x y) [
-  | inl less ↦ (let e : y ≡ higher = omega arith in (x, omega arith, inr (ap (λ (z : ℕ). x ∷ z ∷ []) e)))
-  | inr more ↦ (let e : x ≡ higher = omega arith in (y, omega arith, inl (ap (λ (z : ℕ). z ∷ y ∷ []) e)))
-]
-
--- and no other does
-pub takes-two : (p : Placement) (dice : List ℕ) (from die : ℕ) → TakesLastOff p dice from die → (length dice ≡ 2) × (get_or dice 0 0 ≢ get_or dice 1 0) × (from ≤ max (get_or dice 0 0) (get_or dice 1 0))
-takes-two p dice from die h = elim h.4 [
-  | inl e ↦ subst (λ (xs : List ℕ). (length xs ≡ 2) × (get_or xs 0 0 ≢ get_or xs 1 0) × (from ≤ max (get_or xs 0 0) (get_or xs 1 0))) (sym e) (refl, λ same. omega (arith, same, h.3), omega (arith, h.1))
-  | inr e ↦ subst (λ (xs : List ℕ). (length xs ≡ 2) × (get_or xs 0 0 ≢ get_or xs 1 0) × (from ≤ max (get_or xs 0 0) (get_or xs 1 0))) (sym e) (refl, λ same. omega (arith, same, h.3), omega (arith, h.1))
-]
 
 -- ---- marks
 
@@ -83,3 +67,52 @@ written-sequence p dice (step ∷ steps) (move ∷ moves) q (i, next, here, w) =
 
 pub next-step : (steps : List Step) (i : ℕ) (step : Step) → i < length steps → step ≡ get_or steps i step → drop i steps ≡ step ∷ drop (i + 1) steps
 next-step steps i step h e = subst (λ (x : Step). drop i steps ≡ x ∷ drop (i + 1) steps) (sym e) (rw (add-one, drop-cons steps i step))
+
+-- ---- the end of a written play
+
+pub board-after : (p : Placement) (m : Move) (next : Placement) → IsMove p m.die m.from next → next_board p m ≡ next
+board-after p m next move = ap (λ (o : Option Placement). unwrap_or o p) (after_move-complete p m.die m.from next move)
+
+same-run : (p : Placement) (die other from : ℕ) (q r : Placement) → IsMove p die from q → IsMove p other from r → from - die ≡ from - other → q ≡ r
+same-run p die other from q r (inl a) (inl b) e =
+    let run : ℕ → Placement = λ to. record { mover = moved p.mover from to; other = hit p.other (25 - to) } in
+    a.after ∙ (ap run e ∙ sym b.after)
+same-run p die other from q r (inl a) (inr b) e = (let on_board = a.on_board in let reaches = b.reaches in absurd (omega arith))
+same-run p die other from q r (inr a) (inl b) e = (let on_board = b.on_board in let reaches = a.reaches in absurd (omega arith))
+same-run p die other from q r (inr a) (inr b) e = a.after ∙ sym b.after
+
+-- a step goes as far as its move
+step-to : (p : Placement) (dice : List ℕ) (step : Step) (m : Move) (i : ℕ) (next : Placement) → IsStep p dice step m i next → step.from - m.die ≡ step.to
+step-to p dice step m i next is = by is.die where
+  by : IsDieOf p dice step m.die → step.from - m.die ≡ step.to
+  by (inl h) = (let falls = step.falls in omega (arith, h.0, h.1, falls))
+  by (inr (inl h)) = (let long = h.2.1 in omega (arith, h.0, long))
+  by (inr (inr h)) = (let long = h.2.1 in omega (arith, h.0, long))
+
+-- steps lead to one end, by whatever dice
+pub steps-lead : (p : Placement) (dice fewer : List ℕ) (steps : List Step) (moves others : List Move) (q r : Placement) → AreStepsOf p moves steps → IsSequence p dice moves q → AreStepsOf p others steps → IsSequence p fewer others r → q ≡ r
+steps-lead p dice fewer [] [] [] q r a s b t = s ∙ sym t
+steps-lead p dice fewer [] [] (o ∷ others) q r a s b t = absurd b
+steps-lead p dice fewer [] (m ∷ moves) others q r a s b t = absurd a
+steps-lead p dice fewer (step ∷ steps) [] others q r a s b t = absurd a
+steps-lead p dice fewer (step ∷ steps) (m ∷ moves) [] q r a s b t = absurd b
+steps-lead p dice fewer (step ∷ steps) (m ∷ moves) (o ∷ others) q r (a, later) (i, e, next, made, rest) (b, after) (j, f, left, made2, rest2) =
+    let from : o.from ≡ m.from = sym b.from ∙ a.from in
+    let same : next ≡ left = same-run p m.die o.die m.from next left made (subst (λ (n : ℕ). IsMove p o.die n left) from made2) (sym a.to ∙ (b.to ∙ ap (λ (n : ℕ). n - o.die) from)) in
+    steps-lead next (remove dice i) (remove fewer j) steps moves others q r
+    (subst (λ (x : Placement). AreStepsOf x moves steps) (board-after p m next made) later) rest
+    (subst (λ (x : Placement). AreStepsOf x others steps) (board-after p o left made2 ∙ sym same) after) (subst (λ (x : Placement). IsSequence x (remove fewer j) others r) (sym same) rest2)
+
+-- so a right play leaves one position
+pub leaves-one : (p : Placement) (roll : Dice) (steps : List Step) (q r : Placement) → Leaves p roll steps q → Leaves p roll steps r → q ≡ r
+leaves-one p roll steps q r a b = steps-lead p (dice_of roll) (dice_of roll) steps a.moves b.moves q r a.written a.legal.sequence b.written b.legal.sequence
+
+-- what is written by the dice of its steps is written so
+pub steps-of : (p : Placement) (dice : List ℕ) (steps : List Step) (moves : List Move) (q : Placement) → IsWritten p dice steps moves q → AreStepsOf p moves steps
+steps-of p dice [] [] q w = tt
+steps-of p dice [] (m ∷ moves) q w = absurd w
+steps-of p dice (step ∷ steps) [] q w = absurd w
+steps-of p dice (step ∷ steps) (m ∷ moves) q (i, next, here, rest) = (
+  record { from = sym here.from; to = sym (ap (λ (n : ℕ). n - m.die) here.from ∙ step-to p dice step m i next here); mark = here.mark },
+  subst (λ (x : Placement). AreStepsOf x moves steps) (sym (board-after p m next here.made)) (steps-of next (remove dice i) steps moves q rest),
+)

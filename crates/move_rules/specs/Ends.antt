@@ -1,5 +1,5 @@
 -- The legal ends as a list, found by trying every place with every order of the dice.
-use Rattle.std.specs.Prelude.{ℕ, zero, suc, ◌-◌, ◌==◌, nat_lt, nat_le, max, Bool, not, ◌&&◌, ◌||◌, List, [], ◌∷◌, ◌++◌, length, map, filter, Option, Some, None, is_some, slice_index, if◌then◌else◌}
+use Rattle.std.specs.Prelude.{ℕ, zero, suc, ◌-◌, ◌==◌, nat_lt, nat_le, max, Bool, not, ◌&&◌, ◌||◌, List, [], ◌∷◌, ◌++◌, length, map, filter, Option, Some, None, is_some, unwrap_or, slice_index, if◌then◌else◌}
 use Rattle.std.specs.List.{flat_map, list_any}
 use Rattle.std.specs.Option.{option_to_list}
 use Rattle.position_rank.specs.Placement.{Placement, moved, above, hit}
@@ -27,6 +27,10 @@ after_move p die from =
     else if can_bear_off p die from
     then Some (record { mover = moved p.mover from 0; other = p.other })
     else None
+
+-- what a move leaves that can be made
+abbrev pub next_board : Placement → Move → Placement
+next_board p move = unwrap_or (after_move p move.die move.from) p
 
 -- from this place down to 1
 abbrev pub down_from : ℕ → List ℕ

@@ -1,11 +1,11 @@
 ghost use Rattle.std.specs.Prelude.{◌≡◌, ◌↔◌, ◌≤◌, ℕ, Contains, List, sum};
 ghost use Rattle.position_rank.specs.Packed.{start_placement};
 ghost use Rattle.position_rank.specs.Placement.{Placement, IsPosition, IsLive, InPlay, swap};
-ghost use Rattle.roll_table.specs.Rolls.{Dice, IsRoll, dice_of, opening_rolls};
+ghost use Rattle.roll_table.specs.Rolls.{Dice, IsRoll, opening_rolls};
 ghost use Rattle.move_rules.specs.Ends.{legal_ends};
 ghost use Rattle.move_rules.specs.Faults.{IsFault};
 ghost use Rattle.move_rules.specs.Sequences.{IsLegal, IsLegalEnd};
-ghost use Rattle.move_rules.specs.Written.{IsWritten, IsWrittenFault};
+ghost use Rattle.move_rules.specs.Written.{Leaves, IsWrittenFault};
 ghost use Rattle.move_rules.specs.declared.play.Move.{Move};
 ghost use Rattle.move_rules.specs.declared.written.Step.{Step};
 ghost use Rattle.move_rules.specs.declared.applied.BadPlay.{BadPlay};
@@ -36,10 +36,8 @@ pub fn legal_plays_have_no_fault()
         → IsLegal p roll moves q → IsFault p roll moves fault → ⊥ }
 {}
 
-/// Steps that are written for a legal play have no fault.
+/// A written play that is right has no fault.
 pub fn written_legal_plays_have_no_fault()
-    ensures { (p : Placement) (roll : Dice) (steps : List Step) (moves : List Move)
-        (q : Placement) (fault : BadPlay)
-        → IsWritten p (dice_of roll) steps moves q → IsLegal p roll moves q
-        → IsWrittenFault p roll steps fault → ⊥ }
+    ensures { (p : Placement) (roll : Dice) (steps : List Step) (end : Placement) (fault : BadPlay)
+        → Leaves p roll steps end → IsWrittenFault p roll steps fault → ⊥ }
 {}

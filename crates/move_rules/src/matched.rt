@@ -1,9 +1,9 @@
-ghost use Rattle.std.specs.Prelude.{◌≡◌, ◌≢◌, IsTrue, ℕ, ◌+◌, ◌-◌, ◌≤◌, ◌<◌, ◌⊎◌, ◌↔◌, List, [], ◌∷◌, sum, length, Some, All, Contains, IsOk, IfOk, IfErr, MatchOption, slice_index, remove};
+ghost use Rattle.std.specs.Prelude.{◌≡◌, ◌≢◌, IsTrue, ℕ, ◌+◌, ◌-◌, ◌≤◌, ◌<◌, ◌⊎◌, ◌↔◌, [], ◌∷◌, sum, length, Some, All, Contains, IsOk, IfOk, IfErr, MatchOption, slice_index, remove};
 ghost use Rattle.position_rank.specs.Placement.{Placement};
 ghost use Rattle.roll_table.specs.Rolls.{IsRoll, dice_of};
 ghost use Rattle.move_rules.specs.Moves.{IsMove};
 ghost use Rattle.move_rules.specs.Sequences.{IsLegal};
-ghost use Rattle.move_rules.specs.Written.{TakesLastOff, IsSmallest, IsDieOf, IsHit, IsStep, IsWritten, IsWrongStep, IsWrongWritten, IsWrittenFault};
+ghost use Rattle.move_rules.specs.Written.{HasOneLeft, IsSmallest, IsGreatest, IsDieOf, IsHit, IsStep, IsWritten, Leaves, IsWrongStep, IsWrongWritten, IsWrittenFault};
 
 use crate::applied::{BadPlay, all_dice, judge, make};
 use crate::play::{Entry, Move, Play};
@@ -13,16 +13,16 @@ use position_rank::Position;
 use roll_table::Roll;
 
 /// The moves for which a play is written and the position that they leave, seen by the same mover, exactly where the play is legal and its marks are right.
-/// A step to a point is made by the die of its length. A step off is made by the smallest die that is left and long enough, but where the last checker goes off
-/// and two unequal dice are left, by the higher, as it has to be played.
+/// A step to a point is made by the die of its length. A step off is made by a die that is left and long enough: by the smallest, or for the last checker, as it has
+/// to be played, by the greatest.
 pub fn match_play(position: &Position, roll: Roll, written: &Written) -> Result<Entry, BadPlay>
+    ensures right { IfOk result (λ entry. Leaves position.now roll written.now.items entry.end) }
     ensures written { IfOk result (λ entry.
         IsWritten position.now (dice_of roll) written.now.items entry.play.items entry.end) }
     ensures legal { IfOk result (λ entry. IsLegal position.now roll entry.play.items entry.end) }
     ensures err { IfErr result (IsWrittenFault position.now roll written.now.items) }
-    ensures complete { (moves : List Move) (end : Placement)
-        → IsWritten position.now (dice_of roll) written.now.items moves end
-        → IsLegal position.now roll moves end → IsOk result }
+    ensures complete { (end : Placement)
+        → Leaves position.now roll written.now.items end → IsOk result }
 {
     let entry = match_steps(position, roll, written)?;
     judge(position, roll, &entry.play)?;
@@ -95,29 +95,28 @@ fn die_of(position: &Position, dice: &ArrayVec<u8, 4>, step: Step) -> Option<u8>
     if step.to > 0 {
         return Some(step.from - step.to);
     }
-    let last = last_off(position, dice, step.from);
-    if last.is_some() {
-        return last;
+    if has_one_left(position) {
+        greatest(dice, step.from)
+    } else {
+        smallest(dice, step.from)
     }
-    smallest(dice, step.from)
 }
 
-/// The higher of two unequal dice, if it takes the last checker off from here.
-fn last_off(position: &Position, dice: &ArrayVec<u8, 4>, from: u8) -> Option<u8>
-    ensures { MatchOption result
-        ((die : ℕ) → TakesLastOff position.now dice.now.items from die → ⊥)
-        (TakesLastOff position.now dice.now.items from) }
+/// Whether one checker of the mover isn't off.
+fn has_one_left(position: &Position) -> bool
+    ensures { IsTrue result ↔ HasOneLeft position.now }
 {
-    if position.mover_at(0) != position.checkers() - 1 || dice.len() != 2 {
-        return None;
-    }
-    let one = dice[0];
-    let another = dice[1];
-    let higher = one.max(another);
-    if one == another || higher < from {
-        return None;
-    }
-    Some(higher)
+    position.mover_at(0) == position.checkers() - 1
+}
+
+/// The greatest die that is left, if it takes a checker off from here.
+fn greatest(dice: &ArrayVec<u8, 4>, from: u8) -> Option<u8>
+    ensures { MatchOption result
+        (All (λ die. die < from) dice.now.items)
+        (IsGreatest dice.now.items from) }
+{
+    let best = dice.iter().copied().max()?;
+    (best >= from).then_some(best)
 }
 
 /// The smallest die that is left and takes a checker off from here.

@@ -9,10 +9,11 @@ use Rattle.position_rank.specs.Placement.{Placement}
 use Rattle.position_text.specs.Text.{place_text}
 use Rattle.position_text.specs.TextParts.{add_word}
 use Rattle.roll_table.specs.Rolls.{dice_of}
+use Rattle.move_rules.specs.Ends.{next_board}
 use Rattle.move_rules.specs.Moves.{IsMove}
 use Rattle.move_rules.specs.Sequences.{IsSequence}
-use Rattle.move_rules.specs.Written.{IsHit}
-use Rattle.play_text.specs.Notation.{mark, step_word, step_text, play_of_words, HitsPoint, IsPlayText, is_hit, next_board, words_from, play_text, CanFollow, AreStepsOf}
+use Rattle.move_rules.specs.Written.{AreStepsOf, IsHit}
+use Rattle.play_text.specs.Notation.{mark, step_word, step_text, play_of_words, HitsPoint, IsPlayText, is_hit, words_from, play_text, CanFollow}
 use Rattle.move_rules.specs.declared.play.Move.{Move}
 use Rattle.move_rules.specs.declared.written.Step.{Step}
 use Rattle.move_rules.proofs.EndsExact.{after_move-complete}
@@ -82,7 +83,7 @@ has-steps p (move ∷ moves) f =
     let step : Step = record { from = move.from; to = move.from - move.die; hit = is_hit p move; within = first.place; falls = omega (arith, low, some) } in
     record {
       steps = step ∷ rest.steps;
-      of = (refl, refl, told, rest.of);
+      of = (record { from = refl; to = refl; mark = told }, rest.of);
       words = ap (λ ws. step_text step ∷ ws) rest.words;
       hits = All-cons HitsPoint step rest.steps (λ h. let hit = told.0 h in omega (arith, hit.0)) rest.hits;
       many = omega (arith, rest.many);

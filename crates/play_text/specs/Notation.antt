@@ -1,12 +1,11 @@
 -- Plays as texts.
-use Rattle.std.specs.Prelude.{◌≡◌, ℕ, ◌-◌, ◌<◌, ◌≤◌, ◌==◌, nat_lt, Bool, ◌&&◌, ◌↔◌, IsTrue, List, [], ◌∷◌, ◌++◌, length, map, codes, All, unwrap_or, slice_index, if◌then◌else◌}
+use Rattle.std.specs.Prelude.{◌≡◌, ℕ, ◌-◌, ◌<◌, ◌≤◌, ◌==◌, nat_lt, Bool, ◌&&◌, IsTrue, List, [], ◌∷◌, ◌++◌, length, map, codes, All, slice_index, if◌then◌else◌}
 use Rattle.std.specs.List.{join_with_byte}
 use Rattle.position_rank.specs.Placement.{Placement}
 use Rattle.position_text.specs.Text.{place_text}
 use Rattle.roll_table.specs.Rolls.{Dice, IsRoll, dice_of}
-use Rattle.move_rules.specs.Ends.{after_move}
+use Rattle.move_rules.specs.Ends.{next_board}
 use Rattle.move_rules.specs.Sequences.{IsSequence}
-use Rattle.move_rules.specs.Written.{IsHit}
 use Rattle.move_rules.specs.declared.play.Move.{Move}
 use Rattle.move_rules.specs.declared.written.Step.{Step}
 
@@ -40,10 +39,6 @@ pub record IsPlayText (text : List ℕ) (steps : List Step) : Type 0 where
 abbrev pub is_hit : Placement → Move → Bool
 is_hit p move = nat_lt move.die move.from && slice_index p.other (25 - (move.from - move.die)) == 1
 
--- what a move that can be made leaves
-abbrev pub next_board : Placement → Move → Placement
-next_board p move = unwrap_or (after_move p move.die move.from) p
-
 -- the words of moves that are made from a position in turn
 abbrev pub words_from : Placement → List Move → List (List ℕ)
 words_from p [] = []
@@ -59,12 +54,3 @@ pub record CanFollow (p : Placement) (moves : List Move) : Type 0 where
   pub valid : IsRoll roll
   pub end : Placement
   pub sequence : IsSequence p (dice_of roll) moves end
-
--- these are the steps of moves that are made from a position in turn
-abbrev pub AreStepsOf : Placement → List Move → List Step → Type 0
-AreStepsOf p [] [] = Unit {0}
-AreStepsOf p [] (step ∷ steps) = ⊥
-AreStepsOf p (move ∷ moves) [] = ⊥
-AreStepsOf p (move ∷ moves) (step ∷ steps) =
-    (step.from ≡ move.from) × (step.to ≡ move.from - move.die) × (IsTrue step.hit ↔ IsHit p move)
-    × AreStepsOf (next_board p move) moves steps

@@ -1,12 +1,12 @@
 ghost use Rattle.std.specs.Prelude.{◌≡◌, ℕ, ◌+◌, ◌++◌, ◌-◌, ◌≤◌, true, false, List, length, All, MatchOption};
 ghost use Rattle.roll_table.specs.Rolls.{Dice, IsRoll, dice_of};
-ghost use Rattle.move_rules.specs.Sequences.{IsLegal};
-ghost use Rattle.move_rules.specs.Written.{IsWritten};
+ghost use Rattle.move_rules.specs.Sequences.{IsLegal, IsSequence};
+ghost use Rattle.move_rules.specs.Written.{AreStepsOf, Leaves};
 ghost use Rattle.position_rank.specs.Placement.{Placement};
 ghost use Rattle.position_text.specs.Text.{place, place_text};
 ghost use Rattle.position_text.specs.TextParts.{add_word};
-ghost use Rattle.move_rules.specs.Ends.{after_move};
-ghost use Rattle.play_text.specs.Notation.{mark, step_word, step_text, HitsPoint, IsPlayText, is_hit, next_board, play_text, CanFollow, AreStepsOf};
+ghost use Rattle.move_rules.specs.Ends.{next_board};
+ghost use Rattle.play_text.specs.Notation.{mark, step_word, step_text, HitsPoint, IsPlayText, is_hit, play_text, CanFollow};
 
 use arrayvec::ArrayString;
 use move_rules::{Move, Play, Step, Written, after_move, hits};
@@ -61,19 +61,18 @@ pub fn printed_plays_are_read()
         → (steps : List Step) × AreStepsOf p moves steps × IsPlayText (play_text p moves) steps }
 {}
 
-/// What is printed for a legal play is read as steps that `match_play` takes, with the play's end: these steps are written for a legal
-/// play, and every play for which they are written has that end. The dice may be told differently, as where `1/off 1/off` is played
-/// with 3 and then 2, and read as 2 and then 3.
+/// What is printed for a legal play is read as steps that `match_play` takes, with the play's end: they are right and leave it, and
+/// every sequence for which they are written has that end. The dice may be told differently, as where `1/off 1/off` is played with
+/// 3 and then 2, and read as 2 and then 3.
 pub fn printed_plays_are_taken()
     ensures taken { (p : Placement) (roll : Dice) (moves : List Move) (q : Placement)
         (steps : List Step)
         → IsRoll roll → IsLegal p roll moves q → IsPlayText (play_text p moves) steps
-        → (others : List Move)
-        × IsWritten p (dice_of roll) steps others q × IsLegal p roll others q }
+        → Leaves p roll steps q }
     ensures end { (p : Placement) (roll : Dice) (steps : List Step) (moves others : List Move)
         (q end : Placement)
-        → IsWritten p (dice_of roll) steps moves q → IsWritten p (dice_of roll) steps others end
-        → end ≡ q }
+        → IsSequence p (dice_of roll) moves q → AreStepsOf p moves steps
+        → IsSequence p (dice_of roll) others end → AreStepsOf p others steps → end ≡ q }
 {}
 
 fn read_step(word: &str) -> Option<Step>

@@ -6,11 +6,11 @@ use Rattle.std.proofs.lemmas.List.Elements.{All-get_or}
 use Rattle.std.proofs.lemmas.Option.{get_or_from_slice_get, slice_get_within}
 use Rattle.rand_pcg.specs.Lcg.{Lcg}
 use Rattle.position_rank.specs.Placement.{Placement}
-use Rattle.roll_table.specs.Rolls.{Dice, IsRoll, dice_of}
+use Rattle.roll_table.specs.Rolls.{Dice, IsRoll}
 use Rattle.play_text.specs.Notation.{IsPlayText, play_text}
 use Rattle.move_rules.specs.Order.{IsFirst}
 use Rattle.move_rules.specs.Sequences.{IsLegal}
-use Rattle.move_rules.specs.Written.{IsWritten}
+use Rattle.move_rules.specs.Written.{Leaves}
 use Rattle.move_rules.specs.declared.play.Entry.{Entry}
 use Rattle.move_rules.specs.declared.play.Move.{Move}
 use Rattle.move_rules.specs.declared.written.Step.{Step}
@@ -42,8 +42,7 @@ use Rattle.record_maker.specs.Sizes.{is_full, with_line}
 -- what is printed for a legal play is taken as one with the same end
 abbrev pub TakesPlays : Type 0
 TakesPlays =
-    (p : Placement) (roll : Dice) (moves : List Move) (q : Placement) (steps : List Step) → IsRoll roll → IsLegal p roll moves q → IsPlayText (play_text p moves) steps
-    → (others : List Move) × IsWritten p (dice_of roll) steps others q × IsLegal p roll others q
+    (p : Placement) (roll : Dice) (moves : List Move) (q : Placement) (steps : List Step) → IsRoll roll → IsLegal p roll moves q → IsPlayText (play_text p moves) steps → Leaves p roll steps q
 
 -- ---- rolls
 
@@ -94,7 +93,7 @@ plays-tell : TakesPlays → (game line : ℕ) (from : Progress) (player : Player
 plays-tell takes game line from player roll words (Rolled told written) to right going (same, entry, chosen, text, after, later) =
     let legal = legal-entry from.position roll chosen.0 _ entry chosen.1 chosen.2 in
     let taken = takes from.position roll entry.play.items entry.end written.items right legal text in
-    let leaves = subst (λ (dice : Dice). (moves : List Move) × IsWritten from.position (dice_of dice) written.items moves entry.end × IsLegal from.position dice moves entry.end) (sym same) taken in
+    let leaves = subst (λ (dice : Dice). Leaves from.position dice written.items entry.end) (sym same) taken in
     (_, (going, entry.end, leaves, refl, ap (moment_at game (line + 1)) after))
 plays-tell takes game line from player roll words Doubled to right going plays = absurd plays
 plays-tell takes game line from player roll words Took to right going plays = absurd plays
