@@ -1,5 +1,6 @@
 -- What may come next in a record, read backwards.
 use Rattle.std.proofs.Common.{◌≡◌, Bool, true, false, Some, refl, ap, sym, subst}
+use Rattle.std.proofs.lemmas.Option.{same_Some}
 use Rattle.game_record.specs.declared.player.Player.{Player}
 use Rattle.game_record.specs.declared.player.Player.TheVariants.{A, B}
 use Rattle.game_record.specs.declared.record.What.{What}
@@ -9,7 +10,6 @@ use Rattle.game_record.specs.declared.line.LineKind.TheVariants.{OfTitle, OfChec
 use Rattle.game_record.specs.declared.stage.Next.{Next}
 use Rattle.game_record.specs.declared.stage.Next.TheVariants.{Title, Checkers, Stakes, FirstGame, FirstRoll, Turn, Answer, Roll, End, NextGame, Close, Nothing}
 use Rattle.game_record.specs.Turns.{allowed, kind_of_deed, on_game, on_turn, other_player, IsInGame}
-use Rattle.game_record.proofs.FormLaws.{some-one}
 
 -- what a line of each kind leads to
 abbrev pub coming : LineKind → Next
@@ -26,35 +26,35 @@ coming OfStop = Close
 coming OfClose = Nothing
 
 turn-next : (player other : Player) (next x : Next) → on_turn player other next ≡ Some x → (x ≡ next) × (player ≡ other)
-turn-next A A next x e = (sym (some-one next x e), refl)
-turn-next B B next x e = (sym (some-one next x e), refl)
+turn-next A A next x e = (sym (same_Some next x e), refl)
+turn-next B B next x e = (sym (same_Some next x e), refl)
 turn-next A B next x e = absurd (cc)
 turn-next B A next x e = absurd (cc)
 
 game-next : (in_match away : Bool) (x : Next) → on_game in_match away ≡ Some x → x ≡ FirstRoll
-game-next true true x e = sym (some-one FirstRoll x e)
+game-next true true x e = sym (same_Some FirstRoll x e)
 game-next true false x e = absurd (cc)
 game-next false true x e = absurd (cc)
-game-next false false x e = sym (some-one FirstRoll x e)
+game-next false false x e = sym (same_Some FirstRoll x e)
 
 pub what-comes : (in_match : Bool) (next : Next) (kind : LineKind) (x : Next) → allowed in_match next kind ≡ Some x → x ≡ coming kind
-what-comes im Title OfTitle x e = sym (some-one Checkers x e)
-what-comes im Checkers OfCheckers x e = sym (some-one Stakes x e)
-what-comes im Stakes OfStakes x e = sym (some-one FirstGame x e)
+what-comes im Title OfTitle x e = sym (same_Some Checkers x e)
+what-comes im Checkers OfCheckers x e = sym (same_Some Stakes x e)
+what-comes im Stakes OfStakes x e = sym (same_Some FirstGame x e)
 what-comes im FirstGame (OfGame away) x e = game-next im away x e
-what-comes im FirstRoll (OfRoll player) x e = sym (some-one (Turn (other_player player)) x e)
+what-comes im FirstRoll (OfRoll player) x e = sym (same_Some (Turn (other_player player)) x e)
 what-comes im (Turn player) (OfRoll other) x e = (turn-next player other (Turn (other_player other)) x e).0
 what-comes im (Turn player) (OfDouble other) x e = (turn-next player other (Answer (other_player other)) x e).0
-what-comes im (Turn player) OfEnd x e = sym (some-one NextGame x e)
-what-comes im (Turn player) OfStop x e = sym (some-one Close x e)
+what-comes im (Turn player) OfEnd x e = sym (same_Some NextGame x e)
+what-comes im (Turn player) OfStop x e = sym (same_Some Close x e)
 what-comes im (Answer player) (OfTake other) x e = (turn-next player other (Roll (other_player other)) x e).0
 what-comes im (Answer player) (OfPass other) x e = (turn-next player other End x e).0
 what-comes im (Roll player) (OfRoll other) x e = (turn-next player other (Turn (other_player other)) x e).0
-what-comes im (Roll player) OfStop x e = sym (some-one Close x e)
-what-comes im End OfEnd x e = sym (some-one NextGame x e)
+what-comes im (Roll player) OfStop x e = sym (same_Some Close x e)
+what-comes im End OfEnd x e = sym (same_Some NextGame x e)
 what-comes im NextGame (OfGame away) x e = game-next im away x e
-what-comes im NextGame OfClose x e = sym (some-one Nothing x e)
-what-comes im Close OfClose x e = sym (some-one Nothing x e)
+what-comes im NextGame OfClose x e = sym (same_Some Nothing x e)
+what-comes im Close OfClose x e = sym (same_Some Nothing x e)
 what-comes im _ _ x e = absurd (cc)
 
 -- a take, a pass or a beaver comes only from the one who was doubled

@@ -18,11 +18,10 @@ use Rattle.game_record.specs.declared.fault.RecordStop.TheVariants.{Bad, NoMemor
 use Rattle.cube_actions.specs.Names.{names_of}
 use Rattle.cube_actions.specs.declared.name.StakesName.{StakesName}
 use Rattle.std.specs.List.{Contains}
-use Rattle.game_record.specs.Drafts.{StopsBy}
+use Rattle.game_record.specs.Replay.{StopsBy, Acts, AddsDecisions, AllTell, BreaksAt, IsWrongLine, Reports}
 use Rattle.game_record.specs.Kinds.{game_stakes, kind_of_turn}
 use Rattle.game_record.specs.Lines.{ending_line, game_lines}
 use Rattle.game_record.specs.Ready.{AreLinesReady, CanTell, HasStanding, IsSetFor}
-use Rattle.game_record.specs.Replay.{Acts, AddsDecisions, AllTell, BreaksAt, IsWrongLine, Reports}
 
 -- ---- lines behind one another
 

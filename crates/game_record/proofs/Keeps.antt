@@ -43,7 +43,6 @@ use Rattle.game_record.specs.Turns.{allowed, first_stage, has_match, kind_of, ki
 use Rattle.game_record.proofs.Coming.{acts-within, coming, end-within, take-asked, what-comes}
 use Rattle.game_record.proofs.GoOn.{ready-front}
 use Rattle.game_record.proofs.MatchPlaces.{both, few-turns, first-stands, kinds-known, other-other, taken-place, won-in-range, won-stands, IsPlace, Stands}
-use Rattle.game_record.proofs.TextLaws.{most-lines}
 
 -- ---- what holds at each line
 
@@ -395,7 +394,7 @@ pub record Begins (rec : Record) : Type 0 where
   pub keep : Keeps stage.next stage.games (length (games_lines 1 rec.games ++ Closed ∷ [])) (first_moment rec)
 
 pub record-begins : (rec : Record) → IsRecord rec → Begins rec
-record-begins rec valid = go valid.end valid.follow (most-lines (record_lines rec) valid.size) where
+record-begins rec valid = go valid.end valid.follow valid.few where
   go : (end : Stage) → Follow first_stage (record_lines rec) end → length (record_lines rec) ≤ 65536 → Begins rec
   go end (a, comes_a, fits_a, (b, comes_b, checkers, (c, comes_c, stakes, more))) few = record {
     stage = record { next = c; in_match = has_match rec.stakes; games = 0 };

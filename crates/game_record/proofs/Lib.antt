@@ -1,20 +1,9 @@
-mod Ascii
 mod Coming
 mod CubeLaws
-mod Cuts
-mod DraftLaws
-mod FormLaws
 mod GoOn
 mod Keeps
-pub mod LineForms
-mod LineLaws
-mod LineWords
 mod MatchPlaces
 mod Numbers
 mod OneReplay
-mod Printing
-mod ReadingLaws
-mod RecordLaws
 mod RightKinds
 mod RightReplay
-mod TextLaws

@@ -20,10 +20,9 @@ use Rattle.game_record.specs.declared.player.Player.{Player}
 use Rattle.game_record.specs.declared.record.Record.{Record}
 use Rattle.game_record.specs.declared.record.What.{What}
 use Rattle.game_record.specs.declared.record.What.TheVariants.{Rolled, Doubled, Took, Passed, Beavered}
-use Rattle.game_record.specs.Drafts.{StopsBy}
+use Rattle.game_record.specs.Replay.{Acts, AllTell, BreaksAt, IsBroken, IsReplay, IsWrongAct, IsWrongLine, Reports, StopsBy, decided, first_moment, goes_on, may_double_now, undoubled}
 use Rattle.game_record.specs.Games.{game_after_play}
 use Rattle.game_record.specs.Lines.{games_lines}
-use Rattle.game_record.specs.Replay.{Acts, AllTell, BreaksAt, IsBroken, IsReplay, IsWrongAct, IsWrongLine, Reports, decided, first_moment, goes_on, may_double_now, undoubled}
 
 -- a written play that is right has no fault
 abbrev pub LegalPlaysAreRight : Type 0

@@ -1,8 +1,4 @@
 pub mod Cube
-pub mod Drafts
-pub mod Faults
-pub mod FormWords
-pub mod Forms
 pub mod Games
 pub mod Kinds
 pub mod Lines

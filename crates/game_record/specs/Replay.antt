@@ -12,6 +12,8 @@ use Rattle.game_record.specs.declared.decision.Offer.TheVariants.{NoDouble, Doub
 use Rattle.game_record.specs.declared.fault.BadRecord.{BadRecord}
 use Rattle.game_record.specs.declared.fault.RecordFault.{RecordFault}
 use Rattle.game_record.specs.declared.fault.RecordFault.TheVariants.{IllegalPlay, IllegalCube, ScoreWrong}
+use Rattle.game_record.specs.declared.fault.RecordStop.{RecordStop}
+use Rattle.game_record.specs.declared.fault.RecordStop.TheVariants.{Bad, NoMemory}
 use Rattle.game_record.specs.declared.line.Line.{Line}
 use Rattle.game_record.specs.declared.line.Line.TheVariants.{Game as GameLine, Acted, Ended, Stopped}
 use Rattle.game_record.specs.declared.moment.Moment.{Moment}
@@ -171,3 +173,8 @@ BreaksAt now (line ∷ lines) bad =
 -- the first line of a record that breaks a rule
 abbrev pub IsBroken : Record → BadRecord → Type 0
 IsBroken rec bad = BreaksAt (first_moment rec) (games_lines 1 rec.games) bad
+
+-- either there was no memory, or this is wrong
+abbrev pub StopsBy : (BadRecord → Type 0) → RecordStop → Type 0
+StopsBy wrong (Bad bad) = wrong bad
+StopsBy wrong NoMemory = Unit {0}

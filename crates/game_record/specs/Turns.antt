@@ -1,5 +1,5 @@
 -- In which order the lines of a record come.
-use Rattle.std.specs.Prelude.{◌+◌, Bool, true, false, not, is_some, Option, Some, None, if◌then◌else◌}
+use Rattle.std.specs.Prelude.{ℕ, ◌+◌, List, codes, Bool, true, false, not, is_some, Option, Some, None, if◌then◌else◌}
 use Rattle.game_record.specs.declared.player.Player.{Player}
 use Rattle.game_record.specs.declared.player.Player.TheVariants.{A, B}
 use Rattle.game_record.specs.declared.record.RecordStakes.{RecordStakes}
@@ -23,6 +23,10 @@ abbrev pub same_player : Player → Player → Bool
 same_player A A = true
 same_player B B = true
 same_player _ _ = false
+
+abbrev pub player_text : Player → List ℕ
+player_text A = codes "A"
+player_text B = codes "B"
 
 -- what comes next, where it is this player's turn
 abbrev pub on_turn : Player → Player → Next → Option Next

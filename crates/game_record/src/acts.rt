@@ -1,7 +1,6 @@
 ghost use Rattle.std.specs.Prelude.{◌≡◌, ◌++◌, IfOk, IfErr, OnOk};
-ghost use Rattle.game_record.specs.Drafts.{StopsBy};
+ghost use Rattle.game_record.specs.Replay.{StopsBy, decided, undoubled, Acts, AddsDecisions, Answers, IsWrongAct};
 ghost use Rattle.game_record.specs.Ready.{CanTell, IsSetFor};
-ghost use Rattle.game_record.specs.Replay.{decided, undoubled, Acts, AddsDecisions, Answers, IsWrongAct};
 ghost use Rattle.game_record.specs.Standings.{IsInRange};
 ghost use Rattle.game_record.specs.declared.line.Line.TheVariants.{Acted};
 ghost use Rattle.game_record.specs.declared.record.What.{What};

@@ -1,11 +1,8 @@
-ghost use Rattle.std.specs.Prelude.{◌≡◌, ℕ, List, codes, true, false, Some, None};
+ghost use Rattle.std.specs.Prelude.{◌≡◌, true, false, Some, None};
 ghost use Rattle.game_record.specs.declared.player.Player.TheVariants.{A, B};
-ghost use Rattle.game_record.specs.declared.fault.RecordFault.TheVariants.{Shape, Order, Rules, Number};
-ghost use Rattle.game_record.specs.declared.line.LineKind.TheVariants.{OfTitle, OfGame, OfRoll, OfDouble, OfTake, OfPass, OfEnd, OfStop, OfClose};
-ghost use Rattle.game_record.specs.declared.stage.Next.TheVariants.{Title, FirstGame, FirstRoll, Turn, Answer, Roll, End, NextGame, Close, Nothing};
-ghost use Rattle.game_record.specs.Turns.{allowed, first_stage};
-ghost use Rattle.game_record.specs.Forms.{form_of, TitleForm, StakesForm, MatchForm, AwayForm, RollForm, EndForm};
-ghost use Rattle.game_record.specs.Faults.{IsLineFault};
+ghost use Rattle.game_record.specs.declared.line.LineKind.TheVariants.{OfGame, OfRoll, OfDouble, OfTake, OfPass, OfStop, OfClose};
+ghost use Rattle.game_record.specs.declared.stage.Next.TheVariants.{FirstGame, FirstRoll, Turn, Answer, Roll, End, NextGame, Close, Nothing};
+ghost use Rattle.game_record.specs.Turns.{allowed};
 ghost use Rattle.cube_actions.specs.declared.name.KindName.TheVariants.{Mine, Theirs, InMatch};
 ghost use Rattle.cube_actions.specs.declared.phase.Phase.TheVariants.{Normal, Crawford, Post};
 ghost use Rattle.cube_actions.specs.declared.side.Side.TheVariants.{Near, Far};
@@ -16,26 +13,6 @@ ghost use Rattle.game_record.specs.Cube.{centred, shows, turned};
 ghost use Rattle.game_record.specs.Games.{after_answer, counted, has_right, may_double, opening};
 ghost use Rattle.game_record.specs.Kinds.{kind_of_turn};
 ghost use Rattle.game_record.specs.Standings.{standing_after_win, first_standing, at_score, side_of, standing_at};
-
-/// The forms of lines.
-pub fn shape_examples()
-    ensures title { form_of (codes "hypergammon record 1") ≡ Some TitleForm }
-    ensures no_title { form_of (codes "hypergammon record 2") ≡ None }
-    ensures roll { form_of (codes "A 31 24/21 21/20")
-        ≡ Some (RollForm A (codes "31") (codes "24/21 21/20")) }
-    ensures any_digit { form_of (codes "B 9x -") ≡ Some (RollForm B (codes "9x") (codes "-")) }
-    ensures doubled_space { form_of (codes "A 31 24/21  21/20") ≡ None }
-    ensures space_behind { form_of (codes "A 31 24/21 ") ≡ None }
-    ensures no_play { form_of (codes "A 31") ≡ None }
-    ensures no_player { form_of (codes "C double") ≡ None }
-    ensures no_length { form_of (codes "stakes match") ≡ Some (StakesForm (codes "match")) }
-    ensures length { form_of (codes "stakes match 7") ≡ Some (MatchForm (codes "7")) }
-    ensures away { form_of (codes "game 2 away 2 1")
-        ≡ Some (AwayForm (codes "2") (codes "2") (codes "1")) }
-    ensures half_away { form_of (codes "game 2 away 2") ≡ None }
-    ensures end { form_of (codes "end B 2") ≡ Some (EndForm B (codes "2")) }
-    ensures empty { form_of (codes "") ≡ None }
-{}
 
 /// What may come after what.
 pub fn order_examples()
@@ -52,12 +29,6 @@ pub fn order_examples()
     ensures no_game { allowed false FirstGame OfClose ≡ None }
     ensures stop { allowed false (Roll A) OfStop ≡ Some Close }
     ensures behind { allowed false Nothing OfClose ≡ None }
-{}
-
-/// The first thing that is wrong with a line.
-pub fn wrong_examples()
-    ensures shape { IsLineFault first_stage (codes "checkers") Shape }
-    ensures order { IsLineFault first_stage (codes "checkers 7") Order }
 {}
 
 /// How the score of a match moves, and who is near.

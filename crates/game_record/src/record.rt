@@ -133,7 +133,8 @@ impl Games {
         self.list.len()
     }
 
-    pub(crate) fn as_slice(&self) -> &[Game]
+    /// The games as a slice.
+    pub fn as_slice(&self) -> &[Game]
         ensures { result.now ≡ self.now }
     {
         &self.list
@@ -189,7 +190,8 @@ impl Actions {
         self.list.len()
     }
 
-    pub(crate) fn as_slice(&self) -> &[Action]
+    /// The actions as a slice.
+    pub fn as_slice(&self) -> &[Action]
         ensures { result.now ≡ self.now }
     {
         &self.list

@@ -1,8 +1,7 @@
 ghost use Rattle.std.specs.Prelude.{◌≡◌, ◌≤◌, ◌+◌, List, IfOk, IfErr, All, length};
-ghost use Rattle.game_record.specs.Drafts.{StopsBy};
+ghost use Rattle.game_record.specs.Replay.{StopsBy, AddsDecisions, AllTell, BreaksAt, IsBroken, IsReplay};
 ghost use Rattle.game_record.specs.Lines.{game_lines, IsRecord};
 ghost use Rattle.game_record.specs.Ready.{AreLinesReady};
-ghost use Rattle.game_record.specs.Replay.{AddsDecisions, AllTell, BreaksAt, IsBroken, IsReplay};
 ghost use Rattle.game_record.specs.RightDecisions.{IsRightDecision};
 ghost use Rattle.game_record.specs.declared.decision.Decision.{Decision};
 

@@ -39,42 +39,7 @@ pub struct Stage {
     pub games: u32,
 }
 
-/// What may come after a line of this kind, where it may come itself.
-pub(crate) fn after(in_match: bool, next: Next, kind: LineKind) -> Option<Next>
-    ensures { result ≡ allowed in_match next kind }
-{
-    match next {
-        Next::Title => match kind {
-            LineKind::OfTitle => Some(Next::Checkers),
-            _ => None,
-        },
-        Next::Checkers => match kind {
-            LineKind::OfCheckers => Some(Next::Stakes),
-            _ => None,
-        },
-        Next::Stakes => match kind {
-            LineKind::OfStakes => Some(Next::FirstGame),
-            _ => None,
-        },
-        Next::FirstGame => match kind {
-            LineKind::OfGame(away) => on_game(in_match, away),
-            _ => None,
-        },
-        Next::NextGame => match kind {
-            LineKind::OfGame(away) => on_game(in_match, away),
-            LineKind::OfClose => Some(Next::Nothing),
-            _ => None,
-        },
-        Next::Close => match kind {
-            LineKind::OfClose => Some(Next::Nothing),
-            _ => None,
-        },
-        Next::Nothing => None,
-        _ => after_within(next, kind),
-    }
-}
-
-/// The same within a game.
+/// What may come after a line of this kind within a game, where it may come itself.
 fn after_within(next: Next, kind: LineKind) -> Option<Next>
     requires { IsInGame next }
     ensures { (in_match : Bool) → result ≡ allowed in_match next kind }
@@ -124,7 +89,7 @@ fn on_turn(player: Player, other: Player, next: Next) -> Option<Next>
 
 impl Stage {
     /// Before the first line.
-    pub(crate) fn first() -> Stage
+    pub fn first() -> Stage
         ensures { result ≡ first_stage }
     {
         Stage {
@@ -134,8 +99,43 @@ impl Stage {
         }
     }
 
+    /// What may come after a line of this kind, where it may come itself.
+    pub fn after(self, kind: LineKind) -> Option<Next>
+        ensures { result ≡ allowed self.in_match self.next kind }
+    {
+        match self.next {
+            Next::Title => match kind {
+                LineKind::OfTitle => Some(Next::Checkers),
+                _ => None,
+            },
+            Next::Checkers => match kind {
+                LineKind::OfCheckers => Some(Next::Stakes),
+                _ => None,
+            },
+            Next::Stakes => match kind {
+                LineKind::OfStakes => Some(Next::FirstGame),
+                _ => None,
+            },
+            Next::FirstGame => match kind {
+                LineKind::OfGame(away) => on_game(self.in_match, away),
+                _ => None,
+            },
+            Next::NextGame => match kind {
+                LineKind::OfGame(away) => on_game(self.in_match, away),
+                LineKind::OfClose => Some(Next::Nothing),
+                _ => None,
+            },
+            Next::Close => match kind {
+                LineKind::OfClose => Some(Next::Nothing),
+                _ => None,
+            },
+            Next::Nothing => None,
+            _ => after_within(self.next, kind),
+        }
+    }
+
     /// With a line, after which this may come.
-    pub(crate) fn with(self, line: &Line, next: Next) -> Stage
+    pub fn with(self, line: &Line, next: Next) -> Stage
         requires { self.games ≤ 1048576 }
         ensures { result ≡ stage_after self line.now next }
     {

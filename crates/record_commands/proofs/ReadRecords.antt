@@ -1,7 +1,7 @@
 -- What is read of a record, and what stops reading it.
 use Rattle.std.proofs.Common.{◌≡◌, ◌∙◌, List, ℕ, map, length, ◌<◌, ◌≤◌, get_or, All, Err, inr, sym, ap, subst}
 use Rattle.std.proofs.lemmas.List.{length-map, get_or-map}
-use Rattle.game_record.specs.Drafts.{StopsBy}
+use Rattle.game_record.specs.Replay.{StopsBy}
 use Rattle.game_record.specs.RightDecisions.{IsRightDecision}
 use Rattle.game_record.specs.declared.decision.Decision.{Decision}
 use Rattle.game_record.specs.declared.fault.RecordStop.{RecordStop}

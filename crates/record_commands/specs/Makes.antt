@@ -4,7 +4,7 @@ use Rattle.outside_log.specs.Log.{Event}
 use Rattle.outside_log.specs.Readings.{WritesFile}
 use Rattle.outside_log.specs.Sink.{Output}
 use Rattle.game_record.specs.declared.line.Line.TheVariants.{Title}
-use Rattle.game_record.specs.Lines.{IsRecordText, is_line_end, lines_text}
+use Rattle.record_text.specs.Texts.{IsRecordText, is_line_end, lines_text}
 use Rattle.game_record.specs.Replay.{IsReplay}
 use Rattle.game_record.specs.declared.decision.Decision.{Decision}
 use Rattle.game_record.specs.declared.record.Record.{Record}

@@ -1,9 +1,10 @@
 -- What is known of a file that holds a recorded game.
 use Rattle.std.specs.Prelude.{◌≡◌, ◌⊎◌, ◌≤◌, ◌<◌, ℕ, List, length, map, slice_index, Bool, IsTrue, All, Option, Some, None, Result, Ok, Err, ⊤}
 use Rattle.cube_actions.specs.declared.name.StakesName.{StakesName}
-use Rattle.game_record.specs.Faults.{IsBad}
+use Rattle.record_text.specs.Faults.{IsBad}
 use Rattle.game_record.specs.Kinds.{game_stakes}
-use Rattle.game_record.specs.Lines.{IsRecord, IsRecordText}
+use Rattle.game_record.specs.Lines.{IsRecord}
+use Rattle.record_text.specs.Texts.{IsRecordText}
 use Rattle.game_record.specs.Replay.{IsBroken, IsReplay}
 use Rattle.game_record.specs.RightDecisions.{IsRightDecision}
 use Rattle.game_record.specs.Standings.{first_standing}

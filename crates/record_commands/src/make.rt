@@ -3,7 +3,7 @@ ghost use Rattle.hyper_outside.specs.Causes.{Rose};
 ghost use Rattle.outside_log.specs.Readings.{is_faithful, read_faults};
 ghost use Rattle.outside_log.specs.Log.{LeavesPlaces, failures, standing};
 ghost use Rattle.outside_log.specs.Sink.{Puts};
-ghost use Rattle.game_record.specs.Lines.{is_line_end};
+ghost use Rattle.record_text.specs.Texts.{is_line_end};
 ghost use Rattle.equity_report.specs.declared.refusal.Refusal.TheVariants.{Read};
 ghost use Rattle.command_line.specs.Right.{IsRightMake};
 ghost use Rattle.record_commands.specs.Makes.{IsMadeFor, Makes, made_report};
@@ -12,13 +12,14 @@ ghost use Rattle.run_endings.specs.declared.ending.RunStop.TheVariants.{NotWritt
 
 use command_line::Make;
 use equity_report::Refusal;
-use game_record::{RECORD_START, print_record, replay};
+use game_record::replay;
 use hyper_outside::{Failed, Gate, NoMemory};
 use outside_log::{Files, Sink};
 use record_analysis::Analysis;
 use record_maker::make_record;
 use record_reports::write_made;
 use record_study::study;
+use record_text::{RECORD_START, print_record};
 use run_endings::{RunStop, begin, settle};
 use std::alloc::Global;
 use std::thread::Threads;

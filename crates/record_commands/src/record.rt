@@ -2,7 +2,7 @@ ghost use Rattle.std.specs.Prelude.{◌≡◌, ◌≤◌, IfErr, IfOk, Err, leng
 ghost use Rattle.hyper_outside.specs.Causes.{Rose};
 ghost use Rattle.outside_log.specs.Log.{standing};
 ghost use Rattle.outside_log.specs.Readings.{ReadsOn, is_faithful, read_faults};
-ghost use Rattle.game_record.specs.Drafts.{StopsBy};
+ghost use Rattle.game_record.specs.Replay.{StopsBy};
 ghost use Rattle.game_record.specs.Lines.{AreRecordStakes, IsRecord};
 ghost use Rattle.game_record.specs.Turns.{has_match};
 ghost use Rattle.equity_report.specs.declared.refusal.Refusal.TheVariants.{Read};
@@ -12,12 +12,12 @@ ghost use Rattle.run_endings.specs.Endings.{IsOfReplaying};
 use cube_actions::{Score, StakesName};
 use equity_report::{FileName, GameName, Refusal};
 use game_record::{
-    BadRecord, Decision, Decisions, MOST_RECORD_BYTES, Record, RecordFault, RecordStakes,
-    RecordStop, Standing, read_record, replay,
+    BadRecord, Decision, Decisions, Record, RecordFault, RecordStakes, RecordStop, Standing, replay,
 };
 use hyper_outside::NoMemory;
 use outside_log::{Files, WholeStop, read_whole};
 use plain_record::{LineFront, PlainRecord, line_front, read_plain};
+use record_text::{MOST_RECORD_BYTES, read_record};
 use std::alloc::Global;
 
 /// A recorded game that breaks no rule, and its decisions in their order, each with its line of the text.

@@ -18,9 +18,10 @@ use Rattle.game_record.specs.declared.record.RecordStakes.{RecordStakes}
 use Rattle.game_record.specs.declared.record.RecordStakes.TheVariants.{Jacoby}
 use Rattle.game_record.specs.declared.stage.Next.{Next}
 use Rattle.game_record.specs.declared.stage.Stage.{Stage}
-use Rattle.game_record.specs.Lines.{Follow, IsRecord, ending_line, game_lines, games_lines, is_line_end, is_too_long, line_text, lines_text, record_lines, record_text}
+use Rattle.game_record.specs.Lines.{Follow, IsRecord, ending_line, game_lines, games_lines, record_lines}
+use Rattle.record_text.specs.Texts.{IsRecordText, is_line_end, is_too_long, line_text, lines_text, record_text}
 use Rattle.game_record.specs.Turns.{first_stage, stage_after}
-use Rattle.game_record.proofs.LineForms.{line-no-end}
+use Rattle.record_text.proofs.LineForms.{line-no-end}
 use Rattle.record_maker.specs.declared.size.Size.{Size}
 use Rattle.record_maker.specs.Makers.{IsDrawn}
 use Rattle.record_maker.specs.Making.{AllDo, AllMade, AddsGame, Moment, Sheet, begun, ending_text, first_sheet, game_line_text}
@@ -122,7 +123,7 @@ not-long text short few = by (ltb 1048576 (length text)) (ltb 65536 (count_by is
   by false false e f = refl
 
 -- a record that is drawn is one that can be printed and read
-pub drawn-record : (number count : ℕ) (rec : Record) → 1 ≤ count → IsDrawn number count rec → IsRecord rec
+pub drawn-record : (number count : ℕ) (rec : Record) → 1 ≤ count → IsDrawn number count rec → IsRecordText (record_text rec) rec
 drawn-record number count rec some drawn =
     let made = drawn.made in
     let follows = made-follows number count rec some made in
@@ -145,9 +146,9 @@ drawn-record number count rec some drawn =
     let room = drawn.room in
     let lines : length (record_lines rec) ≤ 60004 = omega (arith, whole.0, room.0) in
     let ends = ends-few first_stage (record_lines rec) follows.0 (omega (arith, lines)) follows.1 in
+    let valid : IsRecord rec = record { end = follows.0; follow = follows.1; closed = follows.2; few = omega (arith, lines) } in
     record {
-      end = follows.0;
-      follow = follows.1;
-      closed = follows.2;
+      valid = valid;
+      printed = refl;
       size = not-long (record_text rec) (omega (arith, whole.1, room.1, close)) (omega (arith, ends, lines));
     }

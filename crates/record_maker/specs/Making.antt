@@ -16,9 +16,9 @@ use Rattle.game_record.specs.declared.record.RecordStakes.TheVariants.{Jacoby}
 use Rattle.game_record.specs.declared.record.What.{What}
 use Rattle.game_record.specs.declared.record.What.TheVariants.{Rolled, Doubled, Took, Passed, Beavered}
 use Rattle.game_record.specs.Games.{after_answer, game_after_double, game_after_play, is_over, may_double, opening}
-use Rattle.game_record.specs.Lines.{deed_text, player_text}
+use Rattle.game_record.specs.Turns.{other_player, player_text}
+use Rattle.record_text.specs.Texts.{deed_text}
 use Rattle.game_record.specs.Standings.{first_standing}
-use Rattle.game_record.specs.Turns.{other_player}
 use Rattle.record_maker.specs.declared.due.Due.{Due}
 use Rattle.record_maker.specs.declared.due.Due.TheVariants.{Start, Turn, Answer, Roll, Nothing}
 use Rattle.record_maker.specs.declared.size.Size.{Size}

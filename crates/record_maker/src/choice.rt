@@ -1,7 +1,7 @@
 ghost use Rattle.std.specs.Prelude.{◌≡◌, ◌≤◌, length};
 ghost use Rattle.play_text.specs.Notation.{CanFollow, IsPlayText, play_text};
 ghost use Rattle.move_rules.specs.declared.play.Entry.{Entry};
-ghost use Rattle.game_record.specs.Lines.{steps_text};
+ghost use Rattle.record_text.specs.Texts.{steps_text};
 ghost use Rattle.record_maker.specs.Draws.{IsChosen};
 
 use move_rules::{Play, PlayList, Written, plays};

@@ -1,6 +1,7 @@
-ghost use Rattle.std.specs.Prelude.{◌≡◌, ◌≤◌, List, IfOk};
+ghost use Rattle.std.specs.Prelude.{◌≡◌, ◌≤◌, List, IfOk, false};
 ghost use Rattle.game_record.specs.Lines.{IsRecord};
 ghost use Rattle.game_record.specs.Replay.{IsReplay};
+ghost use Rattle.record_text.specs.Texts.{is_too_long, record_text};
 ghost use Rattle.game_record.specs.declared.decision.Decision.{Decision};
 ghost use Rattle.record_maker.specs.Makers.{IsDrawn, makes_another};
 ghost use Rattle.record_maker.specs.Making.{IsMade};
@@ -18,8 +19,9 @@ pub fn make_record(alloc: Global, number: u64, games: u32) -> Result<Record, NoM
     requires from { 1 ≤ games }
     requires to { games ≤ 1000 }
     ensures made { IfOk result (IsMade number games) }
-    // So `print_record` prints it, and `read_record` reads what is printed.
     ensures valid { IfOk result IsRecord }
+    // So `read_record` reads what `print_record` prints of it.
+    ensures short { IfOk result (λ rec. is_too_long (record_text rec) ≡ false) }
     // So `replay` finds no fault in it.
     ensures replays { IfOk result (λ rec. (told : List Decision) × IsReplay rec told) }
 {

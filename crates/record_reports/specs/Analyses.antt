@@ -8,7 +8,7 @@ use Rattle.game_record.specs.declared.decision.Choice.TheVariants.{Played, Offer
 use Rattle.game_record.specs.declared.decision.Decision.{Decision}
 use Rattle.game_record.specs.declared.player.Player.{Player}
 use Rattle.game_record.specs.declared.player.Player.TheVariants.{A, B}
-use Rattle.game_record.specs.Lines.{player_text}
+use Rattle.game_record.specs.Turns.{player_text}
 use Rattle.record_analysis.specs.declared.analysis.Judged.{Judged}
 use Rattle.record_analysis.specs.declared.total.Total.{Total}
 use Rattle.record_analysis.specs.Totals.{losses_by, total_of}

@@ -1,7 +1,6 @@
 ghost use Rattle.std.specs.Prelude.{◌≡◌, ◌≤◌, ◌++◌, ◌+◌, length};
 ghost use Rattle.std.specs.List.{flat_map};
 ghost use Rattle.outside_log.specs.Sink.{Puts};
-ghost use Rattle.game_record.specs.Lines.{player_text};
 ghost use Rattle.record_analysis.specs.Totals.{losses_by, total_of};
 ghost use Rattle.record_reports.specs.Analyses.{analysis_text, choice_text, decision_text, judged_text, lost_text, made_text, total_text, totals_text};
 
@@ -11,16 +10,6 @@ use game_record::{Choice, Decision, Player};
 use hyper_outside::Failed;
 use outside_log::Sink;
 use record_analysis::{Analysis, Judged};
-
-pub(crate) fn player_text(player: Player) -> &'static str
-    ensures text { result.now ≡ player_text player }
-    ensures short { length result.now ≤ 16 }
-{
-    match player {
-        Player::A => "A",
-        Player::B => "B",
-    }
-}
 
 pub(crate) fn choice_text(choice: &Choice) -> &'static str
     ensures text { result.now ≡ choice_text choice.now }
@@ -43,7 +32,7 @@ fn add_decision(line: &mut Report, decision: &Decision)
     line.push_str(" ");
     add_number(line, u64::from(decision.line));
     line.push_str(" ");
-    line.push_str(player_text(decision.player));
+    line.push_str(decision.player.letter());
     line.push_str(" ");
     line.push_str(choice_text(&decision.choice));
 }
@@ -93,7 +82,7 @@ fn add_total(report: &mut Report, player: Player, analysis: &Analysis)
     ensures length { length report.new.bytes ≤ length report.old.bytes + 130 }
 {
     let total = analysis.total(player);
-    report.push_str(player_text(player));
+    report.push_str(player.letter());
     report.push_str(" ");
     add_counted(report, "decisions", u64::from(total.decisions));
     report.push_str(" loss ");

@@ -14,7 +14,7 @@ ghost use Rattle.play_analyser.specs.Bests.{CanBeMade};
 ghost use Rattle.record_analysis.specs.Analyses.{BestCanBeMade};
 ghost use Rattle.record_reports.specs.Full.{advised_fields, best_text, chosen_fields, full_line, full_text, ends_fields, place_fields, score_told, state_fields};
 
-use crate::analysis::{choice_text, player_text, put_totals};
+use crate::analysis::{choice_text, put_totals};
 use cube_actions::{KindName, Score, Stakes, Starts, ladder, ladders_are_exact};
 use cube_text::{print_kind, print_score};
 use directed_fixed::{Fixed, Pair};
@@ -96,7 +96,7 @@ fn add_place(line: &mut Report, decision: &Decision)
     line.push_str("\t");
     add_number(line, u64::from(decision.line));
     line.push_str("\t");
-    line.push_str(player_text(decision.player));
+    line.push_str(decision.player.letter());
     line.push_str("\t");
     line.push_str(choice_text(&decision.choice));
     line.push_str("\t");

@@ -13,9 +13,10 @@ use Rattle.roll_table.specs.Rolls.{Dice}
 use Rattle.roll_table.specs.Text.{roll_text}
 use Rattle.play_text.specs.Notation.{mark, step_text}
 use Rattle.move_rules.specs.declared.written.Step.{Step}
-use Rattle.game_record.specs.Lines.{AreRecordStakes, FitsStage, Follow, IsRecord, IsRecordText, UpTo, deed_text, is_line_end, is_too_long, line_text, player_text, record_lines, stakes_word, steps_text}
+use Rattle.game_record.specs.Lines.{AreRecordStakes, FitsStage, Follow, IsRecord, UpTo, record_lines}
+use Rattle.game_record.specs.Turns.{first_stage, player_text, stage_after}
+use Rattle.record_text.specs.Texts.{IsRecordText, deed_text, is_line_end, is_too_long, line_text, stakes_word, steps_text}
 use Rattle.game_record.specs.Replay.{IsReplay}
-use Rattle.game_record.specs.Turns.{first_stage, stage_after}
 use Rattle.game_record.specs.declared.decision.Decision.{Decision}
 use Rattle.game_record.specs.declared.line.Line.{Line}
 use Rattle.game_record.specs.declared.line.Line.TheVariants.{Title, Checkers, Stakes, Game as GameLine, Acted, Ended, Stopped, Closed}
@@ -228,12 +229,9 @@ TextsStay = (list : List (List ℕ)) → All IsPlainLine list → plain_text (en
 abbrev pub NumbersStay : Type 0
 NumbersStay = (list : List (List ℕ)) → All IsPlainLine list → line_numbers (ended_lines list) ≡ range_with_len 0 (length list + 2)
 
-abbrev pub FewLines : Type 0
-FewLines = (rec : RecordRead) → IsRecord rec → length (record_lines rec) ≤ 65536
-
-module _ (few : FewLines) (text : List ℕ) (rec : RecordRead) (is : IsRecordText text rec) where
+module _ (text : List ℕ) (rec : RecordRead) (is : IsRecordText text rec) where
   plain-lines : All IsPlainLine (map line_text (record_lines rec))
-  plain-lines = following first_stage (record_lines rec) is.valid.end (omega (arith, few rec is.valid)) is.valid.follow
+  plain-lines = following first_stage (record_lines rec) is.valid.end (omega (arith, is.valid.few)) is.valid.follow
 
   ended : text ≡ ended_lines (map line_text (record_lines rec))
   ended = is.printed ∙ sym (flat_map-map (λ (line : List ℕ). line ++ 10 ∷ []) line_text (record_lines rec))
@@ -250,7 +248,7 @@ module _ (few : FewLines) (text : List ℕ) (rec : RecordRead) (is : IsRecordTex
 
   short : length text ≤ 1048576
   short =
-      let size = first-is (ltb 1048576 (length text)) (ltb 65536 (count_by is_line_end text)) (ap is_too_long is.printed ∙ is.valid.size) in
+      let size = first-is (ltb 1048576 (length text)) (ltb 65536 (count_by is_line_end text)) is.size in
       grind (arith, nat_tests)
 
   pub record-held : TextsStay → NumbersStay → (told : List Decision) → IsReplay rec told → HoldsRecord text (record { rec = rec; decisions = told })

@@ -5,8 +5,9 @@ use Rattle.std.proofs.lemmas.Option.{none-some}
 use Rattle.outside_log.specs.Files.{Contents}
 use Rattle.cube_actions.specs.Ladder.{IsOfMatch}
 use Rattle.cube_actions.specs.Scores.{MatchScore}
-use Rattle.game_record.specs.Faults.{IsBad}
-use Rattle.game_record.specs.Lines.{IsRecord, IsRecordText}
+use Rattle.record_text.specs.Faults.{IsBad}
+use Rattle.game_record.specs.Lines.{IsRecord}
+use Rattle.record_text.specs.Texts.{IsRecordText}
 use Rattle.game_record.specs.Replay.{IsBroken, IsReplay}
 use Rattle.game_record.specs.RightDecisions.{IsRightDecision}
 use Rattle.game_record.specs.Turns.{has_match}

@@ -13,7 +13,7 @@ use Rattle.cube_actions.specs.Names.{names_of}
 use Rattle.cube_actions.specs.Ladder.{IsOfMatch, ladder}
 use Rattle.cube_actions.specs.Scores.{MatchScore, last_game}
 use Rattle.cube_actions.specs.Starts.{StartPairs}
-use Rattle.game_record.specs.Lines.{IsRecordText}
+use Rattle.record_text.specs.Texts.{IsRecordText}
 use Rattle.game_record.specs.Replay.{IsReplay}
 use Rattle.game_record.specs.RightDecisions.{IsRightDecision}
 use Rattle.game_record.specs.Turns.{has_match}

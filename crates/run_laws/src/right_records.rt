@@ -3,7 +3,8 @@ ghost use Rattle.std.specs.List.{range_with_len};
 ghost use Rattle.outside_log.specs.Files.{Contents};
 ghost use Rattle.cube_actions.specs.Ladder.{IsOfMatch};
 ghost use Rattle.cube_actions.specs.Scores.{MatchScore};
-ghost use Rattle.game_record.specs.Lines.{IsRecordText, record_lines};
+ghost use Rattle.game_record.specs.Lines.{record_lines};
+ghost use Rattle.record_text.specs.Texts.{IsRecordText};
 ghost use Rattle.game_record.specs.Replay.{IsReplay};
 ghost use Rattle.game_record.specs.RightDecisions.{IsRightDecision};
 ghost use Rattle.game_record.specs.Turns.{has_match};
@@ -25,12 +26,12 @@ ghost use Rattle.run_laws.specs.RightRecords.{CanJudgeAll, CanJudgeAtScore, HasR
 ghost use Rattle.record_commands.specs.Studies.{MayRefuseStudy};
 
 use game_record::{
-    decisions_are_right, record_texts_have_no_fault, records_have_few_decisions,
-    records_have_few_lines, records_tell_their_decisions, replays_break_no_rule,
-    texts_tell_records,
+    decisions_are_right, records_have_few_decisions, records_tell_their_decisions,
+    replays_break_no_rule,
 };
 use plain_record::plain_lines_stay;
 use record_analysis::right_decisions_can_be_judged;
+use record_text::{record_texts_have_no_fault, texts_tell_records};
 
 /// Where the file of a record is there and its record breaks no rule, and all answers were faithful, `study` is refused only where
 /// reading failed or there was no memory; and so is `analyse`, where its decisions can be judged: outside a match by a file of the
@@ -85,5 +86,4 @@ pub fn printed_records_are_held()
         → HoldsRecord text (record { rec = rec; decisions = told }) }
 {
     plain_lines_stay();
-    records_have_few_lines();
 }

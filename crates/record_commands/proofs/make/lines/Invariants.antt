@@ -1,6 +1,6 @@
 use Rattle.std.proofs.Common.{◌≡◌, ◌≤◌, ◌+◌, drop}
 use Rattle.std.specs.Prelude.{count_by}
-use Rattle.game_record.specs.Lines.{is_line_end}
+use Rattle.record_text.specs.Texts.{is_line_end}
 use Rattle.record_commands.proofs.make.lines.Given as goal
 
 abbrev pub invariant-loop-byte : goal.invariant-loop-byte

@@ -14,7 +14,10 @@ pub returns-clause-made : goal.returns-clause-made
 returns-clause-made c = then-ok c.draw_record.result (IsDrawn c.args.number c.args.games) _ (λ rec drawn. drawn.made) c.draw_record.ensures
 
 pub returns-clause-valid : goal.returns-clause-valid
-returns-clause-valid c = then-ok c.draw_record.result (IsDrawn c.args.number c.args.games) _ (λ rec drawn. drawn-record c.args.number c.args.games rec c.requires.from drawn) c.draw_record.ensures
+returns-clause-valid c = then-ok c.draw_record.result (IsDrawn c.args.number c.args.games) _ (λ rec drawn. (drawn-record c.args.number c.args.games rec c.requires.from drawn).valid) c.draw_record.ensures
+
+pub returns-clause-short : goal.returns-clause-short
+returns-clause-short c = then-ok c.draw_record.result (IsDrawn c.args.number c.args.games) _ (λ rec drawn. (drawn-record c.args.number c.args.games rec c.requires.from drawn).size) c.draw_record.ensures
 
 pub returns-clause-replays : goal.returns-clause-replays
 returns-clause-replays c = then-ok c.draw_record.result (IsDrawn c.args.number c.args.games) _ (λ rec drawn. c.made_records_break_no_rule.ensures c.args.number c.args.games rec drawn.made) c.draw_record.ensures
