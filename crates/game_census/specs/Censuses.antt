@@ -9,12 +9,11 @@ use Rattle.interval_words.specs.WordLists.{WordList, words_in_list}
 use Rattle.play_analyser.specs.declared.advice.CubeAction.{CubeAction}
 use Rattle.play_analyser.specs.declared.advice.CubeAdvice.{CubeAdvice}
 use Rattle.play_analyser.specs.Advice.{IsCubeAdviceOver}
-use Rattle.game_census.specs.declared.gap.Border.{Border}
 use Rattle.game_census.specs.declared.kind_census.KindCensus.{KindCensus}
 use Rattle.game_census.specs.declared.cube.PartCensus.{PartCensus}
 use Rattle.game_census.specs.declared.task.Part.{Part}
 use Rattle.game_census.specs.Calls.{call_of, counted_call}
-use Rattle.game_census.specs.Gaps.{answer_gap, offer_gap, with_near}
+use Rattle.game_census.specs.Gaps.{answer_gap, nearest, offer_gap}
 
 -- this is the live position of so many checkers with that live rank
 pub record IsRanked (checkers rank : ℕ) (p : Placement) : Type 0 where
@@ -23,20 +22,16 @@ pub record IsRanked (checkers rank : ℕ) (p : Placement) : Type 0 where
   pub many : sum p.mover ≡ checkers
   pub number : live_rank_of p ≡ rank
 
--- no position in which a choice is near
-abbrev pub nowhere : Border
-nowhere = record { nearest = None; decided = None }
-
 -- no call, of 24
 abbrev pub no_census : KindCensus
-no_census = record { tally = record { counts = replicate 24 0 }; answer = nowhere; offer = nowhere }
+no_census = record { tally = record { counts = replicate 24 0 }; answer = None; offer = None }
 
 -- after one more position in which the mover may double
 abbrev pub with_action : KindCensus → Placement → Bounds → CubeAction → KindCensus
 with_action census p rolling action = record {
   tally = record { counts = counted_call census.tally.counts (call_of action) };
-  answer = with_near census.answer (record { position = p; gap = answer_gap action });
-  offer = with_near census.offer (record { position = p; gap = offer_gap rolling action });
+  answer = Some (nearest census.answer (record { position = p; gap = answer_gap action }));
+  offer = Some (nearest census.offer (record { position = p; gap = offer_gap rolling action }));
 }
 
 -- after advice on one more position: nothing is counted_call where the mover may not double

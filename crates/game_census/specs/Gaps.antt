@@ -1,11 +1,10 @@
 -- How far apart two choices are, and the positions in which they are nearest.
-use Rattle.std.specs.Prelude.{◌-ℤ◌, ◌||◌, ℕ, pos, max, unsigned_abs, int_lt, nat_le, Bool, Option, Some, None, if◌then◌else◌}
+use Rattle.std.specs.Prelude.{◌-ℤ◌, ℕ, max, unsigned_abs, nat_le, Option, Some, None, if◌then◌else◌}
 use Rattle.directed_fixed.specs.Bounds.{Bounds}
 use Rattle.play_analyser.specs.declared.advice.CubeAction.{CubeAction}
 use Rattle.play_analyser.specs.Advice.{doubling_of}
 use Rattle.game_census.specs.declared.gap.Gap.{Gap}
 use Rattle.game_census.specs.declared.gap.Near.{Near}
-use Rattle.game_census.specs.declared.gap.Border.{Border}
 
 -- how much more one choice leads to than another, at least and at most
 abbrev pub gap_from : Bounds → Bounds → Gap
@@ -14,10 +13,6 @@ gap_from one another = record { low = one.lower -ℤ another.upper; up = one.upp
 -- by how much two choices differ at most
 abbrev pub farthest : Gap → ℕ
 farthest gap = max (unsigned_abs gap.low) (unsigned_abs gap.up)
-
--- whether one of the choices is known to lead to more
-abbrev pub is_decided : Gap → Bool
-is_decided gap = int_lt (pos 0) gap.low || int_lt gap.up (pos 0)
 
 -- how much more a take gives the doubler than a pass
 abbrev pub answer_gap : CubeAction → Gap
@@ -31,14 +26,3 @@ offer_gap rolling action = gap_from (doubling_of action) rolling
 abbrev pub nearest : Option Near → Near → Near
 nearest None next = next
 nearest (Some near) next = if nat_le (farthest near.gap) (farthest next.gap) then near else next
-
--- the nearest of those that are decided, after one more position
-abbrev pub nearest_decided : Option Near → Near → Option Near
-nearest_decided found next = if is_decided next.gap then Some (nearest found next) else found
-
--- after one more position: the nearest of all, and the nearest of those that are decided
-abbrev pub with_near : Border → Near → Border
-with_near border next = record {
-  nearest = Some (nearest border.nearest next);
-  decided = nearest_decided border.decided next;
-}

@@ -1,7 +1,6 @@
 pub mod Calls
 pub mod Gaps
 pub mod Censuses
-pub mod RaceCounts
 pub mod Stops
 pub mod Tasks
 pub mod Saved

@@ -3,17 +3,16 @@ use Rattle.std.specs.Prelude.{◌≡◌, ◌≤◌, ◌+◌, ℕ, List, Option, 
 use Rattle.std.specs.Str.Parse.{IsNumeral, digits_value, without_leading_plus}
 use Rattle.game_census.specs.declared.task.Part.{Part}
 use Rattle.game_census.specs.declared.task.Task.{Task}
-use Rattle.game_census.specs.declared.task.Task.TheVariants.{Cube, Races, Widths}
+use Rattle.game_census.specs.declared.task.Task.TheVariants.{Cube, Widths}
 
 -- one word for a file, where one is named
 abbrev pub one_for : {A : Type 0} → Option A → ℕ
 one_for None = 0
 one_for (Some file) = 1
 
--- how many words ask for it: its name, and a file with a part, the checkers, or a game with its rounds and perhaps a file
+-- how many words ask for it: its name, and a file with a part, or a game with its rounds and perhaps a file
 abbrev pub word_count : Task → ℕ
 word_count (Cube task) = 4
-word_count (Races task) = 2
 word_count (Widths task) = 4 + one_for task.file
 
 -- the number that a word says by its digits; a plus may stand before them
@@ -40,18 +39,10 @@ pub record IsPartOf (number many : List ℕ) (part : Part) : Type 0 where
 -- the task asks for the calls over the part of a file that the words say
 abbrev pub AsksCalls : List ℕ → List ℕ → List ℕ → Task → Type 0
 AsksCalls file number many (Cube task) = (task.file.now ≡ file) × IsPartOf number many task.part
-AsksCalls file number many (Races task) = ⊥
 AsksCalls file number many (Widths task) = ⊥
-
--- the task asks for the races of as many checkers as the word says
-abbrev pub AsksRaces : List ℕ → Task → Type 0
-AsksRaces word (Cube task) = ⊥
-AsksRaces word (Races task) = SaysUpto 3 word × (task.checkers ≡ number_said word)
-AsksRaces word (Widths task) = ⊥
 
 -- the task asks for the widths of as many checkers after as many rounds as the words say
 abbrev pub AsksWidths : List ℕ → List ℕ → Task → Type 0
 AsksWidths checkers rounds (Cube task) = ⊥
-AsksWidths checkers rounds (Races task) = ⊥
 AsksWidths checkers rounds (Widths task) =
     (task.checkers ≡ number_said checkers) × (task.rounds ≡ number_said rounds)

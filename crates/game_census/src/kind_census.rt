@@ -5,20 +5,20 @@ ghost use Rattle.game_census.specs.Censuses.{no_census, with_action};
 ghost use Rattle.game_census.specs.Gaps.{answer_gap, offer_gap};
 
 use crate::call::Call;
-use crate::gap::{Border, Gap, Near};
+use crate::gap::{Gap, Near, nearest};
 use crate::tally::Tally;
 use directed_fixed::Pair;
 use play_analyser::CubeAction;
 use position_rank::Position;
 
-/// What is advised in a kind, and the positions in which it is nearest to the other choice.
+/// What is advised in a kind, and the positions in which it is nearest to the other choice, where there are any.
 #[derive(Clone, Copy)]
 pub(crate) struct KindCensus {
     pub(crate) tally: Tally,
     /// Where a take and a pass lead nearest to the same for the side that doubles.
-    pub(crate) answer: Border,
+    pub(crate) answer: Option<Near>,
     /// Where a double and rolling on do.
-    pub(crate) offer: Border,
+    pub(crate) offer: Option<Near>,
 }
 
 /// At each end the smaller one.
@@ -64,8 +64,8 @@ impl KindCensus {
     {
         KindCensus {
             tally: Tally::new(),
-            answer: Border::nowhere(),
-            offer: Border::nowhere(),
+            answer: None,
+            offer: None,
         }
     }
 
@@ -74,13 +74,15 @@ impl KindCensus {
         ensures { self.new ≡ with_action self.old position.now rolling action.now }
     {
         self.tally.add(Call::of(action));
-        self.answer = self.answer.with(&Near {
+        let answer = Near {
             position: *position,
             gap: answer_gap(action),
-        });
-        self.offer = self.offer.with(&Near {
+        };
+        let offer = Near {
             position: *position,
             gap: offer_gap(rolling, action),
-        });
+        };
+        self.answer = Some(nearest(self.answer, &answer));
+        self.offer = Some(nearest(self.offer, &offer));
     }
 }

@@ -1,12 +1,11 @@
-//! Counts and tells what no command of the program does: what is advised on the cube over a file of bounds, with the nearest calls, the races
-//! by the turns that they may still take, and how tight a game is after some of its rounds.
+//! Counts and tells what no command of the program does: what is advised on the cube over a file of bounds, with the nearest calls, and how
+//! tight a game is after some of its rounds.
 #![tactic(auto)]
 
 mod call;
 mod cube;
 mod gap;
 mod kind_census;
-mod races;
 mod report;
 mod saving;
 mod stop;
@@ -16,7 +15,6 @@ mod widths;
 mod words;
 
 use crate::cube::count_calls;
-use crate::races::count_races;
 use crate::stop::Stop;
 use crate::task::Task;
 use crate::widths::tell_widths;
@@ -47,7 +45,6 @@ fn run<R: Threads + Sync + Env + Print + Files + AllocGlobal>(
     match read_task(words.as_slice()) {
         None => Err(Stop::BadWords),
         Some(Task::Cube(task)) => count_calls(rt, alloc, &task),
-        Some(Task::Races(task)) => count_races(rt, alloc, &task),
         Some(Task::Widths(task)) => tell_widths(rt, alloc, &task, &mut RealFiles::new(rt, alloc)),
     }
 }

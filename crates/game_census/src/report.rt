@@ -97,8 +97,6 @@ pub(crate) fn print_census<R: Print>(
     let name = print_kind(kind);
     let kind = name.as_str();
     print_tally(rt, kind, &census.tally)?;
-    print_near(rt, "near-answer", kind, census.answer.nearest)?;
-    print_near(rt, "decided-answer", kind, census.answer.decided)?;
-    print_near(rt, "near-offer", kind, census.offer.nearest)?;
-    print_near(rt, "decided-offer", kind, census.offer.decided)
+    print_near(rt, "near-answer", kind, census.answer)?;
+    print_near(rt, "near-offer", kind, census.offer)
 }

@@ -33,7 +33,7 @@ impl Stop {
     {
         match self {
             Stop::BadWords => {
-                "the words are cube FILE PART PARTS, races CHECKERS, or widths CHECKERS STAKES ROUNDS [FILE]"
+                "the words are cube FILE PART PARTS, or widths CHECKERS STAKES ROUNDS [FILE]"
             }
             Stop::NoFile => "there is no file of this name",
             Stop::NoBounds => "the file isn't one of bounds",

@@ -19,14 +19,6 @@ pub(crate) struct CubeTask<'a> {
     pub(crate) part: Part,
 }
 
-/// The races of so many checkers are to be counted.
-#[derive(Clone, Copy)]
-pub(crate) struct RaceTask {
-    pub(crate) checkers: u8,
-    ghost low: { 1 ≤ checkers },
-    ghost high: { checkers ≤ 3 },
-}
-
 /// A game is to be solved by so many rounds, its widths are to be told meanwhile, and its words kept in the file, if any.
 #[derive(Clone, Copy)]
 pub(crate) struct WidthsTask<'a> {
@@ -45,6 +37,5 @@ pub(crate) struct WidthsTask<'a> {
 #[derive(Clone, Copy)]
 pub(crate) enum Task<'a> {
     Cube(CubeTask<'a>),
-    Races(RaceTask),
     Widths(WidthsTask<'a>),
 }

@@ -1,8 +1,8 @@
 ghost use Rattle.std.specs.Prelude.{◌≡◌, ◌+◌, IfSome, MatchOption, SomeIff, false, length};
 ghost use Rattle.base_head.specs.Heads.{is_match};
-ghost use Rattle.game_census.specs.Tasks.{AsksCalls, AsksRaces, AsksWidths, IsPartOf, SayPart, SaysUpto, number_said, one_for, word_count};
+ghost use Rattle.game_census.specs.Tasks.{AsksCalls, AsksWidths, IsPartOf, SayPart, SaysUpto, number_said, one_for, word_count};
 
-use crate::task::{CubeTask, Part, RaceTask, Task, WidthsTask};
+use crate::task::{CubeTask, Part, Task, WidthsTask};
 use cube_actions::StakesName;
 
 /// A number from 1 to the greatest that is taken.
@@ -33,15 +33,6 @@ fn cube_task<'a>(file: &'a str, number: &str, of: &str) -> Option<Task<'a>>
 {
     let part = part_of(number, of)?;
     Some(Task::Cube(CubeTask { file, part }))
-}
-
-/// What `races` asks for with this word after it.
-fn race_task(checkers: &str) -> Option<Task<'static>>
-    ensures asked { MatchOption result (SaysUpto 3 checkers.now → ⊥) (AsksRaces checkers.now) }
-    ensures words { IfSome result (λ task. word_count task ≡ 2) }
-{
-    let checkers = number_upto(checkers, 3)? as u8;
-    Some(Task::Races(RaceTask { checkers }))
 }
 
 /// The stakes of a name. They aren't those of a match.
@@ -95,7 +86,6 @@ pub(crate) fn read_task(words: &[String]) -> Option<Task<'_>>
     ensures { IfSome result (λ task. length words.now ≡ word_count task) }
 {
     match words {
-        [command, checkers] if command.as_str() == "races" => race_task(checkers.as_str()),
         [command, first, second, third] => task_of_three(
             command.as_str(),
             first.as_str(),
