@@ -8,8 +8,9 @@ use Rattle.std.specs.List.{filter, range_with_len}
 use Rattle.position_rank.specs.LiveRanks.{is_live, live_below, live_positions, placement_at}
 use Rattle.position_rank.specs.Ranks.{choose, layouts}
 use Rattle.position_rank.proofs.RankLaws.{layouts-one, layouts-two, layouts-three}
+use Rattle.cube_actions.specs.declared.name.MoneyRule.TheVariants.{Cubeless}
 use Rattle.cube_actions.specs.declared.name.StakesName.{StakesName}
-use Rattle.cube_actions.specs.declared.name.StakesName.TheVariants.{Cubeless, Money, Jacoby, MoneyBeavers, JacobyBeavers, Match}
+use Rattle.cube_actions.specs.declared.name.StakesName.TheVariants.{Unlimited, Match}
 use Rattle.cube_actions.specs.Ladder.{in_order, ladder}
 use Rattle.cube_actions.specs.MatchKinds.{can_come, every_kind, match_kinds}
 use Rattle.cube_actions.specs.Names.{name_of, names_of}
@@ -28,11 +29,8 @@ unfolding match_kinds
 kinds-few score = filter-few (can_come score) every_kind
 
 pub names-few : (name : StakesName) → length (names_of name) ≤ 14
-names-few Cubeless = omega arith
-names-few Money = omega arith
-names-few Jacoby = omega arith
-names-few MoneyBeavers = omega arith
-names-few JacobyBeavers = omega arith
+names-few (Unlimited Cubeless) = omega arith
+names-few (Unlimited _) = omega arith
 names-few (Match score) = omega (arith, length-map (match_kinds score) name_of, kinds-few score)
 
 one_to_five : (P : ℕ → Type 0) → P 1 → P 2 → P 3 → P 4 → P 5 → (n : ℕ) → 1 ≤ n → n ≤ 5 → P n
@@ -49,11 +47,7 @@ unfolding ladder in_order
 ladder-few = one_to_five (λ n. length (ladder n) ≤ 18) (omega arith) (omega arith) (omega arith) (omega arith) (omega arith)
 
 pub starts-few : (name : StakesName) (match_length : ℕ) → IsLengthOf name match_length → starts_told match_length name ≤ 17
-starts-few Cubeless match_length is = omega arith
-starts-few Money match_length is = omega arith
-starts-few Jacoby match_length is = omega arith
-starts-few MoneyBeavers match_length is = omega arith
-starts-few JacobyBeavers match_length is = omega arith
+starts-few (Unlimited rule) match_length is = omega arith
 starts-few (Match score) match_length is = omega (arith, is.listed, ladder-few match_length is.from is.to)
 
 squares-few : (layouts : ℕ) → layouts ≤ 3276 → layouts * layouts ≤ 10732176

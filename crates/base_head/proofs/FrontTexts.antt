@@ -10,7 +10,7 @@ use Rattle.sha2.specs.Sha256.{sha256}
 use Rattle.directed_fixed.specs.Bounds.{Bounds, IsWithin}
 use Rattle.directed_fixed.specs.declared.word.TheConstants.{WORD_OFFSET}
 use Rattle.cube_actions.specs.declared.name.StakesName.{StakesName}
-use Rattle.cube_actions.specs.declared.name.StakesName.TheVariants.{Cubeless, Money, Jacoby, MoneyBeavers, JacobyBeavers, Match}
+use Rattle.cube_actions.specs.declared.name.StakesName.TheVariants.{Unlimited, Match}
 use Rattle.cube_actions.specs.Stakes.{point_units}
 use Rattle.cube_actions.specs.Starts.{AreStarts, StartPairs}
 use Rattle.word_pages.specs.declared.flaws.Flaw.{Flaw}
@@ -83,11 +83,7 @@ header-again h bytes is =
     }
   where
     by_name : (name : StakesName) (match_length : ℕ) → IsLengthOf name match_length → length_if_match name (starts_length name match_length) ≡ match_length
-    by_name Cubeless match_length is = sym is
-    by_name Money match_length is = sym is
-    by_name Jacoby match_length is = sym is
-    by_name MoneyBeavers match_length is = sym is
-    by_name JacobyBeavers match_length is = sym is
+    by_name (Unlimited rule) match_length is = sym is
     by_name (Match score) match_length is = refl
 
 none-are : (pairs : List Bounds) → record { match_length = 1; pairs = pairs } ≡ no_starts → AreStarts (record { match_length = 1; pairs = pairs })
@@ -96,11 +92,7 @@ none-are pairs go = subst AreStarts (sym go) (record { from = omega arith; to = 
 starts-are : (name : StakesName) (match_length : ℕ) (pairs : List Bounds) → IsLengthOf name match_length → AreStartsOf name (record { match_length = starts_length name match_length; pairs = pairs })
     → All (IsWithin (point_units 1)) pairs → AreStarts (record { match_length = starts_length name match_length; pairs = pairs })
 starts-are (Match score) match_length pairs is go within = record { from = is.from; to = is.to; room = omega (arith, go.listed, go.held); within = within }
-starts-are Cubeless match_length pairs is go within = none-are pairs go
-starts-are Money match_length pairs is go within = none-are pairs go
-starts-are Jacoby match_length pairs is go within = none-are pairs go
-starts-are MoneyBeavers match_length pairs is go within = none-are pairs go
-starts-are JacobyBeavers match_length pairs is go within = none-are pairs go
+starts-are (Unlimited rule) match_length pairs is go within = none-are pairs go
 
 record RightFront (oldest : Version) (h : Header) (bytes : List ℕ) : Type 0 where
   since : IsSince oldest h.version
@@ -205,19 +197,11 @@ header-valid version head is takes = record {
 }
   where
     fitting : (name : StakesName) (starts : StartPairs) → AreStarts starts → AreStartsOf name starts → IsLengthOf name (length_if_match name starts.match_length)
-    fitting Cubeless starts valid go = refl
-    fitting Money starts valid go = refl
-    fitting Jacoby starts valid go = refl
-    fitting MoneyBeavers starts valid go = refl
-    fitting JacobyBeavers starts valid go = refl
+    fitting (Unlimited rule) starts valid go = refl
     fitting (Match score) starts valid go = record { from = valid.from; to = valid.to; listed = go.listed }
 
     before : (name : StakesName) (starts : StartPairs) → AreStartsOf name starts → length starts.pairs ≡ starts_told (length_if_match name starts.match_length) name
-    before Cubeless starts go = ap (λ (starts : StartPairs). length starts.pairs) go
-    before Money starts go = ap (λ (starts : StartPairs). length starts.pairs) go
-    before Jacoby starts go = ap (λ (starts : StartPairs). length starts.pairs) go
-    before MoneyBeavers starts go = ap (λ (starts : StartPairs). length starts.pairs) go
-    before JacobyBeavers starts go = ap (λ (starts : StartPairs). length starts.pairs) go
+    before (Unlimited rule) starts go = ap (λ (starts : StartPairs). length starts.pairs) go
     before (Match score) starts go = go.held
 
 -- it is as long as its header says
@@ -280,11 +264,7 @@ head-read version head bytes is =
     λ i. record { checkers = head.checkers; name = head.name; rounds = head.rounds; starts = record { match_length = same i; pairs = pairs i } }
   where
     by_name : (name : StakesName) (starts : StartPairs) → AreStartsOf name starts → starts_length name (length_if_match name starts.match_length) ≡ starts.match_length
-    by_name Cubeless starts go = sym (ap (λ (starts : StartPairs). starts.match_length) go)
-    by_name Money starts go = sym (ap (λ (starts : StartPairs). starts.match_length) go)
-    by_name Jacoby starts go = sym (ap (λ (starts : StartPairs). starts.match_length) go)
-    by_name MoneyBeavers starts go = sym (ap (λ (starts : StartPairs). starts.match_length) go)
-    by_name JacobyBeavers starts go = sym (ap (λ (starts : StartPairs). starts.match_length) go)
+    by_name (Unlimited rule) starts go = sym (ap (λ (starts : StartPairs). starts.match_length) go)
     by_name (Match score) starts go = refl
 
 -- and its digest

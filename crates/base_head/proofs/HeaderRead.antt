@@ -2,8 +2,10 @@
 use Rattle.std.proofs.Common.{◌≡◌, ◌∙◌, ℕ, ◌<◌, ◌≤◌, Bool, true, false, not, ◌&&◌, nat_le, nat_lt, ◌==◌, if◌then◌else◌, List, [], ◌∷◌, ◌++◌, length, drop, None, Some, Option, refl, sym, ap, subst, arith}
 use Rattle.std.proofs.lemmas.Bool.Decides.{nat_tests}
 use Rattle.byteorder.specs.Numbers.{big_number-reads_back}
+use Rattle.cube_actions.specs.declared.name.MoneyRule.{MoneyRule}
+use Rattle.cube_actions.specs.declared.name.MoneyRule.TheVariants.{Cubeless, Money, Jacoby, MoneyBeavers, JacobyBeavers}
 use Rattle.cube_actions.specs.declared.name.StakesName.{StakesName}
-use Rattle.cube_actions.specs.declared.name.StakesName.TheVariants.{Cubeless, Money, Jacoby, MoneyBeavers, JacobyBeavers, Match}
+use Rattle.cube_actions.specs.declared.name.StakesName.TheVariants.{Unlimited, Match}
 use Rattle.cube_actions.specs.declared.phase.Phase.{Phase}
 use Rattle.cube_actions.specs.declared.phase.Phase.TheVariants.{Normal, Crawford, Post}
 use Rattle.cube_actions.specs.Ladder.{ladder}
@@ -19,8 +21,8 @@ use Rattle.base_head.specs.declared.fields.Fields.{Fields}
 use Rattle.base_head.specs.declared.header.Header.{Header}
 use Rattle.base_head.specs.Faults.{first_wrong}
 use Rattle.base_head.specs.Heads.{TakesStakes}
-use Rattle.base_head.specs.Headers.{HasScore, IsHeader, IsLengthOf, IsSince, far_field, near_field, phase_field, phase_number, spelled, stakes_number, starts_told, version_number}
-use Rattle.base_head.specs.HeaderFaults.{checkers_check, count_checks, field_checks, fields_of, header_in, is_from_to, is_phase_at, is_phase_in, last_stakes, match_checks, name_in, name_numbered, number_at, other_checks, phase_numbered, score_in, stakes_checks, version_check, version_in, version_numbered}
+use Rattle.base_head.specs.Headers.{HasScore, IsHeader, IsLengthOf, IsSince, far_field, near_field, phase_field, phase_number, rule_number, spelled, stakes_number, starts_told, version_number}
+use Rattle.base_head.specs.HeaderFaults.{checkers_check, count_checks, field_checks, fields_of, header_in, is_from_to, is_phase_at, is_phase_in, last_stakes, match_checks, name_in, name_numbered, number_at, other_checks, phase_numbered, rule_numbered, score_in, stakes_checks, version_check, version_in, version_numbered}
 use Rattle.base_head.proofs.Counts.{header-kinds-few, header-positions-few, header-starts-few}
 use Rattle.base_head.proofs.FieldChecks.{after-name}
 use Rattle.base_head.proofs.Scores.{score-numbers}
@@ -49,12 +51,18 @@ version-low One = omega arith
 version-low Two = omega arith
 version-low Three = omega arith
 
+-- a rule's number is at most 5 and not a match's, and stands for it
+record NumbersRule (rule : MoneyRule) : Type 0 where
+  low : rule_number rule ≤ 5
+  apart : (rule_number rule == 3) ≡ false
+  same : rule_numbered (rule_number rule) ≡ rule
+
+numbers-rule : (rule : MoneyRule) → NumbersRule rule
+numbers-rule Cubeless = record { low = omega arith; apart = refl; same = refl }
+numbers-rule _ = record { low = omega arith; apart = refl; same = refl }
+
 stakes-low : (name : StakesName) → stakes_number name ≤ 5
-stakes-low Cubeless = omega arith
-stakes-low Money = omega arith
-stakes-low Jacoby = omega arith
-stakes-low MoneyBeavers = omega arith
-stakes-low JacobyBeavers = omega arith
+stakes-low (Unlimited rule) = (numbers-rule rule).low
 stakes-low (Match score) = omega arith
 
 phase-low : (phase : Phase) → phase_number phase ≤ 2
@@ -69,11 +77,7 @@ record LowName (name : StakesName) (match_length : ℕ) : Type 0 where
   short : match_length ≤ 5
 
 name-low : (name : StakesName) (match_length : ℕ) → IsLengthOf name match_length → LowName name match_length
-name-low Cubeless match_length is = record { near = omega arith; far = omega arith; phase = omega arith; short = omega (arith, is) }
-name-low Money match_length is = record { near = omega arith; far = omega arith; phase = omega arith; short = omega (arith, is) }
-name-low Jacoby match_length is = record { near = omega arith; far = omega arith; phase = omega arith; short = omega (arith, is) }
-name-low MoneyBeavers match_length is = record { near = omega arith; far = omega arith; phase = omega arith; short = omega (arith, is) }
-name-low JacobyBeavers match_length is = record { near = omega arith; far = omega arith; phase = omega arith; short = omega (arith, is) }
+name-low (Unlimited rule) match_length is = record { near = omega arith; far = omega arith; phase = omega arith; short = omega (arith, is) }
 name-low (Match score) match_length is =
     let numbers = score-numbers match_length score is in
     record { near = omega (arith, numbers.in_order, numbers.to); far = numbers.to; phase = phase-low score.phase; short = is.to }
@@ -124,11 +128,8 @@ phase-same Crawford = refl
 phase-same Post = refl
 
 name-same : (name : StakesName) → name_numbered (stakes_number name) (record { near = near_field name; far = far_field name; phase = phase_numbered (phase_field name) }) ≡ name
-name-same Cubeless = refl
-name-same Money = refl
-name-same Jacoby = refl
-name-same MoneyBeavers = refl
-name-same JacobyBeavers = refl
+name-same (Unlimited Cubeless) = refl
+name-same (Unlimited _) = refl
 name-same (Match score) = ap (λ (phase : Phase). Match (record { near = score.near; far = score.far; phase = phase })) (phase-same score.phase)
 
 pub header-same : (h : Header) → header_in (numbers_of h) ≡ h
@@ -182,12 +183,12 @@ checkers-pass h is = pass (is_from_to 1 3 h.checkers) _ None (from-to 1 3 h.chec
 last-same : (version : Version) (name : StakesName) → TakesStakes version name → stakes_number name ≤ last_stakes version
 last-same Two name takes = stakes-low name
 last-same Three name takes = stakes-low name
-last-same One Cubeless takes = omega arith
-last-same One Money takes = omega arith
-last-same One Jacoby takes = omega arith
+last-same One (Unlimited Cubeless) takes = omega arith
+last-same One (Unlimited Money) takes = omega arith
+last-same One (Unlimited Jacoby) takes = omega arith
+last-same One (Unlimited MoneyBeavers) takes = absurd (grind (arith, takes refl))
+last-same One (Unlimited JacobyBeavers) takes = absurd (grind (arith, takes refl))
 last-same One (Match score) takes = omega arith
-last-same One MoneyBeavers takes = absurd (grind (arith, takes refl))
-last-same One JacobyBeavers takes = absurd (grind (arith, takes refl))
 
 -- a match's score and length
 match-passes : (f : Fields) (score : MatchScore) → f.near ≡ score.near → f.far ≡ score.far → f.phase ≡ phase_number score.phase → HasScore f.match_length score → first_wrong (match_checks f) ≡ None
@@ -212,11 +213,10 @@ other-passes f near far phase match_length =
 score-passes : (f : Fields) (name : StakesName) → f.stakes ≡ stakes_number name → f.near ≡ near_field name → f.far ≡ far_field name → f.phase ≡ phase_field name → IsLengthOf name f.match_length
     → first_wrong (if f.stakes == 3 then match_checks f else other_checks f) ≡ None
 score-passes f (Match score) stakes near far phase is = ap (λ (n : ℕ). first_wrong (if n == 3 then match_checks f else other_checks f)) stakes ∙ match-passes f score near far phase is
-score-passes f Cubeless stakes near far phase is = ap (λ (n : ℕ). first_wrong (if n == 3 then match_checks f else other_checks f)) stakes ∙ other-passes f near far phase is
-score-passes f Money stakes near far phase is = ap (λ (n : ℕ). first_wrong (if n == 3 then match_checks f else other_checks f)) stakes ∙ other-passes f near far phase is
-score-passes f Jacoby stakes near far phase is = ap (λ (n : ℕ). first_wrong (if n == 3 then match_checks f else other_checks f)) stakes ∙ other-passes f near far phase is
-score-passes f MoneyBeavers stakes near far phase is = ap (λ (n : ℕ). first_wrong (if n == 3 then match_checks f else other_checks f)) stakes ∙ other-passes f near far phase is
-score-passes f JacobyBeavers stakes near far phase is = ap (λ (n : ℕ). first_wrong (if n == 3 then match_checks f else other_checks f)) stakes ∙ other-passes f near far phase is
+score-passes f (Unlimited rule) stakes near far phase is =
+    ap (λ (n : ℕ). first_wrong (if n == 3 then match_checks f else other_checks f)) stakes
+    ∙ ap (λ (b : Bool). first_wrong (if b then match_checks f else other_checks f)) (numbers-rule rule).apart
+    ∙ other-passes f near far phase is
 
 stakes-pass : (h : Header) → IsHeader h → first_wrong (stakes_checks (numbers_of h)) ≡ None
 unfolding numbers_of

@@ -9,7 +9,7 @@ use Rattle.cube_actions.specs.Scores.{MatchScore}
 use Rattle.word_pages.specs.declared.version.Version.{Version}
 use Rattle.word_pages.specs.declared.version.Version.TheVariants.{One, Two, Three}
 use Rattle.base_head.specs.Faults.{first_wrong}
-use Rattle.base_head.specs.Heads.{has_beavers}
+use Rattle.base_head.specs.Heads.{plays_beavers}
 use Rattle.base_head.specs.Headers.{HasScore, IsHeader, IsLengthOf, starts_told}
 use Rattle.base_head.specs.HeaderFaults.{count_checks, field_checks, header_in, is_from_to, is_length_of, is_phase_at, is_phase_in, last_stakes, match_checks, name_in, name_numbered, other_checks, phase_numbered, score_in, stakes_checks, version_in}
 use Rattle.base_head.specs.declared.fields.Fields.{Fields}
@@ -139,10 +139,10 @@ last-five One = omega arith
 last-five Two = omega arith
 last-five Three = omega arith
 
-takes-name : (version : Version) (stakes : ℕ) (score : MatchScore) → stakes ≤ last_stakes version → version ≡ One → has_beavers (name_numbered stakes score) ≡ false
+takes-name : (version : Version) (stakes : ℕ) (score : MatchScore) → stakes ≤ last_stakes version → version ≡ One → plays_beavers (name_numbered stakes score) ≡ false
 takes-name version stakes score last one = no_beavers stakes (subst (λ (v : Version). stakes ≤ last_stakes v) one last)
   where
-    no_beavers : (stakes : ℕ) → stakes ≤ 3 → has_beavers (name_numbered stakes score) ≡ false
+    no_beavers : (stakes : ℕ) → stakes ≤ 3 → plays_beavers (name_numbered stakes score) ≡ false
     no_beavers zero low = refl
     no_beavers (suc zero) low = refl
     no_beavers (suc (suc zero)) low = refl

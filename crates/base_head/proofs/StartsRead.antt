@@ -3,7 +3,7 @@ use Rattle.std.proofs.Common.{◌≡◌, ◌∙◌, ℕ, zero, suc, ◌*◌, Boo
 use Rattle.std.specs.Option.{option_map}
 use Rattle.directed_fixed.specs.Bounds.{Bounds}
 use Rattle.cube_actions.specs.declared.name.StakesName.{StakesName}
-use Rattle.cube_actions.specs.declared.name.StakesName.TheVariants.{Cubeless, Money, Jacoby, MoneyBeavers, JacobyBeavers, Match}
+use Rattle.cube_actions.specs.declared.name.StakesName.TheVariants.{Unlimited, Match}
 use Rattle.cube_actions.specs.Stakes.{point_units}
 use Rattle.word_pages.specs.Flaws.{pairs_flaw}
 use Rattle.word_pages.specs.Sealed.{is_sealed}
@@ -27,11 +27,7 @@ none-of (pair ∷ pairs) is = absurd (omega (arith, is))
 
 pub starts-go : (name : StakesName) (match_length n : ℕ) (pairs : List Bounds) → IsLengthOf name match_length → n ≡ starts_told match_length name → length pairs ≡ n
     → AreStartsOf name (record { match_length = starts_length name match_length; pairs = pairs })
-starts-go Cubeless match_length n pairs fitting before is = ap (λ (list : List Bounds). record { match_length = 1; pairs = list }) (none-of pairs (is ∙ before))
-starts-go Money match_length n pairs fitting before is = ap (λ (list : List Bounds). record { match_length = 1; pairs = list }) (none-of pairs (is ∙ before))
-starts-go Jacoby match_length n pairs fitting before is = ap (λ (list : List Bounds). record { match_length = 1; pairs = list }) (none-of pairs (is ∙ before))
-starts-go MoneyBeavers match_length n pairs fitting before is = ap (λ (list : List Bounds). record { match_length = 1; pairs = list }) (none-of pairs (is ∙ before))
-starts-go JacobyBeavers match_length n pairs fitting before is = ap (λ (list : List Bounds). record { match_length = 1; pairs = list }) (none-of pairs (is ∙ before))
+starts-go (Unlimited rule) match_length n pairs fitting before is = ap (λ (list : List Bounds). record { match_length = 1; pairs = list }) (none-of pairs (is ∙ before))
 starts-go (Match score) match_length n pairs fitting before is = record { listed = fitting.listed; held = is ∙ before }
 
 pub sealed-starts : (header : Header) (bytes rest : List ℕ) → rest ≡ drop 64 bytes → is_sealed (take (front_length header) bytes) ≡ true

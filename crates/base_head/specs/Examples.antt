@@ -1,5 +1,6 @@
 -- A header that was reckoned by hand.
-use Rattle.cube_actions.specs.declared.name.StakesName.TheVariants.{Cubeless}
+use Rattle.cube_actions.specs.declared.name.MoneyRule.TheVariants.{Cubeless}
+use Rattle.cube_actions.specs.declared.name.StakesName.TheVariants.{Unlimited}
 use Rattle.word_pages.specs.declared.version.Version.{Version}
 use Rattle.base_head.specs.declared.header.Header.{Header}
 
@@ -8,7 +9,7 @@ abbrev pub cubeless_header : Version → Header
 cubeless_header version = record {
   version = version;
   checkers = 1;
-  name = Cubeless;
+  name = Unlimited Cubeless;
   match_length = 0;
   kinds = 1;
   rounds = 8;

@@ -3,8 +3,10 @@ use Rattle.std.specs.Prelude.{ℕ, ◌==◌, nat_le, nat_lt, Bool, not, ◌&&◌
 use Rattle.std.specs.Str.{bytes_eq}
 use Rattle.byteorder.specs.Endian.{big_number}
 use Rattle.position_rank.specs.LiveRanks.{live_positions}
+use Rattle.cube_actions.specs.declared.name.MoneyRule.{MoneyRule}
+use Rattle.cube_actions.specs.declared.name.MoneyRule.TheVariants.{Cubeless, Money, Jacoby, MoneyBeavers, JacobyBeavers}
 use Rattle.cube_actions.specs.declared.name.StakesName.{StakesName}
-use Rattle.cube_actions.specs.declared.name.StakesName.TheVariants.{Cubeless, Money, Jacoby, MoneyBeavers, JacobyBeavers, Match}
+use Rattle.cube_actions.specs.declared.name.StakesName.TheVariants.{Unlimited, Match}
 use Rattle.cube_actions.specs.declared.phase.Phase.{Phase}
 use Rattle.cube_actions.specs.declared.phase.Phase.TheVariants.{Normal, Crawford, Post}
 use Rattle.cube_actions.specs.Ladder.{ladder}
@@ -59,15 +61,18 @@ score_in fields = record {
   phase = phase_numbered fields.phase;
 }
 
--- the stakes that a number stands for, where it is at most 5
-abbrev pub name_numbered : ℕ → MatchScore → StakesName
-name_numbered number score =
+-- the rule that a number stands for, where it is at most 5 and not 3
+abbrev pub rule_numbered : ℕ → MoneyRule
+rule_numbered number =
     if number == 0 then Cubeless
     else if number == 1 then Money
     else if number == 2 then Jacoby
-    else if number == 3 then Match score
     else if number == 4 then MoneyBeavers
     else JacobyBeavers
+
+-- the stakes that a number stands for, where it is at most 5
+abbrev pub name_numbered : ℕ → MatchScore → StakesName
+name_numbered number score = if number == 3 then Match score else Unlimited (rule_numbered number)
 
 abbrev pub name_in : Fields → StakesName
 name_in fields = name_numbered fields.stakes (score_in fields)

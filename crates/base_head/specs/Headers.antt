@@ -2,8 +2,10 @@
 use Rattle.std.specs.Prelude.{◌≡◌, ◌≤◌, ◌<◌, ◌+◌, ◌*◌, ℕ, List, ◌++◌, codes, length}
 use Rattle.byteorder.specs.Endian.{big_bytes}
 use Rattle.position_rank.specs.LiveRanks.{live_positions}
+use Rattle.cube_actions.specs.declared.name.MoneyRule.{MoneyRule}
+use Rattle.cube_actions.specs.declared.name.MoneyRule.TheVariants.{Cubeless, Money, Jacoby, MoneyBeavers, JacobyBeavers}
 use Rattle.cube_actions.specs.declared.name.StakesName.{StakesName}
-use Rattle.cube_actions.specs.declared.name.StakesName.TheVariants.{Cubeless, Money, Jacoby, MoneyBeavers, JacobyBeavers, Match}
+use Rattle.cube_actions.specs.declared.name.StakesName.TheVariants.{Unlimited, Match}
 use Rattle.cube_actions.specs.declared.phase.Phase.{Phase}
 use Rattle.cube_actions.specs.declared.phase.Phase.TheVariants.{Normal, Crawford, Post}
 use Rattle.cube_actions.specs.Names.{names_of}
@@ -30,13 +32,16 @@ version_number Three = 3
 abbrev pub IsSince : Version → Version → Type 0
 IsSince oldest version = version_number oldest ≤ version_number version
 
+abbrev pub rule_number : MoneyRule → ℕ
+rule_number Cubeless = 0
+rule_number Money = 1
+rule_number Jacoby = 2
+rule_number MoneyBeavers = 4
+rule_number JacobyBeavers = 5
+
 abbrev pub stakes_number : StakesName → ℕ
-stakes_number Cubeless = 0
-stakes_number Money = 1
-stakes_number Jacoby = 2
+stakes_number (Unlimited rule) = rule_number rule
 stakes_number (Match score) = 3
-stakes_number MoneyBeavers = 4
-stakes_number JacobyBeavers = 5
 
 abbrev pub phase_number : Phase → ℕ
 phase_number Normal = 0

@@ -1,12 +1,12 @@
 -- What a file of bounds is of: its head.
-use Rattle.std.specs.Prelude.{◌≡◌, ◌≤◌, ◌<◌, ℕ, Bool, true, false, [], length}
+use Rattle.std.specs.Prelude.{◌≡◌, ◌≤◌, ◌<◌, ℕ, Bool, false, [], length}
 use Rattle.cube_actions.specs.declared.name.StakesName.{StakesName}
-use Rattle.cube_actions.specs.declared.name.StakesName.TheVariants.{Cubeless, Money, Jacoby, MoneyBeavers, JacobyBeavers, Match}
+use Rattle.cube_actions.specs.declared.name.StakesName.TheVariants.{Unlimited, Match}
 use Rattle.cube_actions.specs.Ladder.{ladder}
-use Rattle.cube_actions.specs.Matches.{terms_of}
-use Rattle.cube_actions.specs.Money.{money, jacoby, money_beavers, jacoby_beavers}
+use Rattle.cube_actions.specs.Matches.{stakes_named}
+use Rattle.cube_actions.specs.Money.{has_beavers}
 use Rattle.cube_actions.specs.Scores.{MatchScore}
-use Rattle.cube_actions.specs.Stakes.{Terms, cubeless}
+use Rattle.cube_actions.specs.Stakes.{Terms}
 use Rattle.cube_actions.specs.Starts.{StartPairs, AreStarts, ladder_place}
 use Rattle.word_pages.specs.declared.version.Version.{Version}
 use Rattle.word_pages.specs.declared.version.Version.TheVariants.{One}
@@ -29,7 +29,7 @@ pub record AreStartsBefore (score : MatchScore) (starts : StartPairs) : Type 0 w
 
 abbrev pub AreStartsOf : StakesName → StartPairs → Type 0
 AreStartsOf (Match score) starts = AreStartsBefore score starts
-AreStartsOf _ starts = starts ≡ no_starts
+AreStartsOf (Unlimited rule) starts = starts ≡ no_starts
 
 -- one to three checkers, 1 to 4,096 rounds, and the starts that go with the stakes
 pub record IsHead (head : FileHead) : Type 0 where
@@ -40,32 +40,17 @@ pub record IsHead (head : FileHead) : Type 0 where
   pub valid : AreStarts head.starts
   pub starts : AreStartsOf head.name head.starts
 
--- what a game of these stakes is played for
-abbrev pub stakes_named : StakesName → StartPairs → Terms
-stakes_named Cubeless starts = cubeless
-stakes_named Money starts = money
-stakes_named Jacoby starts = jacoby
-stakes_named MoneyBeavers starts = money_beavers
-stakes_named JacobyBeavers starts = jacoby_beavers
-stakes_named (Match score) starts = terms_of score starts
-
 -- the stakes of the words of a file
 abbrev pub stakes_of : FileHead → Terms
 stakes_of head = stakes_named head.name head.starts
 
-abbrev pub has_beavers : StakesName → Bool
-has_beavers MoneyBeavers = true
-has_beavers JacobyBeavers = true
-has_beavers _ = false
-
--- stakes that aren't those of a game of a match
-abbrev pub is_match : StakesName → Bool
-is_match (Match score) = true
-is_match _ = false
+abbrev pub plays_beavers : StakesName → Bool
+plays_beavers (Unlimited rule) = has_beavers rule
+plays_beavers (Match score) = false
 
 -- version 1 has no stakes with beavers
 abbrev pub TakesStakes : Version → StakesName → Type 0
-TakesStakes version name = version ≡ One → has_beavers name ≡ false
+TakesStakes version name = version ≡ One → plays_beavers name ≡ false
 
 -- heads with beavers have no text of version 1
 abbrev pub HasText : Version → FileHead → Type 0

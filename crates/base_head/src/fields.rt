@@ -5,13 +5,13 @@ ghost use Rattle.cube_actions.specs.Names.{names_of};
 ghost use Rattle.position_rank.specs.LiveRanks.{live_positions};
 ghost use Rattle.base_head.specs.Faults.{checked, first_wrong};
 ghost use Rattle.base_head.specs.Headers.{HasScore, IsHeader, IsLengthOf, starts_told};
-ghost use Rattle.base_head.specs.HeaderFaults.{checkers_check, count_checks, field_checks, fields_of, header_in, is_length_of, is_phase_in, last_stakes, match_checks, name_in, number_at, other_checks, score_in, stakes_checks, version_in, version_check};
+ghost use Rattle.base_head.specs.HeaderFaults.{checkers_check, count_checks, field_checks, fields_of, header_in, is_length_of, is_phase_in, last_stakes, match_checks, name_in, number_at, other_checks, rule_numbered, score_in, stakes_checks, version_in, version_check};
 
 use crate::fault::{BadFile, FileFault, check};
 use crate::head::ladder_place;
 use crate::header::{Header, version_number};
 use byteorder::{BigEndian, ByteOrder};
-use cube_actions::{Phase, Score, Stakes, StakesName, Starts, ladder};
+use cube_actions::{MoneyRule, Phase, Score, Stakes, StakesName, Starts, ladder};
 use directed_fixed::{Fixed, Pair};
 use position_rank::live_count;
 use word_pages::Version;
@@ -134,13 +134,7 @@ impl Fields {
             return Ok(StakesName::Match(score));
         }
         self.check_no_match()?;
-        Ok(match self.stakes {
-            0 => StakesName::Cubeless,
-            1 => StakesName::Money,
-            2 => StakesName::Jacoby,
-            4 => StakesName::MoneyBeavers,
-            _ => StakesName::JacobyBeavers,
-        })
+        Ok(StakesName::Unlimited(rule_numbered(self.stakes)))
     }
 
     fn score(&self) -> Result<Score, BadFile>
@@ -229,6 +223,19 @@ fn last_stakes(version: Version) -> u32
     }
 }
 
+/// The rule that a number stands for, where it is at most 5 and not 3.
+fn rule_numbered(number: u32) -> MoneyRule
+    ensures { result ≡ rule_numbered number }
+{
+    match number {
+        0 => MoneyRule::Cubeless,
+        1 => MoneyRule::Money,
+        2 => MoneyRule::Jacoby,
+        4 => MoneyRule::MoneyBeavers,
+        _ => MoneyRule::JacobyBeavers,
+    }
+}
+
 fn u32_at(bytes: &[u8], at: usize) -> u32
     requires { at + 4 ≤ length bytes.now }
     ensures { result ≡ number_at at 4 bytes.now }
@@ -250,9 +257,11 @@ fn kind_count(name: StakesName, match_length: u8) -> u32
     ensures few { result ≤ 14 }
 {
     match name {
-        StakesName::Cubeless => 1,
+        StakesName::Unlimited(rule) => match rule {
+            MoneyRule::Cubeless => 1,
+            _ => 3,
+        },
         StakesName::Match(score) => match_kind_count(score, match_length),
-        _ => 3,
     }
 }
 
@@ -276,7 +285,7 @@ fn starts_before(name: StakesName, match_length: u8) -> u32
     ensures few { result ≤ 17 }
 {
     match name {
+        StakesName::Unlimited(_) => 0,
         StakesName::Match(score) => ladder_place(match_length, score) as u32,
-        _ => 0,
     }
 }

@@ -141,8 +141,8 @@ fn starts_length(name: StakesName, match_length: u8) -> u8
     ensures { result ≡ starts_length name match_length }
 {
     match name {
+        StakesName::Unlimited(_) => 1,
         StakesName::Match(_) => match_length,
-        _ => 1,
     }
 }
 

@@ -1,12 +1,12 @@
-ghost use Rattle.std.specs.Prelude.{◌≡◌, ◌≤◌, ◌<◌, ◌↔◌, false, IsSome, IfSome, length};
+ghost use Rattle.std.specs.Prelude.{◌≡◌, ◌≤◌, ◌<◌, ◌↔◌, IsSome, IfSome, length};
 ghost use Rattle.position_rank.specs.LiveRanks.{live_positions};
-ghost use Rattle.cube_actions.specs.declared.name.StakesName.TheVariants.{Match};
+ghost use Rattle.cube_actions.specs.declared.name.StakesName.TheVariants.{Match, Unlimited};
 ghost use Rattle.cube_actions.specs.Names.{names_of};
 ghost use Rattle.cube_actions.specs.Scores.{same_score};
 ghost use Rattle.cube_actions.specs.Starts.{AreStarts, ladder_place};
-ghost use Rattle.base_head.specs.Heads.{AreStartsOf, IsHead, is_match, no_starts};
+ghost use Rattle.base_head.specs.Heads.{AreStartsOf, IsHead, no_starts};
 
-use cube_actions::{Score, Stakes, StakesName, Starts, ladder};
+use cube_actions::{MoneyRule, Score, Stakes, StakesName, Starts, ladder};
 use position_rank::live_count;
 use std::marker::Model;
 
@@ -43,23 +43,22 @@ impl Model for Head {
 impl Head {
     ghost use Rattle.base_head.specs.Heads.{FileHead, stakes_of};
 
-    /// The head for stakes that aren't a match.
-    pub fn of_stakes(checkers: u8, name: StakesName, rounds: u32) -> Head
+    /// The head for games that are no match.
+    pub fn unlimited(checkers: u8, rule: MoneyRule, rounds: u32) -> Head
         requires some { 1 ≤ checkers }
         requires few { checkers ≤ 3 }
         requires begun { 1 ≤ rounds }
         requires ended { rounds ≤ 4096 }
-        requires no_match { is_match name ≡ false }
         ensures { result ≡ record {
           checkers = checkers;
-          name = name;
+          name = Unlimited rule;
           rounds = rounds;
           starts = no_starts;
         } }
     {
         Head {
             checkers,
-            name,
+            name: StakesName::Unlimited(rule),
             rounds,
             starts: Starts::new(1),
         }
@@ -154,11 +153,7 @@ impl Head {
         ensures valid { IsHead self.now }
     {
         match self.name {
-            StakesName::Cubeless => Stakes::cubeless(),
-            StakesName::Money => Stakes::money(),
-            StakesName::Jacoby => Stakes::jacoby(),
-            StakesName::MoneyBeavers => Stakes::money_beavers(),
-            StakesName::JacobyBeavers => Stakes::jacoby_beavers(),
+            StakesName::Unlimited(rule) => Stakes::unlimited(rule),
             StakesName::Match(score) => Stakes::of_score(score, &self.starts),
         }
     }

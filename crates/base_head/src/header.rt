@@ -1,9 +1,9 @@
 ghost use Rattle.std.specs.Prelude.{◌≡◌, ◌≤◌, ◌+◌, ◌*◌, ◌++◌, [], ◌∷◌, flat_map, length};
-ghost use Rattle.base_head.specs.Headers.{IsHeader, digest_place, far_field, field, file_length, front_length, near_field, pair_size, phase_field, phase_number, stakes_number, version_number};
+ghost use Rattle.base_head.specs.Headers.{IsHeader, digest_place, far_field, field, file_length, front_length, near_field, pair_size, phase_field, phase_number, rule_number, stakes_number, version_number};
 
 use crate::head::Head;
 use arrayvec::ArrayVec;
-use cube_actions::{Phase, StakesName};
+use cube_actions::{MoneyRule, Phase, StakesName};
 use word_pages::Version;
 
 /// What the first 64 bytes of a file say.
@@ -46,8 +46,8 @@ impl Header {
     {
         let starts = head.starts();
         let match_length = match head.name() {
+            StakesName::Unlimited(_) => 0,
             StakesName::Match(_) => starts.match_length(),
-            _ => 0,
         };
         Header {
             version,
@@ -139,12 +139,20 @@ fn stakes_number(name: StakesName) -> u32
     ensures { result ≡ stakes_number name }
 {
     match name {
-        StakesName::Cubeless => 0,
-        StakesName::Money => 1,
-        StakesName::Jacoby => 2,
+        StakesName::Unlimited(rule) => rule_number(rule),
         StakesName::Match(_) => 3,
-        StakesName::MoneyBeavers => 4,
-        StakesName::JacobyBeavers => 5,
+    }
+}
+
+fn rule_number(rule: MoneyRule) -> u32
+    ensures { result ≡ rule_number rule }
+{
+    match rule {
+        MoneyRule::Cubeless => 0,
+        MoneyRule::Money => 1,
+        MoneyRule::Jacoby => 2,
+        MoneyRule::MoneyBeavers => 4,
+        MoneyRule::JacobyBeavers => 5,
     }
 }
 
@@ -153,12 +161,12 @@ fn match_fields(name: StakesName) -> [u32; 3]
     ensures { result ≡ near_field name ∷ far_field name ∷ phase_field name ∷ [] }
 {
     match name {
+        StakesName::Unlimited(_) => [0; 3],
         StakesName::Match(score) => [
             u32::from(score.near),
             u32::from(score.far),
             phase_number(score.phase),
         ],
-        _ => [0; 3],
     }
 }
 

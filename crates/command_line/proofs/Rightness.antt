@@ -9,16 +9,15 @@ use Rattle.std.proofs.lemmas.Slice.Eq.{bytes_eq-Decides}
 use Rattle.position_rank.specs.Placement.{Placement, IsPosition, IsLive, swap}
 use Rattle.command_line.proofs.Positions.{given-live}
 use Rattle.roll_table.specs.Rolls.{Dice, IsRoll}
-use Rattle.cube_actions.specs.Scores.{MatchScore}
-use Rattle.cube_actions.specs.declared.name.StakesName.{StakesName}
-use Rattle.cube_actions.specs.declared.name.StakesName.TheVariants.{Jacoby, Match}
+use Rattle.cube_actions.specs.declared.name.MoneyRule.{MoneyRule}
+use Rattle.cube_actions.specs.declared.name.MoneyRule.TheVariants.{Jacoby}
 use Rattle.word_forms.specs.Form.{Bytes, FormValues}
 use Rattle.command_line.specs.declared.command.Command.{Command}
 use Rattle.command_line.specs.declared.command.CommandName.{CommandName}
 use Rattle.command_line.specs.declared.command.CommandName.TheVariants as name
 use Rattle.command_line.specs.declared.command.Shown.{Shown}
 use Rattle.command_line.specs.declared.stop.WordsStop.{WordsStop}
-use Rattle.command_line.specs.Values.{long_number_given, number_given, number_or, stakes_or, file_name, other_name, prefix, position_given, roll_given, seen_by_doubler, shown_given, usual_rounds, millionths_of, width_given}
+use Rattle.command_line.specs.Values.{long_number_given, number_given, number_or, rule_or, file_name, other_name, prefix, position_given, roll_given, seen_by_doubler, shown_given, usual_rounds, millionths_of, width_given}
 use Rattle.command_line.specs.declared.away.Away.{Away}
 use Rattle.cube_actions.specs.Scores.{IsScore}
 use Rattle.command_line.specs.Away.{away_given}
@@ -67,8 +66,8 @@ width-right number (Some word) next each = width-of number (millionths_of word) 
 long-right : (number : ℕ) (given : Option Bytes) (next : ℕ → Asked) → ((n : ℕ) → n < 2 ^ 64 → Right (next n)) → Right (value_checked number (long_number_given given) next)
 long-right number given next each = grind (arith, nat_tests)
 
-stakes-right : (number : ℕ) (given : Option Bytes) (next : StakesName → Asked) → ((stakes : StakesName) → ((score : MatchScore) → stakes ≢ Match score) → Right (next stakes)) → Right (value_checked number (stakes_or Jacoby given) next)
-stakes-right number given next each = grind arith
+rule-right : (number : ℕ) (given : Option Bytes) (next : MoneyRule → Asked) → ((rule : MoneyRule) → Right (next rule)) → Right (value_checked number (rule_or Jacoby given) next)
+rule-right number given next each = grind arith
 
 name-right : (number : ℕ) (given : Option Bytes) (next : Bytes → Asked) → ((name : Bytes) → IsName name → Right (next name)) → Right (value_checked number (file_name given) next)
 name-right number given next each = grind (arith, nat_tests)
@@ -123,7 +122,7 @@ seen-live false p live = live
 values-right : (command : CommandName) (given : FormValues) → Right (command_values command given)
 values-right name.Bound given = search (within-right, option-right, position-right, ok-right) depth 9
 values-right name.Race given = search (within-right, option-right, position-right, ok-right) depth 9
-values-right name.Solve given = search (name-right, or-right, stakes-right, rounds-right, width-right, ok-right) depth 9
+values-right name.Solve given = search (name-right, or-right, rule-right, rounds-right, width-right, ok-right) depth 9
 values-right name.Show given = search (name-right, option-right, position-right, ok-right) depth 9
 values-right name.ShowList given = search (name-right, or-right, ok-right) depth 9
 values-right name.ShowMatch given = search (prefix-right, option-right, away-right, position-right, name-at, ok-right) depth 9

@@ -4,7 +4,7 @@ use Rattle.std.specs.Option.{option_map_or}
 use Rattle.std.specs.Str.{bytes_eq}
 use Rattle.hyper_outside.specs.declared.outside.WordsKind.{WordsKind}
 use Rattle.hyper_outside.specs.declared.outside.WordsKind.TheVariants.{Value}
-use Rattle.cube_actions.specs.declared.name.StakesName.TheVariants.{Jacoby}
+use Rattle.cube_actions.specs.declared.name.MoneyRule.TheVariants.{Jacoby}
 use Rattle.word_forms.specs.Form.{Bytes, Form, FormValues, given_value, is_set}
 use Rattle.command_line.specs.declared.command.Command.{Command}
 use Rattle.command_line.specs.declared.command.Command.TheVariants.{Bound, Race, Solve, Show, ShowList, Migrate, Advise, AdviseList, Verify, Ladder, Analyse, Study, Make, Plan, Scan, Reply, Board}
@@ -12,7 +12,7 @@ use Rattle.command_line.specs.declared.command.CommandName.{CommandName}
 use Rattle.command_line.specs.declared.command.CommandName.TheVariants as name
 use Rattle.command_line.specs.declared.stop.WordsFault.{WordsFault}
 use Rattle.command_line.specs.declared.stop.WordsFault.TheVariants.{Words}
-use Rattle.command_line.specs.Values.{long_number_given, number_given, number_or, stakes_or, kind_given, file_name, other_name, prefix, position_given, roll_given, seen_by_doubler, shown_given, take_given, usual_rounds, width_given}
+use Rattle.command_line.specs.Values.{long_number_given, number_given, number_or, rule_or, kind_given, file_name, other_name, prefix, position_given, roll_given, seen_by_doubler, shown_given, take_given, usual_rounds, width_given}
 use Rattle.command_line.specs.Away.{away_given, file_at, kind_asked, owner_given, value_given}
 
 -- what words ask for, or why for nothing
@@ -85,7 +85,7 @@ abbrev pub solve_values : FormValues → Asked
 solve_values given =
     value_checked 1 (file_name (given_value (codes "FILE") given)) (λ file.
     value_checked 2 (number_or 3 3 (given_value (codes "checkers") given)) (λ checkers.
-    value_checked 3 (stakes_or Jacoby (given_value (codes "stakes") given)) (λ stakes.
+    value_checked 3 (rule_or Jacoby (given_value (codes "stakes") given)) (λ rule.
     value_checked 4 (number_or 4096 (usual_rounds (given_value (codes "width") given))
     (given_value (codes "rounds") given)) (λ rounds.
     value_checked 5 (number_or 64 1 (given_value (codes "workers") given)) (λ workers.
@@ -93,7 +93,7 @@ solve_values given =
     Ok (Solve (record {
       file = file;
       checkers = checkers;
-      stakes = stakes;
+      rule = rule;
       rounds = rounds;
       workers = workers;
       width = width;

@@ -2,8 +2,6 @@
 use Rattle.std.specs.Prelude.{◌≢◌, ◌*◌, ◌^◌, ◌<◌, ◌≤◌, ℤ, pos, ◌<ℤ◌, ◌≤ℤ◌, length, IfSome, ⊤}
 use Rattle.position_rank.specs.Placement.{IsPosition, IsLive}
 use Rattle.roll_table.specs.Rolls.{IsRoll}
-use Rattle.cube_actions.specs.Scores.{MatchScore}
-use Rattle.cube_actions.specs.declared.name.StakesName.TheVariants.{Match}
 use Rattle.word_forms.specs.Form.{Bytes}
 use Rattle.command_line.specs.declared.command.Board.{Board as BoardWords}
 use Rattle.command_line.specs.declared.command.Bound.{Bound as BoundWords}
@@ -60,7 +58,6 @@ pub record IsRightSolve (solve : SolveWords) : Type 0 where
   pub file : IsName solve.file
   pub some : 1 ≤ solve.checkers
   pub few : solve.checkers ≤ 3
-  pub no_match : (score : MatchScore) → solve.stakes ≢ Match score
   pub begun : 1 ≤ solve.rounds
   pub ended : solve.rounds ≤ 4096
   pub one : 1 ≤ solve.workers
@@ -158,8 +155,7 @@ pub record IsRightBoard (board : BoardWords) : Type 0 where
   pub position : IsPosition board.position
   pub live : IsLive board.position
 
--- numbers within their limits, names of files within theirs, stakes that aren't a match, live
--- positions, and rolls of two dice
+-- numbers within their limits, names of files within theirs, live positions, and rolls of two dice
 abbrev pub IsRightCommand : Command → Type 0
 IsRightCommand (Bound bound) = IsRightBound bound
 IsRightCommand (Race race) = IsRightRace race

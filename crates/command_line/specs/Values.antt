@@ -1,5 +1,5 @@
 -- The forms of values.
-use Rattle.std.specs.Prelude.{ℕ, ◌^◌, ◌==◌, nat_lt, nat_le, Bool, not, ◌&&◌, ◌||◌, length, slice_index, codes, Option, Some, None, is_some, Result, Ok, if◌then◌else◌, option_and_then, option_map, ◌+◌, ◌-◌, ◌*◌, ◌/◌, ℤ, pos}
+use Rattle.std.specs.Prelude.{ℕ, ◌^◌, ◌==◌, nat_lt, nat_le, Bool, not, ◌&&◌, ◌||◌, length, slice_index, Option, Some, None, is_some, Result, Ok, if◌then◌else◌, option_and_then, option_map, ◌+◌, ◌-◌, ◌*◌, ◌/◌, ℤ, pos}
 use Rattle.std.specs.List.{list_any, position_or_len, before_first, after_first}
 use Rattle.std.specs.Result.{result_map_both}
 use Rattle.std.specs.Str.{bytes_eq, all_ascii_digits}
@@ -11,9 +11,8 @@ use Rattle.roll_table.specs.Rolls.{Dice}
 use Rattle.roll_table.specs.Text.{read_roll}
 use Rattle.word_forms.specs.Form.{Bytes}
 use Rattle.cube_actions.specs.declared.name.KindName.{KindName}
-use Rattle.cube_actions.specs.declared.name.StakesName.{StakesName}
-use Rattle.cube_actions.specs.declared.name.StakesName.TheVariants.{Cubeless, Money, Jacoby, MoneyBeavers, JacobyBeavers}
-use Rattle.cube_text.specs.Texts.{read_name}
+use Rattle.cube_actions.specs.declared.name.MoneyRule.{MoneyRule}
+use Rattle.cube_text.specs.Texts.{read_name, read_rule}
 use Rattle.command_line.specs.declared.command.Shown.{Shown}
 use Rattle.command_line.specs.declared.command.Shown.TheVariants.{Losses, Full, Worst}
 use Rattle.command_line.specs.Plain.{plain_roll, read_plain_position}
@@ -93,18 +92,10 @@ abbrev pub width_given : Option Bytes → Option (Option ℤ)
 width_given None = Some None
 width_given (Some word) = option_map (λ width. Some width) (width_of word)
 
-abbrev pub stakes_of_word : Bytes → Option StakesName
-stakes_of_word word =
-    if bytes_eq word (codes "cubeless") then Some Cubeless
-    else (if bytes_eq word (codes "money") then Some Money
-    else (if bytes_eq word (codes "jacoby") then Some Jacoby
-    else (if bytes_eq word (codes "money-beavers") then Some MoneyBeavers
-    else (if bytes_eq word (codes "jacoby-beavers") then Some JacobyBeavers else None))))
-
--- the stakes that are given, or the usual ones where none are
-abbrev pub stakes_or : StakesName → Option Bytes → Option StakesName
-stakes_or usual None = Some usual
-stakes_or usual (Some word) = stakes_of_word word
+-- the rule that is given, or the usual one where none is
+abbrev pub rule_or : MoneyRule → Option Bytes → Option MoneyRule
+rule_or usual None = Some usual
+rule_or usual (Some word) = read_rule word
 
 -- the kind of state that is given, if one is; a word that is no kind's text is out of its form
 abbrev pub kind_given : Option Bytes → Option (Option KindName)

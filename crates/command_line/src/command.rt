@@ -5,7 +5,7 @@ ghost use Rattle.command_line.specs.Words.{command_asked, for_list, for_match, h
 
 use crate::text::Text;
 use crate::values::is_option_named;
-use cube_actions::{KindName, StakesName};
+use cube_actions::{KindName, MoneyRule};
 use directed_fixed::Fixed;
 use position_rank::Position;
 use roll_table::Roll;
@@ -39,8 +39,7 @@ pub struct Solve {
     pub file: Text,
     /// 1 to 3 a side.
     pub checkers: u8,
-    /// Any but a match.
-    pub stakes: StakesName,
+    pub rule: MoneyRule,
     /// The most rounds, 1 to 4096; all are made where no width is given.
     pub rounds: u32,
     /// 1 to 64.

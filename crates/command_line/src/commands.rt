@@ -14,11 +14,11 @@ use crate::text::Text;
 use crate::values::{
     MOST_GAMES, MOST_POINTS, MOST_ROUNDS, MOST_WORKERS, USUAL_POINTS, USUAL_REPLY_ROUNDS,
     USUAL_ROUNDS, file_name, kind_given, long_number_given, number_given, number_or, other_name,
-    position_given, prefix, roll_given, seen_by_doubler, shown_given, stakes_or, take_given,
+    position_given, prefix, roll_given, rule_or, seen_by_doubler, shown_given, take_given,
     usual_rounds, width_given,
 };
 use clap::ArgMatches;
-use cube_actions::{KindName, StakesName};
+use cube_actions::{KindName, MoneyRule};
 use position_text::MOST_CHECKERS;
 use std::alloc::Global;
 
@@ -107,7 +107,7 @@ fn read_solve(alloc: Global, values: &ArgMatches<'_>) -> Result<Command, WordsSt
     let Some(checkers) = number_or(values.get_str("checkers"), most, most) else {
         return Err(bad_value(2));
     };
-    let Some(stakes) = stakes_or(values.get_str("stakes"), StakesName::Jacoby) else {
+    let Some(rule) = rule_or(values.get_str("stakes"), MoneyRule::Jacoby) else {
         return Err(bad_value(3));
     };
     let width = values.get_str("width");
@@ -124,7 +124,7 @@ fn read_solve(alloc: Global, values: &ArgMatches<'_>) -> Result<Command, WordsSt
     Ok(Command::Solve(Solve {
         file: Text::new(alloc, file)?,
         checkers: checkers as u8,
-        stakes,
+        rule,
         rounds,
         workers,
         width,

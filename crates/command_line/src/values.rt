@@ -1,15 +1,15 @@
 ghost use Rattle.std.specs.Prelude.{◌≡◌, ◌==◌, ℕ, ◌≤◌, IfOk, IfSome, length, option_map, ◌<◌};
 ghost use Rattle.std.specs.List.{list_any};
 ghost use Rattle.position_rank.specs.Placement.{IsPosition, IsLive};
-ghost use Rattle.command_line.specs.Values.{number_within, long_number, long_number_given, number_given, number_or, stakes_of_word, stakes_or, kind_given, is_name_within, name_within, file_name, other_name, prefix, position_given, read_given, roll_given, seen_by_doubler, shown_given, take_given, points_of, millionths_behind, millionths_of, width_of, width_given, usual_rounds, roll_named};
+ghost use Rattle.command_line.specs.Values.{number_within, long_number, long_number_given, number_given, number_or, rule_or, kind_given, is_name_within, name_within, file_name, other_name, prefix, position_given, read_given, roll_given, seen_by_doubler, shown_given, take_given, points_of, millionths_behind, millionths_of, width_of, width_given, usual_rounds, roll_named};
 ghost use Rattle.roll_table.specs.Rolls.{IsRoll};
 ghost use Rattle.command_line.specs.Words.{is_option, is_option_named, is_faulty};
 
 use crate::command::Shown;
 use crate::plain::{read_plain_position, read_plain_roll};
 use crate::stop::WordsFault;
-use cube_actions::{KindName, StakesName};
-use cube_text::read_kind;
+use cube_actions::{KindName, MoneyRule};
+use cube_text::{read_kind, read_rule};
 use directed_fixed::Fixed;
 use position_id::{has_id_form, read_id};
 use position_rank::Position;
@@ -177,25 +177,12 @@ pub(crate) fn width_given(word: Option<&str>) -> Option<Option<Fixed>>
     }
 }
 
-fn stakes_named(word: &str) -> Option<StakesName>
-    ensures { result ≡ stakes_of_word word.now }
+/// The rule that is given, or the usual one where none is.
+pub(crate) fn rule_or(word: Option<&str>, usual: MoneyRule) -> Option<MoneyRule>
+    ensures { result ≡ rule_or usual (option_map (λ w. w.now) word.entry) }
 {
     match word {
-        "cubeless" => Some(StakesName::Cubeless),
-        "money" => Some(StakesName::Money),
-        "jacoby" => Some(StakesName::Jacoby),
-        "money-beavers" => Some(StakesName::MoneyBeavers),
-        "jacoby-beavers" => Some(StakesName::JacobyBeavers),
-        _ => None,
-    }
-}
-
-/// The stakes that are given, or the usual ones where none are.
-pub(crate) fn stakes_or(word: Option<&str>, usual: StakesName) -> Option<StakesName>
-    ensures { result ≡ stakes_or usual (option_map (λ w. w.now) word.entry) }
-{
-    match word {
-        Some(word) => stakes_named(word),
+        Some(word) => read_rule(word),
         None => Some(usual),
     }
 }

@@ -3,5 +3,6 @@ mod LadderOfFive
 mod MatchTerms
 mod NamesDistinct
 mod NamesKnown
+pub mod Unlimited
 pub mod FirstPassing
 mod WinsLeadDown

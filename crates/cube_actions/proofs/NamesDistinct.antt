@@ -6,8 +6,9 @@ use Rattle.std.proofs.lemmas.List.Elements.{All-map, All-filter}
 use Rattle.std.specs.List.{list_all, AllPairs}
 use Rattle.cube_actions.specs.declared.match_kind.MatchKind.{MatchKind}
 use Rattle.cube_actions.specs.declared.name.KindName.{KindName}
+use Rattle.cube_actions.specs.declared.name.MoneyRule.TheVariants.{Cubeless}
 use Rattle.cube_actions.specs.declared.name.StakesName.{StakesName}
-use Rattle.cube_actions.specs.declared.name.StakesName.TheVariants.{Cubeless, Money, Jacoby, MoneyBeavers, JacobyBeavers, Match}
+use Rattle.cube_actions.specs.declared.name.StakesName.TheVariants.{Unlimited, Match}
 use Rattle.cube_actions.specs.Scores.{MatchScore}
 use Rattle.cube_actions.specs.MatchKinds.{every_kind, match_kinds, can_come}
 use Rattle.cube_actions.specs.Names.{names_of, name_of, same_name, is_kind_name, money_names}
@@ -59,18 +60,12 @@ match_apart score = map-apart name_of (match_kinds score) (AllPairs-filter Apart
 
 pub names_apart : (stakes : StakesName) → AllPairs (λ a b. a ≢ b) (names_of stakes)
 unfolding all_apart
-names_apart Cubeless = apart-pairs (names_of Cubeless) refl
-names_apart Money = apart-pairs money_names refl
-names_apart Jacoby = apart-pairs money_names refl
-names_apart MoneyBeavers = apart-pairs money_names refl
-names_apart JacobyBeavers = apart-pairs money_names refl
 names_apart (Match score) = match_apart score
+names_apart (Unlimited Cubeless) = apart-pairs (names_of (Unlimited Cubeless)) refl
+names_apart _ = apart-pairs money_names refl
 
 pub names_right : (stakes : StakesName) → All (λ name. IsTrue (is_kind_name name)) (names_of stakes)
 unfolding match_kinds
-names_right Cubeless = λ k d within. passed_at is_kind_name (names_of Cubeless) k d refl within
-names_right Money = λ k d within. passed_at is_kind_name money_names k d refl within
-names_right Jacoby = λ k d within. passed_at is_kind_name money_names k d refl within
-names_right MoneyBeavers = λ k d within. passed_at is_kind_name money_names k d refl within
-names_right JacobyBeavers = λ k d within. passed_at is_kind_name money_names k d refl within
 names_right (Match score) = All-map (λ name. IsTrue (is_kind_name name)) name_of (match_kinds score) (All-filter (can_come score) (λ kind. IsTrue (is_kind_name (name_of kind))) every_kind (λ k d within. passed_at (λ kind. is_kind_name (name_of kind)) every_kind k d refl within))
+names_right (Unlimited Cubeless) = λ k d within. passed_at is_kind_name (names_of (Unlimited Cubeless)) k d refl within
+names_right _ = λ k d within. passed_at is_kind_name money_names k d refl within

@@ -1,4 +1,4 @@
--- Stakes of a game of a match.
+-- Stakes of a game of a match, and of any game by its name.
 use Rattle.std.specs.Prelude.{ℕ, ◌-◌, ◌*◌, ◌==◌, nat_le, nat_lt, min, max, Bool, ◌||◌, List, [], ◌∷◌, map, Option, Some, None, if◌then◌else◌}
 use Rattle.std.specs.Option.{option_map}
 use Rattle.directed_fixed.specs.Bounds.{Bounds, negated}
@@ -6,11 +6,13 @@ use Rattle.cube_actions.specs.declared.kind.Kind.{Kind}
 use Rattle.cube_actions.specs.declared.kind.Double.{Double}
 use Rattle.cube_actions.specs.declared.kind.Taken.{Taken}
 use Rattle.cube_actions.specs.declared.match_kind.MatchKind.{MatchKind}
-use Rattle.cube_actions.specs.declared.name.StakesName.TheVariants.{Match}
+use Rattle.cube_actions.specs.declared.name.StakesName.{StakesName}
+use Rattle.cube_actions.specs.declared.name.StakesName.TheVariants.{Unlimited, Match}
 use Rattle.cube_actions.specs.declared.phase.Phase.{Phase}
 use Rattle.cube_actions.specs.declared.phase.Phase.TheVariants.{Normal, Crawford, Post}
 use Rattle.cube_actions.specs.declared.side.Side.{Side}
 use Rattle.cube_actions.specs.declared.side.Side.TheVariants.{Near, Far}
+use Rattle.cube_actions.specs.Money.{unlimited}
 use Rattle.cube_actions.specs.Stakes.{Terms, exactly, point_units}
 use Rattle.cube_actions.specs.Scores.{MatchScore, other_side, needs}
 use Rattle.cube_actions.specs.MatchKinds.{match_kinds, number_in, kind_after_play, after_take, kind_may_double}
@@ -75,6 +77,11 @@ terms_of score starts = record {
   bound = point_units 1;
   name = Match score;
 }
+
+-- what a game of this name is played for, in a match given what the scores after it are worth
+abbrev pub stakes_named : StakesName → StartPairs → Terms
+stakes_named (Unlimited rule) starts = unlimited rule
+stakes_named (Match score) starts = terms_of score starts
 
 -- the answers to a kind's double, if it has one
 abbrev pub answers_in : Kind → Option (List Taken)

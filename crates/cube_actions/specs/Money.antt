@@ -1,19 +1,25 @@
--- Stakes for money: with the Jacoby rule or without it, with beavers or without them.
-use Rattle.std.specs.Prelude.{List, [], ◌∷◌, Some, None}
+-- Stakes that are no match: without a cube, or with one, by the Jacoby rule or without it, with beavers or without them.
+use Rattle.std.specs.Prelude.{Bool, true, false, List, [], ◌∷◌, Some, None}
 use Rattle.directed_fixed.specs.Bounds.{Bounds}
 use Rattle.cube_actions.specs.Stakes.{Terms, exactly, point_units}
 use Rattle.cube_actions.specs.declared.kind.Kind.{Kind}
 use Rattle.cube_actions.specs.declared.kind.Double.{Double}
 use Rattle.cube_actions.specs.declared.kind.Taken.{Taken}
-use Rattle.cube_actions.specs.declared.name.StakesName.TheVariants.{Money, Jacoby, MoneyBeavers, JacobyBeavers}
+use Rattle.cube_actions.specs.declared.name.MoneyRule.{MoneyRule}
+use Rattle.cube_actions.specs.declared.name.MoneyRule.TheVariants.{Cubeless, Money, Jacoby, MoneyBeavers, JacobyBeavers}
+use Rattle.cube_actions.specs.declared.name.StakesName.TheVariants.{Unlimited}
 
 -- a gammon counts two points and a backgammon three
 abbrev pub all_count : List Bounds
 all_count = exactly 1 ∷ exactly 2 ∷ exactly 3 ∷ []
 
--- the Jacoby rule: gammons and backgammons count single
+-- gammons and backgammons count single
 abbrev pub all_single : List Bounds
 all_single = exactly 1 ∷ exactly 1 ∷ exactly 1 ∷ []
+
+-- the one kind of a game without a cube
+abbrev pub alone : Kind
+alone = record { next = 0; win = all_count; double = None }
 
 -- the cube is turned once and goes to the other side, or is turned once more and goes there
 abbrev pub take : Taken
@@ -35,25 +41,23 @@ cube_kinds centred_wins answers =
     ∷ record { next = 1; win = all_count; double = None }
     ∷ []
 
--- all games count in full, and a double is passed or taken
-abbrev pub money : Terms
-money = record { kinds = cube_kinds all_count (take ∷ []); bound = point_units 3; name = Money }
+-- The kinds of state by each rule. By the Jacoby rule all games count single while the cube is centred.
+abbrev pub kinds_by : MoneyRule → List Kind
+kinds_by Cubeless = alone ∷ []
+kinds_by Money = cube_kinds all_count (take ∷ [])
+kinds_by Jacoby = cube_kinds all_single (take ∷ [])
+kinds_by MoneyBeavers = cube_kinds all_count (take ∷ beaver ∷ [])
+kinds_by JacobyBeavers = cube_kinds all_single (take ∷ beaver ∷ [])
 
--- while the cube is centred all games count single
-abbrev pub jacoby : Terms
-jacoby = record { kinds = cube_kinds all_single (take ∷ []); bound = point_units 3; name = Jacoby }
+-- what games are played for by a rule of money
+abbrev pub unlimited : MoneyRule → Terms
+unlimited rule = record { kinds = kinds_by rule; bound = point_units 3; name = Unlimited rule }
 
--- the same with beavers: a double is passed, taken or beavered
-abbrev pub money_beavers : Terms
-money_beavers = record {
-  kinds = cube_kinds all_count (take ∷ beaver ∷ []);
-  bound = point_units 3;
-  name = MoneyBeavers;
-}
+-- a game without a cube: a single win is a point, a gammon two, a backgammon three
+abbrev pub cubeless : Terms
+cubeless = unlimited Cubeless
 
-abbrev pub jacoby_beavers : Terms
-jacoby_beavers = record {
-  kinds = cube_kinds all_single (take ∷ beaver ∷ []);
-  bound = point_units 3;
-  name = JacobyBeavers;
-}
+abbrev pub has_beavers : MoneyRule → Bool
+has_beavers MoneyBeavers = true
+has_beavers JacobyBeavers = true
+has_beavers _ = false

@@ -3,8 +3,9 @@ use Rattle.std.specs.Prelude.{◌≡◌, ◌==◌, Bool, true, false, ◌&&◌, 
 use Rattle.cube_actions.specs.declared.match_kind.MatchKind.{MatchKind}
 use Rattle.cube_actions.specs.declared.name.KindName.{KindName}
 use Rattle.cube_actions.specs.declared.name.KindName.TheVariants.{Alone, Centred, Mine, Theirs, InMatch}
+use Rattle.cube_actions.specs.declared.name.MoneyRule.TheVariants.{Cubeless}
 use Rattle.cube_actions.specs.declared.name.StakesName.{StakesName}
-use Rattle.cube_actions.specs.declared.name.StakesName.TheVariants.{Cubeless, Money, Jacoby, MoneyBeavers, JacobyBeavers, Match}
+use Rattle.cube_actions.specs.declared.name.StakesName.TheVariants.{Unlimited, Match}
 use Rattle.cube_actions.specs.Stakes.{Terms, IsValid}
 use Rattle.cube_actions.specs.MatchKinds.{every_kind, match_kinds, same_side, same_owner}
 
@@ -16,12 +17,9 @@ money_names = Centred ∷ Mine ∷ Theirs ∷ []
 
 -- the names of the kinds of each stakes, in order
 abbrev pub names_of : StakesName → List KindName
-names_of Cubeless = Alone ∷ []
-names_of Money = money_names
-names_of Jacoby = money_names
-names_of MoneyBeavers = money_names
-names_of JacobyBeavers = money_names
 names_of (Match score) = map name_of (match_kinds score)
+names_of (Unlimited Cubeless) = Alone ∷ []
+names_of _ = money_names
 
 abbrev pub same_name : KindName → KindName → Bool
 same_name Alone Alone = true

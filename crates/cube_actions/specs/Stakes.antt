@@ -1,11 +1,11 @@
 -- What a game is played for.
-use Rattle.std.specs.Prelude.{◌≡◌, ◌<◌, ◌^◌, ◌*◌, ℕ, ℤ, pos, ◌⊎◌, List, [], ◌∷◌, None, All, IfSome, length, replicate, slice_index_or}
+use Rattle.std.specs.Prelude.{◌≡◌, ◌<◌, ◌^◌, ◌*◌, ℕ, ℤ, pos, ◌⊎◌, List, None, All, IfSome, length, replicate, slice_index_or}
 use Rattle.directed_fixed.specs.Bounds.{Bounds, IsWithin}
 use Rattle.cube_actions.specs.declared.kind.Kind.{Kind}
 use Rattle.cube_actions.specs.declared.kind.Double.{Double}
 use Rattle.cube_actions.specs.declared.kind.Taken.{Taken}
 use Rattle.cube_actions.specs.declared.name.StakesName.{StakesName}
-use Rattle.cube_actions.specs.declared.name.StakesName.TheVariants.{Cubeless, Money, Jacoby, MoneyBeavers, JacobyBeavers, Match}
+use Rattle.cube_actions.specs.declared.name.StakesName.TheVariants.{Unlimited, Match}
 
 -- the kinds of state, the bound of all values, and the name
 pub record Terms : Type 0 where
@@ -33,11 +33,7 @@ kind_at stakes k = slice_index_or stakes.kinds k no_kind
 
 -- three points for money, a whole match for a match
 abbrev pub bound_of : StakesName → ℤ
-bound_of Cubeless = point_units 3
-bound_of Money = point_units 3
-bound_of Jacoby = point_units 3
-bound_of MoneyBeavers = point_units 3
-bound_of JacobyBeavers = point_units 3
+bound_of (Unlimited rule) = point_units 3
 bound_of (Match score) = point_units 1
 
 -- an answer to a double names a kind, in which the doubler rolls on, and how often its value counts
@@ -61,11 +57,3 @@ pub record IsValid (stakes : Terms) : Type 0 where
   pub some : 0 < length stakes.kinds
   pub kinds : All (IsRightKind stakes) stakes.kinds
   pub bound : stakes.bound ≡ bound_of stakes.name
-
--- the one kind of a game without a cube
-abbrev pub alone : Kind
-alone = record { next = 0; win = exactly 1 ∷ exactly 2 ∷ exactly 3 ∷ []; double = None }
-
--- a game without a cube: a single win is a point, a gammon two, a backgammon three
-abbrev pub cubeless : Terms
-cubeless = record { kinds = alone ∷ []; bound = point_units 3; name = Cubeless }

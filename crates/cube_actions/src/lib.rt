@@ -16,7 +16,7 @@ mod starts;
 
 pub use kind::{Double, Kind, Taken};
 pub use match_laws::{cubes_come_of_the_score, ladders_are_exact, wins_lead_down_the_ladder};
-pub use name::{KindName, StakesName};
+pub use name::{KindName, MoneyRule, StakesName};
 pub use name_laws::names_tell_kinds;
 pub use names::every_name;
 pub use phase::Phase;

@@ -1,9 +1,10 @@
 ghost use Rattle.std.specs.Prelude.{◌≡◌, map};
+ghost use Rattle.cube_actions.specs.declared.name.StakesName.TheVariants.{Unlimited};
 ghost use Rattle.cube_actions.specs.Names.{every_name, name_of, names_of, same_name, money_names};
 ghost use Rattle.cube_actions.specs.MatchKinds.{match_kinds};
 
 use crate::match_kind::{MatchKind, every_kind, match_kinds};
-use crate::name::{KindName, StakesName};
+use crate::name::{KindName, MoneyRule, StakesName};
 use crate::score::Score;
 use arrayvec::ArrayVec;
 
@@ -32,12 +33,20 @@ pub(crate) fn names_of(stakes: StakesName) -> ArrayVec<KindName, 14>
     ensures { result.items ≡ names_of stakes }
 {
     match stakes {
-        StakesName::Cubeless => {
+        StakesName::Unlimited(rule) => rule_names(rule),
+        StakesName::Match(score) => match_names(score),
+    }
+}
+
+fn rule_names(rule: MoneyRule) -> ArrayVec<KindName, 14>
+    ensures { result.items ≡ names_of (Unlimited rule) }
+{
+    match rule {
+        MoneyRule::Cubeless => {
             let mut names = ArrayVec::new();
             names.push(KindName::Alone);
             names
         }
-        StakesName::Match(score) => match_names(score),
         _ => money_names(),
     }
 }

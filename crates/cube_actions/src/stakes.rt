@@ -1,10 +1,10 @@
 ghost use Rattle.std.specs.Prelude.{◌≡◌, ◌<◌, ◌≤◌, ℕ, length};
-ghost use Rattle.cube_actions.specs.Stakes.{IsValid, cubeless, kind_at};
+ghost use Rattle.cube_actions.specs.Stakes.{IsValid, kind_at};
 
 use crate::kind::Kind;
 use crate::name::StakesName;
 use arrayvec::ArrayVec;
-use directed_fixed::{Fixed, Pair};
+use directed_fixed::Fixed;
 use std::marker::Model;
 
 mod kind_names;
@@ -37,27 +37,6 @@ impl Model for Stakes {
 
 impl Stakes {
     ghost use Rattle.cube_actions.specs.Names.{names_of};
-
-    /// A game without a cube: a single win is a point, a gammon two, a backgammon three.
-    pub fn cubeless() -> Stakes
-        ensures { result ≡ cubeless }
-    {
-        let mut kinds = ArrayVec::new();
-        kinds.push(Kind {
-            next: 0,
-            win: [
-                Pair::exactly(Fixed::whole(1)),
-                Pair::exactly(Fixed::whole(2)),
-                Pair::exactly(Fixed::whole(3)),
-            ],
-            double: None,
-        });
-        Stakes {
-            kinds,
-            bound: Fixed::whole(3),
-            name: StakesName::Cubeless,
-        }
-    }
 
     /// How many kinds of state there are.
     pub fn kinds(&self) -> usize

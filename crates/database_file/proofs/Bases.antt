@@ -3,8 +3,9 @@ use Rattle.std.proofs.Common.{ℤ, pos, ◌≤ℤ◌, ◌≡◌, ◌∙◌, ℕ,
 use Rattle.std.proofs.Math.Nat.{div-mul-le_self, mul-add, mul-le-mul, mul-le-mul_left, mul-le-mul_right, mul_assoc, mul_comm, mul_left_comm}
 use Rattle.directed_fixed.specs.declared.word.TheConstants.{WORD_OFFSET}
 use Rattle.directed_fixed.specs.Bounds.{IsWithin}
+use Rattle.cube_actions.specs.declared.name.MoneyRule.TheVariants.{Cubeless}
 use Rattle.cube_actions.specs.declared.name.StakesName.{StakesName}
-use Rattle.cube_actions.specs.declared.name.StakesName.TheVariants.{Cubeless, Money, Jacoby, MoneyBeavers, JacobyBeavers, Match}
+use Rattle.cube_actions.specs.declared.name.StakesName.TheVariants.{Unlimited, Match}
 use Rattle.cube_actions.specs.Stakes.{bound_of}
 use Rattle.cube_actions.specs.Starts.{StartPairs}
 use Rattle.turn_rule.specs.declared.game.Game.{Game}
@@ -30,15 +31,12 @@ use Rattle.database_file.specs.Pages.{ArePages, page_count, place_of, whole_page
 use Rattle.database_file.specs.Faults.{pages_behind}
 use Rattle.database_file.specs.Texts.{game_in, words_a_page}
 use Rattle.database_file.proofs.FrontBytes.{front-low}
-use Rattle.base_head.specs.Heads.{stakes_named, stakes_of}
+use Rattle.cube_actions.specs.Matches.{stakes_named}
+use Rattle.base_head.specs.Heads.{stakes_of}
 
 -- the bound of stakes is that of their name
 pub bound-named : (name : StakesName) (starts : StartPairs) → (stakes_named name starts).bound ≡ bound_of name
-bound-named Cubeless starts = refl
-bound-named Money starts = refl
-bound-named Jacoby starts = refl
-bound-named MoneyBeavers starts = refl
-bound-named JacobyBeavers starts = refl
+bound-named (Unlimited rule) starts = refl
 bound-named (Match score) starts = refl
 
 -- pairs within the bound are the pairs of states
@@ -73,36 +71,22 @@ unfolding match_kinds
 kinds-some score = omega arith
 
 names-some : (name : StakesName) → 0 < length (names_of name)
-names-some Cubeless = omega arith
-names-some Money = omega arith
-names-some Jacoby = omega arith
-names-some MoneyBeavers = omega arith
-names-some JacobyBeavers = omega arith
+names-some (Unlimited Cubeless) = omega arith
+names-some (Unlimited _) = omega arith
 names-some (Match score) = omega (arith, length-map (match_kinds score) name_of, kinds-some score)
 
 -- each kind has a name
 pub kinds-named : (name : StakesName) (starts : StartPairs) → length (names_of name) ≡ length (stakes_named name starts).kinds
-kinds-named Cubeless starts = refl
-kinds-named Money starts = refl
-kinds-named Jacoby starts = refl
-kinds-named MoneyBeavers starts = refl
-kinds-named JacobyBeavers starts = refl
+kinds-named (Unlimited Cubeless) starts = refl
+kinds-named (Unlimited _) starts = refl
 kinds-named (Match score) starts = length-map (match_kinds score) name_of ∙ sym (length-map (match_kinds score) (match_kind starts score))
 
 from-zero : (name : StakesName) → pos 0 ≤ℤ bound_of name
-from-zero Cubeless = omega (arith, ints)
-from-zero Money = omega (arith, ints)
-from-zero Jacoby = omega (arith, ints)
-from-zero MoneyBeavers = omega (arith, ints)
-from-zero JacobyBeavers = omega (arith, ints)
+from-zero (Unlimited rule) = omega (arith, ints)
 from-zero (Match score) = omega (arith, ints)
 
 to-offset : (name : StakesName) → bound_of name ≤ℤ WORD_OFFSET
-to-offset Cubeless = omega (arith, ints)
-to-offset Money = omega (arith, ints)
-to-offset Jacoby = omega (arith, ints)
-to-offset MoneyBeavers = omega (arith, ints)
-to-offset JacobyBeavers = omega (arith, ints)
+to-offset (Unlimited rule) = omega (arith, ints)
 to-offset (Match score) = omega (arith, ints)
 
 -- a file's header gives pages that can be read

@@ -2,7 +2,7 @@
 use Rattle.std.proofs.Common.{◌≤ℤ◌, All, sym, subst, arith}
 use Rattle.directed_fixed.specs.declared.word.TheConstants.{WORD_OFFSET}
 use Rattle.cube_actions.specs.declared.name.StakesName.{StakesName}
-use Rattle.cube_actions.specs.declared.name.StakesName.TheVariants.{Cubeless, Money, Jacoby, MoneyBeavers, JacobyBeavers, Match}
+use Rattle.cube_actions.specs.declared.name.StakesName.TheVariants.{Unlimited, Match}
 use Rattle.cube_actions.specs.Stakes.{Terms, IsValid, bound_of}
 use Rattle.turn_rule.specs.Games.{IsGame}
 use Rattle.interval_words.specs.Numbers.{value_of}
@@ -13,11 +13,7 @@ use Rattle.word_pages.specs.Flaws.{LieWithin}
 use Rattle.word_pages.proofs.Within.{within-fit}
 
 low : (name : StakesName) → bound_of name ≤ℤ WORD_OFFSET
-low Cubeless = omega arith
-low Money = omega arith
-low Jacoby = omega arith
-low MoneyBeavers = omega arith
-low JacobyBeavers = omega arith
+low (Unlimited rule) = omega arith
 low (Match score) = omega arith
 
 pub bound-low : (stakes : Terms) → IsValid stakes → stakes.bound ≤ℤ WORD_OFFSET

@@ -68,8 +68,8 @@ fn bound_of(name: StakesName) -> Fixed
     ensures { result ≡ bound_of name }
 {
     match name {
+        StakesName::Unlimited(_) => Fixed::whole(3),
         StakesName::Match(_) => Fixed::whole(1),
-        _ => Fixed::whole(3),
     }
 }
 

@@ -1,18 +1,14 @@
 -- The texts of games.
 use Rattle.std.specs.Prelude.{ℕ, List, ◌++◌, codes}
 use Rattle.cube_actions.specs.declared.name.StakesName.{StakesName}
-use Rattle.cube_actions.specs.declared.name.StakesName.TheVariants.{Cubeless, Money, Jacoby, MoneyBeavers, JacobyBeavers, Match}
-use Rattle.cube_text.specs.Texts.{score_text}
+use Rattle.cube_actions.specs.declared.name.StakesName.TheVariants.{Unlimited, Match}
+use Rattle.cube_text.specs.Texts.{rule_text, score_text}
 use Rattle.equity_report.specs.declared.text.GameName.{GameName}
 use Rattle.equity_report.specs.Reports.{counted_text}
 
 -- what is played for, in a match its length and the score
 abbrev pub stakes_text : ℕ → StakesName → List ℕ
-stakes_text match_length Cubeless = codes "cubeless"
-stakes_text match_length Money = codes "money"
-stakes_text match_length Jacoby = codes "jacoby"
-stakes_text match_length MoneyBeavers = codes "money-beavers"
-stakes_text match_length JacobyBeavers = codes "jacoby-beavers"
+stakes_text match_length (Unlimited rule) = rule_text rule
 stakes_text match_length (Match score) =
     counted_text (codes "match") match_length ++ codes " " ++ score_text score
 

@@ -4,7 +4,7 @@ ghost use Rattle.equity_report.specs.Reports.{counted_text, points_text, units_t
 
 use arrayvec::ArrayString;
 use cube_actions::StakesName;
-use cube_text::print_score;
+use cube_text::{print_rule, print_score};
 use directed_fixed::Pair;
 use itoa::Buffer;
 use point_text::{print_down, print_units, print_up};
@@ -74,11 +74,7 @@ pub fn add_stakes(report: &mut Report, stakes: StakesName, match_length: u8)
     ensures length { length report.new.bytes ≤ length report.old.bytes + 51 }
 {
     match stakes {
-        StakesName::Cubeless => report.push_str("cubeless"),
-        StakesName::Money => report.push_str("money"),
-        StakesName::Jacoby => report.push_str("jacoby"),
-        StakesName::MoneyBeavers => report.push_str("money-beavers"),
-        StakesName::JacobyBeavers => report.push_str("jacoby-beavers"),
+        StakesName::Unlimited(rule) => report.push_str(print_rule(rule)),
         StakesName::Match(score) => {
             add_counted(report, "match", u64::from(match_length));
             report.push_str(" ");

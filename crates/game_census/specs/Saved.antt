@@ -9,6 +9,7 @@ use Rattle.interval_words.specs.WordLists.{AreRight, list_of, states_of}
 use Rattle.word_pages.specs.declared.version.Version.TheVariants.{Three}
 use Rattle.outside_log.specs.Log.{Event}
 use Rattle.outside_log.specs.Readings.{WritesFile}
+use Rattle.cube_actions.specs.declared.name.StakesName.TheVariants.{Unlimited}
 use Rattle.base_head.specs.Heads.{FileHead, no_starts}
 use Rattle.database_file.specs.Texts.{file_text, game_in}
 use Rattle.game_census.specs.declared.task.WidthsTask.{WidthsTask}
@@ -34,7 +35,7 @@ pub record IsSaved (head : FileHead) (name : List ℕ) (before after : List Even
 abbrev pub head_asked : WidthsTask → FileHead
 head_asked task = record {
   checkers = task.checkers;
-  name = task.stakes;
+  name = Unlimited task.rule;
   rounds = task.rounds;
   starts = no_starts;
 }

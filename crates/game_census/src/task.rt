@@ -1,7 +1,6 @@
-ghost use Rattle.std.specs.Prelude.{◌≡◌, ◌≤◌, false};
-ghost use Rattle.base_head.specs.Heads.{is_match};
+ghost use Rattle.std.specs.Prelude.{◌≤◌};
 
-use cube_actions::StakesName;
+use cube_actions::MoneyRule;
 
 /// A part of a file's live positions, from 1, where so many equal parts share them.
 #[derive(Clone, Copy)]
@@ -23,12 +22,11 @@ pub(crate) struct CubeTask<'a> {
 #[derive(Clone, Copy)]
 pub(crate) struct WidthsTask<'a> {
     pub(crate) checkers: u8,
-    pub(crate) stakes: StakesName,
+    pub(crate) rule: MoneyRule,
     pub(crate) rounds: u32,
     pub(crate) file: Option<&'a str>,
     ghost low: { 1 ≤ checkers },
     ghost high: { checkers ≤ 3 },
-    ghost no_match: { is_match stakes ≡ false },
     ghost some: { 1 ≤ rounds },
     ghost most: { rounds ≤ 4096 },
 }

@@ -144,7 +144,7 @@ pub(crate) fn tell_widths<R: Print, F: Files>(
     ensures { IsOk result → IfSome task.now.file
         (λ name. IsSaved (head_asked task.now) name.now (F.log files.old) (F.log files.new)) }
 {
-    let head = Head::of_stakes(task.checkers, task.stakes, task.rounds);
+    let head = Head::unlimited(task.checkers, task.rule, task.rounds);
     let (board, mut seat) = solve(rt, alloc, &head)?;
     match task.file {
         Some(file) => save(alloc, &board, &mut seat, &head, file, files),

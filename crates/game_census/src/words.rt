@@ -1,9 +1,8 @@
-ghost use Rattle.std.specs.Prelude.{◌≡◌, ◌+◌, IfSome, MatchOption, SomeIff, false, length};
-ghost use Rattle.base_head.specs.Heads.{is_match};
+ghost use Rattle.std.specs.Prelude.{◌≡◌, ◌+◌, IfSome, MatchOption, SomeIff, length};
 ghost use Rattle.game_census.specs.Tasks.{AsksCalls, AsksWidths, IsPartOf, SayPart, SaysUpto, number_said, one_for, word_count};
 
 use crate::task::{CubeTask, Part, Task, WidthsTask};
-use cube_actions::StakesName;
+use cube_text::read_rule;
 
 /// A number from 1 to the greatest that is taken.
 fn number_upto(word: &str, greatest: u32) -> Option<u32>
@@ -35,24 +34,10 @@ fn cube_task<'a>(file: &'a str, number: &str, of: &str) -> Option<Task<'a>>
     Some(Task::Cube(CubeTask { file, part }))
 }
 
-/// The stakes of a name. They aren't those of a match.
-fn stakes_named(name: &str) -> Option<StakesName>
-    ensures { IfSome result (λ stakes. is_match stakes ≡ false) }
-{
-    match name {
-        "cubeless" => Some(StakesName::Cubeless),
-        "money" => Some(StakesName::Money),
-        "jacoby" => Some(StakesName::Jacoby),
-        "money-beavers" => Some(StakesName::MoneyBeavers),
-        "jacoby-beavers" => Some(StakesName::JacobyBeavers),
-        _ => None,
-    }
-}
-
 /// What `widths` asks for with these words after it.
 fn widths_task<'a>(
     checkers: &str,
-    stakes: &str,
+    rule: &str,
     rounds: &str,
     file: Option<&'a str>,
 ) -> Option<Task<'a>>
@@ -60,11 +45,11 @@ fn widths_task<'a>(
     ensures words { IfSome result (λ task. word_count task ≡ 4 + one_for file.entry) }
 {
     let checkers = number_upto(checkers, 3)? as u8;
-    let stakes = stakes_named(stakes)?;
+    let rule = read_rule(rule)?;
     let rounds = number_upto(rounds, 4_096)?;
     Some(Task::Widths(WidthsTask {
         checkers,
-        stakes,
+        rule,
         rounds,
         file,
     }))

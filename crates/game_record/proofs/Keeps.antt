@@ -3,6 +3,7 @@ use Rattle.std.proofs.Common.{◌≡◌, ◌≤◌, ◌+◌, ◌*◌, ℕ, zero,
 use Rattle.std.proofs.lemmas.Bool.Decides.{nat_tests}
 use Rattle.std.proofs.lemmas.Nat.{pow_pos}
 use Rattle.std.specs.Option.{option_map, MatchOption}
+use Rattle.cube_actions.specs.declared.name.MoneyRule.TheVariants.{Cubeless}
 use Rattle.cube_actions.specs.Ladder.{IsOfMatch}
 use Rattle.cube_actions.specs.Names.{money_names, names_of}
 use Rattle.cube_actions.specs.declared.name.KindName.TheVariants.{Mine, Theirs}
@@ -25,7 +26,7 @@ use Rattle.game_record.specs.declared.player.Player.{Player}
 use Rattle.game_record.specs.declared.progress.Progress.{Progress}
 use Rattle.game_record.specs.declared.record.Record.{Record}
 use Rattle.game_record.specs.declared.record.RecordStakes.{RecordStakes}
-use Rattle.game_record.specs.declared.record.RecordStakes.TheVariants.{Cubeless, Money, Jacoby, MoneyBeavers, JacobyBeavers, Match}
+use Rattle.game_record.specs.declared.record.RecordStakes.TheVariants.{Unlimited, Match}
 use Rattle.game_record.specs.declared.record.What.{What}
 use Rattle.game_record.specs.declared.record.What.TheVariants.{Rolled, Doubled, Took, Passed, Beavered}
 use Rattle.game_record.specs.declared.stage.Next.{Next}
@@ -80,45 +81,25 @@ pub record Keeps (next : Next) (games left : ℕ) (now : Moment) : Type 0 where
 
 pub if-match : (stakes : RecordStakes) (P Q : ℕ → Type 0) → ((length : ℕ) → P length → Q length) → IfMatch stakes P → IfMatch stakes Q
 if-match (Match length) P Q f p = f length p
-if-match Cubeless P Q f p = tt
-if-match Money P Q f p = tt
-if-match Jacoby P Q f p = tt
-if-match MoneyBeavers P Q f p = tt
-if-match JacobyBeavers P Q f p = tt
+if-match (Unlimited rule) P Q f p = tt
 
 pub if-both : (stakes : RecordStakes) (P Q : ℕ → Type 0) → IfMatch stakes P → IfMatch stakes Q → IfMatch stakes (λ length. P length × Q length)
 if-both (Match length) P Q p q = (p, q)
-if-both Cubeless P Q p q = tt
-if-both Money P Q p q = tt
-if-both Jacoby P Q p q = tt
-if-both MoneyBeavers P Q p q = tt
-if-both JacobyBeavers P Q p q = tt
+if-both (Unlimited rule) P Q p q = tt
 
 no-beavers : (stakes : RecordStakes) (P : ℕ → Type 0) → records_beavers stakes ≡ true → IfMatch stakes P
 no-beavers (Match length) P h = cc
-no-beavers Cubeless P h = tt
-no-beavers Money P h = tt
-no-beavers Jacoby P h = tt
-no-beavers MoneyBeavers P h = tt
-no-beavers JacobyBeavers P h = tt
+no-beavers (Unlimited rule) P h = tt
 
 taken : (stakes : RecordStakes) (standing : Standing) (player : Player) (cube : Cube) → IsInRange standing → IfMatch stakes (λ length. IsPlace standing cube.turns cube.owner) → has_right stakes standing (other_player player) cube ≡ true → IfMatch stakes (λ length. IsPlace standing (cube.turns + 1) (Some player))
 taken (Match length) standing player cube range place right = taken-place length standing player cube range place right
-taken Cubeless standing player cube range place right = tt
-taken Money standing player cube range place right = tt
-taken Jacoby standing player cube range place right = tt
-taken MoneyBeavers standing player cube range place right = tt
-taken JacobyBeavers standing player cube range place right = tt
+taken (Unlimited rule) standing player cube range place right = tt
 
 needs-told : (stakes : RecordStakes) (standing : Standing) (away : Option (ℕ × ℕ)) → away ≡ game_needs stakes standing → MatchOption away (Unit {0}) (λ n. UpTo 5 n.0 × UpTo 5 n.1) → IfMatch stakes (λ length. NeedPoints standing)
 needs-told (Match length) standing away e fits =
     let told : UpTo 5 standing.a × UpTo 5 standing.b = subst (λ (o : Option (ℕ × ℕ)). MatchOption o (Unit {0}) (λ n. UpTo 5 n.0 × UpTo 5 n.1)) e fits in
     (told.0.0, told.1.0)
-needs-told Cubeless standing away e fits = tt
-needs-told Money standing away e fits = tt
-needs-told Jacoby standing away e fits = tt
-needs-told MoneyBeavers standing away e fits = tt
-needs-told JacobyBeavers standing away e fits = tt
+needs-told (Unlimited rule) standing away e fits = tt
 
 -- in a game of a match the score is one of it
 pub has-score : (stakes : RecordStakes) (standing : Standing) → IfMatch stakes (λ length. (1 ≤ length) × (length ≤ 5) × Stands length standing) → IfMatch stakes (λ length. NeedPoints standing) → HasStanding stakes standing
@@ -137,11 +118,8 @@ money-known player (Some owner) = elim (same_player owner player) as (λ b. Cont
 
 pub kinds-ready : (stakes : RecordStakes) (standing : Standing) (player : Player) (cube : Cube) → IfMatch stakes (λ length. IsPlace standing cube.turns cube.owner) → Contains (names_of (game_stakes stakes standing)) (kind_of_turn stakes standing player cube)
 kinds-ready (Match length) standing player cube place = kinds-known standing player cube.turns cube.owner place
-kinds-ready Cubeless standing player cube place = (0, omega arith, refl)
-kinds-ready Money standing player cube place = money-known player cube.owner
-kinds-ready Jacoby standing player cube place = money-known player cube.owner
-kinds-ready MoneyBeavers standing player cube place = money-known player cube.owner
-kinds-ready JacobyBeavers standing player cube place = money-known player cube.owner
+kinds-ready (Unlimited Cubeless) standing player cube place = (0, omega arith, refl)
+kinds-ready (Unlimited _) standing player cube place = money-known player cube.owner
 
 fits-moment : (stage : Stage) (line : Line) (x : Next) (left : ℕ) (now : Moment) → Keeps stage.next stage.games left now → allowed stage.in_match stage.next (kind_of line) ≡ Some x → FitsStage stage line → FitsMoment now line
 fits-moment stage TitleLine x left now keep comes fits = tt
@@ -268,19 +246,11 @@ ended-stands : (now : Moment) (winner : Player) (points : ℕ) (stakes : RecordS
     → IfMatch stakes (λ length. (1 ≤ length) × (length ≤ 5) × Stands length (standing_after now winner points stakes))
 ended-stands now winner points (Match length) some stands needed =
     (stands.0, stands.1, won-stands length now.standing winner (points * shows now.progress.cube) stands.2 needed.0 needed.1 (positive points (shows now.progress.cube) some (pow_pos now.progress.cube.turns)))
-ended-stands now winner points Cubeless some stands needed = tt
-ended-stands now winner points Money some stands needed = tt
-ended-stands now winner points Jacoby some stands needed = tt
-ended-stands now winner points MoneyBeavers some stands needed = tt
-ended-stands now winner points JacobyBeavers some stands needed = tt
+ended-stands now winner points (Unlimited rule) some stands needed = tt
 
 ended-in-range : (now : Moment) (winner : Player) (points : ℕ) (stakes : RecordStakes) → IsInRange now.standing → IsInRange (standing_after now winner points stakes)
 ended-in-range now winner points (Match length) h = won-in-range now.standing winner (points * shows now.progress.cube) h
-ended-in-range now winner points Cubeless h = h
-ended-in-range now winner points Money h = h
-ended-in-range now winner points Jacoby h = h
-ended-in-range now winner points MoneyBeavers h = h
-ended-in-range now winner points JacobyBeavers h = h
+ended-in-range now winner points (Unlimited rule) h = h
 
 not-within : (x : Next) (kind : LineKind) (P : Type 0) → x ≡ coming kind → (IsInGame (coming kind) → ⊥) → IsInGame x → P
 not-within x kind P e none within = absurd (none (subst (λ (n : Next). IsInGame n) e within))
@@ -347,27 +317,15 @@ all-ready (line ∷ lines) stage end now (next, comes, fits, more) keep =
 
 first-in-range : (stakes : RecordStakes) → AreRecordStakes stakes → IsInRange (first_standing stakes)
 first-in-range (Match length) h = (h.1, h.1)
-first-in-range Cubeless h = (omega arith, omega arith)
-first-in-range Money h = (omega arith, omega arith)
-first-in-range Jacoby h = (omega arith, omega arith)
-first-in-range MoneyBeavers h = (omega arith, omega arith)
-first-in-range JacobyBeavers h = (omega arith, omega arith)
+first-in-range (Unlimited rule) h = (omega arith, omega arith)
 
 first-score : (stakes : RecordStakes) → AreRecordStakes stakes → IfMatch stakes (λ length. (1 ≤ length) × (length ≤ 5) × Stands length (first_standing stakes))
 first-score (Match length) h = (h.0, h.1, first-stands length h.0 h.1)
-first-score Cubeless h = tt
-first-score Money h = tt
-first-score Jacoby h = tt
-first-score MoneyBeavers h = tt
-first-score JacobyBeavers h = tt
+first-score (Unlimited rule) h = tt
 
 centred-place : (stakes : RecordStakes) (standing : Standing) → IfMatch stakes (λ length. IsPlace standing 0 None)
 centred-place (Match length) standing = refl
-centred-place Cubeless standing = tt
-centred-place Money standing = tt
-centred-place Jacoby standing = tt
-centred-place MoneyBeavers standing = tt
-centred-place JacobyBeavers standing = tt
+centred-place (Unlimited rule) standing = tt
 
 -- before the first game's line
 pub first-keeps : (rec : Record) (next : Next) (left : ℕ) → UpTo 3 rec.checkers → AreRecordStakes rec.stakes → next ≡ FirstGame → 4 + left ≤ 65537 → Keeps next 0 left (first_moment rec)

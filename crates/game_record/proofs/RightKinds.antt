@@ -10,11 +10,12 @@ use Rattle.cube_actions.specs.declared.kind.Kind.{Kind}
 use Rattle.cube_actions.specs.declared.kind.Taken.{Taken}
 use Rattle.cube_actions.specs.declared.name.KindName.{KindName}
 use Rattle.cube_actions.specs.declared.name.KindName.TheVariants.{InMatch}
+use Rattle.cube_actions.specs.declared.name.MoneyRule.TheVariants.{Cubeless, MoneyBeavers, JacobyBeavers}
 use Rattle.cube_actions.specs.declared.name.StakesName.{StakesName}
-use Rattle.cube_actions.specs.declared.name.StakesName.TheVariants.{Cubeless as NoCube, Money as ForMoney, Jacoby as ByJacoby, MoneyBeavers as WithBeavers, JacobyBeavers as ByJacobyWithBeavers, Match as OfMatch}
+use Rattle.cube_actions.specs.declared.name.StakesName.TheVariants as game
 use Rattle.cube_actions.specs.declared.side.Side.TheVariants.{Near, Far}
 use Rattle.cube_actions.specs.MatchKinds.{match_kinds, may_turn, same_side}
-use Rattle.cube_actions.specs.Matches.{match_kind, terms_of}
+use Rattle.cube_actions.specs.Matches.{match_kind, stakes_named, terms_of}
 use Rattle.cube_actions.specs.Money.{cube_kinds}
 use Rattle.cube_actions.specs.Names.{money_names, name_of, names_of, same_name}
 use Rattle.cube_actions.specs.Scores.{MatchScore, is_crawford, needs as side_needs}
@@ -24,12 +25,11 @@ use Rattle.game_record.specs.declared.cube.Cube.{Cube}
 use Rattle.game_record.specs.declared.player.Player.{Player}
 use Rattle.game_record.specs.declared.player.Player.TheVariants.{A, B}
 use Rattle.game_record.specs.declared.record.RecordStakes.{RecordStakes}
-use Rattle.game_record.specs.declared.record.RecordStakes.TheVariants.{Cubeless, Money, Jacoby, MoneyBeavers, JacobyBeavers, Match}
+use Rattle.game_record.specs.declared.record.RecordStakes.TheVariants.{Unlimited, Match}
 use Rattle.game_record.specs.declared.standing.Standing.{Standing}
 use Rattle.game_record.specs.Cube.{is_free_to}
 use Rattle.game_record.specs.Games.{records_beavers, has_right}
 use Rattle.game_record.specs.Kinds.{game_stakes, kind_number, kind_of_turn, money_kind}
-use Rattle.game_record.specs.RightDecisions.{terms_for}
 use Rattle.game_record.specs.Standings.{at_score, side_of}
 use Rattle.game_record.specs.Turns.{same_player}
 use Rattle.game_record.proofs.MatchPlaces.{side-needs}
@@ -37,15 +37,12 @@ use Rattle.game_record.proofs.Numbers.{found-below, same_name-refl, same_name-tr
 
 -- ---- the number is in range
 
-names-long : (stakes : StakesName) (starts : StartPairs) → length (terms_for stakes starts).kinds ≡ length (names_of stakes)
-names-long NoCube starts = refl
-names-long ForMoney starts = refl
-names-long ByJacoby starts = refl
-names-long WithBeavers starts = refl
-names-long ByJacobyWithBeavers starts = refl
-names-long (OfMatch score) starts = length-map (match_kinds score) (match_kind starts score) ∙ sym (length-map (match_kinds score) name_of)
+names-long : (stakes : StakesName) (starts : StartPairs) → length (stakes_named stakes starts).kinds ≡ length (names_of stakes)
+names-long (game.Unlimited Cubeless) starts = refl
+names-long (game.Unlimited _) starts = refl
+names-long (game.Match score) starts = length-map (match_kinds score) (match_kind starts score) ∙ sym (length-map (match_kinds score) name_of)
 
-pub number-below : (stakes : StakesName) (name : KindName) (starts : StartPairs) → Contains (names_of stakes) name → kind_number stakes name < length (terms_for stakes starts).kinds
+pub number-below : (stakes : StakesName) (name : KindName) (starts : StartPairs) → Contains (names_of stakes) name → kind_number stakes name < length (stakes_named stakes starts).kinds
 number-below stakes name starts there = omega (arith, names-long stakes starts, found-below same_name same_name-refl name (names_of stakes) there)
 
 -- ---- for money
@@ -88,10 +85,10 @@ some-double : (test : Bool) (double : Double) → test ≡ true → IsSome (cond
 some-double true double h = refl
 some-double false double h = cc
 
-match-right : (score : MatchScore) (starts : StartPairs) (name : KindName) → Contains (names_of (OfMatch score)) name → right_by_name score name ≡ true → IsSome (kind_at (terms_of score starts) (kind_number (OfMatch score) name)).double
+match-right : (score : MatchScore) (starts : StartPairs) (name : KindName) → Contains (names_of (game.Match score)) name → right_by_name score name ≡ true → IsSome (kind_at (terms_of score starts) (kind_number (game.Match score) name)).double
 match-right score starts name there right =
     let kinds = match_kinds score in
-    let k = kind_number (OfMatch score) name in
+    let k = kind_number (game.Match score) name in
     let below : k < length (map name_of kinds) = found-below same_name same_name-refl name (map name_of kinds) there in
     let within : k < length kinds = omega (arith, below, length-map kinds name_of) in
     let kind = get_or-map (match_kind starts score) kinds k (record { mover = Near; cube = 1; owner = None }) no_kind within in
@@ -105,21 +102,15 @@ match-right score starts name there right =
 -- a player who has the right to double is in a kind that has it
 pub kind-right : (stakes : RecordStakes) (standing : Standing) (player : Player) (cube : Cube) (starts : StartPairs)
     → Contains (names_of (game_stakes stakes standing)) (kind_of_turn stakes standing player cube) → has_right stakes standing player cube ≡ true
-    → IsSome (kind_at (terms_for (game_stakes stakes standing) starts) (kind_number (game_stakes stakes standing) (kind_of_turn stakes standing player cube))).double
-kind-right Cubeless standing player cube starts there right = cc
-kind-right Money standing player cube starts there right = money-right _ _ player cube.owner right
-kind-right Jacoby standing player cube starts there right = money-right _ _ player cube.owner right
-kind-right MoneyBeavers standing player cube starts there right = money-right _ _ player cube.owner right
-kind-right JacobyBeavers standing player cube starts there right = money-right _ _ player cube.owner right
+    → IsSome (kind_at (stakes_named (game_stakes stakes standing) starts) (kind_number (game_stakes stakes standing) (kind_of_turn stakes standing player cube))).double
+kind-right (Unlimited Cubeless) standing player cube starts there right = cc
+kind-right (Unlimited _) standing player cube starts there right = money-right _ _ player cube.owner right
 kind-right (Match length) standing player cube starts there right =
     match-right (at_score standing) starts (kind_of_turn (Match length) standing player cube) there (named-right length standing player cube right)
 
 -- and with beavers his double has two answers
 pub kind-beavers : (stakes : RecordStakes) (standing : Standing) (player : Player) (cube : Cube) (starts : StartPairs) → records_beavers stakes ≡ true → has_right stakes standing player cube ≡ true
-    → IfSome (kind_at (terms_for (game_stakes stakes standing) starts) (kind_number (game_stakes stakes standing) (kind_of_turn stakes standing player cube))).double (λ double. 2 ≤ length double.answers.items)
-kind-beavers Cubeless standing player cube starts beavers right = absurd (cc)
-kind-beavers Money standing player cube starts beavers right = absurd (cc)
-kind-beavers Jacoby standing player cube starts beavers right = absurd (cc)
-kind-beavers (Match length) standing player cube starts beavers right = absurd (cc)
-kind-beavers MoneyBeavers standing player cube starts beavers right = beaver-right _ _ _ player cube.owner right
-kind-beavers JacobyBeavers standing player cube starts beavers right = beaver-right _ _ _ player cube.owner right
+    → IfSome (kind_at (stakes_named (game_stakes stakes standing) starts) (kind_number (game_stakes stakes standing) (kind_of_turn stakes standing player cube))).double (λ double. 2 ≤ length double.answers.items)
+kind-beavers (Unlimited MoneyBeavers) standing player cube starts beavers right = beaver-right _ _ _ player cube.owner right
+kind-beavers (Unlimited JacobyBeavers) standing player cube starts beavers right = beaver-right _ _ _ player cube.owner right
+kind-beavers _ standing player cube starts beavers right = absurd (cc)

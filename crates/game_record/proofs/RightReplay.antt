@@ -13,7 +13,7 @@ use Rattle.game_record.specs.declared.moment.Moment.{Moment}
 use Rattle.game_record.specs.declared.player.Player.{Player}
 use Rattle.game_record.specs.declared.record.Record.{Record}
 use Rattle.game_record.specs.declared.record.RecordStakes.{RecordStakes}
-use Rattle.game_record.specs.declared.record.RecordStakes.TheVariants.{Cubeless, Money, Jacoby, MoneyBeavers, JacobyBeavers, Match}
+use Rattle.game_record.specs.declared.record.RecordStakes.TheVariants.{Unlimited, Match}
 use Rattle.game_record.specs.declared.record.What.{What}
 use Rattle.game_record.specs.declared.record.What.TheVariants.{Rolled, Doubled, Took, Passed, Beavered}
 use Rattle.game_record.specs.declared.stage.Next.{Next}
@@ -27,7 +27,8 @@ use Rattle.game_record.specs.Kinds.{game_score, game_stakes, kind_number, kind_o
 use Rattle.game_record.specs.Lines.{games_lines, FitsStage, Follow, IsRecord, IsWrittenPlay}
 use Rattle.game_record.specs.Ready.{HasStanding}
 use Rattle.game_record.specs.Replay.{Acts, AllTell, IsReplay, Reports, decided, first_moment, may_double_now, undoubled}
-use Rattle.game_record.specs.RightDecisions.{terms_for, IsAnswerTo, IsRightChoice, IsRightDecision, IsScoreIn}
+use Rattle.cube_actions.specs.Matches.{stakes_named}
+use Rattle.game_record.specs.RightDecisions.{IsAnswerTo, IsRightChoice, IsRightDecision, IsScoreIn}
 use Rattle.game_record.specs.Turns.{allowed, kind_of, kind_of_deed, other_player, stage_after}
 use Rattle.game_record.proofs.Coming.{acts-within, pass-asked, take-asked}
 use Rattle.game_record.proofs.Keeps.{Asked, Keeps, has-score, keep-line, kinds-ready, record-begins}
@@ -40,29 +41,25 @@ IsOf rec now = (now.checkers ≡ rec.checkers) × (now.stakes ≡ rec.stakes)
 
 score-in : (stakes : RecordStakes) (standing : Standing) → HasStanding stakes standing → IsScoreIn stakes (game_score stakes standing)
 score-in (Match length) standing h = h.2
-score-in Cubeless standing h = refl
-score-in Money standing h = refl
-score-in Jacoby standing h = refl
-score-in MoneyBeavers standing h = refl
-score-in JacobyBeavers standing h = refl
+score-in (Unlimited rule) standing h = refl
 
 -- the kind in which a decision is told
 abbrev kind_now : Moment → Player → ℕ
 kind_now now player = kind_number (game_stakes now.stakes now.standing) (kind_of_turn now.stakes now.standing player now.progress.cube)
 
 right-here : (rec : Record) (next : Next) (games left : ℕ) (now : Moment) (on_turn player : Player) (choice : Choice) → Keeps next games left now → IsOf rec now → HasStanding now.stakes now.standing → is_over now.progress ≡ false
-    → ((starts : StartPairs) → IsRightChoice now.progress.position (kind_at (terms_for (game_stakes now.stakes now.standing) starts) (kind_now now on_turn)) choice) → IsRightDecision rec (decided now on_turn player choice)
+    → ((starts : StartPairs) → IsRightChoice now.progress.position (kind_at (stakes_named (game_stakes now.stakes now.standing) starts) (kind_now now on_turn)) choice) → IsRightDecision rec (decided now on_turn player choice)
 right-here rec next games left now on_turn player choice keep of score going right = record {
   position = keep.board.position;
   live = keep.board.live going;
   checkers = keep.board.count ∙ of.0;
   score = subst (λ (s : RecordStakes). IsScoreIn s (game_score now.stakes now.standing)) of.1 (score-in now.stakes now.standing score);
-  kind = λ starts. subst (λ (s : RecordStakes). kind_now now on_turn < length (terms_for (stakes_at s (game_score now.stakes now.standing)) starts).kinds) of.1
+  kind = λ starts. subst (λ (s : RecordStakes). kind_now now on_turn < length (stakes_named (stakes_at s (game_score now.stakes now.standing)) starts).kinds) of.1
       (number-below (game_stakes now.stakes now.standing) (kind_of_turn now.stakes now.standing on_turn now.progress.cube) starts (kinds-ready now.stakes now.standing on_turn now.progress.cube keep.place));
-  choice = λ starts. subst (λ (s : RecordStakes). IsRightChoice now.progress.position (kind_at (terms_for (stakes_at s (game_score now.stakes now.standing)) starts) (kind_now now on_turn)) choice) of.1 (right starts);
+  choice = λ starts. subst (λ (s : RecordStakes). IsRightChoice now.progress.position (kind_at (stakes_named (stakes_at s (game_score now.stakes now.standing)) starts) (kind_now now on_turn)) choice) of.1 (right starts);
 }
 
-double-here : (next : Next) (games left : ℕ) (now : Moment) (player : Player) (starts : StartPairs) → Keeps next games left now → has_right now.stakes now.standing player now.progress.cube ≡ true → IsSome (kind_at (terms_for (game_stakes now.stakes now.standing) starts) (kind_now now player)).double
+double-here : (next : Next) (games left : ℕ) (now : Moment) (player : Player) (starts : StartPairs) → Keeps next games left now → has_right now.stakes now.standing player now.progress.cube ≡ true → IsSome (kind_at (stakes_named (game_stakes now.stakes now.standing) starts) (kind_now now player)).double
 double-here next games left now player starts keep right = kind-right now.stakes now.standing player now.progress.cube starts (kinds-ready now.stakes now.standing player now.progress.cube keep.place) right
 
 has-right : (now : Moment) (player : Player) → may_double_now now player ≡ true → has_right now.stakes now.standing player now.progress.cube ≡ true
@@ -78,7 +75,7 @@ right-undoubled rec next games left now player keep of score going = by (may_dou
   by false may = All-nil (IsRightDecision rec)
 
 right-answer : (rec : Record) (next : Next) (games left : ℕ) (now : Moment) (player : Player) (answer : Answer) (told : List Decision) → Keeps next games left now → IsOf rec now → HasStanding now.stakes now.standing → next ≡ AnswerNext player
-    → (has_right now.stakes now.standing (other_player player) now.progress.cube ≡ true → (starts : StartPairs) → IsAnswerTo (kind_at (terms_for (game_stakes now.stakes now.standing) starts) (kind_now now (other_player player))).double answer)
+    → (has_right now.stakes now.standing (other_player player) now.progress.cube ≡ true → (starts : StartPairs) → IsAnswerTo (kind_at (stakes_named (game_stakes now.stakes now.standing) starts) (kind_now now (other_player player))).double answer)
     → told ≡ decided now (other_player player) player (Answered answer) ∷ [] → All (IsRightDecision rec) told
 right-answer rec next games left now player answer told keep of score at right e =
     let asked : Asked (AnswerNext player) now = subst (λ (n : Next). Asked n now) at keep.asked in

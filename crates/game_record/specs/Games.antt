@@ -1,6 +1,8 @@
 -- A game in progress.
 use Rattle.std.specs.Prelude.{ℕ, Bool, true, false, not, ◌&&◌, is_some, is_none, nat_lt, Some, None, if◌then◌else◌}
 use Rattle.std.specs.Option.{option_map}
+use Rattle.cube_actions.specs.declared.name.MoneyRule.TheVariants.{Cubeless, Jacoby, JacobyBeavers}
+use Rattle.cube_actions.specs.Money.{has_beavers}
 use Rattle.cube_actions.specs.Scores.{is_crawford}
 use Rattle.move_rules.specs.Payoff.{points}
 use Rattle.move_rules.specs.declared.payoff.Won.{Won}
@@ -13,7 +15,7 @@ use Rattle.game_record.specs.declared.decision.Answer.TheVariants.{Take, Pass, B
 use Rattle.game_record.specs.declared.player.Player.{Player}
 use Rattle.game_record.specs.declared.progress.Progress.{Progress}
 use Rattle.game_record.specs.declared.record.RecordStakes.{RecordStakes}
-use Rattle.game_record.specs.declared.record.RecordStakes.TheVariants.{Cubeless, Jacoby, MoneyBeavers, JacobyBeavers, Match}
+use Rattle.game_record.specs.declared.record.RecordStakes.TheVariants.{Unlimited, Match}
 use Rattle.game_record.specs.declared.standing.Standing.{Standing}
 use Rattle.game_record.specs.Cube.{centred, is_free_to, shows, turned}
 use Rattle.game_record.specs.Standings.{points_needed}
@@ -34,14 +36,13 @@ abbrev pub is_over : Progress → Bool
 is_over game = is_some game.won
 
 abbrev pub has_jacoby_rule : RecordStakes → Bool
-has_jacoby_rule Jacoby = true
-has_jacoby_rule JacobyBeavers = true
+has_jacoby_rule (Unlimited Jacoby) = true
+has_jacoby_rule (Unlimited JacobyBeavers) = true
 has_jacoby_rule _ = false
 
 abbrev pub records_beavers : RecordStakes → Bool
-records_beavers MoneyBeavers = true
-records_beavers JacobyBeavers = true
-records_beavers _ = false
+records_beavers (Unlimited rule) = has_beavers rule
+records_beavers (Match length) = false
 
 abbrev pub won_worth : Won → ℕ
 won_worth Single = 1
@@ -76,7 +77,7 @@ after_answer player Pass game =
 -- The right to double: the cube is centred or the player's own. In a match it isn't the Crawford game either, and he needs more points than
 -- the cube shows.
 abbrev pub has_right : RecordStakes → Standing → Player → Cube → Bool
-has_right Cubeless standing player cube = false
+has_right (Unlimited Cubeless) standing player cube = false
 has_right (Match length) standing player cube = not (is_crawford standing.phase)
     && is_free_to player cube.owner && nat_lt (shows cube) (points_needed standing player)
 has_right _ standing player cube = is_free_to player cube.owner

@@ -6,12 +6,13 @@ use Rattle.cube_actions.specs.Names.{names_of, same_name}
 use Rattle.cube_actions.specs.Scores.{MatchScore}
 use Rattle.cube_actions.specs.declared.name.KindName.{KindName}
 use Rattle.cube_actions.specs.declared.name.KindName.TheVariants.{Alone, Centred, Mine, Theirs, InMatch}
+use Rattle.cube_actions.specs.declared.name.MoneyRule.TheVariants.{Cubeless}
 use Rattle.cube_actions.specs.declared.name.StakesName.{StakesName}
-use Rattle.cube_actions.specs.declared.name.StakesName.TheVariants.{Cubeless as NoCube, Money as ForMoney, Jacoby as ByJacoby, MoneyBeavers as WithBeavers, JacobyBeavers as ByJacobyWithBeavers, Match as OfMatch}
+use Rattle.cube_actions.specs.declared.name.StakesName.TheVariants as game
 use Rattle.game_record.specs.declared.cube.Cube.{Cube}
 use Rattle.game_record.specs.declared.player.Player.{Player}
 use Rattle.game_record.specs.declared.record.RecordStakes.{RecordStakes}
-use Rattle.game_record.specs.declared.record.RecordStakes.TheVariants.{Cubeless, Money, Jacoby, MoneyBeavers, JacobyBeavers, Match}
+use Rattle.game_record.specs.declared.record.RecordStakes.TheVariants.{Unlimited, Match}
 use Rattle.game_record.specs.declared.standing.Standing.{Standing}
 use Rattle.game_record.specs.Cube.{shows}
 use Rattle.game_record.specs.Standings.{at_score, side_of}
@@ -29,12 +30,9 @@ game_needs _ standing = None
 
 -- what a game with this score is played for; in a match each game has one
 abbrev pub stakes_at : RecordStakes → Option MatchScore → StakesName
-stakes_at (Match length) (Some score) = OfMatch score
-stakes_at Money score = ForMoney
-stakes_at Jacoby score = ByJacoby
-stakes_at MoneyBeavers score = WithBeavers
-stakes_at JacobyBeavers score = ByJacobyWithBeavers
-stakes_at _ score = NoCube
+stakes_at (Unlimited rule) score = game.Unlimited rule
+stakes_at (Match length) (Some score) = game.Match score
+stakes_at (Match length) None = game.Unlimited Cubeless
 
 abbrev pub game_stakes : RecordStakes → Standing → StakesName
 game_stakes stakes standing = stakes_at stakes (game_score stakes standing)
@@ -46,7 +44,7 @@ money_kind player (Some owner) = if same_player owner player then Mine else Thei
 
 -- the kind of state where it is this player's turn
 abbrev pub kind_of_turn : RecordStakes → Standing → Player → Cube → KindName
-kind_of_turn Cubeless standing player cube = Alone
+kind_of_turn (Unlimited Cubeless) standing player cube = Alone
 kind_of_turn (Match length) standing player cube =
     InMatch (side_of standing player) (shows cube) (option_map (side_of standing) cube.owner)
 kind_of_turn _ standing player cube = money_kind player cube.owner

@@ -1,15 +1,12 @@
 -- What each decision of a replay can be relied on for.
 use Rattle.std.specs.Prelude.{◌≡◌, ◌<◌, ◌≤◌, length, sum, Option, Some, None, IsSome, IfSome}
 use Rattle.cube_actions.specs.Ladder.{IsOfMatch}
-use Rattle.cube_actions.specs.Matches.{terms_of}
-use Rattle.cube_actions.specs.Money.{jacoby, jacoby_beavers, money, money_beavers}
+use Rattle.cube_actions.specs.Matches.{stakes_named}
 use Rattle.cube_actions.specs.Scores.{MatchScore}
-use Rattle.cube_actions.specs.Stakes.{Terms, cubeless, kind_at}
+use Rattle.cube_actions.specs.Stakes.{kind_at}
 use Rattle.cube_actions.specs.Starts.{StartPairs}
 use Rattle.cube_actions.specs.declared.kind.Double.{Double}
 use Rattle.cube_actions.specs.declared.kind.Kind.{Kind}
-use Rattle.cube_actions.specs.declared.name.StakesName.{StakesName}
-use Rattle.cube_actions.specs.declared.name.StakesName.TheVariants.{Cubeless as NoCube, Money as ForMoney, Jacoby as ByJacoby, MoneyBeavers as WithBeavers, JacobyBeavers as ByJacobyWithBeavers, Match as OfMatch}
 use Rattle.move_rules.specs.Sequences.{IsLegalEnd}
 use Rattle.position_rank.specs.Placement.{Placement, IsLive, IsPosition}
 use Rattle.roll_table.specs.Rolls.{IsRoll}
@@ -22,15 +19,6 @@ use Rattle.game_record.specs.declared.record.Record.{Record}
 use Rattle.game_record.specs.declared.record.RecordStakes.{RecordStakes}
 use Rattle.game_record.specs.declared.record.RecordStakes.TheVariants.{Match}
 use Rattle.game_record.specs.Kinds.{stakes_at}
-
--- the stakes of this name, whatever the scores of a match are worth
-abbrev pub terms_for : StakesName → StartPairs → Terms
-terms_for NoCube starts = cubeless
-terms_for ForMoney starts = money
-terms_for ByJacoby starts = jacoby
-terms_for WithBeavers starts = money_beavers
-terms_for ByJacobyWithBeavers starts = jacoby_beavers
-terms_for (OfMatch score) starts = terms_of score starts
 
 -- in a match one of its scores, and else none
 abbrev pub IsScoreIn : RecordStakes → Option MatchScore → Type 0
@@ -58,8 +46,8 @@ pub record IsRightDecision (rec : Record) (decision : Decision) : Type 0 where
   pub checkers : sum decision.position.mover ≡ rec.checkers
   pub score : IsScoreIn rec.stakes decision.score
   pub kind : (starts : StartPairs)
-      → decision.kind < length (terms_for (stakes_at rec.stakes decision.score) starts).kinds
+      → decision.kind < length (stakes_named (stakes_at rec.stakes decision.score) starts).kinds
   pub choice : (starts : StartPairs)
       → IsRightChoice decision.position
-      (kind_at (terms_for (stakes_at rec.stakes decision.score) starts) decision.kind)
+      (kind_at (stakes_named (stakes_at rec.stakes decision.score) starts) decision.kind)
       decision.choice

@@ -8,7 +8,8 @@ ghost use Rattle.cube_actions.specs.declared.phase.Phase.TheVariants.{Normal, Cr
 ghost use Rattle.cube_actions.specs.declared.side.Side.TheVariants.{Near, Far};
 ghost use Rattle.move_rules.specs.declared.payoff.Won.TheVariants.{Gammon};
 ghost use Rattle.game_record.specs.declared.decision.Answer.TheVariants.{Take, Pass, Beaver};
-ghost use Rattle.game_record.specs.declared.record.RecordStakes.TheVariants.{Money, Jacoby, Match};
+ghost use Rattle.cube_actions.specs.declared.name.MoneyRule.TheVariants.{Jacoby, Money};
+ghost use Rattle.game_record.specs.declared.record.RecordStakes.TheVariants.{Match, Unlimited};
 ghost use Rattle.game_record.specs.Cube.{centred, shows, turned};
 ghost use Rattle.game_record.specs.Games.{after_answer, counted, has_right, may_double, opening};
 ghost use Rattle.game_record.specs.Kinds.{kind_of_turn};
@@ -47,24 +48,28 @@ pub fn standing_examples()
 
 /// What a win counts, and where the cube is after a double.
 pub fn cube_examples()
-    ensures centred_gammon { counted Jacoby centred Gammon ≡ 1 }
-    ensures owned_gammon { counted Jacoby (turned centred 1 A) Gammon ≡ 2 }
-    ensures money_gammon { counted Money centred Gammon ≡ 2 }
+    ensures centred_gammon { counted (Unlimited Jacoby) centred Gammon ≡ 1 }
+    ensures owned_gammon { counted (Unlimited Jacoby) (turned centred 1 A) Gammon ≡ 2 }
+    ensures money_gammon { counted (Unlimited Money) centred Gammon ≡ 2 }
     ensures taken { (after_answer B Take (opening 1)).cube ≡ record { turns = 1; owner = Some B } }
     ensures beavered { shows ((after_answer B Beaver (opening 1)).cube) ≡ 4 }
     ensures passed { (after_answer B Pass (opening 1)).won
         ≡ Some (record { winner = A; points = 1 }) }
     ensures pass_leaves_the_cube { (after_answer B Pass (opening 1)).cube ≡ centred }
-    ensures first_turn { may_double Money (standing_at 0 0 Normal) A (opening 1) ≡ false }
+    ensures first_turn { may_double (Unlimited Money) (standing_at 0 0 Normal) A (opening 1)
+        ≡ false }
     ensures crawford { has_right (Match 2) (standing_at 2 1 Crawford) A centred ≡ false }
     ensures enough { has_right (Match 2) (standing_at 2 2 Normal) A (turned centred 1 A) ≡ false }
-    ensures theirs { has_right Jacoby (standing_at 0 0 Normal) A (turned centred 1 B) ≡ false }
+    ensures theirs { has_right (Unlimited Jacoby) (standing_at 0 0 Normal) A (turned centred 1 B)
+        ≡ false }
 {}
 
 /// Numbers of kinds, as each player sees them.
 pub fn kind_examples()
-    ensures mine { kind_of_turn Jacoby (standing_at 0 0 Normal) A (turned centred 1 A) ≡ Mine }
-    ensures theirs { kind_of_turn Jacoby (standing_at 0 0 Normal) A (turned centred 1 B) ≡ Theirs }
+    ensures mine { kind_of_turn (Unlimited Jacoby) (standing_at 0 0 Normal) A
+        (turned centred 1 A) ≡ Mine }
+    ensures theirs { kind_of_turn (Unlimited Jacoby) (standing_at 0 0 Normal) A
+        (turned centred 1 B) ≡ Theirs }
     ensures near { kind_of_turn (Match 2) (standing_at 2 2 Normal) A (turned centred 1 B)
         ≡ InMatch Near 2 (Some Far) }
     ensures far { kind_of_turn (Match 2) (standing_at 2 2 Normal) B centred ≡ InMatch Far 1 None }

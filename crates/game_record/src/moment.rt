@@ -17,7 +17,9 @@ use crate::player::Player;
 use crate::progress::{Progress, Win};
 use crate::record::{Ending, Record, RecordStakes};
 use crate::standing::Standing;
-use cube_actions::{KindName, Score, Stakes, Starts, ladder, ladders_are_exact, names_tell_kinds};
+use cube_actions::{
+    KindName, MoneyRule, Score, Stakes, Starts, ladder, ladders_are_exact, names_tell_kinds,
+};
 use directed_fixed::{Fixed, Pair};
 use hyper_outside::NoMemory;
 
@@ -133,10 +135,10 @@ impl Moment {
         ensures { result ≡ standing_after self.now winner points self.now.stakes }
     {
         match self.stakes {
+            RecordStakes::Unlimited(_) => self.standing,
             RecordStakes::Match(_) => self
                 .standing
                 .after_win(winner, points * self.progress.cube.shows()),
-            _ => self.standing,
         }
     }
 
@@ -144,8 +146,8 @@ impl Moment {
         ensures { result ≡ game_needs self.now.stakes self.now.standing }
     {
         match self.stakes {
+            RecordStakes::Unlimited(_) => None,
             RecordStakes::Match(_) => Some((self.standing.a, self.standing.b)),
-            _ => None,
         }
     }
 
@@ -155,11 +157,7 @@ impl Moment {
         ensures { result.name ≡ game_stakes self.now.stakes self.now.standing }
     {
         match self.stakes {
-            RecordStakes::Cubeless => Stakes::cubeless(),
-            RecordStakes::Money => Stakes::money(),
-            RecordStakes::Jacoby => Stakes::jacoby(),
-            RecordStakes::MoneyBeavers => Stakes::money_beavers(),
-            RecordStakes::JacobyBeavers => Stakes::jacoby_beavers(),
+            RecordStakes::Unlimited(rule) => Stakes::unlimited(rule),
             RecordStakes::Match(length) => {
                 Stakes::of_score(self.standing.score(), &any_starts(length))
             }
@@ -173,7 +171,12 @@ impl Moment {
     {
         let cube = self.progress.cube;
         match self.stakes {
-            RecordStakes::Cubeless => KindName::Alone,
+            RecordStakes::Unlimited(MoneyRule::Cubeless) => KindName::Alone,
+            RecordStakes::Unlimited(_) => match cube.owner {
+                None => KindName::Centred,
+                Some(owner) if owner == player => KindName::Mine,
+                Some(_) => KindName::Theirs,
+            },
             RecordStakes::Match(_) => KindName::InMatch {
                 mover: self.standing.side_of(player),
                 cube: cube.shows(),
@@ -181,11 +184,6 @@ impl Moment {
                     None => None,
                     Some(owner) => Some(self.standing.side_of(owner)),
                 },
-            },
-            _ => match cube.owner {
-                None => KindName::Centred,
-                Some(owner) if owner == player => KindName::Mine,
-                Some(_) => KindName::Theirs,
             },
         }
     }
@@ -213,8 +211,8 @@ impl Moment {
         ensures { result ≡ game_score self.now.stakes self.now.standing }
     {
         match self.stakes {
+            RecordStakes::Unlimited(_) => None,
             RecordStakes::Match(_) => Some(self.standing.score()),
-            _ => None,
         }
     }
 

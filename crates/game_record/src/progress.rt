@@ -8,7 +8,7 @@ use crate::decision::Answer;
 use crate::player::Player;
 use crate::record::RecordStakes;
 use crate::standing::Standing;
-use cube_actions::Phase;
+use cube_actions::{MoneyRule, Phase};
 use move_rules::{Won, points};
 use position_rank::Position;
 
@@ -146,12 +146,12 @@ fn has_right(stakes: RecordStakes, standing: Standing, player: Player, cube: Cub
     ensures { result ≡ has_right stakes standing player cube }
 {
     match stakes {
-        RecordStakes::Cubeless => false,
+        RecordStakes::Unlimited(MoneyRule::Cubeless) => false,
+        RecordStakes::Unlimited(_) => cube.is_free_to(player),
         RecordStakes::Match(_) => {
             standing.phase != Phase::Crawford
                 && cube.is_free_to(player)
                 && cube.is_below(standing.needs(player))
         }
-        _ => cube.is_free_to(player),
     }
 }

@@ -3,6 +3,7 @@ ghost use Rattle.game_record.specs.Games.{records_beavers, has_jacoby_rule};
 ghost use Rattle.game_record.specs.Turns.{has_match};
 
 use crate::player::Player;
+use cube_actions::MoneyRule;
 use hyper_outside::NoMemory;
 use move_rules::Written;
 use roll_table::Roll;
@@ -22,17 +23,14 @@ pub struct Record {
 /// What the games of a record are played for.
 #[derive(Clone, Copy, Debug, PartialEq, Eq)]
 pub enum RecordStakes {
-    Cubeless,
-    Money,
-    Jacoby,
-    MoneyBeavers,
-    JacobyBeavers,
+    /// No match.
+    Unlimited(MoneyRule),
     /// A match for so many points, 1 to 5.
     Match(u8),
 }
 
 impl RecordStakes {
-    pub(crate) fn is_match(self) -> bool
+    pub fn is_match(self) -> bool
         ensures { result ≡ has_match self }
     {
         matches!(self, RecordStakes::Match(_))
@@ -42,17 +40,20 @@ impl RecordStakes {
     pub(crate) fn has_jacoby_rule(self) -> bool
         ensures { result ≡ has_jacoby_rule self }
     {
-        matches!(self, RecordStakes::Jacoby | RecordStakes::JacobyBeavers)
+        matches!(
+            self,
+            RecordStakes::Unlimited(MoneyRule::Jacoby | MoneyRule::JacobyBeavers)
+        )
     }
 
     /// Who is doubled may turn the cube once more.
     pub(crate) fn has_beavers(self) -> bool
         ensures { result ≡ records_beavers self }
     {
-        matches!(
-            self,
-            RecordStakes::MoneyBeavers | RecordStakes::JacobyBeavers
-        )
+        match self {
+            RecordStakes::Unlimited(rule) => rule.has_beavers(),
+            RecordStakes::Match(_) => false,
+        }
     }
 }
 

@@ -23,6 +23,11 @@ impl Standing {
         ensures { result ≡ first_standing stakes }
     {
         match stakes {
+            RecordStakes::Unlimited(_) => Standing {
+                a: 0,
+                b: 0,
+                phase: Phase::Normal,
+            },
             RecordStakes::Match(length) => Standing {
                 a: length,
                 b: length,
@@ -31,11 +36,6 @@ impl Standing {
                 } else {
                     Phase::Normal
                 },
-            },
-            _ => Standing {
-                a: 0,
-                b: 0,
-                phase: Phase::Normal,
             },
         }
     }

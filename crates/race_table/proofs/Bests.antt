@@ -3,7 +3,7 @@ use Rattle.std.proofs.Common.{◌≡◌, ◌<◌, ◌+◌, ◌++◌, ℕ, zero, 
 use Rattle.std.proofs.lemmas.List.{take_more, map-append}
 use Rattle.position_rank.specs.Placement.{Placement}
 use Rattle.directed_fixed.specs.declared.bounds.End.TheVariants.{Lower, Upper}
-use Rattle.cube_actions.specs.Stakes.{alone}
+use Rattle.cube_actions.specs.Money.{alone}
 use Rattle.turn_rule.specs.Turn.{worth}
 use Rattle.turn_rule.proofs.Greatest.{greatest-append}
 use Rattle.race_table.specs.declared.race.Race.{Race}

@@ -16,7 +16,7 @@ use Rattle.move_rules.specs.Payoff.{points}
 use Rattle.directed_fixed.specs.declared.bounds.End.{End}
 use Rattle.directed_fixed.specs.declared.bounds.End.TheVariants.{Lower, Upper}
 use Rattle.directed_fixed.specs.Bounds.{at, other}
-use Rattle.cube_actions.specs.Stakes.{cubeless}
+use Rattle.cube_actions.specs.Money.{cubeless}
 use Rattle.turn_rule.specs.Games.{game_of}
 use Rattle.turn_rule.specs.Looks.{MayFollowTurn}
 use Rattle.turn_rule.specs.Turn.{rounds, turn}

@@ -14,7 +14,7 @@ use Rattle.directed_fixed.specs.declared.bounds.End.{End}
 use Rattle.directed_fixed.specs.declared.bounds.End.TheVariants.{Lower, Upper}
 use Rattle.directed_fixed.specs.Bounds.{Bounds, IsNoLooser, AreNoLooserPairs, other}
 use Rattle.directed_fixed.specs.Rounding.{floor_36, ceil_36}
-use Rattle.cube_actions.specs.Stakes.{cubeless, alone}
+use Rattle.cube_actions.specs.Money.{alone, cubeless}
 use Rattle.turn_rule.specs.Games.{game_of}
 use Rattle.turn_rule.specs.Turn.{Words, win, if_won, worth, greatest, sum_over, turn, rounds}
 use Rattle.turn_rule.specs.States.{IsState}

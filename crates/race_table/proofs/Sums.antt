@@ -19,7 +19,8 @@ use Rattle.move_rules.specs.Payoff.{points}
 use Rattle.directed_fixed.specs.declared.bounds.End.TheVariants.{Lower, Upper}
 use Rattle.directed_fixed.specs.Bounds.{Bounds, IsWithin, IsWithinUnits, negated}
 use Rattle.directed_fixed.specs.Rounding.{floor_36, ceil_36}
-use Rattle.cube_actions.specs.Stakes.{alone, no_kind, point_units}
+use Rattle.cube_actions.specs.Money.{alone}
+use Rattle.cube_actions.specs.Stakes.{no_kind, point_units}
 use Rattle.turn_rule.specs.Turn.{if_won, greatest, sum_over, turn, win, worth}
 use Rattle.turn_rule.proofs.Cubeless.{cubeless-valid}
 use Rattle.turn_rule.proofs.Greatest.{at_roll, greatest-from, greatest-mono, greatest-same, greatest-upto, length-all_rolls, roll_at, all_rolls-right, AreRolls}

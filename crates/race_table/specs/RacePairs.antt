@@ -2,7 +2,7 @@
 use Rattle.std.specs.Prelude.{ℕ, ◌≤◌, pos, ◌+ℤ◌, ◌≤ℤ◌, sum}
 use Rattle.position_rank.specs.Placement.{Placement}
 use Rattle.directed_fixed.specs.Bounds.{Bounds, AreNoLooserPairs}
-use Rattle.cube_actions.specs.Stakes.{cubeless}
+use Rattle.cube_actions.specs.Money.{cubeless}
 use Rattle.turn_rule.specs.Games.{game_of}
 use Rattle.turn_rule.specs.Turn.{rounds}
 use Rattle.turn_rule.specs.States.{pair_of}

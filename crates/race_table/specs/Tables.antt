@@ -6,7 +6,8 @@ use Rattle.position_rank.specs.Ranks.{square_rank_of}
 use Rattle.roll_table.specs.Rolls.{all_rolls}
 use Rattle.directed_fixed.specs.declared.bounds.End.TheVariants.{Lower, Upper}
 use Rattle.directed_fixed.specs.Bounds.{IsWithin, at, at_zero}
-use Rattle.cube_actions.specs.Stakes.{alone, cubeless, point_units}
+use Rattle.cube_actions.specs.Money.{alone, cubeless}
+use Rattle.cube_actions.specs.Stakes.{point_units}
 use Rattle.turn_rule.specs.Turn.{Words, worth, greatest, turn}
 use Rattle.turn_rule.specs.States.{pair_of}
 use Rattle.turn_rule.specs.Layouts.{squares_of}

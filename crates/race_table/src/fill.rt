@@ -2,7 +2,7 @@ ghost use Rattle.std.specs.Prelude.{◌≡◌, IfOk, ◌≤◌, ◌<◌, ◌^◌
 ghost use Rattle.position_rank.specs.Placement.{IsPosition};
 ghost use Rattle.directed_fixed.specs.Bounds.{IsWithinUnits};
 ghost use Rattle.directed_fixed.specs.Rounding.{floor_36, ceil_36};
-ghost use Rattle.cube_actions.specs.Stakes.{alone};
+ghost use Rattle.cube_actions.specs.Money.{alone};
 ghost use Rattle.race_table.specs.FreePlays.{AreFreeRolls, AreFreeSides, against};
 ghost use Rattle.race_table.specs.Orders.{AreRacesByPips};
 ghost use Rattle.race_table.specs.Races.{IsRaceOf};

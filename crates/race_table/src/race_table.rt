@@ -8,7 +8,7 @@ use crate::fill::find_races;
 use crate::free_plays::free_sides;
 use crate::order::races_by_pips;
 use crate::race::Race;
-use cube_actions::Stakes;
+use cube_actions::{MoneyRule, Stakes};
 use directed_fixed::Pair;
 use hyper_outside::NoMemory;
 use position_rank::Position;
@@ -43,7 +43,7 @@ impl RaceTable {
         requires high { checkers ≤ 3 }
         ensures { IfOk result (λ table. table ≡ checkers) }
     {
-        let stakes = Stakes::cubeless();
+        let stakes = Stakes::unlimited(MoneyRule::Cubeless);
         let layouts = all_layouts(alloc, checkers)?;
         let order = races_by_pips(alloc, layouts.as_slice())?;
         let sides = free_sides(alloc, layouts.as_slice())?;

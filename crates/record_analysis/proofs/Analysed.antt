@@ -7,6 +7,7 @@ use Rattle.position_rank.specs.Placement.{Placement}
 use Rattle.directed_fixed.specs.declared.bounds.End.{End}
 use Rattle.directed_fixed.specs.Bounds.{Bounds}
 use Rattle.cube_actions.specs.declared.kind.Double.{Double}
+use Rattle.cube_actions.specs.Matches.{stakes_named}
 use Rattle.cube_actions.specs.Stakes.{Terms, kind_at, no_kind, IsValid, IsRightDouble}
 use Rattle.cube_actions.specs.Starts.{StartPairs}
 use Rattle.game_record.specs.declared.decision.Answer.{Answer}
@@ -16,7 +17,7 @@ use Rattle.game_record.specs.declared.decision.Choice.TheVariants.{Played, Offer
 use Rattle.game_record.specs.declared.decision.Decision.{Decision}
 use Rattle.game_record.specs.declared.record.Record.{Record}
 use Rattle.game_record.specs.Kinds.{stakes_at}
-use Rattle.game_record.specs.RightDecisions.{IsAnswerTo, IsRightChoice, IsRightDecision, terms_for}
+use Rattle.game_record.specs.RightDecisions.{IsAnswerTo, IsRightChoice, IsRightDecision}
 use Rattle.turn_rule.specs.declared.game.Game.{Game}
 use Rattle.turn_rule.specs.Following.{AgreeOn}
 use Rattle.turn_rule.specs.Games.{IsGame}
@@ -56,7 +57,7 @@ right-choice stakes valid p k below (Offered offer) is = offered (kind_at stakes
 right-choice stakes valid p k below (Answered answer) is = answered stakes (kind_at stakes k).double (valid.kinds k no_kind below).double answer is
 
 pub can-be-judged : (rec : Record) (starts : StartPairs) (decision : Decision) → IsRightDecision rec decision → (source : Source) (stakes : Terms) → source.checkers ≡ rec.checkers
-    → stakes ≡ terms_for (stakes_at rec.stakes decision.score) starts → IsValid stakes → AreStakesOf source stakes → CanBeJudged source stakes decision
+    → stakes ≡ stakes_named (stakes_at rec.stakes decision.score) starts → IsValid stakes → AreStakesOf source stakes → CanBeJudged source stakes decision
 can-be-judged rec starts decision right source stakes checkers is valid fits =
     let below : decision.kind < length stakes.kinds = subst (λ (t : Terms). decision.kind < length t.kinds) (sym is) (right.kind starts) in
     record {

@@ -1,10 +1,11 @@
 ghost use Rattle.std.specs.Prelude.{◌≡◌, ◌≤◌, ℕ, IsOk, IsTrue, List, All, Option, Result, None, map};
+ghost use Rattle.cube_actions.specs.Matches.{stakes_named};
 ghost use Rattle.cube_actions.specs.Scores.{MatchScore};
 ghost use Rattle.cube_actions.specs.Stakes.{IsValid, Terms};
 ghost use Rattle.cube_actions.specs.Starts.{StartPairs};
 ghost use Rattle.directed_fixed.specs.declared.bounds.End.{End};
 ghost use Rattle.game_record.specs.Kinds.{stakes_at};
-ghost use Rattle.game_record.specs.RightDecisions.{IsRightDecision, terms_for};
+ghost use Rattle.game_record.specs.RightDecisions.{IsRightDecision};
 ghost use Rattle.game_record.specs.declared.decision.Decision.{Decision};
 ghost use Rattle.game_record.specs.declared.player.Player.{Player};
 ghost use Rattle.game_record.specs.declared.record.Record.{Record};
@@ -34,7 +35,7 @@ pub fn right_decisions_can_be_judged()
     ensures { (rec : Record) (starts : StartPairs) (decision : Decision)
         → IsRightDecision rec decision
         → (source : Source) (stakes : Terms) → source.checkers ≡ rec.checkers
-        → stakes ≡ terms_for (stakes_at rec.stakes decision.score) starts → IsValid stakes
+        → stakes ≡ stakes_named (stakes_at rec.stakes decision.score) starts → IsValid stakes
         → AreStakesOf source stakes → CanBeJudged source stakes decision }
 {}
 

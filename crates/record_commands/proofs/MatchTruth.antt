@@ -14,7 +14,7 @@ use Rattle.game_record.specs.RightDecisions.{IsRightDecision}
 use Rattle.game_record.specs.Turns.{has_match}
 use Rattle.game_record.specs.declared.record.Record.{Record as RecordRead}
 use Rattle.game_record.specs.declared.record.RecordStakes.{RecordStakes}
-use Rattle.game_record.specs.declared.record.RecordStakes.TheVariants.{Cubeless, Money, Jacoby, MoneyBeavers, JacobyBeavers, Match as OfMatch}
+use Rattle.game_record.specs.declared.record.RecordStakes.TheVariants.{Unlimited, Match as OfMatch}
 use Rattle.turn_rule.specs.declared.game.Game.{Game}
 use Rattle.turn_rule.specs.Games.{IsGame, game_of}
 use Rattle.turn_rule.specs.Truth.{AreSoundFrom}
@@ -27,7 +27,8 @@ use Rattle.record_study.specs.Keeping.{IsDecisionInMatch, decisions_in}
 use Rattle.record_study.specs.Matches.{EnclosesLossAt, IsTrueMatch}
 use Rattle.record_study.proofs.Matches.{PayoffsLieWithin, if-given, loss-encloses}
 use Rattle.record_study.proofs.Records.{Law, in-match}
-use Rattle.base_head.specs.Heads.{AreStartsBefore, AreStartsOf, FileHead, IsHead, stakes_named, stakes_of}
+use Rattle.cube_actions.specs.Matches.{stakes_named}
+use Rattle.base_head.specs.Heads.{AreStartsBefore, AreStartsOf, FileHead, IsHead, stakes_of}
 use Rattle.database_file.specs.Texts.{game_in}
 use Rattle.equity_report.specs.declared.text.GameName.{GameName}
 use Rattle.run_endings.specs.Loads.{game_told}
@@ -42,11 +43,7 @@ use Rattle.record_commands.proofs.Recorded.{each-decision}
 
 -- the stakes of a match are those of its length
 match-stakes : (stakes : RecordStakes) → has_match stakes ≡ true → stakes ≡ OfMatch (match_length stakes)
-match-stakes Cubeless is = cc
-match-stakes Money is = cc
-match-stakes Jacoby is = cc
-match-stakes MoneyBeavers is = cc
-match-stakes JacobyBeavers is = cc
+match-stakes (Unlimited rule) is = cc
 match-stakes (OfMatch points) is = refl
 
 -- the decisions of a record of a match are of it

@@ -9,12 +9,12 @@ use Rattle.cube_actions.specs.Scores.{MatchScore}
 use Rattle.cube_actions.specs.Stakes.{Terms}
 use Rattle.cube_actions.specs.Starts.{StartPairs}
 use Rattle.game_record.specs.Kinds.{stakes_at}
-use Rattle.game_record.specs.RightDecisions.{IsRightDecision, terms_for}
+use Rattle.game_record.specs.RightDecisions.{IsRightDecision}
 use Rattle.game_record.specs.Turns.{has_match}
 use Rattle.game_record.specs.declared.decision.Decision.{Decision}
 use Rattle.game_record.specs.declared.record.Record.{Record}
 use Rattle.game_record.specs.declared.record.RecordStakes.{RecordStakes}
-use Rattle.game_record.specs.declared.record.RecordStakes.TheVariants.{Cubeless, Money, Jacoby, MoneyBeavers, JacobyBeavers, Match}
+use Rattle.game_record.specs.declared.record.RecordStakes.TheVariants.{Unlimited, Match}
 use Rattle.turn_rule.specs.declared.game.Game.{Game}
 use Rattle.turn_rule.specs.Games.{IsGame, kinds_of}
 use Rattle.turn_rule.specs.Looks.{Source}
@@ -28,7 +28,8 @@ use Rattle.record_study.specs.Keeping.{decisions_in}
 use Rattle.record_analysis.proofs.Analysed.{alone-true}
 use Rattle.record_study.proofs.AtScore.{zipped-all}
 use Rattle.record_study.proofs.Records.{Law, plain-scores}
-use Rattle.base_head.specs.Heads.{stakes_named, stakes_of}
+use Rattle.cube_actions.specs.Matches.{stakes_named}
+use Rattle.base_head.specs.Heads.{stakes_of}
 use Rattle.database_file.specs.Texts.{game_in}
 use Rattle.command_line.specs.declared.command.Analyse.{Analyse}
 use Rattle.equity_report.specs.declared.text.GameName.{GameName}
@@ -67,12 +68,8 @@ analysed stakes u (one ∷ list) all =
 -- ---- decisions of a record outside a match
 
 -- the stakes of the record's name are those at which each of its decisions was made
-plain-stakes : (stakes : RecordStakes) → has_match stakes ≡ false → (score : Option MatchScore) (starts : StartPairs) → stakes_named (stakes_recorded stakes) starts ≡ terms_for (stakes_at stakes score) starts
-plain-stakes Cubeless plain score starts = refl
-plain-stakes Money plain score starts = refl
-plain-stakes Jacoby plain score starts = refl
-plain-stakes MoneyBeavers plain score starts = refl
-plain-stakes JacobyBeavers plain score starts = refl
+plain-stakes : (stakes : RecordStakes) → has_match stakes ≡ false → (score : Option MatchScore) (starts : StartPairs) → stakes_named (stakes_recorded stakes) starts ≡ stakes_named (stakes_at stakes score) starts
+plain-stakes (Unlimited rule) plain score starts = refl
 plain-stakes (Match length) plain score starts = absurd (false≢true (sym plain))
 
 -- the law on what encloses what decisions lose

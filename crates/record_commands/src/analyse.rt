@@ -15,7 +15,7 @@ ghost use Rattle.record_commands.specs.Records.{IsRightReplayed};
 
 use crate::analyse_match::judge_match;
 use crate::by_file::judge_by;
-use crate::record::{Replayed, game_recorded, is_match, read_recorded};
+use crate::record::{Replayed, game_recorded, read_recorded};
 use crate::shown::write_shown;
 use command_line::Analyse;
 use equity_report::Refusal;
@@ -78,7 +78,7 @@ fn judge_replayed<F: Files>(
     let Ok(analysis) = Analysis::new(alloc, decisions) else {
         return Err(Refusal::Memory);
     };
-    if is_match(rec.stakes) {
+    if rec.stakes.is_match() {
         judge_match(alloc, name, rec, analysis, files)
     } else {
         judge_plain(alloc, name, rec, analysis, files)

@@ -4,7 +4,6 @@ ghost use Rattle.outside_log.specs.Log.{standing};
 ghost use Rattle.outside_log.specs.Readings.{ReadsOn, is_faithful, read_faults};
 ghost use Rattle.game_record.specs.Replay.{StopsBy};
 ghost use Rattle.game_record.specs.Lines.{AreRecordStakes, IsRecord};
-ghost use Rattle.game_record.specs.Turns.{has_match};
 ghost use Rattle.equity_report.specs.declared.refusal.Refusal.TheVariants.{Read};
 ghost use Rattle.record_commands.specs.Records.{AnswersRecord, AnswersText, HoldsPlain, IsRightReplayed, IsWrongPlain, TellsUnread, at_line, game_recorded, match_length, record_refusal, stakes_recorded};
 ghost use Rattle.run_endings.specs.Endings.{IsOfReplaying};
@@ -33,11 +32,7 @@ fn stakes_recorded(stakes: RecordStakes) -> StakesName
     ensures { result ≡ stakes_recorded stakes }
 {
     match stakes {
-        RecordStakes::Cubeless => StakesName::Cubeless,
-        RecordStakes::Money => StakesName::Money,
-        RecordStakes::Jacoby => StakesName::Jacoby,
-        RecordStakes::MoneyBeavers => StakesName::MoneyBeavers,
-        RecordStakes::JacobyBeavers => StakesName::JacobyBeavers,
+        RecordStakes::Unlimited(rule) => StakesName::Unlimited(rule),
         RecordStakes::Match(points) => StakesName::Match(Score {
             near: points,
             far: points,
@@ -46,20 +41,13 @@ fn stakes_recorded(stakes: RecordStakes) -> StakesName
     }
 }
 
-/// Whether a record is one of a match.
-pub(crate) fn is_match(stakes: RecordStakes) -> bool
-    ensures { result ≡ has_match stakes }
-{
-    matches!(stakes, RecordStakes::Match(_))
-}
-
 /// The points that a match is played to, and 1 where there is none.
 pub(crate) fn match_length(stakes: RecordStakes) -> u8
     ensures { result ≡ match_length stakes }
 {
     match stakes {
+        RecordStakes::Unlimited(_) => 1,
         RecordStakes::Match(points) => points,
-        _ => 1,
     }
 }
 

@@ -10,7 +10,7 @@ ghost use Rattle.run_endings.specs.declared.ending.RunStop.TheVariants.{Refused}
 ghost use Rattle.record_commands.specs.Records.{IsRightReplayed};
 ghost use Rattle.record_commands.specs.Studies.{IsStudiedBy, TellsStudy};
 
-use crate::record::{Replayed, is_match, match_length, read_recorded};
+use crate::record::{Replayed, match_length, read_recorded};
 use crate::shown::write_shown;
 use command_line::Study;
 use equity_report::Refusal;
@@ -43,7 +43,7 @@ fn study_replayed<R: Threads + Sync, G: Gate + Sync>(
 {
     let rounds = task.rounds;
     let columns = layout_count(rec.checkers);
-    if is_match(rec.stakes) {
+    if rec.stakes.is_match() {
         let points = match_length(rec.stakes);
         gate.expect(ladder_rounds(points, rounds), columns);
         study_match(team, alloc, rec, points, decisions, rounds, gate)

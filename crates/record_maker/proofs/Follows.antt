@@ -21,7 +21,8 @@ use Rattle.game_record.specs.declared.record.Ending.TheVariants.{Ended, Stopped}
 use Rattle.game_record.specs.declared.record.Game.{Game}
 use Rattle.game_record.specs.declared.record.Record.{Record}
 use Rattle.game_record.specs.declared.record.RecordStakes.{RecordStakes}
-use Rattle.game_record.specs.declared.record.RecordStakes.TheVariants.{Jacoby}
+use Rattle.cube_actions.specs.declared.name.MoneyRule.TheVariants.{Jacoby}
+use Rattle.game_record.specs.declared.record.RecordStakes.TheVariants.{Unlimited}
 use Rattle.game_record.specs.declared.record.What.{What}
 use Rattle.game_record.specs.declared.record.What.TheVariants.{Rolled, Doubled, Took, Passed, Beavered}
 use Rattle.game_record.specs.declared.stage.Next.{Next}
@@ -147,7 +148,7 @@ none-over game due going over = absurd (both (is_over game) going over) where
   both true p q = absurd (cc)
   both false p q = absurd (cc)
 
-counted-few : (cube : Cube) (won : Won) → UpTo 3 (counted Jacoby cube won)
+counted-few : (cube : Cube) (won : Won) → UpTo 3 (counted (Unlimited Jacoby) cube won)
 counted-few cube won = by (is_none cube.owner) won where
   by : (centred : Bool) (won : Won) → UpTo 3 (if true && centred then 1 else won_worth won)
   by true won = (omega arith, omega arith)
@@ -155,7 +156,7 @@ counted-few cube won = by (is_none cube.owner) won where
   by false Gammon = (omega arith, omega arith)
   by false Backgammon = (omega arith, omega arith)
 
-play-won : (player : Player) (cube : Cube) (won : Option Won) → IfSome (option_map (λ w. record { winner = player; points = counted Jacoby cube w }) won) (λ (win : Win). UpTo 3 win.points)
+play-won : (player : Player) (cube : Cube) (won : Option Won) → IfSome (option_map (λ w. record { winner = player; points = counted (Unlimited Jacoby) cube w }) won) (λ (win : Win). UpTo 3 win.points)
 play-won player cube None = tt
 play-won player cube (Some won) = counted-few cube won
 
@@ -295,13 +296,13 @@ Closes checkers stakes games =
 pub made-follows : (number count : ℕ) (rec : Record) → 1 ≤ count → IsMade number count rec → (end : Stage) × Follow first_stage (record_lines rec) end × (end.next ≡ NothingNext)
 made-follows number count rec some made =
     subst (λ (stakes : RecordStakes). Closes rec.checkers stakes rec.games) (sym made.stakes)
-    (subst (λ (checkers : ℕ). Closes checkers Jacoby rec.games) (sym made.checkers) (by rec.games made.games)) where
+    (subst (λ (checkers : ℕ). Closes checkers (Unlimited Jacoby) rec.games) (sym made.checkers) (by rec.games made.games)) where
       close : (last : Next) → MayClose last → allowed false last (kind_of Closed) ≡ Some NothingNext
       close NextGame may = refl
       close Close may = refl
       close _ may = absurd may
 
-      front : (games : List Line) (last : Next) (n : ℕ) → MayClose last → Follow (stage_at FirstGame 0) games (stage_at last n) → Follow first_stage (TitleLine ∷ CheckersLine 1 ∷ StakesLine Jacoby ∷ games ++ Closed ∷ []) (stage_at NothingNext n)
+      front : (games : List Line) (last : Next) (n : ℕ) → MayClose last → Follow (stage_at FirstGame 0) games (stage_at last n) → Follow first_stage (TitleLine ∷ CheckersLine 1 ∷ StakesLine (Unlimited Jacoby) ∷ games ++ Closed ∷ []) (stage_at NothingNext n)
       front games last n may follow =
           let closed : Follow (stage_at last n) (Closed ∷ []) (stage_at NothingNext n) = (NothingNext, close last may, tt, refl) in
           (_, refl, tt, (_, refl, (omega arith, omega arith), (_, refl, tt, follow-more (stage_at FirstGame 0) games (Closed ∷ []) (stage_at last n) (stage_at NothingNext n) follow closed)))
@@ -310,7 +311,7 @@ made-follows number count rec some made =
       none end same (inl is) = (let zero_games = ap (λ (s : Sheet). s.games) same in omega (arith, some, is, zero_games))
       none end same (inr (few, full)) = (let full_first = sym (ap (λ (s : Sheet). is_full s.size) same) ∙ full in absurd (cc))
 
-      by : (games : List Game) → AllMade (first_sheet number) games made.end → Closes 1 Jacoby games
+      by : (games : List Game) → AllMade (first_sheet number) games made.end → Closes 1 (Unlimited Jacoby) games
       by [] all = absurd (none made.end all made.last)
       by (game ∷ games) (later, makes, all) =
           let on = one-follows FirstGame (first_sheet number) game later games made.end tt makes all (λ winner points is. more-follow later games made.end all) in

@@ -15,7 +15,8 @@ use Rattle.game_record.specs.declared.record.Ending.TheVariants.{Ended, Stopped}
 use Rattle.game_record.specs.declared.record.Game.{Game}
 use Rattle.game_record.specs.declared.record.Record.{Record}
 use Rattle.game_record.specs.declared.record.RecordStakes.{RecordStakes}
-use Rattle.game_record.specs.declared.record.RecordStakes.TheVariants.{Jacoby}
+use Rattle.cube_actions.specs.declared.name.MoneyRule.TheVariants.{Jacoby}
+use Rattle.game_record.specs.declared.record.RecordStakes.TheVariants.{Unlimited}
 use Rattle.game_record.specs.declared.stage.Next.{Next}
 use Rattle.game_record.specs.declared.stage.Stage.{Stage}
 use Rattle.game_record.specs.Lines.{Follow, IsRecord, ending_line, game_lines, games_lines, record_lines}
@@ -136,12 +137,12 @@ drawn-record number count rec some drawn =
     let digit = length_one 1 (omega arith) in
     let checkers_long : length (codes "checkers 1") ≡ length (line_text (CheckersLine 1)) = (let parts = length-append (codes "checkers ") (decimal 1) in let one : length (codes "checkers ") ≡ 9 = refl in let all : length (codes "checkers 1") ≡ 10 = refl in omega (arith, parts, one, all, digit)) in
     let games = games_lines 1 rec.games ++ Closed ∷ [] in
-    let plain : Grows empty_size (TitleLine ∷ CheckersLine 1 ∷ StakesLine Jacoby ∷ games) end =
-    by-line empty_size TitleLine (codes "hypergammon record 1") title (CheckersLine 1 ∷ StakesLine Jacoby ∷ games) end refl refl
-    (by-line title (CheckersLine 1) (codes "checkers 1") checkers (StakesLine Jacoby ∷ games) end refl checkers_long
-    (by-line checkers (StakesLine Jacoby) (codes "stakes jacoby") (first_sheet number).size games end refl refl behind)) in
+    let plain : Grows empty_size (TitleLine ∷ CheckersLine 1 ∷ StakesLine (Unlimited Jacoby) ∷ games) end =
+    by-line empty_size TitleLine (codes "hypergammon record 1") title (CheckersLine 1 ∷ StakesLine (Unlimited Jacoby) ∷ games) end refl refl
+    (by-line title (CheckersLine 1) (codes "checkers 1") checkers (StakesLine (Unlimited Jacoby) ∷ games) end refl checkers_long
+    (by-line checkers (StakesLine (Unlimited Jacoby)) (codes "stakes jacoby") (first_sheet number).size games end refl refl behind)) in
     let whole = subst (λ (stakes : RecordStakes). Grows empty_size (TitleLine ∷ CheckersLine rec.checkers ∷ StakesLine stakes ∷ games_lines 1 rec.games ++ Closed ∷ []) (with_line made.end.size (line_text Closed))) (sym made.stakes)
-    (subst (λ (checkers : ℕ). Grows empty_size (TitleLine ∷ CheckersLine checkers ∷ StakesLine Jacoby ∷ games_lines 1 rec.games ++ Closed ∷ []) (with_line made.end.size (line_text Closed))) (sym made.checkers) plain) in
+    (subst (λ (checkers : ℕ). Grows empty_size (TitleLine ∷ CheckersLine checkers ∷ StakesLine (Unlimited Jacoby) ∷ games_lines 1 rec.games ++ Closed ∷ []) (with_line made.end.size (line_text Closed))) (sym made.checkers) plain) in
     let close : length (line_text Closed) ≡ 5 = refl in
     let room = drawn.room in
     let lines : length (record_lines rec) ≤ 60004 = omega (arith, whole.0, room.0) in

@@ -13,7 +13,8 @@ use Rattle.game_record.specs.declared.record.Ending.{Ending}
 use Rattle.game_record.specs.declared.record.Ending.TheVariants.{Ended, Stopped}
 use Rattle.game_record.specs.declared.record.Game.{Game}
 use Rattle.game_record.specs.declared.record.Record.{Record}
-use Rattle.game_record.specs.declared.record.RecordStakes.TheVariants.{Jacoby}
+use Rattle.cube_actions.specs.declared.name.MoneyRule.TheVariants.{Jacoby}
+use Rattle.game_record.specs.declared.record.RecordStakes.TheVariants.{Unlimited}
 use Rattle.game_record.specs.declared.record.What.{What}
 use Rattle.game_record.specs.declared.record.What.TheVariants.{Rolled, Doubled, Took, Passed, Beavered}
 use Rattle.game_record.specs.Games.{game_after_play, is_over}
@@ -44,7 +45,7 @@ one-play tells from player roll words (Rolled told written) to (Rolled said note
     let there = subst (λ (e : Entry). IsPlayText (play_text from.position e.play.items) written.items) entries text in
     let steps = tells (play_text from.position entry2.play.items) written.items noted.items there text2 in
     let rolls = same ∙ sym same2 in
-    ((λ i. Rolled (rolls i) (record { items = steps i })), game ∙ ap (λ (e : Entry). game_after_play Jacoby player e.end from) entries ∙ sym game2, later ∙ sym later2)
+    ((λ i. Rolled (rolls i) (record { items = steps i })), game ∙ ap (λ (e : Entry). game_after_play (Unlimited Jacoby) player e.end from) entries ∙ sym game2, later ∙ sym later2)
 one-play tells from player roll words (Rolled told written) to Doubled end one two = absurd two
 one-play tells from player roll words (Rolled told written) to Took end one two = absurd two
 one-play tells from player roll words (Rolled told written) to Passed end one two = absurd two

@@ -25,7 +25,8 @@ use Rattle.game_record.specs.declared.record.Ending.{Ending}
 use Rattle.game_record.specs.declared.record.Ending.TheVariants.{Ended, Stopped}
 use Rattle.game_record.specs.declared.record.Game.{Game}
 use Rattle.game_record.specs.declared.record.Record.{Record}
-use Rattle.game_record.specs.declared.record.RecordStakes.TheVariants.{Jacoby}
+use Rattle.cube_actions.specs.declared.name.MoneyRule.TheVariants.{Jacoby}
+use Rattle.game_record.specs.declared.record.RecordStakes.TheVariants.{Unlimited}
 use Rattle.game_record.specs.declared.record.What.{What}
 use Rattle.game_record.specs.declared.record.What.TheVariants.{Rolled, Doubled, Took, Passed, Beavered}
 use Rattle.game_record.specs.Games.{is_over, opening}
@@ -77,7 +78,7 @@ start-opens (suc draws) words = started-opens (die words) (die (rest words)) (re
 
 -- a moment of the replay of a record that is made
 abbrev pub moment_at : ℕ → ℕ → Progress → Replayed
-moment_at game line progress = record { checkers = 1; stakes = Jacoby; standing = first_standing Jacoby; game = game; line = line; progress = progress }
+moment_at game line progress = record { checkers = 1; stakes = Unlimited Jacoby; standing = first_standing (Unlimited Jacoby); game = game; line = line; progress = progress }
 
 -- a player may do this there, and it leads there
 abbrev pub ActsTo : ℕ → ℕ → Progress → Player → What → Progress → Type 0

@@ -12,7 +12,8 @@ use Rattle.game_record.specs.declared.record.Ending.{Ending}
 use Rattle.game_record.specs.declared.record.Ending.TheVariants.{Ended, Stopped}
 use Rattle.game_record.specs.declared.record.Game.{Game}
 use Rattle.game_record.specs.declared.record.Record.{Record}
-use Rattle.game_record.specs.declared.record.RecordStakes.TheVariants.{Jacoby}
+use Rattle.cube_actions.specs.declared.name.MoneyRule.TheVariants.{Jacoby}
+use Rattle.game_record.specs.declared.record.RecordStakes.TheVariants.{Unlimited}
 use Rattle.game_record.specs.declared.record.What.{What}
 use Rattle.game_record.specs.declared.record.What.TheVariants.{Rolled, Doubled, Took, Passed, Beavered}
 use Rattle.game_record.specs.Games.{after_answer, game_after_double, game_after_play, is_over, may_double, opening}
@@ -40,7 +41,7 @@ Plays game player roll words (Rolled told written) next =
     (told ≡ roll) × (entry : Entry)
     × IsChosen game.position roll (word words) entry
     × IsPlayText (play_text game.position entry.play.items) written.items
-    × (next.game ≡ game_after_play Jacoby player entry.end game)
+    × (next.game ≡ game_after_play (Unlimited Jacoby) player entry.end game)
     × (next.words ≡ rest words)
 Plays game player roll words _ next = ⊥
 
@@ -51,7 +52,7 @@ Rolls game player words what next =
 
 -- he may double: the first play was made, and the cube is centred or his
 abbrev pub has_cube : Progress → Player → Bool
-has_cube game player = may_double Jacoby (first_standing Jacoby) player game
+has_cube game player = may_double (Unlimited Jacoby) (first_standing (Unlimited Jacoby)) player game
 
 -- where a player may double, he does by a word that is a multiple of 8
 abbrev pub Doubles : Moment → Player → Type 0
@@ -187,7 +188,7 @@ IsLast count end = (end.games ≡ count) ⊎ ((end.games ≤ count) × (is_full 
 -- the record of a number and a count of games
 pub record IsMade (number count : ℕ) (rec : Record) : Type 0 where
   pub checkers : rec.checkers ≡ 1
-  pub stakes : rec.stakes ≡ Jacoby
+  pub stakes : rec.stakes ≡ Unlimited Jacoby
   pub end : Sheet
   pub games : AllMade (first_sheet number) rec.games end
   pub last : IsLast count end

@@ -8,6 +8,7 @@ ghost use Rattle.record_maker.specs.Making.{IsMade};
 
 use crate::laws::made_records_break_no_rule;
 use crate::state::Maker;
+use cube_actions::MoneyRule;
 use game_record::{Games, Record, RecordStakes};
 use hyper_outside::NoMemory;
 use std::alloc::Global;
@@ -44,7 +45,7 @@ fn draw_record(alloc: Global, number: u64, games: u32) -> Result<Record, NoMemor
     }
     Ok(Record {
         checkers: 1,
-        stakes: RecordStakes::Jacoby,
+        stakes: RecordStakes::Unlimited(MoneyRule::Jacoby),
         games: made,
     })
 }

@@ -7,6 +7,7 @@ use crate::choice::choose;
 use crate::dice::{draw_roll, draw_start, draw_word};
 use crate::due::Due;
 use crate::state::Maker;
+use cube_actions::MoneyRule;
 use game_record::{Action, Answer, Player, RecordStakes, Standing, What};
 use roll_table::Roll;
 
@@ -23,9 +24,11 @@ impl Maker {
         let chooser = draw_word(&mut self.words);
         let chosen = choose(&self.game.position, roll, chooser);
         self.size = self.size.with_line(chosen.bytes + 6);
-        self.game = self
-            .game
-            .after_play(RecordStakes::Jacoby, player, &chosen.end);
+        self.game = self.game.after_play(
+            RecordStakes::Unlimited(MoneyRule::Jacoby),
+            player,
+            &chosen.end,
+        );
         Action {
             player,
             what: What::Rolled {
@@ -69,7 +72,7 @@ impl Maker {
     fn has_cube(&self, player: Player) -> bool
         ensures { result ≡ has_cube self.now.game player }
     {
-        let stakes = RecordStakes::Jacoby;
+        let stakes = RecordStakes::Unlimited(MoneyRule::Jacoby);
         self.game
             .may_double(stakes, Standing::first(stakes), player)
     }

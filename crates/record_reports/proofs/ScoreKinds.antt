@@ -5,13 +5,13 @@ use Rattle.std.proofs.lemmas.Bool.Decides.{nat_tests}
 use Rattle.std.proofs.lemmas.List.Sums.{prefix_len_passes}
 use Rattle.std.specs.List.{position_or_len, Contains}
 use Rattle.cube_actions.specs.declared.name.StakesName.{StakesName}
-use Rattle.cube_actions.specs.declared.name.StakesName.TheVariants.{Cubeless, Money, Jacoby, MoneyBeavers, JacobyBeavers, Match}
+use Rattle.cube_actions.specs.declared.name.StakesName.TheVariants.{Unlimited, Match}
 use Rattle.cube_actions.specs.declared.phase.Phase.{Phase}
 use Rattle.cube_actions.specs.declared.phase.Phase.TheVariants.{Normal, Crawford, Post}
 use Rattle.cube_actions.specs.Ladder.{ladder}
+use Rattle.cube_actions.specs.Matches.{stakes_named}
 use Rattle.cube_actions.specs.Scores.{MatchScore, same_phase, same_score}
 use Rattle.cube_actions.specs.Starts.{StartPairs, ladder_place}
-use Rattle.game_record.specs.RightDecisions.{terms_for}
 
 found-below : {X : Type 0} (test : X → X → Bool) → ((x : X) → test x x ≡ true) → (x : X) (xs : List X) → Contains xs x → position_or_len (test x) xs < length xs
 found-below test same x xs (k, low, e) = elim (cases_lt (position_or_len (test x) xs) (length xs)) [
@@ -34,10 +34,6 @@ pub listed : (points : ℕ) (score : MatchScore) → Contains (ladder points) sc
 listed n score h = found-below same_score same_score-refl score (ladder n) h
 
 -- the stakes of a name have it
-pub terms-named : (name : StakesName) (starts : StartPairs) → (terms_for name starts).name ≡ name
-terms-named Cubeless starts = refl
-terms-named Money starts = refl
-terms-named Jacoby starts = refl
-terms-named MoneyBeavers starts = refl
-terms-named JacobyBeavers starts = refl
+pub terms-named : (name : StakesName) (starts : StartPairs) → (stakes_named name starts).name ≡ name
+terms-named (Unlimited rule) starts = refl
 terms-named (Match score) starts = refl

@@ -2,13 +2,14 @@ ghost use Rattle.std.specs.Prelude.{◌≡◌, ◌≤◌, ◌++◌, ◌+◌, [],
 ghost use Rattle.std.specs.List.{flat_map};
 ghost use Rattle.std.specs.Option.{option_map_or};
 ghost use Rattle.cube_actions.specs.Ladder.{IsOfMatch};
+ghost use Rattle.cube_actions.specs.Matches.{stakes_named};
 ghost use Rattle.cube_actions.specs.Names.{names_of};
 ghost use Rattle.cube_actions.specs.Scores.{MatchScore};
 ghost use Rattle.cube_actions.specs.Starts.{Covers, StartPairs};
 ghost use Rattle.game_record.specs.Kinds.{stakes_at};
 ghost use Rattle.game_record.specs.Lines.{AreRecordStakes};
 ghost use Rattle.game_record.specs.declared.record.RecordStakes.TheVariants.{Match};
-ghost use Rattle.game_record.specs.RightDecisions.{IsRightDecision, IsScoreIn, terms_for};
+ghost use Rattle.game_record.specs.RightDecisions.{IsRightDecision, IsScoreIn};
 ghost use Rattle.outside_log.specs.Sink.{Puts};
 ghost use Rattle.play_analyser.specs.Bests.{CanBeMade};
 ghost use Rattle.record_analysis.specs.Analyses.{BestCanBeMade};
@@ -50,7 +51,7 @@ fn match_stakes(match_length: u8, score: Option<Score>) -> Stakes
     requires points { AreRecordStakes (Match match_length) }
     requires score { IsScoreIn (Match match_length) score }
     ensures { (starts : StartPairs)
-        × (result ≡ terms_for (stakes_at (Match match_length) score) starts) }
+        × (result ≡ stakes_named (stakes_at (Match match_length) score) starts) }
 {
     match score {
         Some(score) => Stakes::of_score(score, &some_starts(match_length)),
@@ -63,14 +64,10 @@ fn match_stakes(match_length: u8, score: Option<Score>) -> Stakes
 fn stakes_scored(stakes: RecordStakes, score: Option<Score>) -> Stakes
     requires points { AreRecordStakes stakes }
     requires score { IsScoreIn stakes score }
-    ensures { (starts : StartPairs) × (result ≡ terms_for (stakes_at stakes score) starts) }
+    ensures { (starts : StartPairs) × (result ≡ stakes_named (stakes_at stakes score) starts) }
 {
     match stakes {
-        RecordStakes::Cubeless => Stakes::cubeless(),
-        RecordStakes::Money => Stakes::money(),
-        RecordStakes::Jacoby => Stakes::jacoby(),
-        RecordStakes::MoneyBeavers => Stakes::money_beavers(),
-        RecordStakes::JacobyBeavers => Stakes::jacoby_beavers(),
+        RecordStakes::Unlimited(rule) => Stakes::unlimited(rule),
         RecordStakes::Match(match_length) => match_stakes(match_length, score),
     }
 }

@@ -5,17 +5,17 @@ use Rattle.std.proofs.lemmas.List.Elements.{All-map}
 use Rattle.std.specs.Prelude.{get_or}
 use Rattle.cube_actions.specs.Scores.{MatchScore}
 use Rattle.cube_actions.specs.Ladder.{IsOfMatch}
-use Rattle.cube_actions.specs.Matches.{terms_of}
+use Rattle.cube_actions.specs.Matches.{stakes_named, terms_of}
 use Rattle.cube_actions.specs.Stakes.{IsValid, Terms, point_units}
 use Rattle.cube_actions.specs.Starts.{StartPairs}
 use Rattle.game_record.specs.Kinds.{stakes_at}
 use Rattle.game_record.specs.Lines.{Follow, IsRecord, UpTo, record_lines}
-use Rattle.game_record.specs.RightDecisions.{IsRightDecision, IsScoreIn, terms_for}
+use Rattle.game_record.specs.RightDecisions.{IsRightDecision, IsScoreIn}
 use Rattle.game_record.specs.Turns.{first_stage, has_match}
 use Rattle.game_record.specs.declared.decision.Decision.{Decision}
 use Rattle.game_record.specs.declared.record.Record.{Record}
 use Rattle.game_record.specs.declared.record.RecordStakes.{RecordStakes}
-use Rattle.game_record.specs.declared.record.RecordStakes.TheVariants.{Cubeless, Money, Jacoby, MoneyBeavers, JacobyBeavers, Match}
+use Rattle.game_record.specs.declared.record.RecordStakes.TheVariants.{Unlimited, Match}
 use Rattle.game_record.specs.declared.stage.Stage.{Stage}
 use Rattle.hyper_outside.specs.declared.outside.LookStop.{LookStop}
 use Rattle.interval_words.specs.WordLists.{WordList, source_of}
@@ -36,20 +36,12 @@ checkers-of rec valid = go valid.end valid.follow where
   go : (end : Stage) → Follow first_stage (record_lines rec) end → UpTo 3 rec.checkers
   go end (a, comes_a, fits_a, (b, comes_b, checkers, more)) = checkers
 
-plain-stakes : (stakes : RecordStakes) → has_match stakes ≡ false → (score : Option MatchScore) (starts : StartPairs) → stakes_studied stakes ≡ terms_for (stakes_at stakes score) starts
-plain-stakes Cubeless plain score starts = refl
-plain-stakes Money plain score starts = refl
-plain-stakes Jacoby plain score starts = refl
-plain-stakes MoneyBeavers plain score starts = refl
-plain-stakes JacobyBeavers plain score starts = refl
+plain-stakes : (stakes : RecordStakes) → has_match stakes ≡ false → (score : Option MatchScore) (starts : StartPairs) → stakes_studied stakes ≡ stakes_named (stakes_at stakes score) starts
+plain-stakes (Unlimited rule) plain score starts = refl
 plain-stakes (Match length) plain score starts = absurd (false≢true (sym plain))
 
 plain-score : (stakes : RecordStakes) → has_match stakes ≡ false → (score : Option MatchScore) → IsScoreIn stakes score → score ≡ None
-plain-score Cubeless plain score is = is
-plain-score Money plain score is = is
-plain-score Jacoby plain score is = is
-plain-score MoneyBeavers plain score is = is
-plain-score JacobyBeavers plain score is = is
+plain-score (Unlimited rule) plain score is = is
 plain-score (Match length) plain score is = absurd (false≢true (sym plain))
 
 -- outside a match no decision has a score
@@ -60,7 +52,7 @@ plain-scores rec plain decisions right = λ i d below. plain-score rec.stakes pl
 abbrev pub Law : Type 0
 Law =
     (rec : Record) (starts : StartPairs) (decision : Decision) → IsRightDecision rec decision → (source : Source) (stakes : Terms) → source.checkers ≡ rec.checkers
-    → stakes ≡ terms_for (stakes_at rec.stakes decision.score) starts → IsValid stakes → AreStakesOf source stakes → CanBeJudged source stakes decision
+    → stakes ≡ stakes_named (stakes_at rec.stakes decision.score) starts → IsValid stakes → AreStakesOf source stakes → CanBeJudged source stakes decision
 
 module _ (law : Law) (rec : Record) (plain : has_match rec.stakes ≡ false) (starts : StartPairs) (decisions : List Decision) (right : All (IsRightDecision rec) decisions) (source : Source) (stakes : Terms) (checkers : source.checkers ≡ rec.checkers) (named : stakes ≡ stakes_studied rec.stakes) (valid : IsValid stakes) (fits : AreStakesOf source stakes) where
   pub can-be-judged : All (CanBeJudged source stakes) decisions
@@ -110,8 +102,8 @@ one-in-match law rec match_length in_match decision right =
       of_match = given.2;
       made = λ starts game.
           let source : Source = record { checkers = rec.checkers; kinds = kinds_of (game_at_score rec.checkers given.0 starts); bound = point_units 1; sure = true; floor = bound_words (terms_of given.0 starts); damage = λ _ _. None } in
-          let named : terms_of given.0 starts ≡ terms_for (stakes_at rec.stakes decision.score) starts =
-          sym (ap (λ (s : RecordStakes). terms_for (stakes_at s decision.score) starts) in_match ∙ ap (λ (o : Option MatchScore). terms_for (stakes_at (Match match_length) o) starts) given.1) in
+          let named : terms_of given.0 starts ≡ stakes_named (stakes_at rec.stakes decision.score) starts =
+          sym (ap (λ (s : RecordStakes). stakes_named (stakes_at s decision.score) starts) in_match ∙ ap (λ (o : Option MatchScore). stakes_named (stakes_at (Match match_length) o) starts) given.1) in
           let can = law rec starts decision right source (terms_of given.0 starts) refl named game.stakes (record { kinds = refl; bound = refl }) in
           record { state = can.state; choice = can.choice };
     }

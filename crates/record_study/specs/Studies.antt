@@ -1,11 +1,11 @@
 -- Studying a recorded game: the game that it is played for is solved, and by that its decisions are judged.
 use Rattle.std.specs.Prelude.{ℕ, List, All}
-use Rattle.cube_actions.specs.Money.{jacoby, jacoby_beavers, money, money_beavers}
-use Rattle.cube_actions.specs.Stakes.{Terms, cubeless}
+use Rattle.cube_actions.specs.Money.{cubeless, unlimited}
+use Rattle.cube_actions.specs.Stakes.{Terms}
 use Rattle.game_record.specs.declared.decision.Decision.{Decision}
 use Rattle.game_record.specs.declared.record.Record.{Record}
 use Rattle.game_record.specs.declared.record.RecordStakes.{RecordStakes}
-use Rattle.game_record.specs.declared.record.RecordStakes.TheVariants.{Cubeless, Money, Jacoby, MoneyBeavers, JacobyBeavers, Match}
+use Rattle.game_record.specs.declared.record.RecordStakes.TheVariants.{Unlimited, Match}
 use Rattle.turn_rule.specs.declared.game.Game.{Game}
 use Rattle.turn_rule.specs.Games.{game_of}
 use Rattle.turn_rule.specs.Truth.{AreSound}
@@ -16,11 +16,7 @@ use Rattle.record_analysis.specs.declared.analysis.Judged.{Judged}
 
 -- what a record outside a match is played for; a match has no stakes of its own
 abbrev pub stakes_studied : RecordStakes → Terms
-stakes_studied Cubeless = cubeless
-stakes_studied Money = money
-stakes_studied Jacoby = jacoby
-stakes_studied MoneyBeavers = money_beavers
-stakes_studied JacobyBeavers = jacoby_beavers
+stakes_studied (Unlimited rule) = unlimited rule
 stakes_studied (Match length) = cubeless
 
 -- the game that a record outside a match is played in

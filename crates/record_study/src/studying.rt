@@ -7,7 +7,7 @@ ghost use Rattle.record_analysis.specs.Analyses.{IsBestFor, analysis_of, losses_
 ghost use Rattle.record_analysis.specs.Judging.{CanBeJudged};
 ghost use Rattle.record_study.specs.Studies.{AreStudied, game_of_record, stakes_studied};
 
-use cube_actions::Stakes;
+use cube_actions::{MoneyRule, Stakes};
 use game_record::{Decisions, Record, RecordStakes};
 use hyper_outside::{Gate, NoMemory};
 use interval_words::Words;
@@ -25,11 +25,8 @@ pub fn stakes_of(stakes: RecordStakes) -> Stakes
     ensures { result ≡ stakes_studied stakes }
 {
     match stakes {
-        RecordStakes::Cubeless | RecordStakes::Match(_) => Stakes::cubeless(),
-        RecordStakes::Money => Stakes::money(),
-        RecordStakes::Jacoby => Stakes::jacoby(),
-        RecordStakes::MoneyBeavers => Stakes::money_beavers(),
-        RecordStakes::JacobyBeavers => Stakes::jacoby_beavers(),
+        RecordStakes::Unlimited(rule) => Stakes::unlimited(rule),
+        RecordStakes::Match(_) => Stakes::unlimited(MoneyRule::Cubeless),
     }
 }
 

@@ -1,10 +1,13 @@
--- Texts of plays and rolls have bytes below 128 alone.
+-- Texts of plays, rolls and rules have bytes below 128 alone.
 use Rattle.std.proofs.Common.{◌≡◌, ℕ, ◌+◌, ◌<◌, ◌≤◌, Bool, true, false, ltb, List, [], ◌∷◌, ◌++◌, map, codes, zero, suc, inl, inr, refl, sym, subst, arith}
 use Rattle.std.proofs.lemmas.Bool.{cases_lt, ltb-true, lt-ltb}
 use Rattle.std.proofs.lemmas.Str.Ascii.{IsAscii-from_all}
 use Rattle.std.specs.Fmt.{digits}
 use Rattle.std.specs.Str.{IsAscii}
 use Rattle.std.specs.List.{All, list_all, range_with_len, join_with_byte}
+use Rattle.cube_actions.specs.declared.name.MoneyRule.{MoneyRule}
+use Rattle.cube_actions.specs.declared.name.MoneyRule.TheVariants.{Cubeless}
+use Rattle.cube_text.specs.Texts.{rule_text}
 use Rattle.roll_table.specs.Rolls.{Dice, IsRoll}
 use Rattle.roll_table.specs.Text.{roll_text}
 use Rattle.position_text.specs.Text.{place_text}
@@ -26,6 +29,13 @@ all-ascii (x ∷ xs) h (suc k) d low = all-ascii xs (both-true (ltb x 128) (asci
 
 pub is-ascii : (xs : List ℕ) → ascii xs ≡ true → IsAscii xs
 is-ascii xs h = IsAscii-from_all xs (all-ascii xs h)
+
+ascii-bytes : (rule : MoneyRule) → ascii (rule_text rule) ≡ true
+ascii-bytes Cubeless = refl
+ascii-bytes _ = refl
+
+pub ascii-rule : (rule : MoneyRule) → IsAscii (rule_text rule)
+ascii-rule rule = is-ascii (rule_text rule) (ascii-bytes rule)
 
 all-places : list_all (λ p. ascii (place_text p)) (range_with_len 0 26) ≡ true
 unfolding digits

@@ -2,13 +2,15 @@
 use Rattle.std.proofs.Common.{◌≡◌, ℕ, ◌+◌, ◌<◌, ◌^◌, true, false, cond, eqb, nat_le, List, [], ◌∷◌, ◌++◌, length, codes, decimal, Option, Some, None, refl, ◌∙◌, ap, subst, append_assoc, arith}
 use Rattle.std.proofs.lemmas.Bool.{le-leb, ne_eqb}
 use Rattle.std.proofs.lemmas.List.{append-nil}
+use Rattle.cube_text.specs.Texts.{rule_text}
 use Rattle.roll_table.specs.Rolls.{Dice, IsRoll}
 use Rattle.roll_table.specs.Text.{roll_text}
 use Rattle.position_text.proofs.PlaceTexts.{lacks, lacks-append}
+use Rattle.cube_actions.specs.declared.name.MoneyRule.TheVariants.{Cubeless}
 use Rattle.game_record.specs.declared.player.Player.{Player}
 use Rattle.game_record.specs.declared.player.Player.TheVariants.{A, B}
 use Rattle.game_record.specs.declared.record.RecordStakes.{RecordStakes}
-use Rattle.game_record.specs.declared.record.RecordStakes.TheVariants.{Cubeless, Money, Jacoby, MoneyBeavers, JacobyBeavers, Match}
+use Rattle.game_record.specs.declared.record.RecordStakes.TheVariants.{Unlimited, Match}
 use Rattle.game_record.specs.declared.record.What.{What}
 use Rattle.game_record.specs.declared.record.What.TheVariants.{Rolled, Doubled, Took, Passed, Beavered}
 use Rattle.game_record.specs.declared.line.Line.{Line}
@@ -22,7 +24,7 @@ use Rattle.record_text.proofs.LineWords.{cut-none, cut-some, other-word, lacks-d
 
 abbrev pub form_of_stakes : RecordStakes → LineForm
 form_of_stakes (Match length) = MatchForm (decimal length)
-form_of_stakes stakes = StakesForm (stakes_word stakes)
+form_of_stakes (Unlimited rule) = StakesForm (rule_text rule)
 
 abbrev pub form_of_game : ℕ → Option (ℕ × ℕ) → LineForm
 form_of_game number None = GameForm (decimal number)
@@ -51,11 +53,8 @@ small : (most n : ℕ) → most < 100 → UpTo most n → n < 2 ^ 64
 small most n low h = omega (arith, h.1, low)
 
 stakes-read : (stakes : RecordStakes) → (is_small : (length : ℕ) → stakes ≡ Match length → length < 2 ^ 64) → form_of (codes "stakes " ++ stakes_word stakes) ≡ Some (form_of_stakes stakes)
-stakes-read Cubeless h = refl
-stakes-read Money h = refl
-stakes-read Jacoby h = refl
-stakes-read MoneyBeavers h = refl
-stakes-read JacobyBeavers h = refl
+stakes-read (Unlimited Cubeless) h = refl
+stakes-read (Unlimited _) h = refl
 stakes-read (Match length) h = ap (λ b. cond b (Some (MatchForm (decimal length))) None) (word-decimal length (h length refl))
 
 game-read : (number : ℕ) → number < 2 ^ 64 → form_of (codes "game " ++ decimal number) ≡ Some (GameForm (decimal number))
@@ -141,11 +140,8 @@ number-no-end : (n : ℕ) → n < 2 ^ 64 → lacks 10 (decimal n) ≡ true
 number-no-end n h = lacks-decimal 10 n (omega arith) h
 
 stakes-no-end : (stakes : RecordStakes) → AreRecordStakes stakes → lacks 10 (stakes_word stakes) ≡ true
-stakes-no-end Cubeless h = refl
-stakes-no-end Money h = refl
-stakes-no-end Jacoby h = refl
-stakes-no-end MoneyBeavers h = refl
-stakes-no-end JacobyBeavers h = refl
+stakes-no-end (Unlimited Cubeless) h = refl
+stakes-no-end (Unlimited _) h = refl
 stakes-no-end (Match length) h = number-no-end length (small 5 length (omega arith) h)
 
 deed-no-end : (what : What) → lacks 10 (deed_text what) ≡ true

@@ -8,10 +8,11 @@ use Rattle.roll_table.specs.Rolls.{Dice}
 use Rattle.roll_table.specs.Text.{roll_text}
 use Rattle.move_rules.specs.declared.written.Step.{Step}
 use Rattle.play_text.specs.Notation.{IsPlayText}
+use Rattle.cube_actions.specs.declared.name.MoneyRule.TheVariants.{Cubeless, Money, Jacoby, MoneyBeavers, JacobyBeavers}
 use Rattle.game_record.specs.declared.player.Player.{Player}
 use Rattle.game_record.specs.declared.player.Player.TheVariants.{A}
 use Rattle.game_record.specs.declared.record.RecordStakes.{RecordStakes}
-use Rattle.game_record.specs.declared.record.RecordStakes.TheVariants.{Cubeless, Money, Jacoby, MoneyBeavers, JacobyBeavers, Match}
+use Rattle.game_record.specs.declared.record.RecordStakes.TheVariants.{Unlimited, Match}
 use Rattle.game_record.specs.declared.record.What.{What}
 use Rattle.game_record.specs.declared.record.What.TheVariants.{Rolled, Doubled, Took, Passed, Beavered}
 use Rattle.game_record.specs.declared.fault.RecordFault.{RecordFault}
@@ -30,11 +31,7 @@ use Rattle.record_text.proofs.LineForms.{form_of_line, form_of_stakes, form_of_g
 -- ---- a right line has no fault
 
 stakes-right : (stage : Stage) (stakes : RecordStakes) (fault : RecordFault) → AreRecordStakes stakes → IsWrong stage (form_of_stakes stakes) fault → ⊥
-stakes-right stage Cubeless fault h wrong = wrong.1 Cubeless refl refl
-stakes-right stage Money fault h wrong = wrong.1 Money refl refl
-stakes-right stage Jacoby fault h wrong = wrong.1 Jacoby refl refl
-stakes-right stage MoneyBeavers fault h wrong = wrong.1 MoneyBeavers refl refl
-stakes-right stage JacobyBeavers fault h wrong = wrong.1 JacobyBeavers refl refl
+stakes-right stage (Unlimited rule) fault h wrong = wrong.1 rule refl
 stakes-right stage (Match length) fault h wrong = wrong.1 length h refl
 
 line-right : (stage : Stage) (line : Line) (fault : RecordFault) → FitsStage stage line → IsWrong stage (form_of_line line) fault → ⊥
@@ -61,11 +58,7 @@ line-right stage Stopped fault h wrong = wrong
 line-right stage Closed fault h wrong = wrong
 
 stakes-kind : (stakes : RecordStakes) → kind_of_form (form_of_stakes stakes) ≡ kind_of (Stakes stakes)
-stakes-kind Cubeless = refl
-stakes-kind Money = refl
-stakes-kind Jacoby = refl
-stakes-kind MoneyBeavers = refl
-stakes-kind JacobyBeavers = refl
+stakes-kind (Unlimited rule) = refl
 stakes-kind (Match length) = refl
 
 deed-kind : (player : Player) (what : What) → kind_of_form (form_of_deed player what) ≡ kind_of_deed player what
@@ -148,12 +141,12 @@ play_in form = []
 abbrev stakes_in : LineForm → RecordStakes
 stakes_in (MatchForm length) = Match (digits_value 10 length)
 stakes_in (StakesForm stakes) =
-    if same_text stakes (codes "cubeless") then Cubeless
+    Unlimited (if same_text stakes (codes "cubeless") then Cubeless
     else if same_text stakes (codes "money") then Money
     else if same_text stakes (codes "jacoby") then Jacoby
     else if same_text stakes (codes "money-beavers") then MoneyBeavers
-    else JacobyBeavers
-stakes_in form = Cubeless
+    else JacobyBeavers)
+stakes_in form = Unlimited Cubeless
 
 abbrev line_tag : Line → ℕ
 line_tag Title = 0
@@ -184,11 +177,7 @@ tag-is Title = refl
 tag-is (Checkers checkers) = refl
 tag-is (Stakes stakes) = stakes-tag stakes where
   stakes-tag : (stakes : RecordStakes) → tag (form_of_stakes stakes) ≡ 2
-  stakes-tag Cubeless = refl
-  stakes-tag Money = refl
-  stakes-tag Jacoby = refl
-  stakes-tag MoneyBeavers = refl
-  stakes-tag JacobyBeavers = refl
+  stakes-tag (Unlimited rule) = refl
   stakes-tag (Match length) = refl
 tag-is (GameLine number None) = refl
 tag-is (GameLine number (Some needs)) = refl
@@ -204,11 +193,8 @@ tag-is Stopped = refl
 tag-is Closed = refl
 
 stakes-back : (stakes : RecordStakes) → AreRecordStakes stakes → stakes_in (form_of_stakes stakes) ≡ stakes
-stakes-back Cubeless h = refl
-stakes-back Money h = refl
-stakes-back Jacoby h = refl
-stakes-back MoneyBeavers h = refl
-stakes-back JacobyBeavers h = refl
+stakes-back (Unlimited Cubeless) h = refl
+stakes-back (Unlimited _) h = refl
 stakes-back (Match length) h = ap Match (up-back 5 length (omega arith) h)
 
 player-back : (player : Player) (what : What) → player_in (form_of_deed player what) ≡ player

@@ -1,10 +1,10 @@
 -- What is wrong with a line of a record, and with a record.
 use Rattle.std.specs.Prelude.{◌≡◌, ◌≢◌, ℕ, ◌+◌, ◌⊎◌, false, List, [], ◌++◌, length, decimal, Some, None, MatchOption}
+use Rattle.cube_text.specs.Texts.{IsNoRule}
 use Rattle.roll_table.specs.Rolls.{Dice, IsRoll}
 use Rattle.roll_table.specs.Text.{roll_text}
 use Rattle.play_text.specs.Notation.{IsPlayText}
 use Rattle.move_rules.specs.declared.written.Step.{Step}
-use Rattle.game_record.specs.declared.record.RecordStakes.{RecordStakes}
 use Rattle.game_record.specs.declared.fault.RecordFault.{RecordFault}
 use Rattle.game_record.specs.declared.fault.RecordFault.TheVariants.{Shape, Order, Rules, Number, Play, TooLong, Unended}
 use Rattle.game_record.specs.declared.fault.BadRecord.{BadRecord}
@@ -12,18 +12,14 @@ use Rattle.game_record.specs.declared.line.Line.{Line}
 use Rattle.game_record.specs.declared.stage.Next.{Next}
 use Rattle.game_record.specs.declared.stage.Next.TheVariants.{Nothing}
 use Rattle.game_record.specs.declared.stage.Stage.{Stage}
-use Rattle.game_record.specs.Turns.{allowed, kind_of, has_match, first_stage}
+use Rattle.game_record.specs.Turns.{allowed, kind_of, first_stage}
 use Rattle.game_record.specs.Lines.{UpTo, MayCome, FitsStage, Follow}
-use Rattle.record_text.specs.Texts.{line_text, stakes_word, lines_text, is_too_long}
+use Rattle.record_text.specs.Texts.{line_text, lines_text, is_too_long}
 use Rattle.record_text.specs.Forms.{LineForm, form_text, TitleForm, CheckersForm, StakesForm, MatchForm, GameForm, AwayForm, RollForm, DoubleForm, TakeForm, PassForm, BeaverForm, EndForm, StopForm, CloseForm, form_of, kind_of_form, cut_at}
 
 -- the word is no number from 1 to this one
 abbrev pub IsNoNumber : ℕ → List ℕ → Type 0
 IsNoNumber most word = (n : ℕ) → UpTo most n → word ≡ decimal n → ⊥
-
--- the word names no stakes but perhaps a match
-abbrev pub IsNoStakes : List ℕ → Type 0
-IsNoStakes word = (stakes : RecordStakes) → has_match stakes ≡ false → word ≡ stakes_word stakes → ⊥
 
 -- the word is that of a roll which may come
 abbrev pub IsRollText : Next → List ℕ → Dice → Type 0
@@ -44,7 +40,7 @@ Says stage form line =
 abbrev pub IsWrong : Stage → LineForm → RecordFault → Type 0
 IsWrong stage TitleForm fault = ⊥
 IsWrong stage (CheckersForm checkers) fault = (fault ≡ Rules) × IsNoNumber 3 checkers
-IsWrong stage (StakesForm stakes) fault = (fault ≡ Rules) × IsNoStakes stakes
+IsWrong stage (StakesForm rule) fault = (fault ≡ Rules) × IsNoRule rule
 IsWrong stage (MatchForm length) fault = (fault ≡ Rules) × IsNoNumber 5 length
 IsWrong stage (GameForm number) fault = (fault ≡ Number) × (number ≢ decimal (stage.games + 1))
 IsWrong stage (AwayForm number a b) fault =

@@ -1,11 +1,12 @@
 -- The text of a record, line by line.
 use Rattle.std.specs.Prelude.{◌≡◌, ℕ, nat_lt, ◌==◌, Bool, false, ◌||◌, List, [], ◌∷◌, ◌++◌, length, map, codes, decimal, count_by, Option, Some, None}
 use Rattle.std.specs.List.{flat_map}
+use Rattle.cube_text.specs.Texts.{rule_text}
 use Rattle.roll_table.specs.Text.{roll_text}
 use Rattle.play_text.specs.Notation.{step_text, play_of_words}
 use Rattle.move_rules.specs.declared.written.Step.{Step}
 use Rattle.game_record.specs.declared.record.RecordStakes.{RecordStakes}
-use Rattle.game_record.specs.declared.record.RecordStakes.TheVariants.{Cubeless, Money, Jacoby, MoneyBeavers, JacobyBeavers, Match}
+use Rattle.game_record.specs.declared.record.RecordStakes.TheVariants.{Unlimited, Match}
 use Rattle.game_record.specs.declared.record.What.{What}
 use Rattle.game_record.specs.declared.record.What.TheVariants.{Rolled, Doubled, Took, Passed, Beavered}
 use Rattle.game_record.specs.declared.record.Record.{Record}
@@ -15,11 +16,7 @@ use Rattle.game_record.specs.Lines.{record_lines, IsRecord}
 use Rattle.game_record.specs.Turns.{player_text}
 
 abbrev pub stakes_word : RecordStakes → List ℕ
-stakes_word Cubeless = codes "cubeless"
-stakes_word Money = codes "money"
-stakes_word Jacoby = codes "jacoby"
-stakes_word MoneyBeavers = codes "money-beavers"
-stakes_word JacobyBeavers = codes "jacoby-beavers"
+stakes_word (Unlimited rule) = rule_text rule
 stakes_word (Match length) = codes "match " ++ decimal length
 
 -- the points that A and B still need

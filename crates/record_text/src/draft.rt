@@ -1,6 +1,7 @@
 ghost use Rattle.std.specs.Prelude.{◌≡◌, ◌++◌, [], ◌∷◌, OnOk};
 ghost use Rattle.record_text.specs.Drafts.{added, ended_game, record_of};
 
+use cube_actions::MoneyRule;
 use game_record::{Actions, Ending, Game, Games, Line, Record, RecordStakes};
 use hyper_outside::NoMemory;
 use std::alloc::Global;
@@ -25,7 +26,7 @@ impl Draft {
     {
         Draft {
             checkers: 1,
-            stakes: RecordStakes::Cubeless,
+            stakes: RecordStakes::Unlimited(MoneyRule::Cubeless),
             games: Games::new(alloc),
             away: None,
             actions: Actions::new(alloc),

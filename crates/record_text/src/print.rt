@@ -5,6 +5,7 @@ ghost use Rattle.game_record.specs.declared.line.Line.TheVariants.{Checkers, Sta
 ghost use Rattle.game_record.specs.Lines.{ending_line, game_lines, games_lines};
 ghost use Rattle.record_text.specs.Texts.{stakes_word, away_text, steps_text, spaced_step, deed_text, line_text, lines_text, record_text};
 
+use cube_text::print_rule;
 use game_record::{Action, Ending, Game, Record, RecordStakes, What};
 use hyper_outside::NoMemory;
 use itoa::Buffer;
@@ -63,11 +64,7 @@ fn add_stakes_name(text: &mut Vec<u8>, stakes: RecordStakes) -> Result<(), NoMem
     ensures { OnOk result (text.new.items ≡ text.old.items ++ stakes_word stakes) }
 {
     match stakes {
-        RecordStakes::Cubeless => add(text, "cubeless"),
-        RecordStakes::Money => add(text, "money"),
-        RecordStakes::Jacoby => add(text, "jacoby"),
-        RecordStakes::MoneyBeavers => add(text, "money-beavers"),
-        RecordStakes::JacobyBeavers => add(text, "jacoby-beavers"),
+        RecordStakes::Unlimited(rule) => add(text, print_rule(rule)),
         RecordStakes::Match(length) => {
             add(text, "match ")?;
             add_number(text, u64::from(length))

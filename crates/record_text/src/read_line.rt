@@ -1,13 +1,14 @@
 ghost use Rattle.std.specs.Prelude.{◌≡◌, ◌≢◌, ◌≤◌, ◌<◌, ◌+◌, ◌↔◌, ◌⊎◌, IsTrue, decimal, IfOk, IfErr, MatchOption, Some};
+ghost use Rattle.cube_text.specs.Texts.{IsNoRule};
 ghost use Rattle.game_record.specs.Turns.{allowed, kind_of};
 ghost use Rattle.game_record.specs.Lines.{MayCome, FitsStage};
 ghost use Rattle.record_text.specs.Texts.{line_text};
 ghost use Rattle.record_text.specs.FormWords.{form};
 ghost use Rattle.record_text.specs.Forms.{CheckersForm, StakesForm, MatchForm, GameForm, AwayForm, RollForm, EndForm, form_of, kind_of_form};
-ghost use Rattle.record_text.specs.Faults.{IsNoNumber, IsNoStakes, Says, IsWrong, IsLineFault};
+ghost use Rattle.record_text.specs.Faults.{IsNoNumber, Says, IsWrong, IsLineFault};
 
 use crate::form::{Form, form_of};
-use crate::words::{is_number, number_up_to, play_of, roll_of, stakes_named};
+use crate::words::{is_number, number_up_to, play_of, roll_of, rule_of};
 use game_record::{Action, Line, Next, Player, RecordFault, RecordStakes, Stage, What};
 use roll_table::Roll;
 
@@ -73,12 +74,12 @@ fn checkers_line(word: &[u8]) -> Result<Line, RecordFault>
 
 fn stakes_line(word: &[u8]) -> Result<Line, RecordFault>
     ensures ok { IfOk result (λ line. (stage : Stage) → Says stage (StakesForm word.now) line) }
-    ensures err { IfErr result (λ fault. (fault ≡ RecordFault.Rules) × IsNoStakes word.now) }
+    ensures err { IfErr result (λ fault. (fault ≡ RecordFault.Rules) × IsNoRule word.now) }
 {
-    let Some(stakes) = stakes_named(word) else {
+    let Some(rule) = rule_of(word) else {
         return Err(RecordFault::Rules);
     };
-    Ok(Line::Stakes(stakes))
+    Ok(Line::Stakes(RecordStakes::Unlimited(rule)))
 }
 
 fn match_line(word: &[u8]) -> Result<Line, RecordFault>

@@ -1,15 +1,15 @@
-ghost use Rattle.std.specs.Prelude.{◌≡◌, ◌≤◌, ℕ, ◌+◌, ◌↔◌, IsTrue, false, List, decimal, MatchOption, IfOk, IsErr};
+ghost use Rattle.std.specs.Prelude.{◌≡◌, ◌≤◌, ℕ, ◌+◌, ◌↔◌, IsTrue, List, decimal, MatchOption, IfOk, IsErr};
 ghost use Rattle.std.specs.Str.{IsAscii};
 ghost use Rattle.roll_table.specs.Rolls.{Dice, IsRoll};
 ghost use Rattle.roll_table.specs.Text.{roll_text};
 ghost use Rattle.play_text.specs.Notation.{IsPlayText};
-ghost use Rattle.game_record.specs.Turns.{has_match};
+ghost use Rattle.cube_text.specs.Texts.{IsNoRule, rule_text};
 ghost use Rattle.game_record.specs.Lines.{UpTo};
-ghost use Rattle.record_text.specs.Texts.{stakes_word};
 ghost use Rattle.record_text.specs.Forms.{same_text};
-ghost use Rattle.record_text.specs.Faults.{IsNoNumber, IsNoStakes, IsNoPlay};
+ghost use Rattle.record_text.specs.Faults.{IsNoNumber, IsNoPlay};
 
-use game_record::RecordStakes;
+use cube_actions::MoneyRule;
+use cube_text::read_rule;
 use itoa::Buffer;
 use move_rules::Written;
 use play_text::read_play;
@@ -35,25 +35,13 @@ pub(crate) fn is_number(word: &[u8], number: u32) -> bool
     word == Buffer::new().format(number).as_bytes()
 }
 
-/// Stakes that are no match.
-pub(crate) fn stakes_named(word: &[u8]) -> Option<RecordStakes>
-    ensures { MatchOption result
-        (IsNoStakes word.now)
-        (λ stakes. (has_match stakes ≡ false) × (word.now ≡ stakes_word stakes)) }
+pub(crate) fn rule_of(word: &[u8]) -> Option<MoneyRule>
+    ensures { MatchOption result (IsNoRule word.now) (λ rule. word.now ≡ rule_text rule) }
 {
-    if is(word, "cubeless") {
-        Some(RecordStakes::Cubeless)
-    } else if is(word, "money") {
-        Some(RecordStakes::Money)
-    } else if is(word, "jacoby") {
-        Some(RecordStakes::Jacoby)
-    } else if is(word, "money-beavers") {
-        Some(RecordStakes::MoneyBeavers)
-    } else if is(word, "jacoby-beavers") {
-        Some(RecordStakes::JacobyBeavers)
-    } else {
-        None
-    }
+    let Some(text) = ascii(word) else {
+        return None;
+    };
+    read_rule(text)
 }
 
 pub(crate) fn roll_of(word: &[u8]) -> Option<Roll>

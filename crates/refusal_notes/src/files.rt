@@ -2,7 +2,7 @@ use crate::call::Call;
 use crate::sentence::{Part, Text, say};
 use base_head::{BadFile, FileFault};
 use command_line::CommandName;
-use cube_actions::{KindName, StakesName};
+use cube_actions::{KindName, MoneyRule, StakesName};
 use equity_report::{GameName, Unheld, Wanted};
 
 /// Adds the name of the file of bounds that a command reads, or how those of its files begin.
@@ -105,9 +105,11 @@ fn add_checkers(text: &mut Text, call: &Call<'_>, wanted: u8, found: u8) {
 fn add_kind(text: &mut Text, call: &Call<'_>, kind: KindName, stakes: StakesName) {
     add_base(text, call);
     let kinds = match stakes {
-        StakesName::Cubeless => "alone",
+        StakesName::Unlimited(rule) => match rule {
+            MoneyRule::Cubeless => "alone",
+            _ => "centred, mine or theirs",
+        },
         StakesName::Match(_) => "a kind that show prints of it, as near:1:centred",
-        _ => "centred, mine or theirs",
     };
     say(
         text,

@@ -4,9 +4,10 @@ use Rattle.std.specs.Option.{option_map}
 use Rattle.std.proofs.lemmas.Bool.{false≢true}
 use Rattle.arrayvec.specs.ArrayString.{ArrayString}
 use Rattle.cube_actions.specs.declared.name.StakesName.{StakesName}
-use Rattle.cube_actions.specs.declared.name.StakesName.TheVariants.{Cubeless, Money, Jacoby, MoneyBeavers, JacobyBeavers, Match}
+use Rattle.cube_actions.specs.declared.name.StakesName.TheVariants.{Unlimited, Match}
 use Rattle.cube_actions.specs.Starts.{StartPairs}
-use Rattle.base_head.specs.Heads.{TakesStakes, stakes_named}
+use Rattle.cube_actions.specs.Matches.{stakes_named}
+use Rattle.base_head.specs.Heads.{TakesStakes}
 use Rattle.word_pages.specs.declared.version.Version.{Version}
 use Rattle.word_pages.specs.declared.version.Version.TheVariants.{One, Two, Three}
 use Rattle.database_file.specs.declared.stop.LoadStop.{LoadStop}
@@ -62,11 +63,7 @@ not-opened name (Some bytes) stops.NoMemory refusal a t = opens name (Some bytes
 
 -- stakes have the name that they are named by
 pub name-of-stakes : (name : StakesName) (starts : StartPairs) → (stakes_named name starts).name ≡ name
-name-of-stakes Cubeless starts = refl
-name-of-stakes Money starts = refl
-name-of-stakes Jacoby starts = refl
-name-of-stakes MoneyBeavers starts = refl
-name-of-stakes JacobyBeavers starts = refl
+name-of-stakes (Unlimited rule) starts = refl
 name-of-stakes (Match score) starts = refl
 
 -- version 3 isn't version 1, and so takes all stakes

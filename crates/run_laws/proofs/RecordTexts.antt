@@ -13,6 +13,9 @@ use Rattle.roll_table.specs.Rolls.{Dice}
 use Rattle.roll_table.specs.Text.{roll_text}
 use Rattle.play_text.specs.Notation.{mark, step_text}
 use Rattle.move_rules.specs.declared.written.Step.{Step}
+use Rattle.cube_actions.specs.declared.name.MoneyRule.{MoneyRule}
+use Rattle.cube_actions.specs.declared.name.MoneyRule.TheVariants.{Cubeless}
+use Rattle.cube_text.specs.Texts.{rule_text}
 use Rattle.game_record.specs.Lines.{AreRecordStakes, FitsStage, Follow, IsRecord, UpTo, record_lines}
 use Rattle.game_record.specs.Turns.{first_stage, player_text, stage_after}
 use Rattle.record_text.specs.Texts.{IsRecordText, deed_text, is_line_end, is_too_long, line_text, stakes_word, steps_text}
@@ -24,7 +27,7 @@ use Rattle.game_record.specs.declared.player.Player.{Player}
 use Rattle.game_record.specs.declared.player.Player.TheVariants.{A, B}
 use Rattle.game_record.specs.declared.record.Record.{Record as RecordRead}
 use Rattle.game_record.specs.declared.record.RecordStakes.{RecordStakes}
-use Rattle.game_record.specs.declared.record.RecordStakes.TheVariants.{Cubeless, Money, Jacoby, MoneyBeavers, JacobyBeavers, Match}
+use Rattle.game_record.specs.declared.record.RecordStakes.TheVariants.{Unlimited, Match}
 use Rattle.game_record.specs.declared.record.What.{What}
 use Rattle.game_record.specs.declared.record.What.TheVariants.{Rolled, Doubled, Took, Passed, Beavered}
 use Rattle.game_record.specs.declared.stage.Next.{Next}
@@ -153,12 +156,12 @@ by-words line first later plain words = record { first = first; later = later; p
 small : (most n : ℕ) → most < 100 → UpTo most n → n < 2 ^ 64
 small most n low h = omega (arith, h.1, low)
 
+rule-word : (rule : MoneyRule) → is_plain_word (rule_text rule) ≡ true
+rule-word Cubeless = refl
+rule-word _ = refl
+
 stakes-line : (stakes : RecordStakes) → AreRecordStakes stakes → IsPlainLine (codes "stakes " ++ stakes_word stakes)
-stakes-line Cubeless h = by-words _ (codes "stakes") (codes "cubeless" ∷ []) refl refl
-stakes-line Money h = by-words _ (codes "stakes") (codes "money" ∷ []) refl refl
-stakes-line Jacoby h = by-words _ (codes "stakes") (codes "jacoby" ∷ []) refl refl
-stakes-line MoneyBeavers h = by-words _ (codes "stakes") (codes "money-beavers" ∷ []) refl refl
-stakes-line JacobyBeavers h = by-words _ (codes "stakes") (codes "jacoby-beavers" ∷ []) refl refl
+stakes-line (Unlimited rule) h = by-words _ (codes "stakes") (rule_text rule ∷ []) (rw (rule-word rule) refl) refl
 stakes-line (Match points) h = by-words _ (codes "stakes") (codes "match" ∷ decimal points ∷ []) (rw (number-word points (small 5 points (omega arith) h)) refl) refl
 
 player-word : (player : Player) → is_plain_word (player_text player) ≡ true

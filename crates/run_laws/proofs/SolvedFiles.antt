@@ -1,5 +1,5 @@
 -- What was solved or made is right for each command that asks for what it has.
-use Rattle.std.proofs.Common.{◌≡◌, ◌∙◌, ◌<◌, ◌≤◌, ◌≢◌, ℕ, Bool, false, List, All, Contains, Option, Some, None, IfSome, sum, refl, sym, ap, subst, rules}
+use Rattle.std.proofs.Common.{◌≡◌, ◌∙◌, ◌<◌, ◌≤◌, ℕ, Bool, false, List, All, Contains, Option, Some, None, IfSome, sum, sym, ap, subst}
 use Rattle.std.specs.Prelude.{◌↔◌, ⊤}
 use Rattle.std.proofs.lemmas.List.{get_or_default}
 use Rattle.std.proofs.lemmas.Option.{slice_get_within}
@@ -21,9 +21,7 @@ use Rattle.game_record.specs.declared.decision.Decision.{Decision}
 use Rattle.game_record.specs.declared.record.Record.{Record as RecordRead}
 use Rattle.game_record.specs.declared.record.RecordStakes.TheVariants.{Match as OfMatch}
 use Rattle.equity_report.specs.declared.text.GameName.{GameName}
-use Rattle.cube_actions.specs.Stakes.{IsValid}
-use Rattle.cube_actions.specs.declared.name.StakesName.{StakesName}
-use Rattle.cube_actions.specs.declared.name.StakesName.TheVariants.{Cubeless, Money, Jacoby, MoneyBeavers, JacobyBeavers, Match}
+use Rattle.cube_actions.specs.declared.name.StakesName.TheVariants.{Match}
 use Rattle.move_rules.specs.Ends.{legal_ends}
 use Rattle.move_rules.proofs.EndsExact.{legal_ends-complete}
 use Rattle.move_rules.proofs.Members.{Contains-Among}
@@ -37,7 +35,8 @@ use Rattle.interval_words.specs.WordLists.{WordList, words_in_list}
 use Rattle.word_pages.specs.declared.version.Version.TheVariants.{One, Three}
 use Rattle.turn_rule.specs.Looks.{MayFollowRoll}
 use Rattle.base_head.specs.Fronts.{head_in}
-use Rattle.base_head.specs.Heads.{FileHead, no_starts, stakes_named}
+use Rattle.cube_actions.proofs.Unlimited.{unlimited-stakes}
+use Rattle.base_head.specs.Heads.{FileHead}
 use Rattle.database_file.specs.Faults.{header_of_file}
 use Rattle.database_file.specs.Texts.{IsText, game_in}
 use Rattle.database_file.proofs.Bases.{kinds-named}
@@ -140,21 +139,12 @@ module _ (law : Law) (head : FileHead) (words : WordList) (bytes : List ℕ) (te
 
 -- ---- what was written
 
--- the stakes of a game outside a match are right
-plain-stakes : (name : StakesName) → ((score : MatchScore) → name ≢ Match score) → IsValid (stakes_named name no_starts)
-plain-stakes Cubeless apart = search rules
-plain-stakes Money apart = search rules
-plain-stakes Jacoby apart = search rules
-plain-stakes MoneyBeavers apart = search rules
-plain-stakes JacobyBeavers apart = search rules
-plain-stakes (Match score) apart = absurd (apart score refl)
-
 pub right-solved : Law → (solve : SolveTask) (before after : List Event) (put_before put_after : Output) → IsRightSolve solve → (solved : HasSolved solve before after put_before put_after)
     → (command : Command) (held : Contents) → IsRightCommand command → AsksOf (head_of solve solved.words.rounds) held command → held (file_read command) ≡ standing after solve.file → IsRightFor command held
 right-solved law solve before after put_before put_after right solved command held fit asks is =
     let words = solved.words in
     let bytes = solved_file solve words in
-    let game : IsGame (game_in (head_of solve words.rounds)) = record { low = right.some; high = right.few; stakes = plain-stakes solve.stakes right.no_match } in
+    let game : IsGame (game_in (head_of solve words.rounds)) = record { low = right.some; high = right.few; stakes = (unlimited-stakes solve.rule).valid } in
     right-for law (head_of solve words.rounds) words bytes (solved-text solve words right solved.solved) game solved.solved.consistent command fit held asks
     (is ∙ stands solve.file bytes before after solved.file)
 
@@ -195,7 +185,7 @@ right-analysis law judges held_right solve analyse held before after put_before 
 
   can : CanJudgeAll (game_recorded replayed.rec) replayed.decisions bytes
   can =
-      let game : IsGame (game_in (head_of solve words.rounds)) = record { low = right.some; high = right.few; stakes = plain-stakes solve.stakes right.no_match } in
+      let game : IsGame (game_in (head_of solve words.rounds)) = record { low = right.some; high = right.few; stakes = (unlimited-stakes solve.rule).valid } in
       judges replayed.rec replayed.decisions bytes (read-right held_right (held analyse.rec) replayed holds) plain
       (right-pages law (head_of solve words.rounds) words bytes (solved-text solve words right solved.solved) game solved.solved.consistent (game_recorded replayed.rec) (sym same))
 

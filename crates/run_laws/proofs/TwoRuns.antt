@@ -1,10 +1,8 @@
 -- What is advised from a file that was solved.
-use Rattle.std.proofs.Common.{◌≡◌, ◌≢◌, ◌∙◌, ℕ, List, Bool, Option, Some, None, true, false, refl, sym, subst, arith}
+use Rattle.std.proofs.Common.{◌≡◌, ◌∙◌, ℕ, List, Bool, Option, Some, None, true, false, refl, sym, subst, arith}
 use Rattle.roll_table.specs.Rolls.{Dice}
-use Rattle.cube_actions.specs.Scores.{MatchScore}
 use Rattle.cube_actions.specs.Starts.{AreStarts}
-use Rattle.cube_actions.specs.declared.name.StakesName.{StakesName}
-use Rattle.cube_actions.specs.declared.name.StakesName.TheVariants.{Cubeless, Money, Jacoby, MoneyBeavers, JacobyBeavers, Match}
+use Rattle.cube_actions.specs.declared.name.StakesName.TheVariants.{Unlimited}
 use Rattle.outside_log.specs.Log.{Event, standing}
 use Rattle.outside_log.specs.Sink.{Output}
 use Rattle.outside_log.proofs.Written.{stands}
@@ -13,7 +11,7 @@ use Rattle.interval_words.specs.WordLists.{WordList, words_in_list}
 use Rattle.play_analyser.specs.Advised.{ActionLosesAtMost, FirstLosesAtMost}
 use Rattle.word_pages.specs.declared.version.Version.TheVariants.{Three}
 use Rattle.base_head.specs.Fronts.{head_in}
-use Rattle.base_head.specs.Heads.{AreStartsOf, FileHead, IsHead, no_starts}
+use Rattle.base_head.specs.Heads.{FileHead, IsHead, no_starts}
 use Rattle.database_file.specs.Faults.{header_of_file}
 use Rattle.run_endings.proofs.Loaded.{three-takes}
 use Rattle.database_file.specs.Texts.{IsText, game_in}
@@ -42,14 +40,6 @@ use Rattle.run_laws.proofs.HeldWords.{Law, held-consistent, held-head, held-pair
 
 -- ---- the text that a solve writes
 
-no-starts-of : (name : StakesName) → ((score : MatchScore) → name ≢ Match score) → AreStartsOf name no_starts
-no-starts-of Cubeless apart = refl
-no-starts-of Money apart = refl
-no-starts-of Jacoby apart = refl
-no-starts-of MoneyBeavers apart = refl
-no-starts-of JacobyBeavers apart = refl
-no-starts-of (Match score) apart = absurd (apart score refl)
-
 none-before : AreStarts no_starts
 none-before = record { from = omega arith; to = omega arith; room = omega arith; within = λ k d lt. absurd (omega (arith, lt)) }
 
@@ -60,13 +50,13 @@ solved-head solve words right solved = record {
   begun = solved.last.some;
   ended = omega (arith, solved.last.most, right.ended);
   valid = none-before;
-  starts = no-starts-of solve.stakes right.no_match;
+  starts = refl;
 }
 
 pub solved-text : (solve : SolveTask) (words : WordList) → IsRightSolve solve → AreSolved solve words → IsText Three (head_of solve words.rounds) words (solved_file solve words)
 solved-text solve words right solved = record {
   valid = solved-head solve words right solved;
-  takes = three-takes solve.stakes;
+  takes = three-takes (Unlimited solve.rule);
   fitting = solved.fitting;
   right = solved.right;
   text = refl;

@@ -12,6 +12,7 @@ use Rattle.interval_words.specs.WordLists.{WordList, AreRight, IsWidest, words_i
 use Rattle.worker_sweep.specs.LastRounds.{IsLastRound}
 use Rattle.word_pages.specs.declared.version.Version.TheVariants.{Three}
 use Rattle.base_head.specs.Heads.{FileHead, no_starts}
+use Rattle.cube_actions.specs.declared.name.StakesName.TheVariants.{Unlimited}
 use Rattle.base_head.specs.Headers.{magic, text_length}
 use Rattle.database_file.specs.Texts.{AreWordsOf, file_text}
 use Rattle.command_line.specs.declared.command.Solve.{Solve}
@@ -24,7 +25,7 @@ use Rattle.run_endings.specs.Endings.{Ending, IsPut, WasPut}
 abbrev pub head_of : Solve → ℕ → FileHead
 head_of task made = record {
   checkers = task.checkers;
-  name = task.stakes;
+  name = Unlimited task.rule;
   rounds = made;
   starts = no_starts;
 }
@@ -48,11 +49,11 @@ solved_file task words = file_text Three (head_of task words.rounds) words.list
 abbrev pub solved_report : Solve → ℕ → ℤ → List ℕ
 solved_report task made widest =
     solved_text (record {
-      game = record { checkers = task.checkers; stakes = task.stakes; match_length = 1 };
+      game = record { checkers = task.checkers; stakes = Unlimited task.rule; match_length = 1 };
       rounds = made;
       workers = task.workers;
       positions = live_positions task.checkers;
-      kinds = length (names_of task.stakes);
+      kinds = length (names_of (Unlimited task.rule));
       widest = widest;
       bytes = text_length Three (head_of task made);
     }) task.file

@@ -2,7 +2,7 @@
 use Rattle.std.specs.Prelude.{◌≡◌, ◌⊎◌, ℕ, ◌≤◌, List, sum}
 use Rattle.outside_log.specs.Sink.{Output}
 use Rattle.directed_fixed.specs.Bounds.{Bounds}
-use Rattle.cube_actions.specs.Stakes.{cubeless}
+use Rattle.cube_actions.specs.Money.{cubeless}
 use Rattle.turn_rule.specs.Games.{game_of}
 use Rattle.turn_rule.specs.Exact.{Scoring}
 use Rattle.turn_rule.specs.States.{pair_of}

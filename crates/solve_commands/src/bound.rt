@@ -5,7 +5,7 @@ ghost use Rattle.solve_commands.specs.Truth.{IsTrueOfBound, TellsBound, asked_pa
 
 use crate::checkers::count_checkers;
 use command_line::Bound;
-use cube_actions::Stakes;
+use cube_actions::{MoneyRule, Stakes};
 use directed_fixed::Pair;
 use hyper_outside::NoMemory;
 use outside_log::Sink;
@@ -21,7 +21,11 @@ fn pair_after(alloc: Global, task: &Bound) -> Result<Pair, NoMemory>
     ensures pair { IfOk result (λ pair. pair ≡ asked_pair task.now) }
     ensures truth { IfOk result (IsTrueOfBound task.now) }
 {
-    let mut table = PlainTable::new(alloc, task.checkers, &Stakes::cubeless())?;
+    let mut table = PlainTable::new(
+        alloc,
+        task.checkers,
+        &Stakes::unlimited(MoneyRule::Cubeless),
+    )?;
     for _round in 0..task.rounds {
         table.sweep_all();
     }

@@ -1,7 +1,7 @@
 ghost use Rattle.std.specs.Prelude.{◌≡◌, IfErr, OnOk, sum};
 ghost use Rattle.solve_commands.specs.Checkers.{IsOfOtherCheckers};
 
-use cube_actions::StakesName;
+use cube_actions::{MoneyRule, StakesName};
 use equity_report::{GameName, Refusal, Wanted};
 use position_rank::Position;
 
@@ -18,7 +18,7 @@ pub(crate) fn count_checkers(position: &Position, checkers: u8) -> Result<(), Re
         wanted: Wanted::Checkers(wanted),
         found: GameName {
             checkers,
-            stakes: StakesName::Cubeless,
+            stakes: StakesName::Unlimited(MoneyRule::Cubeless),
             match_length: 1,
         },
     })

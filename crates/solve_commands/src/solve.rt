@@ -12,6 +12,7 @@ ghost use Rattle.solve_commands.specs.Solves.{AreSolved, Solves, head_of, solved
 
 use base_head::{BASE_START, Head, Header};
 use command_line::Solve;
+use cube_actions::StakesName;
 use database_file::append_base;
 use directed_fixed::Fixed;
 use equity_report::{GameName, Refusal};
@@ -57,7 +58,7 @@ fn head_of(task: &Solve, made: u32) -> Head
     requires made { (1 ≤ made) × (made ≤ 4096) }
     ensures { result ≡ head_of task.now made }
 {
-    Head::of_stakes(task.checkers, task.stakes, made)
+    Head::unlimited(task.checkers, task.rule, made)
 }
 
 /// Puts the report on words after so many rounds, whose widest pair is so wide.
@@ -71,7 +72,7 @@ fn report<O: Sink>(task: &Solve, made: u32, widest: Fixed, out: &mut O) -> Resul
     let solved = Solved {
         game: GameName {
             checkers: task.checkers,
-            stakes: task.stakes,
+            stakes: StakesName::Unlimited(task.rule),
             match_length: 1,
         },
         rounds: made,

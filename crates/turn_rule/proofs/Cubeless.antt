@@ -5,7 +5,8 @@ use Rattle.position_rank.specs.Packed.{counts_of}
 use Rattle.position_rank.specs.LiveRanks.{are_apart}
 use Rattle.position_rank.proofs.LiveLaws.{live-from}
 use Rattle.position_rank.specs.Examples.{placed}
-use Rattle.cube_actions.specs.Stakes.{IsValid, cubeless}
+use Rattle.cube_actions.specs.Money.{cubeless}
+use Rattle.cube_actions.specs.Stakes.{IsValid}
 use Rattle.turn_rule.specs.Games.{game_of}
 use Rattle.turn_rule.specs.States.{IsState}
 

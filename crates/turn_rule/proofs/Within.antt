@@ -22,7 +22,7 @@ use Rattle.cube_actions.specs.declared.kind.Kind.{Kind}
 use Rattle.cube_actions.specs.declared.kind.Double.{Double}
 use Rattle.cube_actions.specs.declared.kind.Taken.{Taken}
 use Rattle.cube_actions.specs.declared.name.StakesName.{StakesName}
-use Rattle.cube_actions.specs.declared.name.StakesName.TheVariants.{Cubeless, Money, Jacoby, MoneyBeavers, JacobyBeavers, Match}
+use Rattle.cube_actions.specs.declared.name.StakesName.TheVariants.{Unlimited, Match}
 use Rattle.cube_actions.specs.Stakes.{Terms, kind_at, no_kind, nothing, bound_of, IsValid, IsRightDouble, IsRightAnswer}
 use Rattle.turn_rule.specs.declared.game.Game.{Game}
 use Rattle.turn_rule.specs.Turn.{Words, win, if_won, worth, sum_over, roll_value, least, doubled, or_double, turn, bound_words, rounds}
@@ -50,11 +50,7 @@ in_play q h =
 pub bound-positive : (stakes : Terms) → IsValid stakes → pos 0 ≤ℤ stakes.bound
 bound-positive stakes valid = rw valid.bound (named stakes.name) where
   named : (name : StakesName) → pos 0 ≤ℤ bound_of name
-  named Cubeless = omega (arith, ints)
-  named Money = omega (arith, ints)
-  named Jacoby = omega (arith, ints)
-  named MoneyBeavers = omega (arith, ints)
-  named JacobyBeavers = omega (arith, ints)
+  named (Unlimited rule) = omega (arith, ints)
   named (Match score) = omega (arith, ints)
 
 nothing-within : (bound : ℤ) → pos 0 ≤ℤ bound → IsWithin bound nothing
@@ -218,9 +214,5 @@ module _ (game : Game) (valid : IsValid game.stakes) where
 pub bound-small : (stakes : Terms) → IsValid stakes → stakes.bound ≤ℤ pos (2 ^ 36)
 bound-small stakes valid = rw valid.bound (named stakes.name) where
   named : (name : StakesName) → bound_of name ≤ℤ pos (2 ^ 36)
-  named Cubeless = omega (arith, ints)
-  named Money = omega (arith, ints)
-  named Jacoby = omega (arith, ints)
-  named MoneyBeavers = omega (arith, ints)
-  named JacobyBeavers = omega (arith, ints)
+  named (Unlimited rule) = omega (arith, ints)
   named (Match score) = omega (arith, ints)

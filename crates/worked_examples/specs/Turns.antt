@@ -6,7 +6,9 @@ use Rattle.move_rules.specs.declared.payoff.Won.TheVariants.{Single, Gammon, Bac
 use Rattle.directed_fixed.specs.Bounds.{Bounds}
 use Rattle.cube_actions.specs.declared.kind.Kind.{Kind}
 use Rattle.cube_actions.specs.declared.kind.Double.{Double}
-use Rattle.cube_actions.specs.declared.name.StakesName.TheVariants.{Cubeless, Money}
+use Rattle.cube_actions.specs.declared.name.MoneyRule.TheVariants.{Cubeless, Money, Jacoby, JacobyBeavers}
+use Rattle.cube_actions.specs.declared.name.StakesName.TheVariants.{Unlimited}
+use Rattle.cube_actions.specs.Money.{unlimited}
 use Rattle.cube_actions.specs.Stakes.{Terms, exactly, point_units}
 use Rattle.turn_rule.specs.Exact.{Scoring, rolled, after_double, exact}
 
@@ -20,7 +22,8 @@ always_double = record {
 }
 
 abbrev pub doubling_game : Terms
-doubling_game = record { kinds = always_double ∷ []; bound = point_units 3; name = Money }
+doubling_game =
+    record { kinds = always_double ∷ []; bound = point_units 3; name = Unlimited Money }
 
 -- a game without a cube in which of a gammon only this is known, that it wins one to three points
 abbrev pub vague_gammon : Kind
@@ -31,7 +34,15 @@ vague_gammon = record {
 }
 
 abbrev pub vague_game : Terms
-vague_game = record { kinds = vague_gammon ∷ []; bound = point_units 3; name = Cubeless }
+vague_game =
+    record { kinds = vague_gammon ∷ []; bound = point_units 3; name = Unlimited Cubeless }
+
+-- money by the Jacoby rule, without beavers and with them
+abbrev pub jacoby : Terms
+jacoby = unlimited Jacoby
+
+abbrev pub jacoby_beavers : Terms
+jacoby_beavers = unlimited JacobyBeavers
 
 -- these bounds, both above zero, and both below it
 abbrev pub gains : ℕ → ℕ → Bounds

@@ -1,9 +1,11 @@
 ghost use Rattle.std.specs.Prelude.{◌≡◌, pos, ◌∷◌, [], ◌-◌, ℕ, length};
 ghost use Rattle.cube_actions.specs.declared.phase.Phase.TheVariants.{Normal, Crawford, Post};
-ghost use Rattle.cube_actions.specs.declared.name.StakesName.TheVariants.{Cubeless, Money, Jacoby, MoneyBeavers, JacobyBeavers, Match};
+ghost use Rattle.cube_actions.specs.declared.name.MoneyRule.{MoneyRule};
+ghost use Rattle.cube_actions.specs.declared.name.StakesName.TheVariants.{Match, Unlimited};
 ghost use Rattle.cube_actions.specs.Scores.{AreNeeds, IsPhaseOf, MatchScore};
 ghost use Rattle.worked_examples.specs.Turns.{gains};
-ghost use Rattle.cube_actions.specs.Stakes.{IsValid, bound_of, cubeless, kind_at};
+ghost use Rattle.cube_actions.specs.Money.{cubeless};
+ghost use Rattle.cube_actions.specs.Stakes.{IsValid, bound_of, kind_at};
 ghost use Rattle.directed_fixed.specs.Bounds.{Bounds};
 ghost use Rattle.cube_actions.specs.Ladder.{ladder};
 ghost use Rattle.cube_actions.specs.MatchKinds.{match_kinds};
@@ -22,11 +24,7 @@ pub fn cubeless_example()
 
 /// For money a value is at most three points, in a match at most the match, which counts as one.
 pub fn bound_examples()
-    ensures cubeless { bound_of Cubeless ≡ pos 12884901888 }
-    ensures money { bound_of Money ≡ pos 12884901888 }
-    ensures jacoby { bound_of Jacoby ≡ pos 12884901888 }
-    ensures money_beavers { bound_of MoneyBeavers ≡ pos 12884901888 }
-    ensures jacoby_beavers { bound_of JacobyBeavers ≡ pos 12884901888 }
+    ensures no_match { (rule : MoneyRule) → bound_of (Unlimited rule) ≡ pos 12884901888 }
     ensures any_match { (score : MatchScore) → bound_of (Match score) ≡ pos 4294967296 }
 {}
 

@@ -3,13 +3,13 @@ ghost use Rattle.position_rank.specs.Placement.{Placement};
 ghost use Rattle.position_rank.specs.Examples.{placed, off};
 ghost use Rattle.directed_fixed.specs.declared.bounds.End.{End};
 ghost use Rattle.directed_fixed.specs.declared.bounds.End.TheVariants.{Lower, Upper};
-ghost use Rattle.cube_actions.specs.Money.{jacoby, jacoby_beavers, double_of, take, beaver};
-ghost use Rattle.cube_actions.specs.Stakes.{Terms, cubeless, exactly};
+ghost use Rattle.cube_actions.specs.Money.{beaver, cubeless, double_of, take};
+ghost use Rattle.cube_actions.specs.Stakes.{Terms, exactly};
 ghost use Rattle.turn_rule.specs.Games.{game_of};
 ghost use Rattle.turn_rule.specs.Turn.{turn};
 ghost use Rattle.turn_rule.specs.Exact.{exact};
 ghost use Rattle.turn_rule.specs.Truth.{IsBoundOf, Encloses, IsScoring, IsSound, AreNoLooserStakes};
-ghost use Rattle.worked_examples.specs.Turns.{gains, losses, doubling_game, vague_game, win_points, scored, cut_off_at, points_won, games_won, jacoby_won, rolled_first, doubled_first};
+ghost use Rattle.worked_examples.specs.Turns.{gains, jacoby, jacoby_beavers, losses, doubling_game, vague_game, win_points, scored, cut_off_at, points_won, games_won, jacoby_won, rolled_first, doubled_first};
 
 /// Scorings of the game without a cube and of the doubling game: an unfinished end may be worth
 /// three points and no more, and a gammon counts two points in the one and one in the other.

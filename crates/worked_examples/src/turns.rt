@@ -2,7 +2,8 @@ ghost use Rattle.std.specs.Prelude.{◌≡◌, ℕ, pos, neg_ℤ, [], ◌∷◌}
 ghost use Rattle.position_rank.specs.Placement.{Placement};
 ghost use Rattle.position_rank.specs.Examples.{placed, off, bar};
 ghost use Rattle.directed_fixed.specs.Rounding.{floor_36, ceil_36};
-ghost use Rattle.cube_actions.specs.Stakes.{IsValid, cubeless, exactly};
+ghost use Rattle.cube_actions.specs.Money.{cubeless};
+ghost use Rattle.cube_actions.specs.Stakes.{IsValid, exactly};
 ghost use Rattle.turn_rule.specs.Turn.{bound_words, rounds};
 ghost use Rattle.turn_rule.specs.States.{pair_of};
 ghost use Rattle.worked_examples.specs.Turns.{between, gains, losses, doubling_game};

@@ -1,8 +1,8 @@
-ghost use Rattle.std.specs.Prelude.{◌≡◌, ◌≤◌, length};
-ghost use Rattle.cube_actions.specs.Money.{money, jacoby, money_beavers, jacoby_beavers, all_count, all_single, double_of, cube_kinds};
+ghost use Rattle.std.specs.Prelude.{◌≡◌, ◌≤◌, [], ◌∷◌, length};
+ghost use Rattle.cube_actions.specs.Money.{all_count, all_single, alone, cube_kinds, double_of, kinds_by};
 
 use crate::kind::{Double, Kind, Taken};
-use crate::name::StakesName;
+use crate::name::{MoneyRule, StakesName};
 use crate::stakes::Stakes;
 use arrayvec::ArrayVec;
 use directed_fixed::{Fixed, Pair};
@@ -25,50 +25,44 @@ const BEAVER: Taken = Taken {
 };
 
 impl Stakes {
-    /// Money play without the Jacoby rule. Kind 0 has the cube centred, 1 on the mover's side, 2 on the other.
-    pub fn money() -> Stakes
-        ensures { result ≡ money }
-    {
-        Stakes {
-            kinds: cube_kinds(full_wins(), &[TAKE]),
-            bound: Fixed::whole(3),
-            name: StakesName::Money,
-        }
-    }
+    ghost use Rattle.cube_actions.specs.Money.{unlimited};
 
-    /// Money play with the Jacoby rule: while the cube is centred, gammons and backgammons count single.
-    pub fn jacoby() -> Stakes
-        ensures { result ≡ jacoby }
+    /// What games are played for by a rule of money. Without a cube there is one kind. Else kind 0 has the cube centred, 1 on the
+    /// mover's side, 2 on the other.
+    pub fn unlimited(rule: MoneyRule) -> Stakes
+        ensures { result ≡ unlimited rule }
     {
         Stakes {
-            kinds: cube_kinds(single_wins(), &[TAKE]),
+            kinds: kinds_by(rule),
             bound: Fixed::whole(3),
-            name: StakesName::Jacoby,
+            name: StakesName::Unlimited(rule),
         }
     }
+}
 
-    /// Money play without the Jacoby rule in which a double may be beavered: the cube is turned once more, and the side
-    /// that was doubled owns it at four times the value before.
-    pub fn money_beavers() -> Stakes
-        ensures { result ≡ money_beavers }
-    {
-        Stakes {
-            kinds: cube_kinds(full_wins(), &[TAKE, BEAVER]),
-            bound: Fixed::whole(3),
-            name: StakesName::MoneyBeavers,
-        }
+fn kinds_by(rule: MoneyRule) -> ArrayVec<Kind, 14>
+    ensures { result.items ≡ kinds_by rule }
+{
+    match rule {
+        MoneyRule::Cubeless => alone_kinds(),
+        MoneyRule::Money => cube_kinds(full_wins(), &[TAKE]),
+        MoneyRule::Jacoby => cube_kinds(single_wins(), &[TAKE]),
+        MoneyRule::MoneyBeavers => cube_kinds(full_wins(), &[TAKE, BEAVER]),
+        MoneyRule::JacobyBeavers => cube_kinds(single_wins(), &[TAKE, BEAVER]),
     }
+}
 
-    /// Money play with the Jacoby rule in which a double may be beavered.
-    pub fn jacoby_beavers() -> Stakes
-        ensures { result ≡ jacoby_beavers }
-    {
-        Stakes {
-            kinds: cube_kinds(single_wins(), &[TAKE, BEAVER]),
-            bound: Fixed::whole(3),
-            name: StakesName::JacobyBeavers,
-        }
-    }
+/// The one kind of a game without a cube.
+fn alone_kinds() -> ArrayVec<Kind, 14>
+    ensures { result.items ≡ alone ∷ [] }
+{
+    let mut kinds = ArrayVec::new();
+    kinds.push(Kind {
+        next: 0,
+        win: full_wins(),
+        double: None,
+    });
+    kinds
 }
 
 fn full_wins() -> [Pair; 3]

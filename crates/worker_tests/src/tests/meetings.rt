@@ -4,7 +4,7 @@ ghost use Rattle.std.specs.Prelude.{◌≤◌};
 use crate::tests::asserts::{holds, same};
 use crate::tests::gates::Counting;
 use crate::tests::lists::units;
-use cube_actions::Stakes;
+use cube_actions::{MoneyRule, Stakes};
 use hyper_outside::Gate;
 use interval_words::Closed;
 use std::alloc::{AllocGlobal, Global};
@@ -116,7 +116,15 @@ fn met<R: Threads + Sync + Abort + AllocGlobal>(
 fn each_block_passes_once_a_round(rt: HostRuntime) {
     let gate = Counting::new(&rt, rt.alloc(), 4);
     let team = Team::new(&rt, 4);
-    let solved = words_after_rounds(&team, rt.alloc(), 1, &Stakes::money(), 3, None, &gate);
+    let solved = words_after_rounds(
+        &team,
+        rt.alloc(),
+        1,
+        &Stakes::unlimited(MoneyRule::Money),
+        3,
+        None,
+        &gate,
+    );
     solved.expect(&rt, "no memory");
     gate.check(&rt, 3);
 }
@@ -127,7 +135,7 @@ fn each_block_passes_once_a_round(rt: HostRuntime) {
 /// otherwise.
 #[test]
 fn two_at_once_solve(rt: HostRuntime) {
-    let closed = met(&rt, &Stakes::cubeless(), 1, 2);
+    let closed = met(&rt, &Stakes::unlimited(MoneyRule::Cubeless), 1, 2);
     let last = units(&rt, closed.words(), "12 / 1", 0);
     same(&rt, &last, &(-6_919_669_533, -5_488_013_767), &"12 / 1");
 }
@@ -135,9 +143,9 @@ fn two_at_once_solve(rt: HostRuntime) {
 /// Which of four has written what when block 1 is swept depends on the schedule, but from `1 / 1` every play wins a gammon at once.
 #[test]
 fn four_at_once_solve(rt: HostRuntime) {
-    let closed = met(&rt, &Stakes::cubeless(), 1, 4);
+    let closed = met(&rt, &Stakes::unlimited(MoneyRule::Cubeless), 1, 4);
     let won = units(&rt, closed.words(), "1 / 1", 0);
     same(&rt, &won, &(8_589_934_592, 8_589_934_592), &"1 / 1");
     // With a cube, in more rounds than one.
-    met(&rt, &Stakes::money(), 3, 4);
+    met(&rt, &Stakes::unlimited(MoneyRule::Money), 3, 4);
 }

@@ -1,7 +1,7 @@
 use Rattle.std.proofs.Common.{◌≡◌, ◌∙◌, refl, subst, sym, arith}
 use Rattle.directed_fixed.specs.Bounds.{Bounds}
 use Rattle.directed_fixed.specs.declared.bounds.End.TheVariants.{Lower, Upper}
-use Rattle.cube_actions.specs.Stakes.{cubeless}
+use Rattle.cube_actions.specs.Money.{cubeless}
 use Rattle.turn_rule.specs.Games.{game_of}
 use Rattle.turn_rule.specs.Turn.{rounds}
 use Rattle.turn_rule.specs.States.{IsState, pair_of}

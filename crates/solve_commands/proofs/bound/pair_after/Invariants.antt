@@ -1,5 +1,5 @@
 use Rattle.std.proofs.Common.{◌≡◌}
-use Rattle.cube_actions.specs.Stakes.{cubeless}
+use Rattle.cube_actions.specs.Money.{cubeless}
 use Rattle.plain_table.specs.Rounds.{HasTable}
 use Rattle.solve_commands.proofs.bound.pair_after.Given as goal
 

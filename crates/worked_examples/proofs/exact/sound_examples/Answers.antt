@@ -7,7 +7,8 @@ use Rattle.roll_table.specs.Rolls.{all_rolls}
 use Rattle.move_rules.specs.Ends.{legal_ends, legal_lines, all_lines, lines, lines_from, places, after_move}
 use Rattle.directed_fixed.specs.declared.bounds.End.{End}
 use Rattle.directed_fixed.specs.declared.bounds.End.TheVariants.{Lower, Upper}
-use Rattle.cube_actions.specs.Stakes.{cubeless, exactly}
+use Rattle.cube_actions.specs.Money.{cubeless}
+use Rattle.cube_actions.specs.Stakes.{exactly}
 use Rattle.turn_rule.specs.Games.{game_of}
 use Rattle.turn_rule.specs.Turn.{turn, rounds}
 use Rattle.turn_rule.specs.States.{pair_of}

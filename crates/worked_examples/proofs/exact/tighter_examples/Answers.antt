@@ -3,7 +3,8 @@ use Rattle.std.proofs.lemmas.Int.{ints}
 use Rattle.move_rules.specs.declared.payoff.Won.{Won}
 use Rattle.move_rules.specs.declared.payoff.Won.TheVariants.{Single, Gammon, Backgammon}
 use Rattle.directed_fixed.specs.Bounds.{AreNoLooserPairs}
-use Rattle.cube_actions.specs.Stakes.{cubeless, kind_at}
+use Rattle.cube_actions.specs.Money.{cubeless}
+use Rattle.cube_actions.specs.Stakes.{kind_at}
 use Rattle.turn_rule.specs.Turn.{win}
 use Rattle.turn_rule.specs.Truth.{IsNoLooserKind}
 use Rattle.worked_examples.specs.Turns.{vague_game}
