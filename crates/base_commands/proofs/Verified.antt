@@ -9,7 +9,7 @@ use Rattle.turn_rule.specs.Turn.{Words}
 use Rattle.turn_rule.specs.Exact.{Scoring}
 use Rattle.turn_rule.specs.Truth.{AreConsistent, AreEnclosing, Encloses, IsScoring, IsScoringWithin}
 use Rattle.turn_rule.proofs.Fractions.{bound-looser}
-use Rattle.game_record.specs.declared.decision.Choice.{Choice}
+use Rattle.turn_rule.specs.declared.choice.Choice.{Choice}
 use Rattle.play_analyser.specs.Choices.{IsChoice}
 use Rattle.play_analyser.specs.Regrets.{counted_over, loss_of, regret_of}
 use Rattle.interval_words.specs.Numbers.{state_of}

@@ -6,7 +6,7 @@ use Rattle.cube_actions.specs.Names.{names_of}
 use Rattle.turn_rule.specs.States.{IsState}
 use Rattle.turn_rule.specs.Exact.{Scoring}
 use Rattle.turn_rule.specs.Truth.{AreConsistent, Encloses, IsScoringWithin}
-use Rattle.game_record.specs.declared.decision.Choice.{Choice}
+use Rattle.turn_rule.specs.declared.choice.Choice.{Choice}
 use Rattle.play_analyser.specs.Choices.{IsChoice}
 use Rattle.play_analyser.specs.Regrets.{counted_over, loss_of, regret_of}
 use Rattle.interval_words.specs.WordLists.{WordList, words_in_list}

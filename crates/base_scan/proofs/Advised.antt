@@ -8,10 +8,10 @@ use Rattle.cube_actions.specs.declared.kind.Double.{Double as DoubleOf}
 use Rattle.cube_actions.specs.declared.kind.Taken.{Taken}
 use Rattle.hyper_outside.specs.declared.outside.LookStop.{LookStop}
 use Rattle.hyper_outside.specs.declared.outside.LookStop.TheVariants.{ReadFault, BadPage, NoMemory}
-use Rattle.game_record.specs.declared.decision.Offer.{Offer}
-use Rattle.game_record.specs.declared.decision.Offer.TheVariants.{NoDouble, Double}
-use Rattle.game_record.specs.declared.decision.Answer.{Answer}
-use Rattle.game_record.specs.declared.decision.Answer.TheVariants.{Take, Pass, Beaver}
+use Rattle.cube_actions.specs.declared.action.Offer.{Offer}
+use Rattle.cube_actions.specs.declared.action.Offer.TheVariants.{NoDouble, Double}
+use Rattle.cube_actions.specs.declared.action.Answer.{Answer}
+use Rattle.cube_actions.specs.declared.action.Answer.TheVariants.{Take, Pass, Beaver}
 use Rattle.play_analyser.specs.declared.advice.CubeAction.{CubeAction}
 use Rattle.play_analyser.specs.declared.advice.CubeAdvice.{CubeAdvice}
 use Rattle.turn_rule.specs.Turn.{Words}

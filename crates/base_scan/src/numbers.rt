@@ -14,8 +14,8 @@ ghost use Rattle.base_scan.specs.Sides.{IsSeen};
 
 use crate::condition::{Comparison, Condition, Field, Joint, Test};
 use crate::sides::Side;
+use cube_actions::{Answer, Offer};
 use directed_fixed::Pair;
-use game_record::{Answer, Offer};
 use hyper_outside::LookStop;
 use interval_words::{Words, states_are_numbered};
 use play_analyser::{CubeAdvice, cube_advice, one_list_gives_the_advice};

@@ -1,6 +1,7 @@
 //! What a game is played for: kinds of state, the cube and the stakes.
 #![tactic(auto)]
 
+mod action;
 mod kind;
 mod match_kind;
 mod match_laws;
@@ -14,6 +15,7 @@ mod side;
 mod stakes;
 mod starts;
 
+pub use action::{Answer, Offer};
 pub use kind::{Double, Kind, Taken};
 pub use match_laws::{cubes_come_of_the_score, ladders_are_exact, wins_lead_down_the_ladder};
 pub use name::{KindName, MoneyRule, StakesName};

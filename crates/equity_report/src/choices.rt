@@ -1,7 +1,7 @@
 ghost use Rattle.std.specs.Prelude.{◌≡◌, ◌≤◌, length};
 ghost use Rattle.equity_report.specs.Choices.{answer_text, offer_text};
 
-use game_record::{Answer, Offer};
+use cube_actions::{Answer, Offer};
 
 /// What an offer is called.
 pub fn offer_text(offer: Offer) -> &'static str

@@ -1,9 +1,9 @@
 -- What is advised on the cube, its number among all calls, and how often each came.
 use Rattle.std.specs.Prelude.{◌+◌, ◌-◌, ◌^◌, ℕ, pos, min, Bool, true, false, List, codes, slice_index, slice_set, int_le, if◌then◌else◌}
-use Rattle.game_record.specs.declared.decision.Offer.{Offer}
-use Rattle.game_record.specs.declared.decision.Offer.TheVariants.{NoDouble, Double}
-use Rattle.game_record.specs.declared.decision.Answer.{Answer}
-use Rattle.game_record.specs.declared.decision.Answer.TheVariants.{Take, Pass, Beaver}
+use Rattle.cube_actions.specs.declared.action.Offer.{Offer}
+use Rattle.cube_actions.specs.declared.action.Offer.TheVariants.{NoDouble, Double}
+use Rattle.cube_actions.specs.declared.action.Answer.{Answer}
+use Rattle.cube_actions.specs.declared.action.Answer.TheVariants.{Take, Pass, Beaver}
 use Rattle.play_analyser.specs.declared.advice.CubeAction.{CubeAction}
 use Rattle.game_census.specs.declared.call.Call.{Call}
 

@@ -1,7 +1,7 @@
 ghost use Rattle.std.specs.Prelude.{◌≡◌, ◌<◌};
 ghost use Rattle.game_census.specs.Calls.{told_answer, call_number, call_of, certainty_text, told_offer};
 
-use game_record::{Answer, Offer};
+use cube_actions::{Answer, Offer};
 use play_analyser::CubeAction;
 
 /// How many calls there are.

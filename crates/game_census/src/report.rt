@@ -6,9 +6,8 @@ use crate::gap::Near;
 use crate::kind_census::KindCensus;
 use crate::stop::{Stop, printed};
 use crate::tally::Tally;
-use cube_actions::KindName;
+use cube_actions::{Answer, KindName, Offer};
 use cube_text::print_kind;
-use game_record::{Answer, Offer};
 use position_text::print_position;
 use std::io::Print;
 

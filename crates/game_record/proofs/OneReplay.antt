@@ -6,9 +6,9 @@ use Rattle.move_rules.specs.declared.applied.BadPlay.{BadPlay}
 use Rattle.move_rules.specs.declared.written.Step.{Step}
 use Rattle.move_rules.specs.Written.{Leaves, IsWrittenFault}
 use Rattle.move_rules.proofs.WrittenLaws.{leaves-one}
-use Rattle.game_record.specs.declared.decision.Choice.TheVariants.{Offered, Played}
+use Rattle.turn_rule.specs.declared.choice.Choice.TheVariants.{Offered, Played}
 use Rattle.game_record.specs.declared.decision.Decision.{Decision}
-use Rattle.game_record.specs.declared.decision.Offer.TheVariants.{NoDouble}
+use Rattle.cube_actions.specs.declared.action.Offer.TheVariants.{NoDouble}
 use Rattle.game_record.specs.declared.fault.BadRecord.{BadRecord}
 use Rattle.game_record.specs.declared.fault.RecordFault.{RecordFault}
 use Rattle.game_record.specs.declared.fault.RecordStop.{RecordStop}

@@ -10,8 +10,8 @@ use Rattle.move_rules.specs.declared.payoff.Won.TheVariants.{Single, Gammon, Bac
 use Rattle.position_rank.specs.Packed.{start_placement}
 use Rattle.position_rank.specs.Placement.{Placement, swap}
 use Rattle.game_record.specs.declared.cube.Cube.{Cube}
-use Rattle.game_record.specs.declared.decision.Answer.{Answer}
-use Rattle.game_record.specs.declared.decision.Answer.TheVariants.{Take, Pass, Beaver}
+use Rattle.cube_actions.specs.declared.action.Answer.{Answer}
+use Rattle.cube_actions.specs.declared.action.Answer.TheVariants.{Take, Pass, Beaver}
 use Rattle.game_record.specs.declared.player.Player.{Player}
 use Rattle.game_record.specs.declared.progress.Progress.{Progress}
 use Rattle.game_record.specs.declared.record.RecordStakes.{RecordStakes}

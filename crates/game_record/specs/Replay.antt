@@ -3,12 +3,12 @@ use Rattle.std.specs.Prelude.{◌≡◌, ◌≢◌, ◌⊎◌, ℕ, ◌+◌, ◌
 use Rattle.move_rules.specs.Written.{Leaves, IsWrittenFault}
 use Rattle.move_rules.specs.declared.applied.BadPlay.{BadPlay}
 use Rattle.position_rank.specs.Placement.{Placement}
-use Rattle.game_record.specs.declared.decision.Answer.{Answer}
-use Rattle.game_record.specs.declared.decision.Answer.TheVariants.{Take, Pass, Beaver}
-use Rattle.game_record.specs.declared.decision.Choice.{Choice}
-use Rattle.game_record.specs.declared.decision.Choice.TheVariants.{Played, Offered, Answered}
+use Rattle.cube_actions.specs.declared.action.Answer.{Answer}
+use Rattle.cube_actions.specs.declared.action.Answer.TheVariants.{Take, Pass, Beaver}
+use Rattle.turn_rule.specs.declared.choice.Choice.{Choice}
+use Rattle.turn_rule.specs.declared.choice.Choice.TheVariants.{Played, Offered, Answered}
 use Rattle.game_record.specs.declared.decision.Decision.{Decision}
-use Rattle.game_record.specs.declared.decision.Offer.TheVariants.{NoDouble, Double}
+use Rattle.cube_actions.specs.declared.action.Offer.TheVariants.{NoDouble, Double}
 use Rattle.game_record.specs.declared.fault.BadRecord.{BadRecord}
 use Rattle.game_record.specs.declared.fault.RecordFault.{RecordFault}
 use Rattle.game_record.specs.declared.fault.RecordFault.TheVariants.{IllegalPlay, IllegalCube, ScoreWrong}

@@ -6,15 +6,16 @@ ghost use Rattle.game_record.specs.declared.line.Line.TheVariants.{Acted};
 ghost use Rattle.game_record.specs.declared.record.What.{What};
 ghost use Rattle.game_record.specs.declared.record.What.TheVariants.{Rolled, Doubled, Beavered};
 
-use crate::decision::{Answer, Choice, Decisions, Offer};
+use crate::decision::Decisions;
 use crate::fault::{RecordFault, RecordStop};
 use crate::moment::Moment;
 use crate::player::Player;
 use crate::record::{Action, What};
-use cube_actions::Stakes;
+use cube_actions::{Answer, Offer, Stakes};
 use hyper_outside::NoMemory;
 use move_rules::{Written, match_play};
 use roll_table::Roll;
+use turn_rule::Choice;
 
 impl Moment {
     /// Takes the line of what a player did, and adds the decisions that it tells.

@@ -4,33 +4,9 @@ use crate::player::Player;
 use cube_actions::Score;
 use hyper_outside::NoMemory;
 use position_rank::Position;
-use roll_table::Roll;
 use std::alloc::Global;
 use std::marker::Model;
-
-/// Whether a player who may double does.
-#[derive(Clone, Copy, Debug, PartialEq, Eq)]
-pub enum Offer {
-    NoDouble,
-    Double,
-}
-
-/// What a player does who was doubled.
-#[derive(Clone, Copy, Debug, PartialEq, Eq)]
-pub enum Answer {
-    Take,
-    Pass,
-    Beaver,
-}
-
-/// What a player chose.
-#[derive(Clone, Copy, Debug, PartialEq, Eq)]
-pub enum Choice {
-    /// A play of a roll, told by the position that it leaves, seen by the same player.
-    Played { roll: Roll, end: Position },
-    Offered(Offer),
-    Answered(Answer),
-}
+use turn_rule::Choice;
 
 /// What a player chose in a recorded game, and the state in which he chose it.
 #[derive(Clone, Copy, Debug, PartialEq, Eq)]

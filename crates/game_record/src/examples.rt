@@ -7,7 +7,7 @@ ghost use Rattle.cube_actions.specs.declared.name.KindName.TheVariants.{Mine, Th
 ghost use Rattle.cube_actions.specs.declared.phase.Phase.TheVariants.{Normal, Crawford, Post};
 ghost use Rattle.cube_actions.specs.declared.side.Side.TheVariants.{Near, Far};
 ghost use Rattle.move_rules.specs.declared.payoff.Won.TheVariants.{Gammon};
-ghost use Rattle.game_record.specs.declared.decision.Answer.TheVariants.{Take, Pass, Beaver};
+ghost use Rattle.cube_actions.specs.declared.action.Answer.TheVariants.{Take, Pass, Beaver};
 ghost use Rattle.cube_actions.specs.declared.name.MoneyRule.TheVariants.{Jacoby, Money};
 ghost use Rattle.game_record.specs.declared.record.RecordStakes.TheVariants.{Match, Unlimited};
 ghost use Rattle.game_record.specs.Cube.{centred, shows, turned};

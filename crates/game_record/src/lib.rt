@@ -17,7 +17,7 @@ mod stage;
 mod standing;
 
 pub use cube::Cube;
-pub use decision::{Answer, Choice, Decision, Decisions, Offer};
+pub use decision::{Decision, Decisions};
 pub use examples::{cube_examples, kind_examples, order_examples, standing_examples};
 pub use fault::{BadRecord, RecordFault, RecordStop};
 pub use line::{Line, LineKind};

@@ -11,7 +11,7 @@ ghost use Rattle.game_record.specs.Replay.{decided, first_moment, goes_on, may_d
 ghost use Rattle.game_record.specs.Standings.{IsInRange};
 ghost use Rattle.game_record.specs.declared.line.Line.TheVariants.{Game as GameLine};
 
-use crate::decision::{Choice, Decision, Decisions};
+use crate::decision::{Decision, Decisions};
 use crate::fault::{BadRecord, RecordFault};
 use crate::player::Player;
 use crate::progress::{Progress, Win};
@@ -22,6 +22,7 @@ use cube_actions::{
 };
 use directed_fixed::{Fixed, Pair};
 use hyper_outside::NoMemory;
+use turn_rule::Choice;
 
 /// A moment of a replay, before one of the record's lines.
 #[derive(Clone, Copy, Debug, PartialEq, Eq)]

@@ -4,11 +4,10 @@ ghost use Rattle.game_record.specs.Standings.{IsInRange};
 ghost use Rattle.game_record.specs.Turns.{other_player};
 
 use crate::cube::Cube;
-use crate::decision::Answer;
 use crate::player::Player;
 use crate::record::RecordStakes;
 use crate::standing::Standing;
-use cube_actions::{MoneyRule, Phase};
+use cube_actions::{Answer, MoneyRule, Phase};
 use move_rules::{Won, points};
 use position_rank::Position;
 

@@ -20,11 +20,11 @@ use Rattle.turn_rule.proofs.Integers.{le_refl}
 use Rattle.turn_rule.proofs.Monotone.{roll-tighter, same-stakes}
 use Rattle.turn_rule.proofs.Tight.{tight-min}
 use Rattle.play_analyser.specs.Losses.{Options, loss, least_pair, lower_ends, upper_ends}
-use Rattle.game_record.specs.declared.decision.Choice.TheVariants.{Offered, Answered}
-use Rattle.game_record.specs.declared.decision.Offer.{Offer}
-use Rattle.game_record.specs.declared.decision.Offer.TheVariants.{NoDouble, Double as Doubled}
-use Rattle.game_record.specs.declared.decision.Answer.{Answer}
-use Rattle.game_record.specs.declared.decision.Answer.TheVariants.{Take, Pass, Beaver}
+use Rattle.turn_rule.specs.declared.choice.Choice.TheVariants.{Offered, Answered}
+use Rattle.cube_actions.specs.declared.action.Offer.{Offer}
+use Rattle.cube_actions.specs.declared.action.Offer.TheVariants.{NoDouble, Double as Doubled}
+use Rattle.cube_actions.specs.declared.action.Answer.{Answer}
+use Rattle.cube_actions.specs.declared.action.Answer.TheVariants.{Take, Pass, Beaver}
 use Rattle.play_analyser.specs.Choices.{HasAnswer, IsAmongAnswers, offer_options, answer_options}
 use Rattle.play_analyser.specs.Regrets.{taken_pair, double_pair, loss_of, cube_loss, offer_pairs, answer_pairs}
 use Rattle.play_analyser.specs.Sought.{ArePairsFor, IsNear, of_answer, of_loss}

@@ -27,12 +27,12 @@ use Rattle.turn_rule.proofs.Follows.{may-follow, answer-follows}
 use Rattle.turn_rule.proofs.Within.{answer-kind, follow-state, follow-turn-state}
 use Rattle.turn_rule.proofs.Enclosing.{bound-roll}
 use Rattle.turn_rule.proofs.Fractions.{bound-at, bound-least, bound-neg, bound-over}
-use Rattle.game_record.specs.declared.decision.Choice.{Choice}
-use Rattle.game_record.specs.declared.decision.Choice.TheVariants.{Played, Offered, Answered}
-use Rattle.game_record.specs.declared.decision.Offer.{Offer}
-use Rattle.game_record.specs.declared.decision.Offer.TheVariants.{NoDouble, Double as Doubled}
-use Rattle.game_record.specs.declared.decision.Answer.{Answer}
-use Rattle.game_record.specs.declared.decision.Answer.TheVariants.{Take, Pass, Beaver}
+use Rattle.turn_rule.specs.declared.choice.Choice.{Choice}
+use Rattle.turn_rule.specs.declared.choice.Choice.TheVariants.{Played, Offered, Answered}
+use Rattle.cube_actions.specs.declared.action.Offer.{Offer}
+use Rattle.cube_actions.specs.declared.action.Offer.TheVariants.{NoDouble, Double as Doubled}
+use Rattle.cube_actions.specs.declared.action.Answer.{Answer}
+use Rattle.cube_actions.specs.declared.action.Answer.TheVariants.{Take, Pass, Beaver}
 use Rattle.play_analyser.specs.Losses.{Options}
 use Rattle.play_analyser.specs.Choices.{IsChoice, IfDouble, HasAnswer, all_but, same_position, answer_options}
 use Rattle.play_analyser.specs.Regrets.{play_pair, taken_pair, double_pair, taken_worth, loss_of, regret_of, cube_loss, cube_regret, offer_pairs, offer_worths, answer_pairs, answer_worths, counted_over}

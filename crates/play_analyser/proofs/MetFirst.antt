@@ -2,8 +2,8 @@
 use Rattle.std.proofs.Common.{ℕ}
 use Rattle.position_rank.specs.Placement.{Placement}
 use Rattle.cube_actions.specs.Stakes.{Terms}
-use Rattle.game_record.specs.declared.decision.Choice.{Choice}
-use Rattle.game_record.specs.declared.decision.Choice.TheVariants.{Played, Offered, Answered}
+use Rattle.turn_rule.specs.declared.choice.Choice.{Choice}
+use Rattle.turn_rule.specs.declared.choice.Choice.TheVariants.{Played, Offered, Answered}
 use Rattle.turn_rule.specs.Looks.{Source, Damage, HasDamage}
 use Rattle.turn_rule.proofs.MetFirst.{met-on_roll, met-on_turn}
 use Rattle.play_analyser.specs.Sought.{MayFollowChoice, MeetsOnChoice}

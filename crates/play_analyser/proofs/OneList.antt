@@ -23,10 +23,10 @@ use Rattle.turn_rule.specs.Found.{of_play}
 use Rattle.turn_rule.proofs.Agreement.{roll-agree}
 use Rattle.turn_rule.proofs.Follows.{answer-follows}
 use Rattle.turn_rule.proofs.Sure.{exact-pair}
-use Rattle.game_record.specs.declared.decision.Choice.{Choice}
-use Rattle.game_record.specs.declared.decision.Choice.TheVariants.{Played, Offered, Answered}
-use Rattle.game_record.specs.declared.decision.Offer.{Offer}
-use Rattle.game_record.specs.declared.decision.Answer.{Answer}
+use Rattle.turn_rule.specs.declared.choice.Choice.{Choice}
+use Rattle.turn_rule.specs.declared.choice.Choice.TheVariants.{Played, Offered, Answered}
+use Rattle.cube_actions.specs.declared.action.Offer.{Offer}
+use Rattle.cube_actions.specs.declared.action.Answer.{Answer}
 use Rattle.play_analyser.specs.Losses.{loss}
 use Rattle.play_analyser.specs.Choices.{IsChoice, all_but, offer_options, answer_options}
 use Rattle.play_analyser.specs.Regrets.{play_pair, taken_pair, double_pair, loss_of, cube_loss, offer_pairs, answer_pairs}

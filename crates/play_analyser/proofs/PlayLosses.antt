@@ -22,7 +22,7 @@ use Rattle.turn_rule.specs.Found.{LeavesState, of_play}
 use Rattle.turn_rule.proofs.Within.{bound-positive, bound-small, win-within, next_state}
 use Rattle.turn_rule.proofs.Integers.{le_refl}
 use Rattle.turn_rule.proofs.Found.{notes-refl, then-err}
-use Rattle.game_record.specs.declared.decision.Choice.TheVariants.{Played}
+use Rattle.turn_rule.specs.declared.choice.Choice.TheVariants.{Played}
 use Rattle.play_analyser.specs.Losses.{Options, ahead, loss}
 use Rattle.play_analyser.specs.Choices.{all_but, same_position}
 use Rattle.play_analyser.specs.Regrets.{play_pair, loss_of}

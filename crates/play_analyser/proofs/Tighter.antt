@@ -26,12 +26,12 @@ use Rattle.turn_rule.proofs.Follows.{may-follow, answer-follows}
 use Rattle.turn_rule.proofs.Within.{follow-state, follow-turn-state}
 use Rattle.turn_rule.proofs.Monotone.{roll-tighter}
 use Rattle.turn_rule.proofs.Tightness.{tight-at, tight-neg, tight-max, tight-least}
-use Rattle.game_record.specs.declared.decision.Choice.{Choice}
-use Rattle.game_record.specs.declared.decision.Choice.TheVariants.{Played, Offered, Answered}
-use Rattle.game_record.specs.declared.decision.Offer.{Offer}
-use Rattle.game_record.specs.declared.decision.Offer.TheVariants.{NoDouble, Double as Doubled}
-use Rattle.game_record.specs.declared.decision.Answer.{Answer}
-use Rattle.game_record.specs.declared.decision.Answer.TheVariants.{Take, Pass, Beaver}
+use Rattle.turn_rule.specs.declared.choice.Choice.{Choice}
+use Rattle.turn_rule.specs.declared.choice.Choice.TheVariants.{Played, Offered, Answered}
+use Rattle.cube_actions.specs.declared.action.Offer.{Offer}
+use Rattle.cube_actions.specs.declared.action.Offer.TheVariants.{NoDouble, Double as Doubled}
+use Rattle.cube_actions.specs.declared.action.Answer.{Answer}
+use Rattle.cube_actions.specs.declared.action.Answer.TheVariants.{Take, Pass, Beaver}
 use Rattle.play_analyser.specs.Losses.{Options, ahead, loss, lower_ends, upper_ends}
 use Rattle.play_analyser.specs.Choices.{IsChoice, all_but, answer_options}
 use Rattle.play_analyser.specs.Regrets.{play_pair, taken_pair, double_pair, loss_of, cube_loss, offer_pairs, answer_pairs}

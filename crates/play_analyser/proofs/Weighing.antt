@@ -14,10 +14,10 @@ use Rattle.cube_actions.specs.Stakes.{Terms, kind_at, IsValid}
 use Rattle.turn_rule.specs.States.{IsStateOf}
 use Rattle.turn_rule.specs.Looks.{Source, Notes, AreLater, AreStakesOf, IsPairFor, of_roll}
 use Rattle.turn_rule.specs.Found.{of_play}
-use Rattle.game_record.specs.declared.decision.Choice.{Choice}
-use Rattle.game_record.specs.declared.decision.Choice.TheVariants.{Played, Offered, Answered}
-use Rattle.game_record.specs.declared.decision.Answer.{Answer}
-use Rattle.game_record.specs.declared.decision.Offer.{Offer}
+use Rattle.turn_rule.specs.declared.choice.Choice.{Choice}
+use Rattle.turn_rule.specs.declared.choice.Choice.TheVariants.{Played, Offered, Answered}
+use Rattle.cube_actions.specs.declared.action.Answer.{Answer}
+use Rattle.cube_actions.specs.declared.action.Offer.{Offer}
 use Rattle.play_analyser.specs.declared.advice.CubeAction.{CubeAction}
 use Rattle.play_analyser.specs.declared.advice.CubeAdvice.{CubeAdvice}
 use Rattle.play_analyser.specs.declared.best.Advised.{Advised}

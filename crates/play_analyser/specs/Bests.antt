@@ -8,12 +8,12 @@ use Rattle.directed_fixed.specs.Bounds.{Bounds}
 use Rattle.cube_actions.specs.Stakes.{Terms}
 use Rattle.turn_rule.specs.Turn.{Words}
 use Rattle.turn_rule.specs.Looks.{Source, Notes, IsPairFor}
-use Rattle.game_record.specs.declared.decision.Choice.{Choice}
-use Rattle.game_record.specs.declared.decision.Choice.TheVariants.{Played, Offered, Answered}
-use Rattle.game_record.specs.declared.decision.Offer.{Offer as OfferOf}
-use Rattle.game_record.specs.declared.decision.Offer.TheVariants.{NoDouble, Double}
-use Rattle.game_record.specs.declared.decision.Answer.{Answer as AnswerOf}
-use Rattle.game_record.specs.declared.decision.Answer.TheVariants.{Take, Pass, Beaver}
+use Rattle.turn_rule.specs.declared.choice.Choice.{Choice}
+use Rattle.turn_rule.specs.declared.choice.Choice.TheVariants.{Played, Offered, Answered}
+use Rattle.cube_actions.specs.declared.action.Offer.{Offer as OfferOf}
+use Rattle.cube_actions.specs.declared.action.Offer.TheVariants.{NoDouble, Double}
+use Rattle.cube_actions.specs.declared.action.Answer.{Answer as AnswerOf}
+use Rattle.cube_actions.specs.declared.action.Answer.TheVariants.{Take, Pass, Beaver}
 use Rattle.play_analyser.specs.declared.advice.CubeAction.{CubeAction}
 use Rattle.play_analyser.specs.declared.advice.CubeAdvice.{CubeAdvice}
 use Rattle.play_analyser.specs.declared.best.Advised.{Advised}

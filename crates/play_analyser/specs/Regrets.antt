@@ -12,10 +12,10 @@ use Rattle.cube_actions.specs.Stakes.{Terms, kind_at}
 use Rattle.turn_rule.specs.Exact.{Scoring, exact, left_with, rolled, after_double}
 use Rattle.turn_rule.specs.Looks.{roll_pair}
 use Rattle.turn_rule.specs.Turn.{Words, worth, doubled}
-use Rattle.game_record.specs.declared.decision.Choice.{Choice}
-use Rattle.game_record.specs.declared.decision.Choice.TheVariants.{Played, Offered, Answered}
-use Rattle.game_record.specs.declared.decision.Answer.{Answer}
-use Rattle.game_record.specs.declared.decision.Offer.{Offer}
+use Rattle.turn_rule.specs.declared.choice.Choice.{Choice}
+use Rattle.turn_rule.specs.declared.choice.Choice.TheVariants.{Played, Offered, Answered}
+use Rattle.cube_actions.specs.declared.action.Answer.{Answer}
+use Rattle.cube_actions.specs.declared.action.Offer.{Offer}
 use Rattle.play_analyser.specs.Losses.{Options, loss, regret}
 use Rattle.play_analyser.specs.Choices.{play_options, offer_options, answer_options}
 

@@ -5,8 +5,8 @@ use Rattle.directed_fixed.specs.Bounds.{Bounds, IsWithin, at}
 use Rattle.cube_actions.specs.declared.kind.Taken.{Taken}
 use Rattle.cube_actions.specs.Stakes.{Terms}
 use Rattle.turn_rule.specs.Looks.{Source, Notes, States, Sought, IsPairFor, MayFollowRoll, MayFollowTurn, Meets, MeetsFirst, MeetsOnRoll, MeetsOnTurn, of_roll}
-use Rattle.game_record.specs.declared.decision.Choice.{Choice}
-use Rattle.game_record.specs.declared.decision.Choice.TheVariants.{Played, Offered, Answered}
+use Rattle.turn_rule.specs.declared.choice.Choice.{Choice}
+use Rattle.turn_rule.specs.declared.choice.Choice.TheVariants.{Played, Offered, Answered}
 use Rattle.play_analyser.specs.Regrets.{loss_of}
 
 -- the states on which it rests what a choice loses and what was best

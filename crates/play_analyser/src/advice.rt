@@ -11,9 +11,8 @@ ghost use Rattle.play_analyser.specs.Advice.{
 ghost use Rattle.play_analyser.specs.Sought.{IsNear};
 
 use crate::answers::{answer_loss, answer_pairs, doubled_pair, offer_loss};
-use cube_actions::Stakes;
+use cube_actions::{Answer, Offer, Stakes};
 use directed_fixed::{Fixed, Pair};
-use game_record::{Answer, Offer};
 use hyper_outside::LookStop;
 use move_rules::PlayList;
 use position_rank::Position;

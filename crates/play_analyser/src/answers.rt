@@ -3,16 +3,15 @@ ghost use Rattle.std.specs.Int.{int_min};
 ghost use Rattle.directed_fixed.specs.Bounds.{negated};
 ghost use Rattle.cube_actions.specs.Stakes.{IsRightDouble, IsValid};
 ghost use Rattle.turn_rule.specs.Looks.{AreStakesOf, IsSourceState, LooksUp, MeetsOnAnswers};
-ghost use Rattle.game_record.specs.declared.decision.Answer.TheVariants.{Take};
+ghost use Rattle.cube_actions.specs.declared.action.Answer.TheVariants.{Take};
 ghost use Rattle.play_analyser.specs.Losses.{loss, least_pair};
 ghost use Rattle.play_analyser.specs.Choices.{IsAmongAnswers, answer_options, offer_options};
 ghost use Rattle.play_analyser.specs.Sought.{ArePairsFor, IsNear, of_answer};
 
 use crate::among::loss_among;
 use arrayvec::ArrayVec;
-use cube_actions::{Double, Stakes};
+use cube_actions::{Answer, Double, Offer, Stakes};
 use directed_fixed::Pair;
-use game_record::{Answer, Offer};
 use hyper_outside::LookStop;
 use turn_rule::{Pairs, RollEnds};
 

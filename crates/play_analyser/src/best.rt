@@ -6,8 +6,8 @@ use crate::advice::CubeAction;
 use crate::answers::doubled_pair;
 use crate::ranking::PlayRow;
 use arrayvec::ArrayVec;
+use cube_actions::{Answer, Offer};
 use directed_fixed::Pair;
-use game_record::{Answer, Offer};
 use move_rules::{Move, Play};
 
 /// The moves of a play, which can be copied.

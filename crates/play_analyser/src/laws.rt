@@ -1,6 +1,6 @@
 ghost use Rattle.std.specs.Prelude.{ℕ};
 ghost use Rattle.position_rank.specs.Placement.{Placement};
-ghost use Rattle.game_record.specs.declared.decision.Choice.{Choice};
+ghost use Rattle.turn_rule.specs.declared.choice.Choice.{Choice};
 ghost use Rattle.turn_rule.specs.declared.game.Game.{Game};
 ghost use Rattle.turn_rule.specs.Games.{IsGame};
 ghost use Rattle.turn_rule.specs.Turn.{Words};

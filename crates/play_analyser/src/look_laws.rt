@@ -25,7 +25,7 @@ ghost use Rattle.turn_rule.specs.Looks.{
   Seen,
   Source,
 };
-ghost use Rattle.game_record.specs.declared.decision.Choice.{Choice};
+ghost use Rattle.turn_rule.specs.declared.choice.Choice.{Choice};
 ghost use Rattle.play_analyser.specs.declared.advice.CubeAdvice.{CubeAdvice};
 ghost use Rattle.play_analyser.specs.declared.ranking.Ranking.{Ranking};
 ghost use Rattle.play_analyser.specs.Advice.{IsCubeAdvice, IsCubeAdviceOver};

@@ -4,7 +4,7 @@ ghost use Rattle.move_rules.specs.Sequences.{IsLegalEnd};
 ghost use Rattle.move_rules.specs.declared.play.TheConstants.{MOST_PLAYS};
 ghost use Rattle.cube_actions.specs.Stakes.{IsValid};
 ghost use Rattle.turn_rule.specs.Looks.{AreStakesOf, IsSourceState, LooksUp, MeetsOnRoll, MeetsOnTurn};
-ghost use Rattle.game_record.specs.declared.decision.Choice.TheVariants.{Played, Offered, Answered};
+ghost use Rattle.turn_rule.specs.declared.choice.Choice.TheVariants.{Played, Offered, Answered};
 ghost use Rattle.play_analyser.specs.Bests.{CanBeMade, IsWeighed};
 ghost use Rattle.play_analyser.specs.Choices.{IsChoice};
 ghost use Rattle.play_analyser.specs.Rankings.{other_pairs};
@@ -17,14 +17,13 @@ use crate::best::{Best, best_answer, best_offer, doubling_of, first_row, taken_o
 use crate::play_pairs::same;
 use crate::ranking::{PlayRow, rank_plays};
 use arrayvec::ArrayVec;
-use cube_actions::Stakes;
+use cube_actions::{Answer, Offer, Stakes};
 use directed_fixed::Pair;
-use game_record::{Answer, Choice, Offer};
 use hyper_outside::LookStop;
 use move_rules::MOST_PLAYS;
 use position_rank::Position;
 use roll_table::Roll;
-use turn_rule::Pairs;
+use turn_rule::{Choice, Pairs};
 
 /// What a choice loses, and what was best.
 #[derive(Clone, Copy, Debug, PartialEq, Eq)]

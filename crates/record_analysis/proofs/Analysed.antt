@@ -10,10 +10,10 @@ use Rattle.cube_actions.specs.declared.kind.Double.{Double}
 use Rattle.cube_actions.specs.Matches.{stakes_named}
 use Rattle.cube_actions.specs.Stakes.{Terms, kind_at, no_kind, IsValid, IsRightDouble}
 use Rattle.cube_actions.specs.Starts.{StartPairs}
-use Rattle.game_record.specs.declared.decision.Answer.{Answer}
-use Rattle.game_record.specs.declared.decision.Answer.TheVariants.{Take, Pass, Beaver}
-use Rattle.game_record.specs.declared.decision.Choice.{Choice}
-use Rattle.game_record.specs.declared.decision.Choice.TheVariants.{Played, Offered, Answered}
+use Rattle.cube_actions.specs.declared.action.Answer.{Answer}
+use Rattle.cube_actions.specs.declared.action.Answer.TheVariants.{Take, Pass, Beaver}
+use Rattle.turn_rule.specs.declared.choice.Choice.{Choice}
+use Rattle.turn_rule.specs.declared.choice.Choice.TheVariants.{Played, Offered, Answered}
 use Rattle.game_record.specs.declared.decision.Decision.{Decision}
 use Rattle.game_record.specs.declared.record.Record.{Record}
 use Rattle.game_record.specs.Kinds.{stakes_at}

@@ -8,7 +8,7 @@ use Rattle.directed_fixed.specs.declared.bounds.End.TheVariants.{Lower, Upper}
 use Rattle.directed_fixed.specs.Bounds.{Bounds, IsNoLooser, AreNoLooserPairs, at}
 use Rattle.cube_actions.specs.Scores.{MatchScore}
 use Rattle.cube_actions.specs.Stakes.{Terms, IsValid}
-use Rattle.game_record.specs.declared.decision.Choice.{Choice}
+use Rattle.turn_rule.specs.declared.choice.Choice.{Choice}
 use Rattle.turn_rule.specs.Games.{IsGame, game_of}
 use Rattle.turn_rule.specs.Turn.{Words}
 use Rattle.turn_rule.specs.States.{IsStateOf, IsState, AreNoLooserOf, AreNoLooser}

@@ -1,13 +1,15 @@
 ghost use Rattle.std.specs.Prelude.{◌≡◌, ◌<◌, ◌≤◌, All, IfOk, IfSome, None, OnErr, Some, length, map, slice_get};
 ghost use Rattle.record_analysis.specs.Analyses.{BestCanBeMade, IsSmallJudged, unjudged};
 
+use cube_actions::Offer;
 use directed_fixed::Pair;
-use game_record::{Choice, Decision, Decisions, Offer, Player};
+use game_record::{Decision, Decisions, Player};
 use hyper_outside::NoMemory;
 use play_analyser::Best;
 use position_rank::Position;
 use std::alloc::Global;
 use std::marker::Model;
+use turn_rule::Choice;
 
 /// A decision, and where it was judged, the pair of what it loses and what was best.
 #[derive(Clone, Copy, Debug, PartialEq, Eq)]

@@ -4,7 +4,7 @@ use Rattle.rand_pcg.specs.Lcg.{Lcg}
 use Rattle.play_text.specs.Notation.{IsPlayText, play_text}
 use Rattle.move_rules.specs.declared.play.Entry.{Entry}
 use Rattle.roll_table.specs.Rolls.{Dice}
-use Rattle.game_record.specs.declared.decision.Answer.TheVariants.{Take, Pass}
+use Rattle.cube_actions.specs.declared.action.Answer.TheVariants.{Take, Pass}
 use Rattle.game_record.specs.declared.player.Player.{Player}
 use Rattle.game_record.specs.declared.progress.Progress.{Progress}
 use Rattle.game_record.specs.declared.record.Action.{Action}

@@ -7,8 +7,8 @@ use crate::choice::choose;
 use crate::dice::{draw_roll, draw_start, draw_word};
 use crate::due::Due;
 use crate::state::Maker;
-use cube_actions::MoneyRule;
-use game_record::{Action, Answer, Player, RecordStakes, Standing, What};
+use cube_actions::{Answer, MoneyRule};
+use game_record::{Action, Player, RecordStakes, Standing, What};
 use roll_table::Roll;
 
 impl Maker {

@@ -6,10 +6,11 @@ ghost use Rattle.record_reports.specs.Analyses.{analysis_text, choice_text, deci
 
 use directed_fixed::Pair;
 use equity_report::{Report, add_counted, add_number, add_points};
-use game_record::{Choice, Decision, Player};
+use game_record::{Decision, Player};
 use hyper_outside::Failed;
 use outside_log::Sink;
 use record_analysis::{Analysis, Judged};
+use turn_rule::Choice;
 
 pub(crate) fn choice_text(choice: &Choice) -> &'static str
     ensures text { result.now ≡ choice_text choice.now }

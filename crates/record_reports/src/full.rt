@@ -20,7 +20,7 @@ use cube_actions::{KindName, Score, Stakes, Starts, ladder, ladders_are_exact};
 use cube_text::{print_kind, print_score};
 use directed_fixed::{Fixed, Pair};
 use equity_report::{Report, add_number, answer_text, offer_text};
-use game_record::{Choice, Decision, Record, RecordStakes};
+use game_record::{Decision, Record, RecordStakes};
 use hyper_outside::Failed;
 use outside_log::Sink;
 use play_analyser::{Advised, Best};
@@ -30,6 +30,7 @@ use position_board::board_told;
 use position_rank::Position;
 use position_text::print_position;
 use record_analysis::{Analysis, Judged};
+use turn_rule::Choice;
 
 /// A pair for each score of a match: the names of kinds don't depend on what they are.
 fn some_starts(match_length: u8) -> Starts

@@ -9,10 +9,10 @@ use Rattle.cube_actions.specs.Matches.{terms_of}
 use Rattle.cube_actions.specs.Scores.{MatchScore}
 use Rattle.cube_actions.specs.Stakes.{Terms, kind_at}
 use Rattle.cube_actions.specs.Starts.{StartPairs}
-use Rattle.game_record.specs.declared.decision.Answer.{Answer}
-use Rattle.game_record.specs.declared.decision.Choice.{Choice}
-use Rattle.game_record.specs.declared.decision.Choice.TheVariants.{Played, Offered, Answered}
-use Rattle.game_record.specs.declared.decision.Offer.{Offer}
+use Rattle.cube_actions.specs.declared.action.Answer.{Answer}
+use Rattle.turn_rule.specs.declared.choice.Choice.{Choice}
+use Rattle.turn_rule.specs.declared.choice.Choice.TheVariants.{Played, Offered, Answered}
+use Rattle.cube_actions.specs.declared.action.Offer.{Offer}
 use Rattle.turn_rule.specs.Exact.{Scoring, exact, left_with}
 use Rattle.play_analyser.specs.Choices.{play_options, offer_options, answer_options}
 use Rattle.play_analyser.specs.Losses.{regret}

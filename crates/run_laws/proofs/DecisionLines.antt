@@ -4,7 +4,7 @@ use Rattle.std.specs.List.{range_with_len}
 use Rattle.std.proofs.lemmas.List.{length-append, map-append}
 use Rattle.game_record.specs.Lines.{games_lines, record_lines}
 use Rattle.game_record.specs.Replay.{Acts, AllTell, IsReplay, Reports, decided, first_moment, may_double_now, undoubled}
-use Rattle.game_record.specs.declared.decision.Choice.{Choice}
+use Rattle.turn_rule.specs.declared.choice.Choice.{Choice}
 use Rattle.game_record.specs.declared.decision.Decision.{Decision}
 use Rattle.game_record.specs.declared.line.Line.{Line}
 use Rattle.game_record.specs.declared.line.Line.TheVariants.{Title, Checkers, Stakes, Game as GameLine, Acted, Ended, Stopped, Closed}

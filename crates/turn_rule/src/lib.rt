@@ -2,6 +2,7 @@
 #![tactic(auto)]
 
 mod bounds;
+mod choice;
 mod ends;
 mod exact_laws;
 mod following_laws;
@@ -17,6 +18,7 @@ mod value;
 mod worth;
 
 pub use bounds::{roll_bounds, turn_bounds};
+pub use choice::Choice;
 pub use ends::RollEnds;
 pub use exact_laws::{
     consistent_words_enclose, each_sound_word_is_sound, exact_values_stay_within_the_bound,

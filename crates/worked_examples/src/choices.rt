@@ -1,7 +1,7 @@
 ghost use Rattle.std.specs.Prelude.{◌≡◌, pos, [], ◌∷◌};
 ghost use Rattle.directed_fixed.specs.Bounds.{at_zero};
-ghost use Rattle.game_record.specs.declared.decision.Answer.TheVariants.{Take, Pass, Beaver};
-ghost use Rattle.game_record.specs.declared.decision.Offer.TheVariants.{NoDouble, Double};
+ghost use Rattle.cube_actions.specs.declared.action.Answer.TheVariants.{Take, Pass, Beaver};
+ghost use Rattle.cube_actions.specs.declared.action.Offer.TheVariants.{NoDouble, Double};
 ghost use Rattle.worked_examples.specs.Turns.{between, gains, losses};
 ghost use Rattle.play_analyser.specs.Advice.{IsBestAnswer, IsBestOffer};
 ghost use Rattle.play_analyser.specs.Choices.{answer_options, offer_options};

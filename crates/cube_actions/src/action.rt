@@ -1,0 +1,14 @@
+/// Whether a player who may double does.
+#[derive(Clone, Copy, Debug, PartialEq, Eq)]
+pub enum Offer {
+    NoDouble,
+    Double,
+}
+
+/// What a player does who was doubled.
+#[derive(Clone, Copy, Debug, PartialEq, Eq)]
+pub enum Answer {
+    Take,
+    Pass,
+    Beaver,
+}
