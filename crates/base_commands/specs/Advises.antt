@@ -9,7 +9,7 @@ use Rattle.play_text.specs.Notation.{CanFollow}
 use Rattle.turn_rule.specs.Looks.{MayFollowTurn, States, MayFollowRoll, Meets, MeetsOnRoll, MeetsOnTurn}
 use Rattle.turn_rule.specs.Games.{IsGame, kinds_of}
 use Rattle.turn_rule.specs.States.{IsState}
-use Rattle.turn_rule.specs.Truth.{AreSound}
+use Rattle.turn_rule.specs.Truth.{AreSound, InTheEnd}
 use Rattle.turn_rule.specs.Turn.{Words}
 use Rattle.play_analyser.specs.declared.advice.CubeAdvice.{CubeAdvice}
 use Rattle.play_analyser.specs.declared.ranking.PlayRow.{PlayRow}
@@ -32,7 +32,7 @@ use Rattle.base_commands.specs.declared.advise.FoundRanking.{FoundRanking}
 use Rattle.base_commands.specs.declared.advise.OpenedFile.{OpenedFile}
 use Rattle.command_line.specs.declared.command.Advise.{Advise as AdviseTask}
 use Rattle.run_endings.specs.Endings.{Ending, Tells}
-use Rattle.run_endings.specs.Pages.{AnswersSought, AreOnRightPages, HavePairsOf, InTheEnd, IsOnBadPage, OfHeld, TellsFirst, RefusesOpeningFor}
+use Rattle.run_endings.specs.Pages.{AnswersSought, AreOnRightPages, HavePairsOf, IsOnBadPage, OfHeld, TellsFirst, RefusesOpeningFor}
 use Rattle.base_commands.specs.Games.{IsKindAsked, WantsOther}
 
 -- ---- the state in which advice is sought

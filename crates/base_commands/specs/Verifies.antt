@@ -5,7 +5,7 @@ use Rattle.position_rank.specs.Placement.{Placement}
 use Rattle.cube_actions.specs.Names.{names_of}
 use Rattle.turn_rule.specs.States.{IsState}
 use Rattle.turn_rule.specs.Exact.{Scoring}
-use Rattle.turn_rule.specs.Truth.{AreConsistent, Encloses, IsScoringWithin}
+use Rattle.turn_rule.specs.Truth.{AreConsistent, AreEndsWithin, Encloses, IsScoring}
 use Rattle.turn_rule.specs.declared.choice.Choice.{Choice}
 use Rattle.play_analyser.specs.Choices.{IsChoice}
 use Rattle.play_analyser.specs.Regrets.{counted_over, loss_of, regret_of}
@@ -31,11 +31,12 @@ use Rattle.run_endings.specs.Endings.{Ending, Tells}
 abbrev pub verified_report : FileHead → List ℕ
 verified_report head = verified_text (game_told head) head.rounds (live_positions head.checkers)
 
--- What a choice loses over the words encloses what it loses exactly, in games of any number of turns from one on, where a win and a pass lie in
--- the stakes' pairs and an unfinished end in the pair of its own state.
+-- What a choice loses over the words encloses what it loses exactly, in games of any number of turns from one on, however they are scored, where
+-- an unfinished end lies in the pair of its own state.
 abbrev pub LossesEnclose : WordList → Type 0
 LossesEnclose words =
-    (scoring : Scoring) → IsScoringWithin words.game (words_in_list words) scoring
+    (scoring : Scoring) → IsScoring words.game scoring
+    → AreEndsWithin words.game (words_in_list words) scoring
     → (turns : ℕ) (p : Placement) (k : ℕ) → IsState words.game p k
     → (choice : Choice) → IsChoice words.game.stakes p k choice
     → Encloses (loss_of words.game.stakes (words_in_list words) p k choice)

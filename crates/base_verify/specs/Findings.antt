@@ -8,7 +8,7 @@ use Rattle.directed_fixed.specs.Bounds.{IsNoLooser}
 use Rattle.turn_rule.specs.Games.{kinds_of}
 use Rattle.turn_rule.specs.Turn.{Words, turn}
 use Rattle.turn_rule.specs.States.{IsState}
-use Rattle.turn_rule.specs.Truth.{AreConsistent, AreEnclosing, IsScoringWithin}
+use Rattle.turn_rule.specs.Truth.{AreConsistent, AreEnclosing, AreEndsWithin, IsScoring}
 use Rattle.turn_rule.specs.Exact.{Scoring}
 use Rattle.interval_words.specs.Numbers.{state_of, word_of}
 use Rattle.interval_words.specs.WordLists.{WordList, words_in_list}
@@ -68,9 +68,10 @@ TellsConsistency words (Ok _) = AreConsistent words.game (words_in_list words)
 TellsConsistency words (Err (Inconsistent finding)) = IsFirstFinding words finding
 TellsConsistency words (Err NoMemory) = Unit {0}
 
--- In games of any number of turns the words enclose every state, where a win and a pass lie in the stakes' pairs and an unfinished end in the
--- pair of its own state.
+-- In games of any number of turns the words enclose every state, however they are scored, where an unfinished end lies in the pair of its own
+-- state.
 abbrev pub AlwaysEnclose : WordList → Type 0
 AlwaysEnclose words =
-    (scoring : Scoring) → IsScoringWithin words.game (words_in_list words) scoring
+    (scoring : Scoring) → IsScoring words.game scoring
+    → AreEndsWithin words.game (words_in_list words) scoring
     → (turns : ℕ) → AreEnclosing words.game scoring turns (words_in_list words)

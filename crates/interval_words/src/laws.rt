@@ -10,7 +10,7 @@ ghost use Rattle.interval_words.specs.declared.view.Note.{Note};
 ghost use Rattle.interval_words.specs.Numbers.{state_of, word_of};
 ghost use Rattle.interval_words.specs.Core.{Core, IsKept, IsFirstCore, words_in_core, noted};
 ghost use Rattle.interval_words.specs.Seats.{AreKnown, IsNumber};
-ghost use Rattle.turn_rule.specs.Truth.{AreSound, AreConsistent, AreEnclosing, IsScoringWithin};
+ghost use Rattle.turn_rule.specs.Truth.{AreSound, AreConsistent, AreEnclosing, AreEndsWithin, IsScoring};
 ghost use Rattle.interval_words.specs.WordLists.{WordList, AreRight, states_of, words_in_list};
 ghost use Rattle.interval_words.specs.Events.{BoardEvent, IsAllowed, AreAllowed, core_after, core_after_all};
 
@@ -44,12 +44,13 @@ pub fn states_are_numbered()
         → state_of (kinds_of game) p k ≡ state_of (kinds_of game) q j → (p ≡ q) × (k ≡ j) }
 {}
 
-/// Consistent words of a list enclose every state, in games of any number of turns from 0 on, where
-/// a win and a pass lie in the stakes' pairs and an unfinished end in the pair of its own state.
+/// Consistent words of a list enclose every state, in games of any number of turns from 0 on,
+/// however they are scored, where an unfinished end lies in the pair of its own state.
 pub fn consistent_lists_enclose()
     ensures { (words : WordList) → IsGame words.game → AreRight words
         → AreConsistent words.game (words_in_list words)
-        → (scoring : Scoring) → IsScoringWithin words.game (words_in_list words) scoring
+        → (scoring : Scoring) → IsScoring words.game scoring
+        → AreEndsWithin words.game (words_in_list words) scoring
         → (turns : ℕ) → AreEnclosing words.game scoring turns (words_in_list words) }
 {}
 

@@ -3,7 +3,7 @@ pub mod Ahead
 pub mod Enclosing
 pub mod Tighter
 mod LossLemmas
-mod PairLists
+pub mod PairLists
 mod OtherPlays
 mod OtherRows
 mod LossPairs

@@ -6,10 +6,11 @@ use Rattle.position_rank.specs.Placement.{Placement}
 use Rattle.move_rules.specs.Listing.{Among}
 use Rattle.directed_fixed.specs.declared.bounds.End.{End}
 use Rattle.directed_fixed.specs.declared.bounds.End.TheVariants.{Lower, Upper}
-use Rattle.directed_fixed.specs.Bounds.{Bounds, IsWithin, IsWithinUnits, AreNoLooserPairs, at, negated}
+use Rattle.directed_fixed.specs.Bounds.{Bounds, IsWithin, AreNoLooserPairs, at, negated}
 use Rattle.turn_rule.specs.Turn.{Words}
-use Rattle.turn_rule.specs.Looks.{Source, Notes, Damage, Sought, States, IsPairOf, IsPairFor}
+use Rattle.turn_rule.specs.Looks.{Source, Notes, Damage, Sought, States, IsBetweenWords, IsPairOf, IsPairFor}
 use Rattle.turn_rule.proofs.MetFirst.{met-at}
+use Rattle.turn_rule.proofs.Tight.{each-end}
 use Rattle.play_analyser.specs.Losses.{Options, ahead, loss, lower_ends, upper_ends}
 use Rattle.play_analyser.specs.Sought.{ArePairsFor, MeetsSome}
 use Rattle.play_analyser.proofs.Tighter.{AllTighter, OptionsTighter, loss-tighter, negated-tighter}
@@ -53,9 +54,6 @@ from_zero bound x h k = omega (arith, ints)
 four : (bound : ℤ) → pos 0 ≤ℤ bound → pos 0 ≤ℤ (pos 4 *ℤ bound)
 four bound h = omega (arith, ints)
 
-between : (a b c : ℤ) → a ≤ℤ b → b ≤ℤ c → a ≤ℤ c
-between a b c h k = omega (arith, ints)
-
 pub loss-within : (bound : ℤ) → pos 0 ≤ℤ bound → (options : Options Bounds) → OptionsWithin (pos 4 *ℤ bound) options → IsWithin (pos 8 *ℤ bound) (loss options)
 loss-within bound z options within = record {
   from = from_zero bound _ z (loss-positive options);
@@ -65,25 +63,17 @@ loss-within bound z options within = record {
 
 -- ---- a loss over pairs at hand
 
-pub units-of : (bound : ℤ) (pair : Bounds) → IsWithin bound pair → IsWithinUnits bound pair.lower × IsWithinUnits bound pair.upper
-units-of bound pair h = (record { from = h.from; to = between _ _ _ h.in_order h.to }, record { from = between _ _ _ h.from h.in_order; to = h.to })
-
 pub loss-pair : (s : Source) (w : Notes) (states : States) (over : Words → Options Bounds) (value : Words → Bounds) → ((u : Words) → loss (over u) ≡ value u) → pos 0 ≤ℤ s.bound → (options : Options Bounds) → OptionsWithin (pos 4 *ℤ s.bound) options
     → (IsTrue w.told → OptionsTighter options (over s.floor)) → (IsTrue w.told → OptionsTighter (over w.words) options) → (IsTrue w.told → (p : Placement) (k : ℕ) → states p k → s.damage p k ≡ None)
     → IsPairOf s w states (pos 8 *ℤ s.bound) (λ (end : End) (u : Words). at end (value u)) (loss options)
 loss-pair s w states over value same z options within floor notes right =
-    let inside = loss-within s.bound z options within in
-    let units = units-of (pos 8 *ℤ s.bound) (loss options) inside in
     let upon : IsTrue w.told → AreNoLooserPairs (loss options) (value s.floor) = λ told. subst (AreNoLooserPairs (loss options)) (same s.floor) (loss-tighter options (over s.floor) (floor told)) in
     let under : IsTrue w.told → AreNoLooserPairs (value w.words) (loss options) = λ told. subst (λ (b : Bounds). AreNoLooserPairs b (loss options)) (same w.words) (loss-tighter (over w.words) options (notes told)) in
     record {
-      in_order = inside.in_order;
-      lower = units.0;
-      upper = units.1;
-      lower_floor = λ told. (upon told).lower;
-      upper_floor = λ told. (upon told).upper;
-      lower_notes = λ told. (under told).lower;
-      upper_notes = λ told. (under told).upper;
+      within = loss-within s.bound z options within;
+      ends = λ told. each-end (λ end. IsBetweenWords end s.floor w.words (λ u. at end (value u)) (at end (loss options)))
+          (record { no_looser = (upon told).lower; no_tighter = (under told).lower })
+          (record { no_looser = (upon told).upper; no_tighter = (under told).upper });
       right = right;
     }
 
@@ -94,13 +84,13 @@ abbrev pub pair_over : Sought → Words → Bounds
 pair_over sought u = record { lower = sought.value Lower u; upper = sought.value Upper u }
 
 pub pair-floor : (s : Source) (sought : Sought) (w : Notes) (pair : Bounds) → IsPairFor sought s w pair → IsTrue w.told → AreNoLooserPairs pair (pair_over sought s.floor)
-pair-floor s sought w pair is told = record { lower = is.lower_floor told; upper = is.upper_floor told }
+pair-floor s sought w pair is told = record { lower = (is.ends told Lower).no_looser; upper = (is.ends told Upper).no_looser }
 
 pub pair-notes : (s : Source) (sought : Sought) (w : Notes) (pair : Bounds) → IsPairFor sought s w pair → IsTrue w.told → AreNoLooserPairs (pair_over sought w.words) pair
-pair-notes s sought w pair is told = record { lower = is.lower_notes told; upper = is.upper_notes told }
+pair-notes s sought w pair is told = record { lower = (is.ends told Lower).no_tighter; upper = (is.ends told Upper).no_tighter }
 
 pub pair-within : (s : Source) (sought : Sought) (w : Notes) (pair : Bounds) (bound : ℤ) → sought.limit s.bound ≤ℤ bound → IsPairFor sought s w pair → IsWithin bound pair
-pair-within s sought w pair bound h is = let low = is.lower.from in let high = is.upper.to in record { from = omega (arith, ints); in_order = is.in_order; to = omega (arith, ints) }
+pair-within s sought w pair bound h is = let low = is.within.from in let high = is.within.to in record { from = omega (arith, ints); in_order = is.within.in_order; to = omega (arith, ints) }
 
 module _ {X : Type 0} (s : Source) (sought : X → Sought) (w : Notes) where
   pub pairs-floor : IsTrue w.told → (xs : List X) (pairs : List Bounds) → ArePairsFor sought xs s w pairs → AllTighter pairs (map (λ (x : X). pair_over (sought x) s.floor) xs)

@@ -49,13 +49,11 @@ among-take (first ∷ rest) (suc i) x (inr m) = inr (among-take rest i x m)
 
 pub pair-later : (s : Source) (sought : Sought) → Tightens s sought → (u v : Notes) → AreLater s u v → (pair : Bounds) → IsPairFor sought s u pair → IsPairFor sought s v pair
 pair-later s sought tightens u v tighter pair is = record {
-  in_order = is.in_order;
-  lower = is.lower;
-  upper = is.upper;
-  lower_floor = λ told. is.lower_floor (tighter.told told);
-  upper_floor = λ told. is.upper_floor (tighter.told told);
-  lower_notes = λ told. tight-trans Lower _ _ _ (tightens Lower v.words u.words (tighter.words told)) (is.lower_notes (tighter.told told));
-  upper_notes = λ told. tight-trans Upper _ _ _ (tightens Upper v.words u.words (tighter.words told)) (is.upper_notes (tighter.told told));
+  within = is.within;
+  ends = λ told end. record {
+    no_looser = (is.ends (tighter.told told) end).no_looser;
+    no_tighter = tight-trans end _ _ _ (tightens end v.words u.words (tighter.words told)) (is.ends (tighter.told told) end).no_tighter;
+  };
   right = λ told. is.right (tighter.told told);
 }
 

@@ -10,15 +10,14 @@ use Rattle.cube_actions.specs.Scores.{MatchScore}
 use Rattle.cube_actions.specs.Stakes.{Terms, IsValid}
 use Rattle.turn_rule.specs.declared.choice.Choice.{Choice}
 use Rattle.turn_rule.specs.Games.{IsGame, game_of}
-use Rattle.turn_rule.specs.Turn.{Words}
 use Rattle.turn_rule.specs.States.{IsStateOf, IsState, AreNoLooserOf, AreNoLooser}
-use Rattle.turn_rule.specs.Looks.{Source, Notes, Sought, AreLater, AreUndamaged, AreStakesOf, IsPairFor}
+use Rattle.turn_rule.specs.Looks.{Source, Notes, AreLater, AreUndamaged, AreStakesOf, IsPairFor}
 use Rattle.turn_rule.proofs.Monotone.{same-stakes}
 use Rattle.play_analyser.specs.Choices.{IsChoice}
 use Rattle.play_analyser.specs.Regrets.{loss_of}
 use Rattle.move_rules.specs.Listing.{Among}
 use Rattle.play_analyser.specs.Sought.{MayFollowChoice, of_loss}
-use Rattle.turn_rule.proofs.Tight.{tight-trans}
+use Rattle.play_analyser.proofs.PairLists.{Tightens, pair-later}
 use Rattle.play_analyser.proofs.Tighter.{loss-of-tighter}
 use Rattle.play_analyser.proofs.Weighing.{best-later}
 use Rattle.play_analyser.specs.declared.best.Best.{Best}
@@ -39,22 +38,6 @@ drop-next xs ys i same = sym (next xs i) ∙ (ap (λ (zs : List Judged). drop 1 
   next zs zero = refl
   next [] (suc j) = let on : suc (suc j) ≡ suc j + 1 = omega arith in ap (λ (n : ℕ). drop n []) on
   next (z ∷ zs) (suc j) = let on : suc (j + 1) ≡ suc j + 1 = omega arith in next zs j ∙ ap (λ (n : ℕ). drop n (z ∷ zs)) on
-
--- over tighter words of a source, what is sought is as tight
-abbrev Tightens : Source → Sought → Type 0
-Tightens s sought = (end : End) (u v : Words) → AreNoLooserOf s.checkers s.kinds u v → IsNoLooser end (sought.value end u) (sought.value end v)
-
-pair-later : (s : Source) (sought : Sought) → Tightens s sought → (u v : Notes) → AreLater s u v → (pair : Bounds) → IsPairFor sought s u pair → IsPairFor sought s v pair
-pair-later s sought tightens u v tighter pair is = record {
-  in_order = is.in_order;
-  lower = is.lower;
-  upper = is.upper;
-  lower_floor = λ told. is.lower_floor (tighter.told told);
-  upper_floor = λ told. is.upper_floor (tighter.told told);
-  lower_notes = λ told. tight-trans Lower _ _ _ (tightens Lower v.words u.words (tighter.words told)) (is.lower_notes (tighter.told told));
-  upper_notes = λ told. tight-trans Upper _ _ _ (tightens Upper v.words u.words (tighter.words told)) (is.upper_notes (tighter.told told));
-  right = λ told. is.right (tighter.told told);
-}
 
 module _ (s : Source) (stakes : Terms) (valid : IsValid stakes) (fits : AreStakesOf s stakes) where
   pub in-game : (p : Placement) (k : ℕ) → IsStateOf s.checkers s.kinds p k → IsState (game_of s.checkers stakes) p k

@@ -126,7 +126,7 @@ module _ (law : LossLaw) (wanted : GameName) (bytes : List ℕ) (opened : IsOpen
     over u have =
         let stakes = stakes_of head in
         let told : pair ≡ loss_of stakes (told_in bytes) decision.position decision.kind decision.choice = law (source_in bytes) (noted_in bytes) stakes decision.position decision.kind decision.choice pair refl of.choice (λ end q j may. refl) h in
-        let in_order = subst (λ (b : Bounds). b.lower ≤ℤ b.upper) told h.in_order in
+        let in_order = subst (λ (b : Bounds). b.lower ≤ℤ b.upper) told h.within.in_order in
         let agree = λ (end : End) (q : Placement) (j : ℕ) (may : MayFollowChoice stakes decision.position decision.kind decision.choice q j).
         told-agrees bytes head opened.valid opened.source.checkers opened.source.stakes.kinds u have end q j (choice-state (game_in head) opened.file.valid decision.position decision.kind of.state decision.choice of.choice q j may) (pages q j may) in
         told ∙ same-loss law (game_in head) opened.file.valid decision.position decision.kind of.state decision.choice of.choice (told_in bytes) u agree in_order

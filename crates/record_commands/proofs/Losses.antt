@@ -5,18 +5,18 @@ use Rattle.std.proofs.lemmas.Int.{ints, clamps}
 use Rattle.position_rank.specs.Placement.{Placement}
 use Rattle.directed_fixed.specs.declared.bounds.End.{End}
 use Rattle.directed_fixed.specs.declared.bounds.End.TheVariants.{Lower, Upper}
-use Rattle.directed_fixed.specs.Bounds.{Bounds, AreNoLooserPairs, IsNoLooser, IsWithinUnits}
+use Rattle.directed_fixed.specs.Bounds.{Bounds, AreNoLooserPairs, IsNoLooser, IsWithin, at}
 use Rattle.cube_actions.specs.Stakes.{Terms}
 use Rattle.turn_rule.specs.declared.choice.Choice.{Choice}
 use Rattle.turn_rule.specs.declared.choice.Choice.TheVariants.{Played, Offered, Answered}
 use Rattle.turn_rule.specs.declared.game.Game.{Game}
 use Rattle.turn_rule.specs.Following.{AgreeOn}
 use Rattle.turn_rule.specs.Games.{IsGame}
-use Rattle.turn_rule.specs.Looks.{all_told, IsPairFor, Notes, Source}
+use Rattle.turn_rule.specs.Looks.{all_told, IsBetweenWords, IsPairFor, Notes, Source}
 use Rattle.turn_rule.specs.States.{AreNoLooser, IsState}
 use Rattle.turn_rule.specs.Turn.{Words}
 use Rattle.turn_rule.proofs.Monotone.{same-stakes}
-use Rattle.turn_rule.proofs.Tight.{tight-refl}
+use Rattle.turn_rule.proofs.Tight.{each-end, tight-refl}
 use Rattle.turn_rule.proofs.Within.{follow-turn-state}
 use Rattle.play_analyser.specs.Choices.{IsChoice}
 use Rattle.play_analyser.specs.Regrets.{loss_of}
@@ -48,17 +48,14 @@ told_source floor bound = record { checkers = 0; kinds = 0; bound = bound; sure 
 abbrev reach : Bounds → ℤ
 reach pair = int_max (neg_ℤ pair.lower) pair.upper
 
-near : (bound x : ℤ) → pos 0 ≤ℤ bound → neg_ℤ bound ≤ℤ x → x ≤ℤ bound → IsWithinUnits (pos 8 *ℤ bound) x
-near bound x some from to = record { from = omega (arith, ints); to = omega (arith, ints) }
+near : (bound : ℤ) (pair : Bounds) → pos 0 ≤ℤ bound → neg_ℤ bound ≤ℤ pair.lower → pair.lower ≤ℤ pair.upper → pair.upper ≤ℤ bound → IsWithin (pos 8 *ℤ bound) pair
+near bound pair some from in_order to = record { from = omega (arith, ints); in_order = in_order; to = omega (arith, ints) }
 
 some-reach : (lower upper : ℤ) → lower ≤ℤ upper → pos 0 ≤ℤ int_max (neg_ℤ lower) upper
 some-reach lower upper in_order = omega (arith, ints, clamps)
 
-lower-near : (lower upper : ℤ) → lower ≤ℤ upper → IsWithinUnits (pos 8 *ℤ int_max (neg_ℤ lower) upper) lower
-lower-near lower upper in_order = near (int_max (neg_ℤ lower) upper) lower (some-reach lower upper in_order) (omega (arith, ints, clamps)) (omega (arith, ints, clamps))
-
-upper-near : (lower upper : ℤ) → lower ≤ℤ upper → IsWithinUnits (pos 8 *ℤ int_max (neg_ℤ lower) upper) upper
-upper-near lower upper in_order = near (int_max (neg_ℤ lower) upper) upper (some-reach lower upper in_order) (omega (arith, ints, clamps)) (omega (arith, ints, clamps))
+within-reach : (pair : Bounds) → pair.lower ≤ℤ pair.upper → IsWithin (pos 8 *ℤ reach pair) pair
+within-reach pair in_order = near (reach pair) pair (some-reach pair.lower pair.upper in_order) (omega (arith, ints, clamps)) in_order (omega (arith, ints, clamps))
 
 -- the law on one list of words
 abbrev pub LossLaw : Type 0
@@ -74,13 +71,10 @@ module _ (law : LossLaw) (game : Game) (right : IsGame game) (p : Placement) (k 
       let pair = loss_of game.stakes wide p k choice in
       let tighter : AreNoLooserPairs (loss_of game.stakes u p k choice) pair = loss-of-tighter game right game.stakes (same-stakes game.stakes) u wide tight p k state choice can in
       law (told_source wide (reach pair)) (all_told u) game.stakes p k choice pair refl can agree (record {
-        in_order = in_order;
-        lower = lower-near pair.lower pair.upper in_order;
-        upper = upper-near pair.lower pair.upper in_order;
-        lower_floor = λ _. tight-refl Lower pair.lower;
-        upper_floor = λ _. tight-refl Upper pair.upper;
-        lower_notes = λ _. tighter.lower;
-        upper_notes = λ _. tighter.upper;
+        within = within-reach pair in_order;
+        ends = λ _. each-end (λ end. IsBetweenWords end wide u (λ w. at end (loss_of game.stakes w p k choice)) (at end pair))
+            (record { no_looser = tight-refl Lower pair.lower; no_tighter = tighter.lower })
+            (record { no_looser = tight-refl Upper pair.upper; no_tighter = tighter.upper });
         right = λ _ q j may. refl;
       })
 

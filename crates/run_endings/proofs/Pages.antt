@@ -6,8 +6,7 @@ use Rattle.std.proofs.lemmas.Option.{none-some}
 use Rattle.position_rank.specs.Placement.{Placement}
 use Rattle.move_rules.specs.Listing.{Among}
 use Rattle.directed_fixed.specs.declared.bounds.End.{End}
-use Rattle.directed_fixed.specs.declared.bounds.End.TheVariants.{Lower, Upper}
-use Rattle.directed_fixed.specs.Bounds.{Bounds, IsNoLooser, other}
+use Rattle.directed_fixed.specs.Bounds.{Bounds, IsNoLooser, at, other}
 use Rattle.turn_rule.specs.Games.{kinds_of}
 use Rattle.turn_rule.specs.Turn.{Words}
 use Rattle.turn_rule.specs.Looks.{all_told, Damage, HasDamage, IsPairFor, Meets, Notes, Source, Sought, States}
@@ -71,13 +70,11 @@ bad-page bytes states damage is = record {
 pub pair-over : (sought : Sought) (source : Source) (noted u : Words) (pair : Bounds) → ((end : End) → sought.value end noted ≡ sought.value end u)
     → IsPairFor sought source (all_told noted) pair → IsPairFor sought source (all_told u) pair
 pair-over sought source noted u pair same is = record {
-  in_order = is.in_order;
-  lower = is.lower;
-  upper = is.upper;
-  lower_floor = is.lower_floor;
-  upper_floor = is.upper_floor;
-  lower_notes = λ told. subst (λ (value : ℤ). IsNoLooser Lower value pair.lower) (same Lower) (is.lower_notes told);
-  upper_notes = λ told. subst (λ (value : ℤ). IsNoLooser Upper value pair.upper) (same Upper) (is.upper_notes told);
+  within = is.within;
+  ends = λ told end. record {
+    no_looser = (is.ends told end).no_looser;
+    no_tighter = subst (λ (value : ℤ). IsNoLooser end value (at end pair)) (same end) (is.ends told end).no_tighter;
+  };
   right = is.right;
 }
 

@@ -1,15 +1,12 @@
 -- What commands know of a file whose pages they look up.
-use Rattle.std.specs.Prelude.{◌≡◌, ℕ, ◌≤◌, List, Option, Some, None, Result, Ok, Err, ◌⊎◌, ⊤}
+use Rattle.std.specs.Prelude.{◌≡◌, ℕ, List, Option, Some, None, Result, Ok, Err, ◌⊎◌, ⊤}
 use Rattle.std.specs.Option.{option_map}
 use Rattle.position_rank.specs.Placement.{Placement}
 use Rattle.hyper_outside.specs.declared.outside.LookStop.{LookStop}
 use Rattle.hyper_outside.specs.declared.outside.LookStop.TheVariants as looks
 use Rattle.directed_fixed.specs.declared.bounds.End.{End}
-use Rattle.turn_rule.specs.declared.game.Game.{Game}
-use Rattle.turn_rule.specs.Exact.{Scoring}
 use Rattle.turn_rule.specs.Looks.{Damage, Meets, States}
 use Rattle.turn_rule.specs.States.{IsStateOf}
-use Rattle.turn_rule.specs.Truth.{IsScoring}
 use Rattle.turn_rule.specs.Turn.{Words}
 use Rattle.interval_words.specs.Numbers.{words_of}
 use Rattle.base_head.specs.Fronts.{bad_of, head_in}
@@ -59,12 +56,6 @@ pub record TellsFirst (bytes : List ℕ) (meets : Meets) (refusal : Refusal) : T
 abbrev pub OfHeld : Option (List ℕ) → (List ℕ → Type 0) → Type 0
 OfHeld (Some bytes) P = P bytes
 OfHeld None P = ⊥
-
--- from some number of turns on, one for all ways in which the game may be scored within its stakes
-abbrev pub InTheEnd : Game → (Scoring → ℕ → Type 0) → Type 0
-InTheEnd game Holds =
-    (enough : ℕ) × ((turns : ℕ) → enough ≤ turns → (scoring : Scoring) → IsScoring game scoring
-    → Holds scoring turns)
 
 -- ---- why a file isn't opened
 

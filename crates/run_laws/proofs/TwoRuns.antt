@@ -6,7 +6,7 @@ use Rattle.cube_actions.specs.declared.name.StakesName.TheVariants.{Unlimited}
 use Rattle.outside_log.specs.Log.{Event, standing}
 use Rattle.outside_log.specs.Sink.{Output}
 use Rattle.outside_log.proofs.Written.{stands}
-use Rattle.turn_rule.specs.Truth.{AreSound}
+use Rattle.turn_rule.specs.Truth.{AreSound, InTheEnd}
 use Rattle.interval_words.specs.WordLists.{WordList, words_in_list}
 use Rattle.play_analyser.specs.Advised.{ActionLosesAtMost, FirstLosesAtMost}
 use Rattle.word_pages.specs.declared.version.Version.TheVariants.{Three}
@@ -24,7 +24,7 @@ use Rattle.run_endings.specs.Endings.{IsOutside, IsPut}
 use Rattle.solve_commands.specs.Solves.{AreSolved, HasSolved, head_of, solved_file}
 use Rattle.base_commands.specs.Advises.{HasAdvised, HasAdvisedOn}
 use Rattle.base_commands.specs.Games.{IsKindAsked}
-use Rattle.run_endings.specs.Pages.{InTheEnd, OfHeld}
+use Rattle.run_endings.specs.Pages.{OfHeld}
 use Rattle.record_commands.specs.Analyses.{HasAnalysed, JudgesBy, JudgesPlain}
 use Rattle.record_commands.specs.Records.{report_shown}
 use Rattle.record_commands.specs.declared.record.Replayed.{Replayed}

@@ -3,6 +3,7 @@ use Rattle.std.specs.Prelude.{◌≡◌, ◌<◌, ℕ, List, Option, Some, None}
 use Rattle.outside_log.specs.Files.{Contents}
 use Rattle.cube_actions.specs.Starts.{StartPairs}
 use Rattle.roll_table.specs.Rolls.{Dice}
+use Rattle.turn_rule.specs.Truth.{InTheEnd}
 use Rattle.play_analyser.specs.declared.advice.CubeAdvice.{CubeAdvice}
 use Rattle.play_analyser.specs.declared.ranking.Ranking.{Ranking}
 use Rattle.play_analyser.specs.Advised.{ActionLosesAtMost, FirstLosesAtMost}
@@ -16,7 +17,6 @@ use Rattle.record_study.specs.Matches.{IsTrueMatch}
 use Rattle.command_line.specs.declared.command.Ladder.{Ladder as LadderTask}
 use Rattle.base_commands.specs.declared.advise.AskedKind.{AskedKind}
 use Rattle.command_line.specs.declared.command.Advise.{Advise as AdviseTask}
-use Rattle.run_endings.specs.Pages.{InTheEnd}
 use Rattle.match_plan.specs.Plans.{plan_text}
 use Rattle.base_commands.specs.Plans.{HoldsInTheEnd}
 use Rattle.base_commands.specs.Games.{IsKindAsked}

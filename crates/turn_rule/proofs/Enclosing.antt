@@ -19,7 +19,7 @@ use Rattle.turn_rule.specs.declared.game.Game.{Game}
 use Rattle.turn_rule.specs.Turn.{Words, win, if_won, worth, roll_value, or_double, turn, bound_words, rounds}
 use Rattle.turn_rule.specs.States.{IsState, AreNoLooser, pair_of}
 use Rattle.turn_rule.specs.Exact.{Scoring, Values, left_with, rolled, better_of, before_turn, exact}
-use Rattle.turn_rule.specs.Truth.{IsBoundOf, Encloses, AreWinsWithin, ArePassesWithin, IsScoringWithin, IsScoring, AreEnclosing, IsSound, AreSoundFrom, AreSound, AreConsistent}
+use Rattle.turn_rule.specs.Truth.{IsBoundOf, IsBoundAt, Encloses, AreWinsWithin, ArePassesWithin, AreEndsWithin, IsScoring, AreEnclosing, InTheEnd, AreSoundFrom, AreSound, AreConsistent}
 use Rattle.turn_rule.specs.Games.{kinds_of}
 use Rattle.turn_rule.specs.Looks.{MayFollow, MayFollowTurn}
 use Rattle.turn_rule.specs.Following.{AreBoundsOn}
@@ -88,21 +88,21 @@ module _ (game : Game) (valid : IsValid game.stakes) where
     upper = bound-looser Upper _ _ (exact game.stakes scoring turns p k) _ (tight Upper p k state) (encloses p k state).upper;
   }
 
-  pub consistent-enclose : (u : Words) → AreConsistent game u → (scoring : Scoring) → IsScoringWithin game u scoring → (turns : ℕ) → AreEnclosing game scoring turns u
+  pub consistent-enclose : (u : Words) → AreConsistent game u → (scoring : Scoring) → AreWinsWithin game scoring → ArePassesWithin game scoring → AreEndsWithin game u scoring → (turns : ℕ) → AreEnclosing game scoring turns u
   unfolding exact
-  consistent-enclose u consistent scoring within zero p k state = subst (Encloses (pair_of u p k) (scoring.unfinished p k)) at_the_end (within.unfinished p k state) where
+  consistent-enclose u consistent scoring wins passes ends zero p k state = subst (Encloses (pair_of u p k) (scoring.unfinished p k)) at_the_end (ends p k state) where
     at_the_end : scoring.scale ≡ scoring.scale * 36 ^ 0
     at_the_end = omega arith
-  consistent-enclose u consistent scoring within (suc turns) p k state =
+  consistent-enclose u consistent scoring wins passes ends (suc turns) p k state =
       looser-encloses scoring (suc turns) (turn game.stakes u) u consistent
-      (turn-encloses game scoring within.wins turns valid within.passes u (consistent-enclose u consistent scoring within turns)) p k state
+      (turn-encloses game scoring wins turns valid passes u (consistent-enclose u consistent scoring wins passes ends turns)) p k state
 
   pub bound-consistent : AreConsistent game (bound_words game.stakes)
   bound-consistent Lower p k state = (turn-within game valid (bound_words game.stakes) (opening-within game valid) p k state).from
   bound-consistent Upper p k state = (turn-within game valid (bound_words game.stakes) (opening-within game valid) p k state).to
 
   pub exact-within : (scoring : Scoring) → IsScoring game scoring → (turns : ℕ) → AreEnclosing game scoring turns (bound_words game.stakes)
-  exact-within = consistent-enclose (bound_words game.stakes) bound-consistent
+  exact-within scoring within = consistent-enclose (bound_words game.stakes) bound-consistent scoring within.wins within.passes within.unfinished
 
   pub rounds-enclose : (r : ℕ) → AreSoundFrom game r (rounds game.stakes r)
   unfolding rounds
@@ -124,6 +124,6 @@ module _ (game : Game) (valid : IsValid game.stakes) where
   rounds-consistent r = rounds-tighter game valid r
 
 -- where words are sound, each of them is
-pub each-sound : (game : Game) (u : Words) → AreSound game u → (end : End) (p : Placement) (k : ℕ) → IsState game p k → IsSound game end (u end p k) p k
+pub each-sound : (game : Game) (u : Words) → AreSound game u → (end : End) (p : Placement) (k : ℕ) → IsState game p k → InTheEnd game (λ scoring turns. IsBoundAt end game.stakes scoring turns (u end p k) p k)
 each-sound game u sound Lower p k state = (sound.0, λ turns more scoring within. (sound.1 turns more scoring within p k state).lower)
 each-sound game u sound Upper p k state = (sound.0, λ turns more scoring within. (sound.1 turns more scoring within p k state).upper)

@@ -30,5 +30,5 @@ pub exact-pair : (s : Source) (noted : Notes) (states : States) (bound : ℤ) (v
     → pair ≡ record { lower = value Lower noted.words; upper = value Upper noted.words }
 exact-pair s noted states bound value pair told same is =
     both_ends pair _ _
-    (tight-both Lower pair.lower (value Lower noted.words) (subst (λ (z : ℤ). z ≤ℤ pair.lower) (same Lower) (is.lower_floor told)) (is.lower_notes told))
-    (tight-both Upper pair.upper (value Upper noted.words) (subst (λ (z : ℤ). pair.upper ≤ℤ z) (same Upper) (is.upper_floor told)) (is.upper_notes told))
+    (tight-both Lower pair.lower (value Lower noted.words) (subst (λ (z : ℤ). z ≤ℤ pair.lower) (same Lower) (is.ends told Lower).no_looser) (is.ends told Lower).no_tighter)
+    (tight-both Upper pair.upper (value Upper noted.words) (subst (λ (z : ℤ). pair.upper ≤ℤ z) (same Upper) (is.ends told Upper).no_looser) (is.ends told Upper).no_tighter)

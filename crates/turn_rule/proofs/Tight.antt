@@ -9,6 +9,11 @@ use Rattle.turn_rule.specs.Turn.{Words}
 use Rattle.turn_rule.specs.States.{AreNoLooserOf}
 use Rattle.turn_rule.proofs.Integers.{le_refl, le_trans, min_mono, add_mono}
 
+-- what holds of both ends
+pub each-end : (P : End → Type 0) → P Lower → P Upper → (end : End) → P end
+each-end P lower upper Lower = lower
+each-end P lower upper Upper = upper
+
 pub tight-refl : (end : End) (a : ℤ) → IsNoLooser end a a
 tight-refl Lower a = le_refl a
 tight-refl Upper a = le_refl a

@@ -10,7 +10,7 @@ use Rattle.move_rules.specs.Listing.{Among}
 use Rattle.move_rules.proofs.Members.{Contains-Among}
 use Rattle.directed_fixed.specs.declared.bounds.End.{End}
 use Rattle.directed_fixed.specs.declared.bounds.End.TheVariants.{Lower, Upper}
-use Rattle.directed_fixed.specs.Bounds.{Bounds, IsNoLooser, IsWithin, IsWithinUnits, at}
+use Rattle.directed_fixed.specs.Bounds.{Bounds, IsWithin, IsWithinUnits, at}
 use Rattle.directed_fixed.specs.Rounding.{outwards}
 use Rattle.cube_actions.specs.declared.kind.Double.{Double}
 use Rattle.cube_actions.specs.declared.kind.Taken.{Taken}
@@ -18,11 +18,11 @@ use Rattle.cube_actions.specs.Stakes.{Terms, kind_at, IsValid, IsRightDouble}
 use Rattle.turn_rule.specs.Games.{game_of}
 use Rattle.turn_rule.specs.Turn.{Words, worth, sum_over, roll_value, least, doubled, or_double, turn}
 use Rattle.turn_rule.specs.States.{IsStateOf, IsState, AreWithinOf, AreWithin}
-use Rattle.turn_rule.specs.Looks.{Source, Notes, Damage, States, AreStakesOf, AreUndamaged, MeetsRolling, MeetsOnAnswers, MayFollow, MayFollowTurn, IsPairOf, Looked}
+use Rattle.turn_rule.specs.Looks.{Source, Notes, Damage, States, AreStakesOf, AreUndamaged, MeetsRolling, MeetsOnAnswers, MayFollow, MayFollowTurn, IsBetweenWords, IsPairOf, Looked}
 use Rattle.turn_rule.specs.Found.{IsFound, MayFollowAnswer, AreFoundSums}
 use Rattle.turn_rule.proofs.Integers.{mul_mono, regroup, floor_36_below, floor_36_above, times-neg}
 use Rattle.turn_rule.proofs.Tightness.{tight-max, tight-times, tight-outwards}
-use Rattle.turn_rule.proofs.Tight.{tight-min, words-refl}
+use Rattle.turn_rule.proofs.Tight.{each-end, tight-min, words-refl}
 use Rattle.turn_rule.proofs.Within.{turn-within, roll-in_order}
 use Rattle.turn_rule.proofs.MetFirst.{met-at}
 use Rattle.turn_rule.proofs.Found.{FindsFrom, notes-refl, mapped-ok, then-ok, found-as, found-later, found-step, found-through, max-within, min-within}
@@ -234,13 +234,14 @@ paired m'' s states bound value u v w a b c x y pair low high order lower upper 
     let lower_is : IsTrue w.told → x ≡ pair.lower = λ told. sym (low ∙ in_order-min x y (ordered told)) in
     let upper_is : IsTrue w.told → y ≡ pair.upper = λ told. sym (high ∙ in_order-max x y (ordered told)) in
     record {
-      in_order = rw (low, high) (min-max x y);
-      lower = subst (IsWithinUnits bound) (sym low) (min-within bound x y one.within other.within);
-      upper = subst (IsWithinUnits bound) (sym high) (max-within bound x y one.within other.within);
-      lower_floor = λ told. subst (λ (z : ℤ). IsNoLooser Lower z (value Lower s.floor)) (lower_is told) (before.floor told);
-      upper_floor = λ told. subst (λ (z : ℤ). IsNoLooser Upper z (value Upper s.floor)) (upper_is told) (other.floor told);
-      lower_notes = λ told. subst (λ (z : ℤ). IsNoLooser Lower (value Lower w.words) z) (lower_is told) (before.notes told w.words (words-refl s.checkers s.kinds w.words));
-      upper_notes = λ told. subst (λ (z : ℤ). IsNoLooser Upper (value Upper w.words) z) (upper_is told) (other.notes told w.words (words-refl s.checkers s.kinds w.words));
+      within = rw (low, high) (record {
+        from = (min-within bound x y one.within other.within).from;
+        in_order = min-max x y;
+        to = (max-within bound x y one.within other.within).to;
+      });
+      ends = λ told. each-end (λ end. IsBetweenWords end s.floor w.words (value end) (at end pair))
+          (subst (IsBetweenWords Lower s.floor w.words (value Lower)) (lower_is told) (record { no_looser = before.floor told; no_tighter = before.notes told w.words (words-refl s.checkers s.kinds w.words) }))
+          (subst (IsBetweenWords Upper s.floor w.words (value Upper)) (upper_is told) (record { no_looser = other.floor told; no_tighter = other.notes told w.words (words-refl s.checkers s.kinds w.words) }));
       right = other.right;
     })
 

@@ -1,5 +1,5 @@
 -- Where words are looked up, and what a look-up may answer.
-use Rattle.std.specs.Prelude.{◌≡◌, ℕ, ◌≤◌, ℤ, pos, ◌*ℤ◌, ◌≤ℤ◌, ◌↔◌, Bool, true, IsTrue, IsFalse, ◌⊎◌, List, [], ◌∷◌, length, All, AllPairs, Option, Some, None, Result, IfOk, IfErr}
+use Rattle.std.specs.Prelude.{◌≡◌, ℕ, ◌≤◌, ℤ, pos, ◌*ℤ◌, ◌↔◌, Bool, true, IsTrue, IsFalse, ◌⊎◌, List, [], ◌∷◌, length, All, AllPairs, Option, Some, None, Result, IfOk, IfErr}
 use Rattle.std.specs.List.{Contains}
 use Rattle.position_rank.specs.Placement.{Placement, swap}
 use Rattle.roll_table.specs.Rolls.{Dice, IsRoll, all_rolls}
@@ -9,7 +9,7 @@ use Rattle.move_rules.specs.Sequences.{IsLegalEnd}
 use Rattle.move_rules.specs.Payoff.{points}
 use Rattle.directed_fixed.specs.declared.bounds.End.{End}
 use Rattle.directed_fixed.specs.declared.bounds.End.TheVariants.{Lower, Upper}
-use Rattle.directed_fixed.specs.Bounds.{Bounds, IsNoLooser, IsWithinUnits}
+use Rattle.directed_fixed.specs.Bounds.{Bounds, IsNoLooser, IsWithin, IsWithinUnits, at}
 use Rattle.cube_actions.specs.declared.kind.Double.{Double}
 use Rattle.cube_actions.specs.declared.kind.Taken.{Taken}
 use Rattle.cube_actions.specs.Stakes.{Terms, kind_at}
@@ -26,7 +26,7 @@ pub record Damage : Type 0 where
   pub at : ℕ
 
 -- Where words of a game are looked up: for so many checkers a side, so many kinds and a bound of all values. It is sure where each look-up
--- is answered. Where answers are told, none is looser than its floor, and it says which states are damaged.
+-- is answered. Where answers are told, its floor has the loosest words that a look-up may see, and it says which states are damaged.
 pub record Source : Type 0 where
   pub checkers : ℕ
   pub kinds : ℕ
@@ -35,7 +35,7 @@ pub record Source : Type 0 where
   pub floor : Words
   pub damage : Placement → ℕ → Option Damage
 
--- What is noted at a moment: words that no answer until then is tighter than, and whether what was answered until then is told. So it is
+-- What is noted at a moment: the tightest words that a look-up may have seen until then, and whether what was answered is told. So it is
 -- answered by the source's floor and damages.
 pub record Notes : Type 0 where
   pub words : Words
@@ -211,17 +211,20 @@ pub record MeetsOnTurn (stakes : Terms) (p : Placement) (k : ℕ) (source : Sour
   pub first : MeetsRolling stakes p k source damage
       ⊎ (AreUndamaged source (MayFollow stakes p k) × MeetsDoubled stakes p k source damage)
 
--- A pair within a bound, its lower end at most its upper. Where the answers are told, each end is at least as tight as the value over the
--- source's floor and no tighter than the value over the notes, and none of the states is damaged.
+-- one end of a value that lies between what it is over the loosest words that a look-up may have seen, and over the tightest
+pub record IsBetweenWords (end : End) (loosest tightest : Words) (value : Words → ℤ)
+    (found : ℤ) : Type 0 where
+  pub no_looser : IsNoLooser end found (value loosest)
+  pub no_tighter : IsNoLooser end (value tightest) found
+
+-- A pair within a bound. Where the answers are told, each end lies between the values over the loosest words, the source's floor, and over
+-- the tightest, those of the notes, and none of the states is damaged.
 pub record IsPairOf (source : Source) (noted : Notes) (states : States) (bound : ℤ)
     (value : End → Words → ℤ) (pair : Bounds) : Type 0 where
-  pub in_order : pair.lower ≤ℤ pair.upper
-  pub lower : IsWithinUnits bound pair.lower
-  pub upper : IsWithinUnits bound pair.upper
-  pub lower_floor : IsTrue noted.told → IsNoLooser Lower pair.lower (value Lower source.floor)
-  pub upper_floor : IsTrue noted.told → IsNoLooser Upper pair.upper (value Upper source.floor)
-  pub lower_notes : IsTrue noted.told → IsNoLooser Lower (value Lower noted.words) pair.lower
-  pub upper_notes : IsTrue noted.told → IsNoLooser Upper (value Upper noted.words) pair.upper
+  pub within : IsWithin bound pair
+  pub ends :
+      IsTrue noted.told → (end : End)
+      → IsBetweenWords end source.floor noted.words (value end) (at end pair)
   pub right : IsTrue noted.told → AreUndamaged source states
 
 -- What is sought from words: over which states, which damage of theirs is met first, how far from 0 it may lie where no word lies farther

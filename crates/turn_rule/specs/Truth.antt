@@ -43,16 +43,12 @@ AreEndsWithin game u scoring =
     (p : Placement) (k : ℕ) → IsState game p k
     → Encloses (pair_of u p k) (scoring.unfinished p k) scoring.scale
 
--- what a win or a pass gives lies in the stakes' pair, and an unfinished end in the pair of its own state
-pub record IsScoringWithin (game : Game) (u : Words) (scoring : Scoring) : Type 0 where
+-- A scoring of a game: what a win or a pass gives lies in the stakes' pair, and an unfinished end is worth anything within the bound.
+pub record IsScoring (game : Game) (scoring : Scoring) : Type 0 where
   pub scale : 0 < scoring.scale
   pub wins : AreWinsWithin game scoring
   pub passes : ArePassesWithin game scoring
-  pub unfinished : AreEndsWithin game u scoring
-
--- A scoring of a game lies within its stakes: an unfinished end is then worth anything within the bound.
-abbrev pub IsScoring : Game → Scoring → Type 0
-IsScoring game = IsScoringWithin game (bound_words game.stakes)
+  pub unfinished : AreEndsWithin game (bound_words game.stakes) scoring
 
 -- a word bounds the exact value of a state in the game of so many turns
 abbrev pub IsBoundAt : End → Terms → Scoring → ℕ → ℤ → Placement → ℕ → Type 0
@@ -70,22 +66,21 @@ AreEnclosing game scoring turns u =
     (p : Placement) (k : ℕ) → IsState game p k
     → EnclosesAt game.stakes scoring turns (pair_of u p k) p k
 
--- A word is sound for its state where from some number of turns on it bounds the exact value, however the game is scored within its stakes.
-abbrev pub IsSound : Game → End → ℤ → Placement → ℕ → Type 0
-IsSound game end word p k =
-    (enough : ℕ)
-    × ((turns : ℕ) → enough ≤ turns → (scoring : Scoring) → IsScoring game scoring
-    → IsBoundAt end game.stakes scoring turns word p k)
+-- in the end this holds of a game: from some number of turns on, one for all ways in which it may be scored
+abbrev pub InTheEnd : Game → (Scoring → ℕ → Type 0) → Type 0
+InTheEnd game Holds =
+    (enough : ℕ) × ((turns : ℕ) → enough ≤ turns → (scoring : Scoring) → IsScoring game scoring
+    → Holds scoring turns)
 
--- from so many turns on, words enclose every state, however the game is scored within its stakes
+-- from so many turns on, words enclose every state, however the game is scored
 abbrev pub AreSoundFrom : Game → ℕ → Words → Type 0
 AreSoundFrom game enough u =
     (turns : ℕ) → enough ≤ turns → (scoring : Scoring) → IsScoring game scoring
     → AreEnclosing game scoring turns u
 
--- words are sound where from some number of turns on, one for all states, they enclose every state
+-- words are sound where in the end they enclose every state
 abbrev pub AreSound : Game → Words → Type 0
-AreSound game u = (enough : ℕ) × AreSoundFrom game enough u
+AreSound game u = InTheEnd game (λ scoring turns. AreEnclosing game scoring turns u)
 
 -- words are consistent where no turn over them is looser than they are
 abbrev pub AreConsistent : Game → Words → Type 0

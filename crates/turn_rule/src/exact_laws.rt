@@ -7,7 +7,7 @@ ghost use Rattle.turn_rule.specs.Games.{IsGame};
 ghost use Rattle.turn_rule.specs.Turn.{Words, turn, bound_words, rounds};
 ghost use Rattle.turn_rule.specs.States.{IsState, AreNoLooser};
 ghost use Rattle.turn_rule.specs.Exact.{Scoring, exact};
-ghost use Rattle.turn_rule.specs.Truth.{IsScoring, IsScoringWithin, AreEnclosing, IsSound, AreSoundFrom, AreSound, AreConsistent, AreNoLooserStakes};
+ghost use Rattle.turn_rule.specs.Truth.{AreConsistent, AreEnclosing, AreEndsWithin, AreNoLooserStakes, ArePassesWithin, AreSound, AreSoundFrom, AreWinsWithin, InTheEnd, IsBoundAt, IsScoring};
 
 /// However a game is scored within its stakes, no exact value is beyond their bound.
 pub fn exact_values_stay_within_the_bound()
@@ -46,11 +46,12 @@ pub fn words_no_tighter_than_a_round_are_sound()
         → AreNoLooser game (rounds game.stakes r) u → AreSound game u }
 {}
 
-/// Where words are sound, each word is sound for its state.
+/// Where words are sound, in the end each word bounds the exact value of its state.
 pub fn each_sound_word_is_sound()
     ensures { (game : Game) (u : Words) → AreSound game u
         → (end : End) (p : Placement) (k : ℕ) → IsState game p k
-        → IsSound game end (u end p k) p k }
+        → InTheEnd game (λ scoring turns.
+        IsBoundAt end game.stakes scoring turns (u end p k) p k) }
 {}
 
 /// A turn over the words after some rounds is nowhere looser than they are.
@@ -62,8 +63,8 @@ pub fn rounds_are_consistent()
 /// lie in the stakes' pairs, and an unfinished end in the pair of its own state.
 pub fn consistent_words_enclose()
     ensures { (game : Game) → IsGame game → (u : Words) → AreConsistent game u
-        → (scoring : Scoring) → IsScoringWithin game u scoring
-        → (turns : ℕ) → AreEnclosing game scoring turns u }
+        → (scoring : Scoring) → AreWinsWithin game scoring → ArePassesWithin game scoring
+        → AreEndsWithin game u scoring → (turns : ℕ) → AreEnclosing game scoring turns u }
 {}
 
 /// Where the stakes' wins and passes are known at least as well, tighter words give a turn that is

@@ -1,14 +1,13 @@
 ghost use Rattle.std.specs.Prelude.{◌≡◌, ◌^◌, ◌*ℤ◌, ℕ, pos, neg_ℤ, [], ◌∷◌};
 ghost use Rattle.position_rank.specs.Placement.{Placement};
 ghost use Rattle.position_rank.specs.Examples.{placed, off};
-ghost use Rattle.directed_fixed.specs.declared.bounds.End.{End};
 ghost use Rattle.directed_fixed.specs.declared.bounds.End.TheVariants.{Lower, Upper};
 ghost use Rattle.cube_actions.specs.Money.{beaver, cubeless, double_of, take};
 ghost use Rattle.cube_actions.specs.Stakes.{Terms, exactly};
 ghost use Rattle.turn_rule.specs.Games.{game_of};
 ghost use Rattle.turn_rule.specs.Turn.{turn};
 ghost use Rattle.turn_rule.specs.Exact.{exact};
-ghost use Rattle.turn_rule.specs.Truth.{IsBoundOf, Encloses, IsScoring, IsSound, AreNoLooserStakes};
+ghost use Rattle.turn_rule.specs.Truth.{AreNoLooserStakes, Encloses, EnclosesAt, InTheEnd, IsBoundAt, IsBoundOf, IsScoring};
 ghost use Rattle.worked_examples.specs.Turns.{gains, jacoby, jacoby_beavers, losses, doubling_game, vague_game, win_points, scored, cut_off_at, points_won, games_won, jacoby_won, rolled_first, doubled_first};
 
 /// Scorings of the game without a cube and of the doubling game: an unfinished end may be worth
@@ -88,15 +87,15 @@ pub fn bound_of_examples()
     ensures lost_less { ¬ IsBoundOf Lower (neg_ℤ (pos 119304647)) (neg_ℤ (pos 1)) 36 }
 {}
 
-/// From 1 each roll wins a gammon, in every game of a turn or more: so two points are sound at both
-/// ends. A unit more isn't at the lower end, nor a unit less at the upper one.
+/// From 1 each roll wins a gammon, in every game of a turn or more: so in the end two points enclose
+/// it. A unit more isn't a lower bound, nor a unit less an upper one.
 pub fn sound_examples()
-    ensures two_points { (end : End)
-        → IsSound (game_of 1 cubeless) end (pos 8589934592) (placed (1 ∷ []) (1 ∷ [])) 0 }
-    ensures a_unit_more { ¬ IsSound (game_of 1 cubeless) Lower (pos 8589934593)
-        (placed (1 ∷ []) (1 ∷ [])) 0 }
-    ensures a_unit_less { ¬ IsSound (game_of 1 cubeless) Upper (pos 8589934591)
-        (placed (1 ∷ []) (1 ∷ [])) 0 }
+    ensures two_points { InTheEnd (game_of 1 cubeless) (λ scoring turns.
+        EnclosesAt cubeless scoring turns (exactly 2) (placed (1 ∷ []) (1 ∷ [])) 0) }
+    ensures a_unit_more { ¬ InTheEnd (game_of 1 cubeless) (λ scoring turns.
+        IsBoundAt Lower cubeless scoring turns (pos 8589934593) (placed (1 ∷ []) (1 ∷ [])) 0) }
+    ensures a_unit_less { ¬ InTheEnd (game_of 1 cubeless) (λ scoring turns.
+        IsBoundAt Upper cubeless scoring turns (pos 8589934591) (placed (1 ∷ []) (1 ∷ [])) 0) }
 {}
 
 /// All stakes are as tight as they are themselves. A game in which a gammon wins two points is

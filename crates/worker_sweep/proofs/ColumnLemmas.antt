@@ -5,8 +5,7 @@ use Rattle.position_rank.specs.Placement.{Placement, IsLayout, IsLive}
 use Rattle.position_rank.specs.Ranks.{rank_of, layouts}
 use Rattle.position_rank.proofs.RankLaws.{layouts-same, rank-below}
 use Rattle.directed_fixed.specs.declared.bounds.End.{End}
-use Rattle.directed_fixed.specs.declared.bounds.End.TheVariants.{Lower, Upper}
-use Rattle.directed_fixed.specs.Bounds.{Bounds, at, IsNoLooser, IsWithinUnits}
+use Rattle.directed_fixed.specs.Bounds.{Bounds, at, IsNoLooser}
 use Rattle.cube_actions.specs.Stakes.{IsValid, nothing}
 use Rattle.turn_rule.specs.declared.game.Game.{Game}
 use Rattle.turn_rule.specs.Games.{kinds_of}
@@ -14,6 +13,7 @@ use Rattle.turn_rule.specs.Turn.{rounds}
 use Rattle.turn_rule.specs.States.{IsState}
 use Rattle.turn_rule.specs.Looks.{IsTurnPair, all_told}
 use Rattle.turn_rule.specs.Layouts.{AreLayouts}
+use Rattle.turn_rule.proofs.Values.{end-within}
 use Rattle.column_sums.specs.Leaps.{layout_at}
 use Rattle.column_turns.specs.Columns.{ColumnPairs, position_in, pair_in}
 use Rattle.column_turns.specs.Turns.{AreLiveMovers, AreTurnsOf, mover_at, place_in}
@@ -26,18 +26,15 @@ use Rattle.worker_sweep.specs.Blocks.{MaySweep, IsSwept}
 use Rattle.worker_sweep.specs.Columns.{MayBringColumn, AreNotedTo}
 use Rattle.worker_sweep.specs.Sources.{board_source}
 use Rattle.worker_sweep.proofs.BlockLemmas.{swept-noted}
-use Rattle.worker_sweep.proofs.StateLemmas.{turn-done, pair-ends}
+use Rattle.worker_sweep.proofs.StateLemmas.{turn-done}
 
 -- the pair of a turn that was worked out over the seat's notes may be brought
 pub turn-sweeps : (game : Game) (view : View) (p : Placement) (k : ℕ) (pair : Bounds) → IsTurnPair game.stakes p k (board_source game view.base) (all_told (noted game view.notes)) pair → MaySweep game view p k pair
 turn-sweeps game view p k pair is = record {
-  within = within;
-  loose = λ end. (pair-ends game.stakes p k (board_source game view.base) (all_told (noted game view.notes)) pair refl is end).1;
-  tight = λ end. subst (IsNoLooser end (at end pair)) (turn-done game view.base end p k) (pair-ends game.stakes p k (board_source game view.base) (all_told (noted game view.notes)) pair refl is end).0;
-} where
-  within : (end : End) → IsWithinUnits game.stakes.bound (at end pair)
-  within Lower = is.lower
-  within Upper = is.upper
+  within = λ end. end-within end game.stakes.bound pair is.within;
+  loose = λ end. (is.ends refl end).no_tighter;
+  tight = λ end. subst (IsNoLooser end (at end pair)) (turn-done game view.base end p k) (is.ends refl end).no_looser;
+}
 
 -- it may still be brought after other notes
 pub sweeps-later : (board : GameTable) (old new : GameSeat) (p : Placement) (k : ℕ) (pair : Bounds) → IsValid board.game.stakes → SitsAt board old → KeepsNotes old new → IsState board.game p k → MaySweep board.game old.view p k pair → MaySweep board.game new.view p k pair

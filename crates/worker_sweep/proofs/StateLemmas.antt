@@ -1,14 +1,9 @@
 -- A state's turn, as a seat works it out.
 use Rattle.std.proofs.Common.{◌≡◌, ◌+◌, ℕ, Some, add-one, ap, sym, subst, ◌∙◌}
-use Rattle.std.specs.Bool.{IsTrue}
 use Rattle.position_rank.specs.Placement.{Placement}
 use Rattle.directed_fixed.specs.declared.bounds.End.{End}
-use Rattle.directed_fixed.specs.declared.bounds.End.TheVariants.{Lower, Upper}
-use Rattle.directed_fixed.specs.Bounds.{Bounds, at, IsNoLooser}
-use Rattle.cube_actions.specs.Stakes.{Terms}
 use Rattle.turn_rule.specs.States.{AreNoLooser}
 use Rattle.turn_rule.specs.Turn.{Words, turn, rounds}
-use Rattle.turn_rule.specs.Looks.{Source, Notes, IsTurnPair}
 use Rattle.turn_rule.specs.declared.game.Game.{Game}
 use Rattle.interval_words.specs.Core.{noted}
 use Rattle.interval_words.specs.Seats.{GameTable, GameSeat, SitsAt, KeepsNotes}
@@ -31,9 +26,3 @@ keeps-looked board now old new same base hands before after tighter = record {
 -- a turn over the words after the rounds of the base is at least as tight as after one round more
 pub turn-done : (game : Game) (base : ℕ) (end : End) (p : Placement) (k : ℕ) → turn game.stakes (rounds game.stakes base) end p k ≡ rounds game.stakes (base + 1) end p k
 turn-done game base end p k = ap (λ (w : Words). w end p k) (sym (rounds-turn game.stakes base)) ∙ ap (λ (n : ℕ). rounds game.stakes n end p k) (sym (add-one base))
-
--- both ends of a turn's pair, over the words of the floor and over the notes
-pub pair-ends : (stakes : Terms) (p : Placement) (k : ℕ) (source : Source) (u : Notes) (pair : Bounds) → IsTrue u.told → IsTurnPair stakes p k source u pair → (end : End)
-    → IsNoLooser end (at end pair) (turn stakes source.floor end p k) × IsNoLooser end (turn stakes u.words end p k) (at end pair)
-pair-ends stakes p k source u pair told is Lower = (is.lower_floor told, is.lower_notes told)
-pair-ends stakes p k source u pair told is Upper = (is.upper_floor told, is.upper_notes told)

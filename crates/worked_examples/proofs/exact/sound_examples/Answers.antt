@@ -5,7 +5,6 @@ use Rattle.std.proofs.Math.Nat.{one-le-pow}
 use Rattle.position_rank.specs.Packed.{counts_of}
 use Rattle.roll_table.specs.Rolls.{all_rolls}
 use Rattle.move_rules.specs.Ends.{legal_ends, legal_lines, all_lines, lines, lines_from, places, after_move}
-use Rattle.directed_fixed.specs.declared.bounds.End.{End}
 use Rattle.directed_fixed.specs.declared.bounds.End.TheVariants.{Lower, Upper}
 use Rattle.cube_actions.specs.Money.{cubeless}
 use Rattle.cube_actions.specs.Stakes.{exactly}
@@ -13,7 +12,7 @@ use Rattle.turn_rule.specs.Games.{game_of}
 use Rattle.turn_rule.specs.Turn.{turn, rounds}
 use Rattle.turn_rule.specs.States.{pair_of}
 use Rattle.turn_rule.specs.Exact.{Scoring}
-use Rattle.turn_rule.specs.Truth.{IsSound, IsScoring, IsBoundAt, EnclosesAt}
+use Rattle.turn_rule.specs.Truth.{IsScoring, IsBoundAt, EnclosesAt}
 use Rattle.worked_examples.specs.Turns.{win_points, scored}
 use Rattle.turn_rule.proofs.Integers.{le_trans, mul_mono, distribute}
 use Rattle.turn_rule.proofs.Enclosing.{rounds-enclose}
@@ -28,10 +27,7 @@ encloses : (scoring : Scoring) → IsScoring (game_of 1 cubeless) scoring → (t
 encloses scoring within turns h = rw two_points at (rounds-enclose (game_of 1 cubeless) cubeless-valid 1 turns h scoring within one_each 0 one_each-state)
 
 pub returns-clause-two_points : goal.returns-clause-two_points
-returns-clause-two_points c = by_end where
-  by_end : (end : End) → IsSound (game_of 1 cubeless) end (pos 8589934592) one_each 0
-  by_end Lower = (1, λ turns more scoring within. (encloses scoring within turns more).lower)
-  by_end Upper = (1, λ turns more scoring within. (encloses scoring within turns more).upper)
+returns-clause-two_points c = (1, λ turns more scoring within. encloses scoring within turns more)
 
 cancelled : (n : ℕ) (a b : ℤ) → 1 ≤ n → (pos n *ℤ a) ≤ℤ (pos n *ℤ b) → a ≤ℤ b
 cancelled n a b h k = by_lt_z b a above (λ le. le) where
