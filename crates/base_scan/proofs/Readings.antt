@@ -1,8 +1,8 @@
 -- How the words of a condition are read one after another.
-use Rattle.std.proofs.Common.{◌≡◌, ◌<◌, ◌≤◌, ◌+◌, ◌-◌, ◌*◌, ◌⊎◌, ℕ, Bool, true, false, List, [], ◌∷◌, ◌++◌, length, map, take, codes, decimal, get_or, flat_map, eqb, inl, inr, refl, sym, ap, subst, ◌∙◌, append_assoc, length-append, arith}
+use Rattle.std.proofs.Common.{◌≡◌, ◌<◌, ◌≤◌, ◌+◌, ◌-◌, ◌*◌, ◌⊎◌, ℕ, Bool, true, false, List, [], ◌∷◌, ◌++◌, length, map, take, drop, codes, decimal, get_or, flat_map, eqb, inl, inr, refl, sym, ap, subst, ◌∙◌, append_assoc, length-append, arith}
 use Rattle.std.specs.List.{All, AllZip}
 use Rattle.std.proofs.lemmas.Bool.Decides.{nat_tests}
-use Rattle.std.proofs.lemmas.List.{append-nil, take_all, take_more}
+use Rattle.std.proofs.lemmas.List.{append-nil, length-take, length-take-le, take-append-drop, take-take, take_all, take_at, take_more}
 use Rattle.std.proofs.lemmas.List.Concat.{flat_map-append}
 use Rattle.std.proofs.lemmas.List.Elements.{All-cons, All-head, All-nil, All-tail}
 use Rattle.base_scan.specs.declared.condition.Test.{Test}
@@ -254,23 +254,24 @@ module _ (all : List Word) (tests : List Joined) (n : ℕ) where
       are-words all tests (subst (λ (ws : List Word). AllZip IsWordOf (flat_map marks tests) (codes "|" ∷ ws)) (take_all n all (omega (arith, end)))
       (subst (λ (ps : List Part). AllZip IsWordOf ps (codes "|" ∷ take n all)) (append-nil (flat_map marks tests)) read.so_far)) read.begins (read.some refl) read.few
 
-can-go-on-behind : (all : List Word) (tests : List Joined) (n : ℕ) (wanted : Bool) → HasRead all tests wanted n → n ≤ length all → CanGoOn (take n all)
+can-go-on-behind : (all : List Word) (tests : List Joined) (n : ℕ) (wanted : Bool) → HasRead all tests wanted n → n ≤ length all → CanGoOn all n
 can-go-on-behind all tests n false read inside = (
   groups_of tests,
-  [],
-  subst (AreConditionWords (groups_of tests)) (sym (append-nil (take n all)))
-      (are-words (take n all) tests (subst (λ (ps : List Part). AllZip IsWordOf ps (codes "|" ∷ take n all)) (append-nil (flat_map marks tests)) read.so_far) read.begins (read.some refl) read.few),
+  take n all,
+  are-words (take n all) tests (subst (λ (ps : List Part). AllZip IsWordOf ps (codes "|" ∷ take n all)) (append-nil (flat_map marks tests)) read.so_far) read.begins (read.some refl) read.few,
+  take-take n n all (omega arith),
 )
 can-go-on-behind all tests n true read inside =
     let one : Joined = record { joint = Or; test = a_test } in
     let longer : length (tests ++ one ∷ []) ≡ length tests + 1 = length-append tests (one ∷ []) in (
       groups_of (tests ++ one ∷ []),
-      (codes "pips=" ++ decimal 0) ∷ [],
+      take n all ++ (codes "pips=" ++ decimal 0) ∷ [],
       are-words (take n all ++ (codes "pips=" ++ decimal 0) ∷ []) (tests ++ one ∷ [])
           (subst (λ (ps : List Part). AllZip IsWordOf ps (codes "|" ∷ (take n all ++ (codes "pips=" ++ decimal 0) ∷ [])))
           (append_assoc (flat_map marks tests) (Bar ∷ []) (Asks a_test ∷ []) ∙ sym (flat_map-append marks tests (one ∷ [])))
           (zip-snoc (read_parts tests true) (codes "|" ∷ take n all) (Asks a_test) (codes "pips=" ++ decimal 0) read.so_far some-test))
           (begins-push tests one read.begins (inl refl)) (omega (arith, longer)) (omega (arith, longer, read.room refl)),
+      take_at (take n all) ((codes "pips=" ++ decimal 0) ∷ []) n (length-take-le n all inside),
     )
 
 module _ (all : List Word) (tests : List Joined) (wanted : Bool) (n : ℕ) (read : HasRead all tests wanted n) where
@@ -287,24 +288,22 @@ module _ (all : List Word) (tests : List Joined) (wanted : Bool) (n : ℕ) (read
   pub bad-word : (word : Word) (full : Bool) → n < length all → word ≡ get_or all n word → (length tests < 64 → full ≡ false)
       → ((part : Part) → MayComeInCondition wanted full part → IsWordOf part word → ⊥) → IsFirstBad all n
   bad-word word full low is has never = record {
-    inside = omega (arith, low);
     before = can-go-on-behind all tests n wanted read (omega (arith, low));
-    here = λ _ goes.
-        let more = goes.1 in
-        let whole : take (n + 1) all ++ more ≡ take n all ++ word ∷ more =
-        ap (λ (ws : List Word). ws ++ more) (sym (next-word all tests n word low is)) ∙ append_assoc (take n all) (word ∷ []) more in
+    here = λ goes.
+        let more = drop (n + 1) goes.1 in
+        let whole : goes.1 ≡ take n all ++ word ∷ more =
+        sym (take-append-drop (n + 1) goes.1) ∙ (ap (λ (ws : List Word). ws ++ more) (goes.3 ∙ sym (next-word all tests n word low is)) ∙ append_assoc (take n all) (word ∷ []) more) in
         let found = behind goes.0 (word ∷ more) (subst (AreConditionWords goes.0) whole goes.2) in
         never-next found.0 word more wanted full (64 - length tests) (λ room. has (omega (arith, room))) never found.1 found.2;
-    end = λ e. absurd (omega (arith, e, low));
   }
 
 pub bad-end : (all : List Word) (tests : List Joined) (n : ℕ) → HasRead all tests true n → n ≡ length all → IsFirstBad all n
 bad-end all tests n read e = record {
-  inside = omega (arith, e);
   before = can-go-on-behind all tests n true read (omega (arith, e));
-  here = λ low. absurd (omega (arith, e, low));
-  end = λ _ groups are.
-      let whole : all ≡ take n all ++ [] = sym (append-nil (take n all) ∙ take_all n all (omega (arith, e))) in
-      let found = behind all tests true n read groups [] (subst (AreConditionWords groups) whole are) in
+  here = λ goes.
+      let same : take (n + 1) goes.1 ≡ all = goes.3 ∙ take_all (n + 1) all (omega (arith, e)) in
+      let long : length goes.1 ≤ n + 1 = omega (arith, e, ap length same, length-take (n + 1) goes.1) in
+      let whole : goes.1 ≡ take n all ++ [] = sym (take_all (n + 1) goes.1 long) ∙ (same ∙ sym (append-nil (take n all) ∙ take_all n all (omega (arith, e)))) in
+      let found = behind all tests true n read goes.0 [] (subst (AreConditionWords goes.0) whole goes.2) in
       never-ends found.0 (64 - length tests) found.1 found.2;
 }

@@ -64,26 +64,25 @@ behind_bar tests = Bar ∷ map Asks tests
 abbrev pub tests_of : List (List Test) → List Test
 tests_of groups = flat_map (λ group. group) groups
 
--- The words of a condition: it has a group, each group has a test, and there are at most 64 tests. With one more bar before them, the words
--- are a bar and the tests of each group.
+-- The words of a condition, by this grammar, with at most 64 tests. With one more bar before them, they are a bar and the tests of each group.
+--     condition = group { "|" group }
+--     group = test { test }
+--     test = [ "!" ] field comparison number
 pub record AreConditionWords (groups : List (List Test)) (all : List (List ℕ)) : Type 0 where
   pub some : 0 < length groups
   pub each : All (λ group. 0 < length group) groups
   pub few : length (tests_of groups) ≤ 64
   pub words : AllZip IsWordOf (flat_map behind_bar groups) (codes "|" ∷ all)
 
--- some condition's words begin with these
-abbrev pub CanGoOn : List (List ℕ) → Type 0
-CanGoOn front =
-    (groups : List (List Test)) × (more : List (List ℕ)) × AreConditionWords groups (front ++ more)
+-- some condition's words begin with the same so many, where the end counts as a word
+abbrev pub CanGoOn : List (List ℕ) → ℕ → Type 0
+CanGoOn all number = (groups : List (List Test)) × (words : List (List ℕ))
+    × AreConditionWords groups words × (take number words ≡ take number all)
 
--- The first word with which no condition's words can go on: some condition's words begin with those before it, and none with these and the
--- word itself. The end counts as a word.
+-- the first word with which no condition's words can go on
 pub record IsFirstBad (all : List (List ℕ)) (number : ℕ) : Type 0 where
-  pub inside : number ≤ length all
-  pub before : CanGoOn (take number all)
-  pub here : number < length all → CanGoOn (take (number + 1) all) → ⊥
-  pub end : number ≡ length all → (groups : List (List Test)) → AreConditionWords groups all → ⊥
+  pub before : CanGoOn all number
+  pub here : CanGoOn all (number + 1) → ⊥
 
 -- a word may come next: a bar where no test has to come, and anything only where there is room for one more test
 abbrev pub MayComeInCondition : Bool → Bool → Part → Type 0

@@ -1,5 +1,4 @@
 mod RightLoads
-mod ConditionTexts
 mod RightFiles
 mod RightRecords
 mod DecisionLines

@@ -37,7 +37,6 @@ use Rattle.base_commands.specs.Shows.{RefusesShowing}
 use Rattle.run_endings.specs.Pages.{RefusesOpening}
 use Rattle.base_commands.specs.Verifies.{MayRefuseVerifying, RefusesVerifying}
 use Rattle.run_laws.proofs.RightLoads.{not-other, right-fits, right-front, right-loads, right-opens, right-page}
-use Rattle.run_laws.proofs.ConditionTexts.{no-bad}
 
 -- ---- files that are looked up
 
@@ -91,7 +90,7 @@ pub right-searched : (task : Scan) (held : Option (List ℕ)) (refusal : Refusal
 right-searched task None refusal right may = absurd right.1
 right-searched task (Some bytes) refusal right may = by_cause (subst (λ (file : Option FileRead). RefusesScanning task refusal file) (may.1 refl) may.2) where
   by_cause : RefusesScanning task refusal (Some (whole bytes)) → IsOutside refusal
-  by_cause (inl bad) = absurd (no-bad right.0.0 (words task.condition) bad.word right.0.1 bad.first)
+  by_cause (inl bad) = absurd (bad.first.here (right.0.0, words task.condition, right.0.1, refl))
   by_cause (inr loading) = right-loads Three task.file (whole bytes) right.1.base right.1.read refusal loading.1
 
 pub right-replied : (task : ReplyTask) (held : Option (List ℕ)) (refusal : Refusal) → IsRightForReplying task held → MayRefuseReplying task true held refusal → IsOutside refusal
