@@ -84,14 +84,14 @@ IsTrueOne checkers one =
 
 -- so there is one number for all of them
 pub all-true : (checkers : ℕ) (list : List Judged) → All (IsTrueOne checkers) list → IsTrueMatch checkers list
-all-true checkers [] all = (0, λ turns late ends within left more i d below. absurd (omega arith))
+all-true checkers [] all = (0, λ left turns more late ends within i d below. absurd (omega arith))
 all-true checkers (one ∷ list) all =
     let first = All-head (IsTrueOne checkers) one list all in
     let rest = all-true checkers list (All-tail (IsTrueOne checkers) one list all) in (
       max first.0 rest.0,
-      λ turns late ends within left more.
+      λ left turns more late ends within.
           All-cons (λ (judged : Judged). IfSome judged.decision.score (λ score. IfSome judged.loss (λ pair. EnclosesLossAt checkers turns ends left judged.decision pair score))) one list
-          (first.1 turns (omega (arith, late)) ends within left (omega (arith, more))) (rest.1 turns (omega (arith, late)) ends within left (omega (arith, more))),
+          (first.1 turns (omega (arith, late)) ends within left (omega (arith, more))) (rest.1 left turns (omega (arith, more)) (omega (arith, late)) ends within),
     )
 
 module _ (payoffs : PayoffsLieWithin) (rec : RecordRead) (points : ℕ) where

@@ -187,7 +187,7 @@ module _ (payoffs : PayoffsLieWithin) (checkers r : ℕ) (starts : StartPairs) (
   all-true : (list : List Judged) → All (λ (one : Judged). IsDecisionInMatch checkers match_length one.decision) list → All (IsJudgedBy starts words) list → IsTrueMatch checkers list
   all-true list right judged = (
     max is_ladder.true_from.0 all-sound.0,
-    λ turns late ends within left more. λ i d below.
+    λ left turns more late ends within. λ i d below.
         one-true (get_or list i d) (right i d below) (judged i d below) turns ends within
         (λ place here. (is_ladder.true_from.1 turns (omega (arith, late)) ends within place here).1) left (omega (arith, more)),
   )

@@ -30,13 +30,14 @@ EncloseMatchLosses checkers turns ends left list =
     IfSome judged.loss (λ pair. EnclosesLossAt checkers turns ends left judged.decision pair
     score))) list
 
--- The analysis of a match is true where from some number of turns on, one for all its games and all its decisions, and for all end scores, each pair
--- encloses what its decision loses exactly with the payoffs of the match.
+-- The analysis of a match is true where from some number of turns on, one for all its decisions, each pair encloses what its decision loses exactly with
+-- the payoffs of the match, however many turns are left after the decision in its own game, and however many each game after it has.
 abbrev pub IsTrueMatch : ℕ → List Judged → Type 0
 IsTrueMatch checkers list =
     (enough : ℕ)
-    × ((turns : ℕ) → enough ≤ turns → (ends : EndScores) → AreEndScores checkers turns ends
-    → (left : ℕ) → enough ≤ left → EncloseMatchLosses checkers turns ends left list)
+    × ((left turns : ℕ) → enough ≤ left → enough ≤ turns
+    → (ends : EndScores) → AreEndScores checkers turns ends
+    → EncloseMatchLosses checkers turns ends left list)
 
 -- from some number of turns on, and for all end scores, start pairs enclose the exact starts of their scores
 abbrev pub AreTrueStarts : ℕ → StartPairs → Type 0
