@@ -34,7 +34,7 @@ use Rattle.turn_rule.specs.Exact.{Scoring, Values, left_with, rolled, after_doub
 use Rattle.turn_rule.specs.States.{IsStateOf, pair_of}
 use Rattle.turn_rule.specs.Truth.{Encloses, IsScoring}
 use Rattle.turn_rule.proofs.Fractions.{bound-over, bound-neg}
-use Rattle.match_scores.specs.Payoffs.{EndScores, exact_win, mover_in, cube_in, points_left, game_parts, scale_of, starts_before, match_scoring, match_start, start_scale}
+use Rattle.match_scores.specs.Payoffs.{EndScores, exact_win, mover_in, cube_in, points_left, game_parts, scale_of, scored_by, start_scored, starts_before, match_scoring, match_start, start_scale}
 use Rattle.match_scores.specs.Ladders.{AreEndScores}
 
 -- ---- scales
@@ -57,9 +57,6 @@ whole-encloses : (over : ℕ) → Encloses (exactly 1) (pos over) over
 whole-encloses over = record { lower = omega (arith, ints); upper = omega (arith, ints) }
 
 module _ (checkers turns : ℕ) (ends : EndScores) where
-  same-test : (n : ℕ) → eqb n n ≡ true
-  same-test n = grind (arith, nat_tests)
-
   -- the start of a score over a greater scale is the same fraction
   pub later-start : (pair : Bounds) (score : MatchScore) (left : ℕ) → points_left score < left → Encloses pair (match_start checkers turns ends score) (start_scale turns score) → Encloses pair (starts_before checkers turns ends left score) (scale_of turns left)
   later-start pair score zero less start = absurd (omega arith)
@@ -67,7 +64,7 @@ module _ (checkers turns : ℕ) (ends : EndScores) where
     by_test : (b : Bool) → eqb (points_left score) left ≡ b → (points_left score < left → Encloses pair (starts_before checkers turns ends left score) (scale_of turns left)) → Encloses pair (starts_before checkers turns ends (suc left) score) (scale_of turns (suc left))
     by_test true is earlier =
         let same : points_left score ≡ left = grind (arith, nat_tests) in
-        subst (λ (n : ℕ). Encloses pair (starts_before checkers turns ends (suc n) score) (scale_of turns (suc n))) same start
+        rw is (subst (λ (n : ℕ). Encloses pair (start_scored checkers turns score (scored_by (scale_of turns n) (starts_before checkers turns ends n) score (ends score))) (scale_of turns (suc n))) same start)
     by_test false is earlier =
         let before : points_left score < left = grind (arith, nat_tests) in
         rw is (over-encloses pair (starts_before checkers turns ends left score) (scale_of turns left) (game_parts turns) (earlier before))

@@ -1,6 +1,5 @@
 -- One score of a match: where the start pairs before it enclose, its sound words enclose its game, and its start pair its start.
-use Rattle.std.proofs.Common.{◌≡◌, ◌<◌, ◌≤◌, ◌*◌, ◌^◌, ◌∙◌, ℕ, ℤ, pos, ◌*ℤ◌, Bool, true, cond, eqb, [], length, ap, sym, subst, arith}
-use Rattle.std.proofs.lemmas.Bool.Decides.{nat_tests}
+use Rattle.std.proofs.Common.{◌≡◌, ◌<◌, ◌≤◌, ◌*◌, ◌^◌, ℕ, ℤ, [], length, subst, arith}
 use Rattle.cube_actions.specs.declared.side.Side.{Side}
 use Rattle.cube_actions.specs.Scores.{MatchScore, IsScore, needs}
 use Rattle.cube_actions.specs.Ladder.{ladder}
@@ -10,7 +9,7 @@ use Rattle.turn_rule.specs.Turn.{Words}
 use Rattle.turn_rule.specs.Exact.{exact}
 use Rattle.turn_rule.specs.Truth.{Encloses, IsScoring, AreEnclosing, AreSoundFrom}
 use Rattle.match_scores.specs.Openings.{start_over, thirty_starts}
-use Rattle.match_scores.specs.Payoffs.{EndScores, cube_game, points_left, game_parts, starts_before, match_scoring, match_start, start_scale}
+use Rattle.match_scores.specs.Payoffs.{EndScores, match_scoring, match_start, start_scale}
 use Rattle.match_scores.specs.Ladders.{AreEndScores, EncloseStarts, game_at_score, start_pair_at}
 use Rattle.match_scores.proofs.Centred.{centred-terms}
 use Rattle.match_scores.proofs.OpeningSums.{GoOn}
@@ -45,15 +44,9 @@ module _ (down : LeadDown) (checkers turns : ℕ) (ends : EndScores) (score : Ma
   game-enclosed within valid is covers enclosed enough u more sound = sound turns more (match_scoring checkers turns ends score) (payoffs-within within valid is covers enclosed)
 
 module _ (checkers turns : ℕ) (ends : EndScores) (score : MatchScore) (starts : StartPairs) where
-  same-test : (n : ℕ) → eqb n n ≡ true
-  same-test n = grind (arith, nat_tests)
-
   -- what the near side has of the game is the exact start of the score
   start-is : thirty_starts checkers (exact (terms_of score starts) (match_scoring checkers turns ends score) turns) score ≡ match_start checkers turns ends score
-  start-is =
-      let values : thirty_starts checkers (exact (terms_of score starts) (match_scoring checkers turns ends score) turns) score ≡ thirty_starts checkers (exact (cube_game score) (match_scoring checkers turns ends score) turns) score =
-      λ i. thirty_starts checkers (λ p k. values-same score starts (record { match_length = 1; pairs = [] }) (match_scoring checkers turns ends score) turns p k i) score in
-      values ∙ sym (ap (λ (b : Bool). cond b (thirty_starts checkers (exact (cube_game score) (match_scoring checkers turns ends score) turns) score) (pos (game_parts turns) *ℤ starts_before checkers turns ends (points_left score) score)) (same-test (points_left score)))
+  start-is = λ i. thirty_starts checkers (λ p k. values-same score starts (record { match_length = 1; pairs = [] }) (match_scoring checkers turns ends score) turns p k i) score
 
   scale-is : (s n : ℕ) → 30 * (s * n) ≡ s * (30 * n)
   scale-is s n = omega arith

@@ -61,6 +61,11 @@ scored_by scale starts score unfinished = record {
 abbrev pub cube_game : MatchScore → Terms
 cube_game score = terms_of score (record { match_length = 1; pairs = [] })
 
+-- what the near side has of the game at a score that is scored so: the mean over its 30 openings, as their sum over 30 times as much
+abbrev pub start_scored : ℕ → ℕ → MatchScore → Scoring → ℤ
+start_scored checkers turns score scoring =
+    thirty_starts checkers (exact (cube_game score) scoring turns) score
+
 -- ---- the whole match
 
 -- how many points the sides need together beyond one each: the fewer, the later in the match
@@ -80,17 +85,16 @@ scale_of turns (suc left) = scale_of turns left * game_parts turns
 abbrev pub EndScores : Type 0
 EndScores = MatchScore → Values
 
--- The starts of all scores at which fewer than so many points are left, over the scale of so many: of those that have one point less the
--- 30 openings of a game of so many turns, of those that have fewer still the same start as before, over the greater scale.
+-- The starts of all scores at which fewer than so many points are left, over the scale of so many. Those known before are counted over the
+-- greater scale. The others are of games whose payoffs are the starts known before.
 abbrev pub starts_before : ℕ → ℕ → EndScores → ℕ → ExactStarts
 starts_before checkers turns ends zero score = pos 0
 starts_before checkers turns ends (suc left) score =
-    if points_left score == left then
-    thirty_starts checkers
-    (exact (cube_game score)
-    (scored_by (scale_of turns left) (starts_before checkers turns ends left) score
-    (ends score)) turns) score
-    else pos (game_parts turns) *ℤ starts_before checkers turns ends left score
+    let known = starts_before checkers turns ends left in
+    if points_left score == left
+    then start_scored checkers turns score
+    (scored_by (scale_of turns left) known score (ends score))
+    else pos (game_parts turns) *ℤ known score
 
 -- how the game at a score is scored, in a match whose games are cut off after so many turns with these end scores
 abbrev pub match_scoring : ℕ → ℕ → EndScores → MatchScore → Scoring
@@ -98,10 +102,11 @@ match_scoring checkers turns ends score =
     scored_by (scale_of turns (points_left score))
     (starts_before checkers turns ends (points_left score)) score (ends score)
 
--- what the near side has of the game at a score, over the scale of one point more
+-- What the near side has of the game at a score: the mean over the 30 openings of the game whose payoffs are the starts known before.
 abbrev pub match_start : ℕ → ℕ → EndScores → MatchScore → ℤ
 match_start checkers turns ends score =
-    starts_before checkers turns ends (suc (points_left score)) score
+    start_scored checkers turns score (match_scoring checkers turns ends score)
 
+-- what that is counted over
 abbrev pub start_scale : ℕ → MatchScore → ℕ
 start_scale turns score = scale_of turns (suc (points_left score))
