@@ -1,19 +1,43 @@
 -- The best play of a roll is found in the tables.
-use Rattle.std.proofs.Common.{◌≡◌, ◌≢◌, ◌≤◌, ◌∙◌, ℕ, ℤ, pos, get_or, List, [], ◌∷◌, length, Option, Some, None, refl, ap, sym, arith}
+use Rattle.std.proofs.Common.{◌≡◌, ◌≢◌, ◌≤◌, ◌∙◌, ℕ, ℤ, pos, get_or, List, [], ◌∷◌, length, Option, Some, None, refl, ap, arith}
 use Rattle.position_rank.specs.Placement.{Placement}
 use Rattle.column_sums.specs.Cascade.{or_max, or_value, best_over, best_pair, best_double}
-use Rattle.column_sums.specs.Cells.{cell_placement, IsCell}
-use Rattle.column_sums.specs.Tables.{IsRightAt, best_after}
-use Rattle.column_sums.specs.Rolls.{IsPairReady, IsDoubleReady, fewer_of_pair, fewer_of_double}
+use Rattle.column_sums.specs.Cells.{cell_placement, IsCell, IsReach}
+use Rattle.column_sums.specs.Tables.{IsRightAt, IsRightAfter, best_after}
+use Rattle.column_sums.specs.Rolls.{fewer_of_pair, fewer_of_double, pair_found, double_found}
 use Rattle.column_sums.specs.declared.cells.Reach.{Reach}
 use Rattle.column_sums.proofs.CellLemmas.{best-cell}
 use Rattle.column_sums.proofs.TableLemmas.{after-right}
 
-or-first : (o : Option ℤ) (a b : ℤ) → o ≢ None → or_value o a ≡ or_value o b
+-- the tables are right where the two dice lead from a cell, in either order
+pub record IsPairReady (value : Placement → ℤ) (layouts others : List (List ℕ)) (a b : ℕ)
+    (high low : Reach) (row after_high after_low : List (Option ℤ)) : Type 0 where
+  pub few : length layouts ≤ 3276
+  pub by_high : IsReach layouts others a high
+  pub by_low : IsReach layouts others b low
+  pub same : low.cell ≡ high.cell
+  pub none : IsRightAt value [] layouts others row high.cell
+  pub higher : IsRightAt value (a ∷ []) layouts others after_high high.cell
+  pub lower : IsRightAt value (b ∷ []) layouts others after_low high.cell
+  pub high_first : IsRightAfter value (b ∷ []) layouts others after_low high
+  pub low_first : IsRightAfter value (a ∷ []) layouts others after_high low
+
+-- the tables are right where up to four dice of a number lead from a cell
+pub record IsDoubleReady (value : Placement → ℤ) (layouts others : List (List ℕ)) (die : ℕ)
+    (reach : Reach) (row one two three : List (Option ℤ)) : Type 0 where
+  pub few : length layouts ≤ 3276
+  pub reaches : IsReach layouts others die reach
+  pub none : IsRightAt value [] layouts others row reach.cell
+  pub once : IsRightAt value (die ∷ []) layouts others one reach.cell
+  pub twice : IsRightAt value (die ∷ die ∷ []) layouts others two reach.cell
+  pub thrice : IsRightAt value (die ∷ die ∷ die ∷ []) layouts others three reach.cell
+  pub four : IsRightAfter value (die ∷ die ∷ die ∷ []) layouts others three reach
+
+pub or-first : (o : Option ℤ) (a b : ℤ) → o ≢ None → or_value o a ≡ or_value o b
 or-first None a b some = absurd (some refl)
 or-first (Some x) a b some = refl
 
-or-rest : (o : Option ℤ) (a b : ℤ) → o ≡ None → a ≡ b → a ≡ or_value o b
+pub or-rest : (o : Option ℤ) (a b : ℤ) → o ≡ None → a ≡ b → a ≡ or_value o b
 or-rest None a b none is = is
 or-rest (Some x) a b none is = absurd (grind arith)
 
@@ -45,13 +69,9 @@ module _ (value : Placement → ℤ) (layouts others : List (List ℕ)) (a b : �
       let second' = second ∙ ap (λ (c : ℕ). best_over value (b ∷ a ∷ []) (cell_placement layouts others c)) ready.same in
       ap (λ (o : Option ℤ). or_max o (best_after after_high low)) first ∙ ap (or_max (best_over value (a ∷ b ∷ []) p)) second'
 
-  pub pair-fewer : or_max (best_after after_low high) (best_after after_high low) ≡ None → fewer_of_pair high.cell row after_high after_low ≡ best_pair value a b p
+  pub pair-is : pair_found high low row after_high after_low ≡ best_pair value a b p
   unfolding best_pair
-  pair-fewer none = or-rest _ _ _ (sym both-pair ∙ none) fewer-pair
-
-  pub pair-both : (x : Option ℤ) → x ≡ or_max (best_after after_low high) (best_after after_high low) → x ≢ None → or_value x (pos 0) ≡ best_pair value a b p
-  unfolding best_pair
-  pair-both x is some = or-first x (pos 0) (or_value (best_over value (a ∷ []) p) (or_value (best_over value (b ∷ []) p) (value p))) some ∙ chosen _ _ _ _ (is ∙ both-pair) refl
+  pair-is = chosen _ _ _ _ both-pair fewer-pair
 
 module _ (value : Placement → ℤ) (layouts others : List (List ℕ)) (die : ℕ) (reach : Reach) (row one two three : List (Option ℤ)) (ready : IsDoubleReady value layouts others die reach row one two three) where
   abbrev q : Placement
@@ -70,10 +90,6 @@ module _ (value : Placement → ℤ) (layouts others : List (List ℕ)) (die : �
   four-double : best_after three reach ≡ best_over value (die ∷ die ∷ die ∷ die ∷ []) q
   four-double = after-right value layouts others ready.few (die ∷ die ∷ die ∷ []) die three reach ready.reaches ready.four
 
-  pub double-fewer : best_after three reach ≡ None → fewer_of_double reach.cell row one two three ≡ best_double value die q
+  pub double-is : double_found reach row one two three ≡ best_double value die q
   unfolding best_double
-  double-fewer none = or-rest _ _ _ (sym four-double ∙ none) fewer-double
-
-  pub double-four : (x : Option ℤ) → x ≡ best_after three reach → x ≢ None → or_value x (pos 0) ≡ best_double value die q
-  unfolding best_double
-  double-four x is some = or-first x (pos 0) fewer some ∙ chosen _ _ _ _ (is ∙ four-double) refl
+  double-is = chosen _ _ _ _ four-double fewer-double

@@ -4,7 +4,6 @@ use Rattle.std.proofs.lemmas.List.{get_or-take, length-take}
 use Rattle.position_rank.specs.Placement.{Placement}
 use Rattle.column_sums.specs.Cells.{no_cell, cell_of, IsCell, IsCellOrNone, IsReach}
 use Rattle.column_sums.specs.Tables.{IsTable, IsRow, IsRightAt, IsRightAfter, AreRightIn}
-use Rattle.column_sums.specs.Rolls.{IsPairReady, IsDoubleReady}
 use Rattle.column_sums.specs.MoveLists.{IsAmongOrNone, LeadsAmong, AreReady}
 use Rattle.column_sums.specs.Leaps.{layout_at}
 use Rattle.column_sums.specs.ColumnOf.{begun_at}
@@ -14,6 +13,7 @@ use Rattle.column_sums.specs.declared.moves.DieList.{DieList}
 use Rattle.column_sums.specs.declared.moves.Moves.{Moves}
 use Rattle.column_sums.proofs.CellLemmas.{best-none, best-cell}
 use Rattle.column_sums.proofs.Places.{any-default}
+use Rattle.column_sums.proofs.RollLemmas.{IsPairReady, IsDoubleReady}
 
 abbrev no_reach : Reach
 no_reach = record { cell = 0; first = 0; second = 0; third = 0 }

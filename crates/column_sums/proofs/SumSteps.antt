@@ -13,13 +13,14 @@ use Rattle.turn_rule.proofs.Greatest.{total}
 use Rattle.turn_rule.proofs.RollSums.{few-rolls}
 use Rattle.column_sums.specs.Cascade.{best_pair, best_double, best_of_roll, best_sum}
 use Rattle.column_sums.specs.Cells.{no_cell, cell_placement}
-use Rattle.column_sums.specs.Rolls.{IsPairReady, IsDoubleReady}
+use Rattle.column_sums.specs.Rolls.{pair_found, double_found}
 use Rattle.column_sums.specs.MoveLists.{AreReady}
 use Rattle.column_sums.specs.Sums.{DoubleTables, PairTables, IsAdded, die_list, mover_placement, sum_at, ways}
 use Rattle.column_sums.specs.declared.cells.Reach.{Reach}
 use Rattle.column_sums.specs.declared.moves.DieList.{DieList}
 use Rattle.column_sums.specs.declared.moves.Moves.{Moves}
 use Rattle.column_sums.proofs.Places.{any-default}
+use Rattle.column_sums.proofs.RollLemmas.{IsPairReady, IsDoubleReady, pair-is, double-is}
 use Rattle.column_sums.proofs.SumLemmas.{double-ready, pair-ready}
 
 module _ (P : ℕ → ℤ → ℤ → Type 0) (start sums : List ℤ) (at : ℕ) (x : ℤ) where
@@ -40,19 +41,19 @@ module _ (moves : Moves) (ready : AreReady moves) (i : ℕ) (h : i < moves.mover
 
   pub double-right : (die n : ℕ) (row one two three : List (Option ℤ)) (list : DieList) (reach : Reach) (best : ℤ) → 1 ≤ die → die ≤ 6 → n ≡ die → reach ≡ get_or (get_or moves.lists (n - 1) list).reaches.items i reach
       → get_or three no_cell None ≡ None
-      → ((value : Placement → ℤ) (layouts others : List (List ℕ)) (d : ℕ) → IsDoubleReady value layouts others d reach row one two three → best ≡ best_double value d (cell_placement layouts others reach.cell))
+      → best ≡ double_found reach row one two three
       → (value : Placement → ℤ) → DoubleTables value moves die row one two three → best ≡ best_double value die (mover_placement moves i)
   double-right die n row one two three list reach best a b same is missing found value tables =
       let at : reach ≡ get_or (die_list moves die list).reaches.items i reach = is ∙ ap (λ (m : ℕ). get_or (get_or moves.lists (m - 1) list).reaches.items i reach) same in
       let tables-are = double-ready value moves ready die row one two three list i reach a b h missing tables in
       let here = subst (λ (r : Reach). IsDoubleReady value moves.steps moves.layers die r row one two three) (sym at) tables-are in
-      found value moves.steps moves.layers die here
+      found ∙ double-is value moves.steps moves.layers die reach row one two three here
       ∙ ap (λ (cell : ℕ). best_double value die (cell_placement moves.steps moves.layers cell)) (ap (λ (r : Reach). r.cell) at ∙ mover-cell die list reach a b)
 
   pub pair-right : (high low n m : ℕ) (row after_high after_low : List (Option ℤ)) (first second : DieList) (by_high by_low : Reach) (best : ℤ) → 1 ≤ high → high ≤ 6 → 1 ≤ low → low ≤ 6 → n ≡ high → m ≡ low
       → by_high ≡ get_or (get_or moves.lists (n - 1) first).reaches.items i by_high → by_low ≡ get_or (get_or moves.lists (m - 1) second).reaches.items i by_low
       → get_or after_high no_cell None ≡ None → get_or after_low no_cell None ≡ None
-      → ((value : Placement → ℤ) (layouts others : List (List ℕ)) (a b : ℕ) → IsPairReady value layouts others a b by_high by_low row after_high after_low → best ≡ best_pair value a b (cell_placement layouts others by_high.cell))
+      → best ≡ pair_found by_high by_low row after_high after_low
       → (value : Placement → ℤ) → PairTables value moves high low row after_high after_low → best ≡ best_pair value high low (mover_placement moves i)
   pair-right high low n m row after_high after_low first second by_high by_low best a b c d e f high-is low-is miss_high miss_low found value tables =
       let at_high : by_high ≡ get_or (die_list moves high first).reaches.items i by_high = high-is ∙ ap (λ (k : ℕ). get_or (get_or moves.lists (k - 1) first).reaches.items i by_high) e in
@@ -62,7 +63,7 @@ module _ (moves : Moves) (ready : AreReady moves) (i : ℕ) (h : i < moves.mover
       (let is = ready.each low second c d in any-default (die_list moves low second).reaches.items i by_high by_low (omega (arith, h, is.first, is.longer, is.second))) in
       let here = subst (λ (r : Reach). IsPairReady value moves.steps moves.layers high low r by_low row after_high after_low) (sym at_high)
       (subst (λ (r : Reach). IsPairReady value moves.steps moves.layers high low (get_or (die_list moves high first).reaches.items i by_high) r row after_high after_low) (other ∙ sym at_low) one) in
-      found value moves.steps moves.layers high low here
+      found ∙ pair-is value moves.steps moves.layers high low by_high by_low row after_high after_low here
       ∙ ap (λ (cell : ℕ). best_pair value high low (cell_placement moves.steps moves.layers cell)) (ap (λ (r : Reach). r.cell) at_high ∙ mover-cell high first by_high a b)
 
 -- ---- roll by roll

@@ -1,9 +1,6 @@
-ghost use Rattle.std.specs.Prelude.{◌≡◌, ◌^◌, ◌<◌, ◌≤◌, ℕ, ℤ, pos, List, [], ◌∷◌, length};
-ghost use Rattle.position_rank.specs.Placement.{Placement};
+ghost use Rattle.std.specs.Prelude.{◌≡◌, ◌^◌, ◌<◌, pos, length};
 ghost use Rattle.directed_fixed.specs.Bounds.{IsWithinUnits};
-ghost use Rattle.column_sums.specs.Cascade.{best_pair, best_double};
-ghost use Rattle.column_sums.specs.Cells.{IsReach, cell_placement};
-ghost use Rattle.column_sums.specs.Rolls.{IsPairReady, IsDoubleReady, fewer_of_pair, fewer_of_double};
+ghost use Rattle.column_sums.specs.Rolls.{pair_found, double_found, fewer_of_pair, fewer_of_double};
 ghost use Rattle.column_sums.specs.Tables.{IsReachWithin};
 
 use crate::best::Best;
@@ -41,9 +38,7 @@ pub(crate) fn best_pair(
     requires row { length row.now ≡ 32768 }
     requires after_high { length after_high.now ≡ 32768 }
     requires after_low { length after_low.now ≡ 32768 }
-    ensures best { (value : Placement → ℤ) (layouts others : List (List ℕ)) (a b : ℕ)
-        → IsPairReady value layouts others a b high.now low.now row.now after_high.now after_low.now
-        → result ≡ best_pair value a b (cell_placement layouts others high.now.cell) }
+    ensures best { result ≡ pair_found high.now low.now row.now after_high.now after_low.now }
     ensures within { IsWithinUnits (pos (2 ^ 36)) result }
 {
     let high_first = best_after(after_low, high);
@@ -88,9 +83,7 @@ pub(crate) fn best_double(
     requires one { length one.now ≡ 32768 }
     requires two { length two.now ≡ 32768 }
     requires three { length three.now ≡ 32768 }
-    ensures best { (value : Placement → ℤ) (layouts others : List (List ℕ)) (die : ℕ)
-        → IsDoubleReady value layouts others die reach.now row.now one.now two.now three.now
-        → result ≡ best_double value die (cell_placement layouts others reach.now.cell) }
+    ensures best { result ≡ double_found reach.now row.now one.now two.now three.now }
     ensures within { IsWithinUnits (pos (2 ^ 36)) result }
 {
     let four = best_after(three, reach);
