@@ -3,6 +3,10 @@ use Rattle.std.specs.Prelude.{◌≡◌, ◌≢◌, ◌≤◌, ℕ, Bool, true, 
 use Rattle.outside_log.specs.Sink.{Output}
 use Rattle.run_endings.specs.Endings.{Ending, WasPut}
 
+-- a sentence goes on: what stood in it stays in front
+abbrev pub GoesOn : List ℕ → List ℕ → Type 0
+GoesOn old new = (more : List ℕ) × (new ≡ old ++ more)
+
 -- no control byte
 abbrev pub IsShown : ℕ → Type 0
 IsShown byte = (32 ≤ byte) × (byte ≢ 127)

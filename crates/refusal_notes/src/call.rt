@@ -1,4 +1,10 @@
+ghost use Rattle.std.specs.Prelude.{◌≡◌, Some, IfSome, MatchOption};
+ghost use Rattle.refusal_notes.specs.Calls.{IsGivenBy, command_of, has_argument};
+
+mod words;
+
 use command_line::CommandName;
+pub(crate) use words::add_words;
 
 /// The words of a call as those of its command.
 #[derive(Clone, Copy)]
@@ -10,12 +16,12 @@ pub(crate) struct Call<'a> {
 }
 
 /// Whether a word is an option. A value that stands behind one isn't.
-pub(crate) fn is_option(word: &str) -> bool {
+fn is_option(word: &str) -> bool {
     word.starts_with("--")
 }
 
 /// The name of an option, which may have its value behind `=`.
-pub(crate) fn option_name(word: &str) -> &str {
+fn option_name(word: &str) -> &str {
     let option = word.strip_prefix("--").unwrap_or(word);
     match option.split_once('=') {
         Some((name, _)) => name,
@@ -25,7 +31,10 @@ pub(crate) fn option_name(word: &str) -> &str {
 
 impl<'a> Call<'a> {
     /// `None` where the first word is no command's name.
-    pub fn new(words: &'a [String]) -> Option<Call<'a>> {
+    pub fn new(words: &'a [String]) -> Option<Call<'a>>
+        ensures { MatchOption result (command_of words.now ≡ None)
+            (λ call. command_of words.now ≡ Some call.command) }
+    {
         let (name, words) = words.split_first()?;
         let name = name.as_str();
         let command = CommandName::asked(name, words)?;
@@ -37,7 +46,9 @@ impl<'a> Call<'a> {
     }
 
     /// The word that stands for the argument of this number, from 0.
-    pub fn argument(&self, number: usize) -> Option<&'a str> {
+    fn argument(&self, number: usize) -> Option<&'a str>
+        ensures { IfSome result (λ value. IsGivenBy self.now.words.now value.now) }
+    {
         let mut left = number;
         let mut is_value = false;
         for word in self.words {
@@ -56,7 +67,9 @@ impl<'a> Call<'a> {
     }
 
     /// The value of the option of this name.
-    fn option(&self, name: &str) -> Option<&'a str> {
+    fn option(&self, name: &str) -> Option<&'a str>
+        ensures { IfSome result (λ value. IsGivenBy self.now.words.now value.now) }
+    {
         let mut is_value = false;
         for word in self.words {
             let word = word.as_str();
@@ -74,7 +87,9 @@ impl<'a> Call<'a> {
     }
 
     /// What is given for the argument or option of this name.
-    pub fn given(&self, name: &str) -> Option<&'a str> {
+    pub fn given(&self, name: &str) -> Option<&'a str>
+        ensures { IfSome result (λ value. IsGivenBy self.now.words.now value.now) }
+    {
         let arguments = self.command.arguments();
         match arguments.iter().position(|argument| *argument == name) {
             Some(number) => self.argument(number),
@@ -83,7 +98,7 @@ impl<'a> Call<'a> {
     }
 
     /// The name of the argument or option of this number, from 1: first the arguments.
-    pub fn name_of(&self, number: u32) -> Option<&'static str> {
+    fn name_of(&self, number: u32) -> Option<&'static str> {
         let at = (number as usize).checked_sub(1)?;
         let arguments = self.command.arguments();
         let found = match at.checked_sub(arguments.len()) {
@@ -93,17 +108,20 @@ impl<'a> Call<'a> {
         found.copied()
     }
 
-    pub fn takes(&self, argument: &str) -> bool {
+    /// Whether the command has the argument of this name.
+    pub fn takes(&self, argument: &str) -> bool
+        ensures { result ≡ has_argument self.now.command argument.now }
+    {
         self.command.arguments().contains(&argument)
     }
 
     /// Whether the command has the option of this name, with a value.
-    pub fn takes_option(&self, name: &str) -> bool {
+    fn takes_option(&self, name: &str) -> bool {
         self.command.options().contains(&name)
     }
 
     /// Whether the command has the option of this name, without a value.
-    pub fn takes_flag(&self, name: &str) -> bool {
+    fn takes_flag(&self, name: &str) -> bool {
         self.command.flags().contains(&name)
     }
 }

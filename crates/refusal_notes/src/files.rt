@@ -1,3 +1,5 @@
+ghost use Rattle.refusal_notes.specs.Notes.{GoesOn};
+
 use crate::call::Call;
 use crate::sentence::{Part, Text, say};
 use base_head::{BadFile, FileFault};
@@ -6,7 +8,9 @@ use cube_actions::{KindName, MoneyRule, StakesName};
 use equity_report::{GameName, Unheld, Wanted};
 
 /// Adds the name of the file of bounds that a command reads, or how those of its files begin.
-fn add_base(text: &mut Text, call: &Call<'_>) {
+fn add_base(text: &mut Text, call: &Call<'_>)
+    ensures { GoesOn text.old.bytes text.new.bytes }
+{
     let (form, name) = match call.command {
         CommandName::Migrate => ("@", "OLD"),
         CommandName::Plan => ("the file of PREFIX @", "PREFIX"),
@@ -17,7 +21,9 @@ fn add_base(text: &mut Text, call: &Call<'_>) {
 }
 
 /// No file of this name.
-pub(crate) fn add_missing(text: &mut Text, call: &Call<'_>, name: &str) {
+pub(crate) fn add_missing(text: &mut Text, call: &Call<'_>, name: &str)
+    ensures { GoesOn text.old.bytes text.new.bytes }
+{
     let form = if call.given("RECORD") == Some(name) {
         "@ is missing: write the name of a record; hypergammon help record shows one"
     } else if call.given("positions") == Some(name) {
@@ -57,7 +63,9 @@ fn fault_form(fault: FileFault) -> &'static str {
 }
 
 /// A file of bounds that isn't right.
-pub(crate) fn add_file(text: &mut Text, call: &Call<'_>, bad: BadFile) {
+pub(crate) fn add_file(text: &mut Text, call: &Call<'_>, bad: BadFile)
+    ensures { GoesOn text.old.bytes text.new.bytes }
+{
     add_base(text, call);
     let form = match (bad.fault, call.command) {
         (FileFault::Version, CommandName::Migrate) => {
@@ -69,7 +77,9 @@ pub(crate) fn add_file(text: &mut Text, call: &Call<'_>, bad: BadFile) {
 }
 
 /// A file of another kind where one is to be written.
-pub(crate) fn add_other(text: &mut Text, call: &Call<'_>, name: &str) {
+pub(crate) fn add_other(text: &mut Text, call: &Call<'_>, name: &str)
+    ensures { GoesOn text.old.bytes text.new.bytes }
+{
     let form = match call.command {
         CommandName::Make => "@ is there and is no record, so it stays: give another name",
         _ => "@ is there and is no file of bounds, so it stays: give another name",
@@ -78,7 +88,9 @@ pub(crate) fn add_other(text: &mut Text, call: &Call<'_>, name: &str) {
 }
 
 /// Another number of checkers.
-fn add_checkers(text: &mut Text, call: &Call<'_>, wanted: u8, found: u8) {
+fn add_checkers(text: &mut Text, call: &Call<'_>, wanted: u8, found: u8)
+    ensures { GoesOn text.old.bytes text.new.bytes }
+{
     let (wanted, found) = (u64::from(wanted), u64::from(found));
     say(
         text,
@@ -102,7 +114,9 @@ fn add_checkers(text: &mut Text, call: &Call<'_>, wanted: u8, found: u8) {
 }
 
 /// A kind that the game of the file hasn't.
-fn add_kind(text: &mut Text, call: &Call<'_>, kind: KindName, stakes: StakesName) {
+fn add_kind(text: &mut Text, call: &Call<'_>, kind: KindName, stakes: StakesName)
+    ensures { GoesOn text.old.bytes text.new.bytes }
+{
     add_base(text, call);
     let kinds = match stakes {
         StakesName::Unlimited(rule) => match rule {
@@ -119,7 +133,9 @@ fn add_kind(text: &mut Text, call: &Call<'_>, kind: KindName, stakes: StakesName
 }
 
 /// A game that isn't the one that is wanted.
-pub(crate) fn add_game(text: &mut Text, call: &Call<'_>, wanted: Wanted, found: GameName) {
+pub(crate) fn add_game(text: &mut Text, call: &Call<'_>, wanted: Wanted, found: GameName)
+    ensures { GoesOn text.old.bytes text.new.bytes }
+{
     match wanted {
         Wanted::Checkers(checkers) => add_checkers(text, call, checkers, found.checkers),
         Wanted::Kind(kind) => add_kind(text, call, kind, found.stakes),
@@ -144,7 +160,9 @@ pub(crate) fn add_game(text: &mut Text, call: &Call<'_>, wanted: Wanted, found: 
 }
 
 /// A bound of a file that doesn't follow from the others.
-pub(crate) fn add_unheld(text: &mut Text, call: &Call<'_>, unheld: &Unheld) {
+pub(crate) fn add_unheld(text: &mut Text, call: &Call<'_>, unheld: &Unheld)
+    ensures { GoesOn text.old.bytes text.new.bytes }
+{
     add_base(text, call);
     say(
         text,

@@ -7,6 +7,5 @@ mod note;
 mod record;
 mod sentence;
 mod texts;
-mod words;
 
 pub use note::{put_note, put_tally, put_unread_note};

@@ -1,12 +1,11 @@
-ghost use Rattle.std.specs.Prelude.{◌≡◌};
+ghost use Rattle.std.specs.Prelude.{◌≡◌, ◌≤◌, length};
 ghost use Rattle.refusal_notes.specs.Notes.{PutsNote, WasNoted};
 
-use crate::call::Call;
+use crate::call::{Call, add_words};
 use crate::files::{add_file, add_game, add_missing, add_other, add_unheld};
 use crate::record::add_record;
 use crate::sentence::{Part, Text, line_of, say};
 use crate::texts::{add_condition, add_position, add_roll};
-use crate::words::add_words;
 use equity_report::Refusal;
 use outside_log::Sink;
 use run_endings::RunStop;
@@ -57,10 +56,21 @@ fn text_of(words: &[String], stop: &RunStop, wrong: &[u8]) -> Text {
 }
 
 /// Puts the line of a sentence, or a front of it where that fails.
-fn put_line<N: Sink>(notes: &mut N, text: &Text)
+fn put_line<N: Sink>(notes: &mut N, sentence: &str)
+    requires { length sentence.now ≤ 1000 }
     ensures { WasNoted (N.output notes.old) (N.output notes.new) }
 {
-    let _ = notes.put(line_of(text).as_slice());
+    let _ = notes.put(line_of(sentence).as_slice());
+}
+
+/// Puts it where a run ended before all was done.
+fn put_where_stopped<N: Sink>(notes: &mut N, ending: &Result<(), RunStop>, sentence: &str)
+    requires { length sentence.now ≤ 1000 }
+    ensures { PutsNote ending.now (N.output notes.old) (N.output notes.new) }
+{
+    if ending.is_err() {
+        put_line(notes, sentence);
+    }
 }
 
 /// Puts a line on why a run of these words ended before all was done, by which the call can be mended. Where a line of a record is refused, it
@@ -73,9 +83,11 @@ pub fn put_note<N: Sink>(
 )
     ensures { PutsNote ending.now (N.output notes.old) (N.output notes.new) }
 {
-    if let Err(stop) = ending {
-        put_line(notes, &text_of(words, stop, wrong));
-    }
+    let text = match ending {
+        Ok(()) => Text::new(),
+        Err(stop) => text_of(words, stop, wrong),
+    };
+    put_where_stopped(notes, ending, text.as_str());
 }
 
 /// Puts a line on how many lines of a report on a list tell what is wrong. Where putting fails, a front of it was put.
@@ -86,7 +98,7 @@ pub fn put_tally<N: Sink>(notes: &mut N, report: &[u8])
     let mut text = Text::new();
     let parts = [Part::Number(wrong), Part::Number(lines)];
     say(&mut text, "@ of @ lines are wrong", &parts);
-    put_line(notes, &text);
+    put_line(notes, text.as_str());
 }
 
 /// How many lines begin with a `!`, and how many there are.
@@ -108,7 +120,5 @@ fn tally(report: &[u8]) -> (u64, u64) {
 pub fn put_unread_note<N: Sink>(notes: &mut N, not_text: bool)
     ensures { WasNoted (N.output notes.old) (N.output notes.new) }
 {
-    let mut text = Text::new();
-    say(&mut text, if not_text { NOT_TEXT } else { NO_MEMORY }, &[]);
-    put_line(notes, &text);
+    put_line(notes, if not_text { NOT_TEXT } else { NO_MEMORY });
 }

@@ -1,3 +1,5 @@
+ghost use Rattle.refusal_notes.specs.Notes.{GoesOn};
+
 use crate::call::Call;
 use crate::sentence::{Part, Text, say};
 use command_line::CommandName;
@@ -46,7 +48,9 @@ fn roll_and_play(wrong: &[u8]) -> Option<(&str, &str)> {
 }
 
 /// A play that can't be made, in this line of a record, which begins with these bytes.
-fn add_play(text: &mut Text, line: u32, wrong: &[u8], bad: BadPlay) {
+fn add_play(text: &mut Text, line: u32, wrong: &[u8], bad: BadPlay)
+    ensures { GoesOn text.old.bytes text.new.bytes }
+{
     let (roll, play) = roll_and_play(wrong).unwrap_or(("the roll", "so"));
     say(
         text,
@@ -91,7 +95,9 @@ fn fault_form(fault: RecordFault) -> &'static str {
 }
 
 /// The first wrong line of a record, which begins with these bytes, or a list that is too long.
-pub(crate) fn add_record(text: &mut Text, call: &Call<'_>, bad: BadRecord, wrong: &[u8]) {
+pub(crate) fn add_record(text: &mut Text, call: &Call<'_>, bad: BadRecord, wrong: &[u8])
+    ensures { GoesOn text.old.bytes text.new.bytes }
+{
     if matches!(
         call.command,
         CommandName::ShowList | CommandName::AdviseList

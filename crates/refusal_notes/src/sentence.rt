@@ -1,5 +1,5 @@
-ghost use Rattle.std.specs.Prelude.{◌≡◌};
-ghost use Rattle.refusal_notes.specs.Notes.{IsNote, IsShown};
+ghost use Rattle.std.specs.Prelude.{◌≤◌, length};
+ghost use Rattle.refusal_notes.specs.Notes.{GoesOn, IsNote, IsShown};
 
 use arrayvec::{ArrayString, ArrayVec};
 use command_line::CommandName;
@@ -39,7 +39,9 @@ pub(crate) enum Part<'a> {
 pub(crate) type Text = ArrayString<LONGEST>;
 
 /// Adds what fits.
-fn add(text: &mut Text, more: &str) {
+fn add(text: &mut Text, more: &str)
+    ensures { GoesOn text.old.bytes text.new.bytes }
+{
     let _ = text.try_push_str(more);
 }
 
@@ -53,7 +55,9 @@ fn front_of(word: &str) -> &str {
     word
 }
 
-fn add_word(text: &mut Text, word: &str) {
+fn add_word(text: &mut Text, word: &str)
+    ensures { GoesOn text.old.bytes text.new.bytes }
+{
     let front = front_of(word);
     add(text, "\"");
     add(text, front);
@@ -63,14 +67,18 @@ fn add_word(text: &mut Text, word: &str) {
     add(text, "\"");
 }
 
-fn add_arguments(text: &mut Text, arguments: &[&str]) {
+fn add_arguments(text: &mut Text, arguments: &[&str])
+    ensures { GoesOn text.old.bytes text.new.bytes }
+{
     for argument in arguments {
         add(text, " ");
         add(text, argument);
     }
 }
 
-fn add_options(text: &mut Text, command: CommandName) {
+fn add_options(text: &mut Text, command: CommandName)
+    ensures { GoesOn text.old.bytes text.new.bytes }
+{
     let (options, flags) = (command.options(), command.flags());
     let mut left = options.len().saturating_add(flags.len());
     for option in options.iter().chain(flags.iter()) {
@@ -85,13 +93,17 @@ fn add_options(text: &mut Text, command: CommandName) {
     }
 }
 
-fn add_game_told(text: &mut Text, game: &GameName) {
+fn add_game_told(text: &mut Text, game: &GameName)
+    ensures { GoesOn text.old.bytes text.new.bytes }
+{
     let mut told = Report::new();
     add_game(&mut told, *game);
     add(text, told.as_str());
 }
 
-fn add_part(text: &mut Text, part: Part<'_>) {
+fn add_part(text: &mut Text, part: Part<'_>)
+    ensures { GoesOn text.old.bytes text.new.bytes }
+{
     match part {
         Part::Word(word) => add_word(text, word),
         Part::Text(more) => add(text, more),
@@ -105,7 +117,9 @@ fn add_part(text: &mut Text, part: Part<'_>) {
 }
 
 /// Adds a sentence: in its form each `@` stands for the next part.
-pub(crate) fn say(text: &mut Text, form: &str, parts: &[Part<'_>]) {
+pub(crate) fn say(text: &mut Text, form: &str, parts: &[Part<'_>])
+    ensures { GoesOn text.old.bytes text.new.bytes }
+{
     let mut left = parts.iter();
     let mut is_first = true;
     for piece in form.split('@') {
@@ -131,12 +145,13 @@ fn shown(before: u8, byte: u8) -> u8
 }
 
 /// The line of a sentence, in which no control byte stands but the line feed.
-pub(crate) fn line_of(text: &Text) -> ArrayVec<u8, LINE>
+pub(crate) fn line_of(sentence: &str) -> ArrayVec<u8, LINE>
+    requires { length sentence.now ≤ 1000 }
     ensures { IsNote result.items }
 {
     let mut line = ArrayVec::new();
     let mut before = 0;
-    let bytes = text.as_str().as_bytes();
+    let bytes = sentence.as_bytes();
     'bytes: for byte in bytes {
         line.push(shown(before, *byte));
         before = *byte;

@@ -1,4 +1,5 @@
 ghost use Rattle.std.specs.Prelude.{◌≤◌};
+ghost use Rattle.refusal_notes.specs.Notes.{GoesOn};
 
 use crate::call::Call;
 use crate::sentence::{Part, Text, say};
@@ -7,13 +8,17 @@ use position_id::has_id_form;
 use position_text::{BadPosition, read_place};
 
 /// A roll's text that shows none.
-pub(crate) fn add_roll(text: &mut Text, call: &Call<'_>) {
+pub(crate) fn add_roll(text: &mut Text, call: &Call<'_>)
+    ensures { GoesOn text.old.bytes text.new.bytes }
+{
     let form = "--roll @: write two digits from 1 to 6, as 61";
     say(text, form, &[Part::Word(call.given("roll").unwrap_or(""))]);
 }
 
 /// A text without one slash.
-fn add_shape(text: &mut Text, position: &str) {
+fn add_shape(text: &mut Text, position: &str)
+    ensures { GoesOn text.old.bytes text.new.bytes }
+{
     let form = if position.contains('/') {
         "@ has a slash too many: write one, as in \"24 23 / 24 23\""
     } else {
@@ -63,7 +68,9 @@ fn shared_point(mover: &str, other: &str) -> u8
     24
 }
 
-fn add_shared(text: &mut Text, mover: &str, other: &str) {
+fn add_shared(text: &mut Text, mover: &str, other: &str)
+    ensures { GoesOn text.old.bytes text.new.bytes }
+{
     let mine = shared_point(mover, other);
     say(
         text,
@@ -88,7 +95,9 @@ fn form_of_id(bad: BadPosition) -> &'static str {
 }
 
 /// What is wrong with a position's text of this plain form, or of none.
-fn add_places(text: &mut Text, position: &str, plain: &str, bad: BadPosition) {
+fn add_places(text: &mut Text, position: &str, plain: &str, bad: BadPosition)
+    ensures { GoesOn text.old.bytes text.new.bytes }
+{
     let (mover, other) = plain.split_once('/').unwrap_or((plain, ""));
     match bad {
         BadPosition::Shape => add_shape(text, position),
@@ -115,7 +124,9 @@ fn add_places(text: &mut Text, position: &str, plain: &str, bad: BadPosition) {
 }
 
 /// A position's text that describes none.
-pub(crate) fn add_position(text: &mut Text, call: &Call<'_>, bad: BadPosition) {
+pub(crate) fn add_position(text: &mut Text, call: &Call<'_>, bad: BadPosition)
+    ensures { GoesOn text.old.bytes text.new.bytes }
+{
     let position = call.given("POSITION").unwrap_or("");
     if has_id_form(position) {
         return say(text, form_of_id(bad), &[Part::Word(position)]);
@@ -137,7 +148,9 @@ pub(crate) fn add_position(text: &mut Text, call: &Call<'_>, bad: BadPosition) {
 }
 
 /// A condition's text with which none can go on at the word of this number, from 0.
-pub(crate) fn add_condition(text: &mut Text, call: &Call<'_>, word: u32) {
+pub(crate) fn add_condition(text: &mut Text, call: &Call<'_>, word: u32)
+    ensures { GoesOn text.old.bytes text.new.bytes }
+{
     let condition = call.given("CONDITION").unwrap_or("");
     match condition.split(' ').nth(word as usize) {
         None => say(

@@ -1,4 +1,6 @@
-use crate::call::{Call, is_option, option_name};
+ghost use Rattle.refusal_notes.specs.Notes.{GoesOn};
+
+use super::{Call, is_option, option_name};
 use crate::sentence::{Part, Text, say};
 use hyper_outside::{BadWords, WordsKind};
 
@@ -51,7 +53,9 @@ fn may_stand(name: &str) -> Part<'static> {
     Part::Text("a file's name, 1 to 255 bytes")
 }
 
-fn add_no_command(text: &mut Text, words: &[String]) {
+fn add_no_command(text: &mut Text, words: &[String])
+    ensures { GoesOn text.old.bytes text.new.bytes }
+{
     match words.first() {
         Some(word) => say(
             text,
@@ -66,7 +70,9 @@ fn add_no_command(text: &mut Text, words: &[String]) {
     }
 }
 
-fn add_no_value(text: &mut Text, name: &str) {
+fn add_no_value(text: &mut Text, name: &str)
+    ensures { GoesOn text.old.bytes text.new.bytes }
+{
     say(
         text,
         "--@ has no value: write @ behind it",
@@ -74,7 +80,9 @@ fn add_no_value(text: &mut Text, name: &str) {
     );
 }
 
-fn add_needless_value(text: &mut Text, name: &str) {
+fn add_needless_value(text: &mut Text, name: &str)
+    ensures { GoesOn text.old.bytes text.new.bytes }
+{
     say(
         text,
         "--@ takes no value: write --@ alone",
@@ -83,7 +91,9 @@ fn add_needless_value(text: &mut Text, name: &str) {
 }
 
 /// A word that can't stand in any command.
-fn add_faulty(text: &mut Text, call: &Call<'_>, word: &str) {
+fn add_faulty(text: &mut Text, call: &Call<'_>, word: &str)
+    ensures { GoesOn text.old.bytes text.new.bytes }
+{
     if is_option(word) && word.len() > 2 && word.len() <= 4096 {
         let name = option_name(word);
         return if call.takes_flag(name) {
@@ -121,7 +131,9 @@ fn has_value(option: &str, behind: Option<&String>) -> bool {
 }
 
 /// An option that isn't the command's.
-fn add_unknown<'a>(text: &mut Text, call: &Call<'a>, name: &'a str) {
+fn add_unknown<'a>(text: &mut Text, call: &Call<'a>, name: &'a str)
+    ensures { GoesOn text.old.bytes text.new.bytes }
+{
     let (name, command) = (Part::Text(name), Part::Text(call.name));
     let has_none = call.command.options().is_empty() && call.command.flags().is_empty();
     if has_none {
@@ -141,7 +153,9 @@ fn add_unknown<'a>(text: &mut Text, call: &Call<'a>, name: &'a str) {
 
 /// What is wrong with the word at this index, where it is an option that isn't the command's, comes again, has no value or has one that it
 /// doesn't take; whether it is.
-fn add_option_fault(text: &mut Text, call: &Call<'_>, at: usize) -> bool {
+fn add_option_fault(text: &mut Text, call: &Call<'_>, at: usize) -> bool
+    ensures { GoesOn text.old.bytes text.new.bytes }
+{
     let Some(word) = call.words.get(at) else {
         return false;
     };
@@ -170,7 +184,9 @@ fn add_option_fault(text: &mut Text, call: &Call<'_>, at: usize) -> bool {
 }
 
 /// An argument too few or too many.
-fn add_other_arguments(text: &mut Text, call: &Call<'_>) {
+fn add_other_arguments(text: &mut Text, call: &Call<'_>)
+    ensures { GoesOn text.old.bytes text.new.bytes }
+{
     let arguments = call.command.arguments();
     let hint = if call.takes("POSITION") {
         ", with quotes around the POSITION, as \"24 23 / 24 23\""
@@ -195,7 +211,9 @@ fn add_other_arguments(text: &mut Text, call: &Call<'_>) {
 }
 
 /// Words that aren't the command's arguments and options.
-fn add_misformed(text: &mut Text, call: &Call<'_>) {
+fn add_misformed(text: &mut Text, call: &Call<'_>)
+    ensures { GoesOn text.old.bytes text.new.bytes }
+{
     for at in 0..call.words.len() {
         if add_option_fault(text, call, at) {
             return;
@@ -210,7 +228,9 @@ fn are_needs(value: &str) -> bool {
 }
 
 /// Needs whose phase isn't told as it has to be.
-fn add_phase(text: &mut Text, call: &Call<'_>, value: &str) {
+fn add_phase(text: &mut Text, call: &Call<'_>, value: &str)
+    ensures { GoesOn text.old.bytes text.new.bytes }
+{
     let crawford = has_option(call.words, "crawford");
     let form = if crawford && has_option(call.words, "post") {
         "--crawford and --post are of two games: leave one out"
@@ -225,7 +245,9 @@ fn add_phase(text: &mut Text, call: &Call<'_>, value: &str) {
 }
 
 /// The value of this number, from 1.
-fn add_bad_value(text: &mut Text, call: &Call<'_>, number: u32) {
+fn add_bad_value(text: &mut Text, call: &Call<'_>, number: u32)
+    ensures { GoesOn text.old.bytes text.new.bytes }
+{
     let name = call.name_of(number).unwrap_or("");
     let value = call.given(name).unwrap_or("");
     if name == "NEW" && call.given("OLD") == Some(value) {
@@ -256,7 +278,9 @@ fn add_bad_value(text: &mut Text, call: &Call<'_>, number: u32) {
 }
 
 /// Words that are no command's.
-pub(crate) fn add_words(text: &mut Text, words: &[String], bad: BadWords) {
+pub(crate) fn add_words(text: &mut Text, words: &[String], bad: BadWords)
+    ensures { GoesOn text.old.bytes text.new.bytes }
+{
     let Some(call) = Call::new(words) else {
         return add_no_command(text, words);
     };
