@@ -1,3 +1,4 @@
+mod LineAt
 mod Parts
 mod Words
 mod PlainLines

@@ -1,5 +1,5 @@
 -- What the text of a record is read as: a plain one, line by line.
-use Rattle.std.specs.Prelude.{ℕ, zero, suc, ◌+◌, ◌-◌, nat_eq, ◌==◌, Bool, true, false, ◌||◌, List, [], ◌∷◌, ◌++◌, length, take, codes, slice_index, if◌then◌else◌}
+use Rattle.std.specs.Prelude.{ℕ, zero, suc, ◌+◌, ◌-◌, nat_eq, ◌==◌, Bool, true, false, ◌||◌, List, [], ◌∷◌, ◌++◌, length, take, codes, slice_index, slice_index_or, if◌then◌else◌}
 use Rattle.std.specs.List.{ends_with, flat_map, list_all, slice_split}
 use Rattle.std.specs.Str.Lines.{lines}
 
@@ -105,3 +105,7 @@ line_numbers text = 0 ∷ numbers_from 1 (lines text)
 -- the line of the text that the line of this number in the plain text comes from
 abbrev pub line_of : List ℕ → ℕ → ℕ
 line_of text number = slice_index (line_numbers text) number
+
+-- the line of a text with this number, as it stands; for 0, and behind the last one, an empty one
+abbrev pub line_at : List ℕ → ℕ → List ℕ
+line_at text number = slice_index_or ([] ∷ parts 10 text) number []
