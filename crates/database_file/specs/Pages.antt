@@ -1,5 +1,5 @@
 -- Pages of words that follow one another in a file.
-use Rattle.std.specs.Prelude.{◌≡◌, ◌<◌, ℕ, zero, suc, ◌+◌, ◌-◌, ◌*◌, ◌^◌, min, pos, ◌≤ℤ◌, List, [], ◌++◌, drop, Option, None, Some, Result, Ok, Err, Vec, ⊤}
+use Rattle.std.specs.Prelude.{◌≡◌, ◌<◌, ℕ, zero, suc, ◌+◌, ◌-◌, ◌*◌, ◌/◌, ◌^◌, min, pos, ◌≤ℤ◌, List, [], ◌++◌, drop, Option, None, Some, Result, Ok, Err, Vec, ⊤}
 use Rattle.std.specs.Global.{Global}
 use Rattle.std.specs.Option.{option_or}
 use Rattle.word_pages.specs.declared.flaws.Flaw.{Flaw}
@@ -20,6 +20,10 @@ stopped_by (pages.BadPage flaw) = BadPage flaw
 -- how many pages there are
 abbrev pub page_count : Pages → ℕ
 page_count pages = pages_in pages.size pages.count
+
+-- how many batches of 256 the pages make at most; 65,536 stands for all above
+abbrev pub most_batches : Pages → ℕ
+most_batches pages = min (page_count pages / 256) 65535 + 1
 
 -- how many bytes a page has that isn't shorter than others
 abbrev pub whole_page : Pages → ℕ

@@ -5,7 +5,7 @@ ghost use Rattle.outside_log.specs.Readings.{ReadsOn, is_faithful, read_faults};
 ghost use Rattle.outside_log.specs.Files.{bytes_from};
 ghost use Rattle.word_pages.specs.Pages.{page_size};
 ghost use Rattle.database_file.specs.declared.pages.PagesStop.TheVariants.{ReadFault, BadPage, NoMemory};
-ghost use Rattle.database_file.specs.Pages.{AddsPage, AnswersPages, ArePages, binding_on, page_count, place_of, stopped_by, whole_page, words_on};
+ghost use Rattle.database_file.specs.Pages.{AddsPage, AnswersPages, ArePages, binding_on, most_batches, page_count, place_of, stopped_by, whole_page, words_on};
 
 use crate::batch::{Batch, add_batch, make_room};
 use directed_fixed::Fixed;
@@ -101,6 +101,7 @@ impl Pages {
     /// How many batches the pages make at most, up to 65,536.
     pub(crate) fn batch_count(&self) -> u32
         requires { ArePages self.now }
+        ensures { result ≡ most_batches self.now }
     {
         (self.page_count() / BATCH_PAGES).min(65_535) as u32 + 1
     }
