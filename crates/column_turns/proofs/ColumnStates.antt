@@ -1,13 +1,14 @@
 -- The positions of a column are states.
-use Rattle.std.proofs.Common.{◌≡◌, ◌<◌, ◌≤◌, ◌∙◌, ◌*◌, ◌++◌, ℕ, List, [], length, sum, take, drop, get_or, All, ap, sym, subst}
+use Rattle.std.proofs.Common.{◌≡◌, ◌<◌, ◌≤◌, ◌∙◌, ◌+◌, ◌*◌, ◌++◌, ℕ, List, [], length, sum, take, drop, get_or, All, ap, sym, subst}
 use Rattle.std.proofs.Math.Seq.{take-append_seam}
 use Rattle.std.proofs.Math.Nat.{mul-le-mul_right}
 use Rattle.position_rank.specs.Placement.{IsLayout, IsLive}
+use Rattle.position_rank.specs.Ranks.{layouts, rank_of, square_rank_of}
 use Rattle.turn_rule.specs.Looks.{Source, IsSourceState}
 use Rattle.turn_rule.specs.Layouts.{AreLayouts}
 use Rattle.column_sums.specs.Leaps.{layout_at}
 use Rattle.column_sums.specs.Listings.{IsListed}
-use Rattle.column_turns.specs.Turns.{at_rank, AreLiveMovers, IsColumnOf}
+use Rattle.column_turns.specs.Turns.{at_rank, mover_at, AreLiveMovers, IsColumnOf}
 
 -- the movers that a column lists are live, where those that were handed in are
 pub listed-movers : (layouts : List (List ℕ)) (other : List ℕ) (given movers : List ℕ) → AreLiveMovers layouts other given
@@ -33,6 +34,15 @@ rank-state source layouts other rank k all valid many here live kind =
       live = live;
       kind = kind;
     }
+
+-- the square rank of one of a column's positions
+pub mover-square : (checkers : ℕ) (all : List (List ℕ)) (other movers : List ℕ) (i rank : ℕ) → AreLayouts checkers all → get_or movers i 0 < length all → rank_of other ≡ rank
+    → get_or movers i 0 * length all + rank ≡ square_rank_of (mover_at all other movers i)
+mover-square checkers all other movers i rank are here is =
+    let mover = get_or movers i 0 in
+    let has = are.each mover [] here in
+    let square : ℕ → ℕ → ℕ → ℕ = λ m n o. m * n + o in
+    sym (ap (λ (m : ℕ). square m (layouts (sum (layout_at all mover))) (rank_of other)) has.ranked ∙ (ap (λ (n : ℕ). square mover (layouts n) (rank_of other)) has.many ∙ (ap (λ (n : ℕ). square mover n (rank_of other)) (sym are.many) ∙ ap (λ (o : ℕ). square mover (length all) o) is)))
 
 -- the column of a layout
 pub column-of : (source : Source) (layouts others : List (List ℕ)) (other movers : List ℕ) → AreLayouts source.checkers layouts → length layouts ≤ 3276 → 0 < length others → layout_at others 0 ≡ other → IsLayout other → sum other ≡ source.checkers

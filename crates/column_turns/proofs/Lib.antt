@@ -1,5 +1,6 @@
 pub mod PlayWorths
 pub mod Laters
+pub mod LivePoints
 pub mod RowCells
 pub mod MoreRanks
 pub mod Places

@@ -1,5 +1,6 @@
 -- Rows of all kinds in which one cell more was found.
-use Rattle.std.proofs.Common.{◌≡◌, ◌<◌, ◌≤◌, ◌≢◌, ◌+◌, ◌∙◌, ℕ, ℤ, List, [], length, set, Option, Some, get_or-set_same, get_or-set_other, below_more, ap, sym, subst, arith}
+use Rattle.std.proofs.Common.{◌≡◌, ◌<◌, ◌≤◌, ◌≢◌, ◌+◌, ◌∙◌, ℕ, ℤ, List, [], length, set, Option, Some, None, get_or-set_same, get_or-set_other, below_more, ap, sym, subst, arith}
+use Rattle.std.proofs.lemmas.List.{set-get_or}
 use Rattle.position_rank.specs.Placement.{Placement, IsPosition}
 use Rattle.directed_fixed.specs.declared.bounds.End.{End}
 use Rattle.cube_actions.specs.Stakes.{Terms, kind_at}
@@ -13,6 +14,17 @@ use Rattle.column_turns.proofs.Laters.{found-then}
 use Rattle.column_turns.proofs.RowCells.{same-set, cell-more, cell-none, layer-more}
 
 module _ (end : End) (old : Seen) (stakes : Terms) where
+  -- no play leaves these checkers, and the rows stay
+  pub put-none : (noted : Notes) (left : Placement) (layer rank : ℕ) (rows : List (List (Option ℤ))) → AreRows (length stakes.kinds) rows → layer < 8 → rank < 4095
+      → ((k : ℕ) → LeavesState old.source (kind_at stakes k).next left → ⊥) → ArePut end old.source noted stakes left layer rank rows rows (length stakes.kinds)
+  put-none noted left layer rank rows are eight few none k below =
+      let row = row_at rows k in
+      let here : k < length rows = omega (arith, below, are.many) in
+      let inside : cell_of layer rank < 32768 = omega (arith, eight, few) in
+      let some : cell_of layer rank ≢ 4095 = omega (arith, few) in
+      let is = (are.each k [] here).filled (cell_of layer rank) inside some in
+      (is.0, sym (set-get_or row (cell_of layer rank) None) ∙ ap (set row (cell_of layer rank)) is.1, λ leaves. absurd (none k leaves))
+
   module _ (left : Placement) (layer rank : ℕ) (first rows : List (List (Option ℤ))) where
     -- what was put stays found
     pub put-later : (mid new : Seen) (count : ℕ) → IsLater old mid → IsLater mid new → ArePut end old.source mid.notes stakes left layer rank first rows count → ArePut end old.source new.notes stakes left layer rank first rows count

@@ -1,13 +1,14 @@
 -- A column's pairs, and the room in which they are worked out.
 use Rattle.std.specs.Prelude.{◌≡◌, ◌≤◌, ◌*◌, ◌^◌, ℕ, ℤ, pos, All, List, Option, length, slice_index_or, sum}
 use Rattle.position_rank.specs.Placement.{IsLayout, Placement}
+use Rattle.position_rank.specs.Ranks.{rank_of}
 use Rattle.directed_fixed.specs.Bounds.{Bounds, IsWithinUnits}
 use Rattle.cube_actions.specs.Stakes.{nothing}
 use Rattle.turn_rule.specs.declared.game.Game.{Game}
 use Rattle.turn_rule.specs.Games.{kinds_of}
 use Rattle.turn_rule.specs.Layouts.{AreLayouts}
 use Rattle.column_turns.specs.Rows.{AreRows}
-use Rattle.column_turns.specs.Turns.{mover_at, place_in}
+use Rattle.column_turns.specs.Turns.{mover_at, place_in, ArePointsOf}
 
 -- The layouts of a game's checkers and how many kinds it has, the layout of the other side in the column, the ranks of its movers, and a pair
 -- for each of them in each kind.
@@ -36,21 +37,21 @@ pub record HasRoom (layouts : List (List ℕ)) (kinds : ℕ) (sums : List ℤ) :
   pub many : length sums ≡ length layouts * kinds
   pub small : All (IsWithinUnits (pos (2 ^ 42))) sums
 
--- there is room for a value of each of so many layouts, and for one of each in each kind
-pub record HasRoomFor (many kinds capacity : ℕ) (sums low high : List ℤ) (turns : List Bounds)
+-- the points of these layouts, and room for a value of each and for one of each in each kind
+pub record HasRoomFor (layouts : List (List ℕ)) (kinds capacity : ℕ) (bits : List ℕ)
+    (sums low high : List ℤ) (turns : List Bounds)
     (lower_cells upper_cells : List (List (Option ℤ))) : Type 0 where
-  pub movers : many ≤ capacity
-  pub one : length sums ≡ many
-  pub lower : length low ≡ many * kinds
-  pub small_lower : All (IsWithinUnits (pos (2 ^ 42))) low
-  pub upper : length high ≡ many * kinds
-  pub small_upper : All (IsWithinUnits (pos (2 ^ 42))) high
-  pub pairs : length turns ≡ many * kinds
+  pub points : ArePointsOf layouts bits
+  pub movers : length layouts ≤ capacity
+  pub one : length sums ≡ length layouts
+  pub lower : HasRoom layouts kinds low
+  pub upper : HasRoom layouts kinds high
+  pub pairs : length turns ≡ length layouts * kinds
   pub lower_rows : AreRows kinds lower_cells
   pub upper_rows : AreRows kinds upper_cells
 
 -- a column of a game of so many checkers, with room for its movers, its sums and its pairs
-pub record IsColumn (checkers capacity : ℕ) (column : ColumnPairs)
+pub record IsColumn (checkers rank capacity : ℕ) (bits : List ℕ) (column : ColumnPairs)
     (lower_cells upper_cells : List (List (Option ℤ))) (one lower upper : List ℤ) : Type 0 where
   pub low : 1 ≤ checkers
   pub high : checkers ≤ 3
@@ -59,6 +60,8 @@ pub record IsColumn (checkers capacity : ℕ) (column : ColumnPairs)
   pub few : length column.layouts ≤ 3276
   pub valid : IsLayout column.other
   pub many : sum column.other ≡ checkers
+  pub ranked : rank_of column.other ≡ rank
+  pub points : ArePointsOf column.layouts bits
   pub room : length column.layouts ≤ capacity
   pub lower_rows : AreRows column.kinds lower_cells
   pub upper_rows : AreRows column.kinds upper_cells

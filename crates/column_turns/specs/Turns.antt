@@ -1,6 +1,7 @@
 -- The turns of a column.
 use Rattle.std.specs.Prelude.{◌≡◌, ◌<◌, ◌≤◌, ◌+◌, ◌*◌, ℕ, ℤ, pos, All, IsTrue, List, length, sum, slice_index, slice_index_or}
 use Rattle.position_rank.specs.Placement.{Placement, IsLive}
+use Rattle.position_rank.specs.Points.{AreOtherPoints}
 use Rattle.directed_fixed.specs.declared.bounds.End.{End}
 use Rattle.directed_fixed.specs.declared.bounds.End.TheVariants.{Lower, Upper}
 use Rattle.directed_fixed.specs.Bounds.{Bounds}
@@ -17,6 +18,12 @@ at_rank layouts other rank = record { mover = layout_at layouts rank; other = ot
 -- the position of one of these movers
 abbrev pub mover_at : List (List ℕ) → List ℕ → List ℕ → ℕ → Placement
 mover_at layouts other movers i = at_rank layouts other (slice_index movers i)
+
+-- the points of each of these layouts, where the side that doesn't move has it
+pub record ArePointsOf (layouts : List (List ℕ)) (points : List ℕ) : Type 0 where
+  pub many : length points ≡ length layouts
+  pub each : (rank : ℕ) → rank < length layouts
+      → AreOtherPoints (slice_index points rank) (layout_at layouts rank)
 
 -- these are the ranks of the layouts whose positions in the column are live
 pub record AreLiveMovers (layouts : List (List ℕ)) (other : List ℕ) (movers : List ℕ) : Type 0 where

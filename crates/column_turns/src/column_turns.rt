@@ -1,5 +1,6 @@
 ghost use Rattle.std.specs.Prelude.{◌≡◌, ◌<◌, ◌≤◌, ◌*◌, ◌^◌, ℕ, pos, All, IfOk, IsTrue, length, slice_index, slice_index_or, vec_capacity};
 ghost use Rattle.position_rank.specs.Placement.{IsPosition};
+ghost use Rattle.position_rank.specs.Ranks.{square_rank_of};
 ghost use Rattle.directed_fixed.specs.Bounds.{IsWithinUnits};
 ghost use Rattle.cube_actions.specs.Stakes.{nothing};
 ghost use Rattle.turn_rule.specs.Looks.{AreStakesOf};
@@ -10,13 +11,13 @@ ghost use Rattle.column_turns.specs.Columns.{HasRoomFor};
 ghost use Rattle.column_turns.specs.Rows.{AreRows};
 ghost use Rattle.column_turns.specs.Turns.{mover_at, place_in, AreLiveMovers, AreTurnsOf};
 
-use crate::movers::list_movers;
+use crate::movers::{list_movers, points_of};
 use crate::turns::turn_column;
 use column_sums::{Column, Row};
 use cube_actions::Stakes;
 use directed_fixed::{Fixed, Pair};
 use hyper_outside::NoMemory;
-use position_rank::{Layout, Position};
+use position_rank::{Layout, OtherPoints, Position};
 use std::alloc::Global;
 use std::marker::Model;
 use turn_rule::Pairs;
@@ -27,10 +28,12 @@ use turn_rule::Pairs;
 pub struct ColumnTurns {
     checkers: u8,
     kinds: usize,
+    points: Vec<OtherPoints>,
     column: Column,
     lower_rows: Vec<Row>,
     upper_rows: Vec<Row>,
     other: Layout,
+    rank: u32,
     movers: Vec<u16>,
     one: Vec<Fixed>,
     lower: Vec<Fixed>,
@@ -52,13 +55,14 @@ impl Model for ColumnTurns {
       pairs = a.pairs.items;
     } };
 
-    ghost invariant = { λ a. IsColumn a.checkers (vec_capacity a.movers) (record {
-      layouts = a.column.layouts;
-      kinds = a.kinds;
-      other = a.other;
-      movers = a.column.movers;
-      pairs = a.pairs.items;
-    }) a.lower_rows.items a.upper_rows.items a.one.items a.lower.items a.upper.items };
+    ghost invariant = { λ a. IsColumn a.checkers a.rank (vec_capacity a.movers)
+        a.points.items (record {
+          layouts = a.column.layouts;
+          kinds = a.kinds;
+          other = a.other;
+          movers = a.column.movers;
+          pairs = a.pairs.items;
+        }) a.lower_rows.items a.upper_rows.items a.one.items a.lower.items a.upper.items };
 }
 
 /// So many values of 0.
@@ -92,6 +96,7 @@ fn empty_rows(alloc: Global, kinds: usize) -> Result<Vec<Row>, NoMemory>
 /// Room to work out a column's turns in, beside the column itself.
 #[derive(Drop)]
 struct Room {
+    points: Vec<OtherPoints>,
     movers: Vec<u16>,
     one: Vec<Fixed>,
     lower: Vec<Fixed>,
@@ -101,16 +106,17 @@ struct Room {
     upper_rows: Vec<Row>,
 }
 
-/// Room for so many layouts and kinds.
-fn room_for(alloc: Global, many: usize, kinds: usize) -> Result<Room, NoMemory>
-    requires many { many ≤ 3276 }
+/// Room for the layouts of a column and for so many kinds.
+fn room_for(alloc: Global, column: &Column, kinds: usize) -> Result<Room, NoMemory>
     requires kinds { kinds ≤ 14 }
-    ensures { IfOk result (λ room. HasRoomFor many kinds (vec_capacity room.movers) room.one.items
-        room.lower.items room.upper.items room.pairs.items
+    ensures { IfOk result (λ room. HasRoomFor column.now.layouts kinds (vec_capacity room.movers)
+        room.points.items room.one.items room.lower.items room.upper.items room.pairs.items
         room.lower_rows.items room.upper_rows.items) }
 {
+    let many = column.many();
     let places = many * kinds;
     Ok(Room {
+        points: points_of(alloc, column)?,
         movers: Vec::with_capacity(alloc, many)?,
         one: zeros(alloc, many)?,
         lower: zeros(alloc, places)?,
@@ -132,14 +138,17 @@ impl ColumnTurns {
         let column = Column::new(alloc, checkers)?;
         let kinds = stakes.kinds();
         // On an error the column is dropped at this place alone.
-        let room = room_for(alloc, column.many(), kinds)?;
+        let room = room_for(alloc, &column, kinds)?;
+        let other = Position::start(checkers).mover();
         Ok(ColumnTurns {
             checkers,
             kinds,
+            points: room.points,
             column,
             lower_rows: room.lower_rows,
             upper_rows: room.upper_rows,
-            other: Position::start(checkers).mover(),
+            other,
+            rank: other.rank(),
             movers: room.movers,
             one: room.one,
             lower: room.lower,
@@ -167,13 +176,15 @@ impl ColumnTurns {
         ensures stays { P.stays pairs.new ≡ P.stays pairs.old }
     {
         self.other = *self.column.layout(other);
-        list_movers(&self.column, &self.other, &mut self.movers);
+        self.rank = other as u32;
+        list_movers(&self.column, &self.points, &self.other, &mut self.movers);
         self.column.begin(&self.other, self.movers.as_slice());
         // What `movers` ensures bounds their number and their ranks.
         let _movers = self.column.movers();
         turn_column(
             stakes,
             &mut self.column,
+            &self.points,
             self.lower_rows.as_mut_slice(),
             self.upper_rows.as_mut_slice(),
             self.one.as_mut_slice(),
@@ -226,6 +237,17 @@ impl ColumnTurns {
         let rank = self.column.movers()[i];
         let mover = *self.column.layout(usize::from(rank));
         Position::new(mover, self.other).unwrap()
+    }
+
+    /// The square rank of one of the live positions.
+    #[inline]
+    pub fn square(&self, i: usize) -> u64
+        requires { i < length self.now.movers }
+        ensures { result ≡ square_rank_of
+            (mover_at self.now.layouts self.now.other self.now.movers i) }
+    {
+        let rank = u64::from(self.column.movers()[i]);
+        rank * self.column.many() as u64 + u64::from(self.rank)
     }
 
     /// The pair of the turn of one of the live positions in a kind.

@@ -1,21 +1,23 @@
-ghost use Rattle.std.specs.Prelude.{◌≡◌, ◌<◌, ◌≤◌, ◌^◌, ℕ, pos, IsTrue, Some, length, slice_set, sum};
+ghost use Rattle.std.specs.Prelude.{◌≡◌, ◌<◌, ◌≤◌, ◌^◌, ◌↔◌, ℕ, pos, IsTrue, Some, length, slice_set, sum};
 ghost use Rattle.directed_fixed.specs.declared.bounds.End.TheVariants.{Lower, Upper};
 ghost use Rattle.directed_fixed.specs.Bounds.{IsWithinUnits};
-ghost use Rattle.position_rank.specs.Placement.{swap};
+ghost use Rattle.position_rank.specs.Placement.{IsLive, swap};
 ghost use Rattle.position_rank.specs.Ranks.{square_rank_of};
 ghost use Rattle.turn_rule.specs.Looks.{AreStakesOf};
 ghost use Rattle.turn_rule.specs.Layouts.{AreLayouts};
 ghost use Rattle.column_sums.specs.Cells.{cell_of};
 ghost use Rattle.column_sums.specs.Leaps.{layout_at};
 ghost use Rattle.column_turns.specs.Moments.{IsLater};
+ghost use Rattle.move_rules.specs.Payoff.{points as points_won};
 ghost use Rattle.column_turns.specs.Rows.{AreFoundRows, AreFoundRowsTo, ArePut, AreRows, row_at};
+ghost use Rattle.column_turns.specs.Turns.{ArePointsOf};
 
 use crate::play_worth::play_worth;
 use column_sums::{Column, Row};
 use cube_actions::Stakes;
 use directed_fixed::{End, Fixed};
-use move_rules::points;
-use position_rank::Position;
+use move_rules::{Won, points as points_won};
+use position_rank::{MoverPoints, OtherPoints, Position};
 use turn_rule::Pairs;
 
 /// Puts what a cell is worth in the row of one kind.
@@ -33,11 +35,24 @@ fn put_worth(rows: &mut [Row], number: usize, layer: usize, rank: usize, worth: 
     row.set(layer, rank, worth);
 }
 
-/// Finds what the mover has after a play that leaves these checkers, in each kind and at both ends.
+/// How the mover has won, where it is at hand whether the other side's position is live.
+#[inline]
+fn won_after(left: &Position, live: bool) -> Option<Won>
+    requires { IsTrue live → IsLive (swap left.now) }
+    ensures { result ≡ points_won left.now }
+{
+    // A position has as many checkers on either side.
+    let _checkers = left.checkers();
+    if live { None } else { points_won(left) }
+}
+
+/// Finds what the mover has after a play that leaves these checkers, in each kind and at both ends. Where no play leaves them the rows stay.
+/// Whether the other side's position is live is at hand.
 #[inline]
 fn fill_cell<P: Pairs>(
     stakes: &Stakes,
     left: &Position,
+    live: bool,
     square: u64,
     layer: usize,
     rank: usize,
@@ -48,6 +63,7 @@ fn fill_cell<P: Pairs>(
     requires sure { IsTrue (P.seen pairs.old).source.sure }
     requires stakes { AreStakesOf (P.seen pairs.old).source stakes.now }
     requires many { sum left.now.mover ≡ (P.seen pairs.old).source.checkers }
+    requires live { IsTrue live ↔ IsLive (swap left.now) }
     requires square { square ≡ square_rank_of (swap left.now) }
     requires layer { layer < 8 }
     requires rank { rank < 4095 }
@@ -64,8 +80,10 @@ fn fill_cell<P: Pairs>(
 {
     // What `bound` ensures says that the stakes are valid.
     let _bound = stakes.bound();
-    let won = points(left);
-    let live = left.swap().is_live();
+    let won = won_after(left, live);
+    if !live && won.is_none() {
+        return;
+    }
     for number in 0..stakes.kinds() {
         let kind = stakes.kind(number);
         let low = play_worth(End::Lower, left, won, live, square, kind, pairs);
@@ -79,6 +97,7 @@ fn fill_cell<P: Pairs>(
 fn fill_layer<P: Pairs>(
     stakes: &Stakes,
     column: &Column,
+    points: &[OtherPoints],
     layer: usize,
     lower: &mut [Row],
     upper: &mut [Row],
@@ -87,6 +106,7 @@ fn fill_layer<P: Pairs>(
     requires sure { IsTrue (P.seen pairs.old).source.sure }
     requires stakes { AreStakesOf (P.seen pairs.old).source stakes.now }
     requires layouts { AreLayouts (P.seen pairs.old).source.checkers column.now.layouts }
+    requires points { ArePointsOf column.now.layouts points.now }
     requires layer { layer < length column.now.others }
     requires eight { layer < 8 }
     requires lower { AreRows (length stakes.now.kinds) lower.old }
@@ -104,13 +124,17 @@ fn fill_layer<P: Pairs>(
     ensures stays { P.stays pairs.new ≡ P.stays pairs.old }
 {
     let other = *column.layer(layer);
+    let theirs = MoverPoints::of(&other);
     let first = u64::from(other.rank()) * column.many() as u64;
     for rank in 0..column.many() {
         match Position::new(*column.layout(rank), other) {
             None => {}
             Some(left) => {
+                let live = theirs.are_live(points[rank]);
                 let square = first + rank as u64;
-                fill_cell(stakes, &left, square, layer, rank, lower, upper, pairs);
+                fill_cell(
+                    stakes, &left, live, square, layer, rank, lower, upper, pairs,
+                );
             }
         }
     }
@@ -121,6 +145,7 @@ fn fill_layer<P: Pairs>(
 pub(crate) fn fill_rows<P: Pairs>(
     stakes: &Stakes,
     column: &Column,
+    points: &[OtherPoints],
     lower: &mut [Row],
     upper: &mut [Row],
     pairs: &mut P,
@@ -128,6 +153,7 @@ pub(crate) fn fill_rows<P: Pairs>(
     requires sure { IsTrue (P.seen pairs.old).source.sure }
     requires stakes { AreStakesOf (P.seen pairs.old).source stakes.now }
     requires layouts { AreLayouts (P.seen pairs.old).source.checkers column.now.layouts }
+    requires points { ArePointsOf column.now.layouts points.now }
     requires lower { AreRows (length stakes.now.kinds) lower.old }
     requires upper { AreRows (length stakes.now.kinds) upper.old }
     ensures lower { AreRows (length stakes.now.kinds) lower.new }
@@ -140,6 +166,6 @@ pub(crate) fn fill_rows<P: Pairs>(
     ensures stays { P.stays pairs.new ≡ P.stays pairs.old }
 {
     for layer in 0..column.layers() {
-        fill_layer(stakes, column, layer, lower, upper, pairs);
+        fill_layer(stakes, column, points, layer, lower, upper, pairs);
     }
 }

@@ -9,6 +9,7 @@ ghost use Rattle.column_turns.specs.Rows.{AreRows};
 ghost use Rattle.column_turns.specs.Turns.{
   place_in,
   mover_at,
+  ArePointsOf,
   AreSummed,
   AreTurnsOf,
   IsColumnOf,
@@ -19,6 +20,7 @@ use crate::sums::sum_kinds;
 use column_sums::{Column, Row};
 use cube_actions::Stakes;
 use directed_fixed::{Fixed, Pair};
+use position_rank::OtherPoints;
 use turn_rule::{Pairs, pair_from_sums};
 
 /// Works out the pair of the turn in each kind of one position.
@@ -76,6 +78,7 @@ pub(crate) fn pair_positions(
 pub(crate) fn turn_column<P: Pairs>(
     stakes: &Stakes,
     column: &mut Column,
+    points: &[OtherPoints],
     lower_rows: &mut [Row],
     upper_rows: &mut [Row],
     one: &mut [Fixed],
@@ -88,6 +91,7 @@ pub(crate) fn turn_column<P: Pairs>(
     requires stakes { AreStakesOf (P.seen pairs.old).source stakes.now }
     requires column { IsColumnOf (P.seen pairs.old).source column.old.layouts
         column.old.others column.old.movers }
+    requires points { ArePointsOf column.old.layouts points.now }
     requires one { length column.old.movers ≤ length one.old }
     requires lower_rows { AreRows (length stakes.now.kinds) lower_rows.old }
     requires upper_rows { AreRows (length stakes.now.kinds) upper_rows.old }
@@ -111,7 +115,7 @@ pub(crate) fn turn_column<P: Pairs>(
     ensures later { IsLater (P.seen pairs.old) (P.seen pairs.new) }
     ensures stays { P.stays pairs.new ≡ P.stays pairs.old }
 {
-    fill_rows(stakes, column, lower_rows, upper_rows, pairs);
+    fill_rows(stakes, column, points, lower_rows, upper_rows, pairs);
     sum_kinds(stakes, column, lower_rows, one, lower);
     sum_kinds(stakes, column, upper_rows, one, upper);
     pair_positions(column.movers().len(), stakes, lower, upper, turns);

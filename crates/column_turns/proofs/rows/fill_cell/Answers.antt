@@ -1,4 +1,7 @@
-use Rattle.std.proofs.Common.{◌<◌, ◌+◌, ◌∙◌, ℕ, Some, length, set, refl, arith}
+use Rattle.std.proofs.Common.{◌≡◌, ◌<◌, ◌+◌, ◌∙◌, false, ℕ, Option, Some, None, length, set, refl, sym, arith}
+use Rattle.std.proofs.lemmas.Bool.{false≢true}
+use Rattle.std.specs.Option.{is_some}
+use Rattle.turn_rule.specs.Found.{LeavesState}
 use Rattle.directed_fixed.specs.declared.bounds.End.TheVariants.{Lower, Upper}
 use Rattle.cube_actions.specs.Stakes.{Terms, IsValid, kind_at, no_kind}
 use Rattle.turn_rule.specs.Looks.{Source, AreStakesOf}
@@ -6,7 +9,7 @@ use Rattle.column_sums.specs.Cells.{cell_of}
 use Rattle.column_turns.specs.Rows.{row_at}
 use Rattle.turn_rule.proofs.RollSums.{wins-within}
 use Rattle.column_turns.proofs.Laters.{later-refl, later-trans}
-use Rattle.column_turns.proofs.RowsFound.{put-later, put-next, put-rest}
+use Rattle.column_turns.proofs.RowsFound.{put-none, put-later, put-next, put-rest}
 use Rattle.column_turns.proofs.rows.fill_cell.Goals as goal
 
 next-within : (s : Source) (stakes : Terms) → IsValid stakes → AreStakesOf s stakes → (k : ℕ) → k < length stakes.kinds → (kind_at stakes k).next < s.kinds
@@ -31,10 +34,10 @@ pub play_worth-low-requires-clause-many : goal.play_worth-low-requires-clause-ma
 play_worth-low-requires-clause-many g c = rw c.loop-number.invariant.later.source c.requires.many
 
 pub play_worth-low-requires-clause-won : goal.play_worth-low-requires-clause-won
-play_worth-low-requires-clause-won g c = c.points-won.ensures
+play_worth-low-requires-clause-won g c = c.won_after-won.ensures
 
 pub play_worth-low-requires-clause-live : goal.play_worth-low-requires-clause-live
-play_worth-low-requires-clause-live g c = rw c.swap.ensures.swap at c.is_live-live.ensures
+play_worth-low-requires-clause-live g c = c.requires.live
 
 pub play_worth-low-requires-clause-next : goal.play_worth-low-requires-clause-next
 play_worth-low-requires-clause-next g c =
@@ -56,10 +59,10 @@ pub play_worth-high-requires-clause-many : goal.play_worth-high-requires-clause-
 play_worth-high-requires-clause-many g c = rw (c.play_worth-low.ensures.later.source, c.loop-number.invariant.later.source) c.requires.many
 
 pub play_worth-high-requires-clause-won : goal.play_worth-high-requires-clause-won
-play_worth-high-requires-clause-won g c = c.points-won.ensures
+play_worth-high-requires-clause-won g c = c.won_after-won.ensures
 
 pub play_worth-high-requires-clause-live : goal.play_worth-high-requires-clause-live
-play_worth-high-requires-clause-live g c = rw c.swap.ensures.swap at c.is_live-live.ensures
+play_worth-high-requires-clause-live g c = c.requires.live
 
 pub play_worth-high-requires-clause-next : goal.play_worth-high-requires-clause-next
 play_worth-high-requires-clause-next g c =
@@ -115,3 +118,18 @@ returns-clause-put_lower g c = λ k below. c.loop-number.invariant.put_lower k (
 
 pub returns-clause-put_upper : goal.returns-clause-put_upper
 returns-clause-put_upper g c = λ k below. c.loop-number.invariant.put_upper k (omega (arith, below, c.loop-number-test.false, c.kinds-number-end.ensures.kinds))
+
+none-of : {X : Type 0} (o : Option X) → is_some o ≡ false → o ≡ None
+none-of None h = refl
+none-of (Some x) h = absurd (false≢true (sym h))
+
+nobody : (g : _) (c : goal.Then-is_none g) (k : ℕ) → LeavesState (g.P.Pairs.seen c.args.pairs.now).source (kind_at c.args.stakes.now k).next c.args.left.now → ⊥
+nobody g c k leaves = false≢true (sym c.if-not-live.true ∙ c.requires.live.1 (leaves (sym c.won_after-won.ensures ∙ none-of c.won_after-won.result c.if-is_none.ensures)).live)
+
+pub returns-then-is_none-clause-put_lower : goal.returns-then-is_none-clause-put_lower
+returns-then-is_none-clause-put_lower g c =
+    put-none Lower (g.P.Pairs.seen c.args.pairs.now) c.args.stakes.now (g.P.Pairs.seen c.args.pairs.now).notes c.args.left.now c.args.layer c.args.rank c.args.lower.now c.requires.lower c.requires.layer c.requires.rank (nobody g c)
+
+pub returns-then-is_none-clause-put_upper : goal.returns-then-is_none-clause-put_upper
+returns-then-is_none-clause-put_upper g c =
+    put-none Upper (g.P.Pairs.seen c.args.pairs.now) c.args.stakes.now (g.P.Pairs.seen c.args.pairs.now).notes c.args.left.now c.args.layer c.args.rank c.args.upper.now c.requires.upper c.requires.layer c.requires.rank (nobody g c)

@@ -1,6 +1,8 @@
-use Rattle.std.proofs.Common.{◌≡◌, ◌<◌, ◌∙◌, Option, None, arith}
+use Rattle.std.proofs.Common.{◌≡◌, ◌<◌, ◌∙◌, ◌↔◌, IsTrue, Option, None, length, sym, subst, arith}
+use Rattle.std.proofs.lemmas.List.{get_or_default}
 use Rattle.std.specs.Option.{IsSome}
-use Rattle.position_rank.specs.Placement.{IsPosition}
+use Rattle.position_rank.specs.Placement.{Placement, IsPosition, IsLive, swap}
+use Rattle.position_rank.specs.Points.{AreMoverPoints, AreOtherPoints}
 use Rattle.directed_fixed.specs.declared.bounds.End.TheVariants.{Lower, Upper}
 use Rattle.column_sums.specs.Leaps.{layout_at}
 use Rattle.column_turns.proofs.Laters.{later-trans}
@@ -10,6 +12,20 @@ use Rattle.column_turns.proofs.rows.fill_layer.Goals.{in-None, in-Some}
 
 none-some : {X : Type 0} (o : Option X) → o ≡ None → IsSome o → ⊥
 none-some o is some = cc (is, some)
+
+pub fill_cell-requires-clause-live : goal.fill_cell-requires-clause-live
+fill_cell-requires-clause-live g c =
+    let rank = c.loop-rank.rank in
+    let layouts = c.args.column.now.layouts in
+    let other = layout_at c.args.column.now.others c.args.layer in
+    let inside : rank < length layouts = omega (arith, c.loop-rank-test.true, c.many-rank-end.ensures.many) in
+    let there : rank < length c.args.points.now = omega (arith, inside, c.requires.points.many) in
+    let theirs : AreMoverPoints c.of-theirs.result other = rw c.layer.ensures at c.of-theirs.ensures in
+    let mover : AreOtherPoints c.index-points-rank.result (layout_at layouts rank) =
+    rw (c.index-points-rank.is, get_or_default c.args.points.now rank c.index-points-rank.result 0 there) (c.requires.points.each rank inside) in
+    let left_is = rw (c.layout.ensures, c.layer.ensures) at c.in-Some.ensures.value.0 in
+    subst (λ (p : Placement). IsTrue c.are_live-live.result ↔ IsLive (swap p)) (sym left_is)
+    (c.are_live-live.ensures (record { mover = other; other = layout_at layouts rank }) theirs mover)
 
 pub loop-rank-preserved : goal.loop-rank-preserved
 loop-rank-preserved g c =

@@ -4,6 +4,15 @@ use Rattle.column_sums.specs.ColumnOf.{ColumnOf}
 use Rattle.column_turns.proofs.ColumnStates.{listed-movers, column-of, written, room-for}
 use Rattle.column_turns.proofs.column_turns.ColumnTurns.fill.Goals as goal
 
+pub overflow_cast-self : goal.overflow_cast-self
+overflow_cast-self g c = omega (arith, rw (← c.self.view_is) at c.requires.other, c.self.invariant.few)
+
+pub list_movers-requires-clause-points : goal.list_movers-requires-clause-points
+list_movers-requires-clause-points g c = rw c.deref.ensures.value c.self.invariant.points
+
+pub turn_column-requires-clause-points : goal.turn_column-requires-clause-points
+turn_column-requires-clause-points g c = rw (c.deref-2.ensures.value, c.begin.ensures.layouts) c.self.invariant.points
+
 pub turn_column-requires-clause-column : goal.turn_column-requires-clause-column
 turn_column-requires-clause-column g c =
     let s = (g.P.Pairs.seen c.args.pairs.now).source in
@@ -69,6 +78,8 @@ invariant_of-self g c =
       few = before.few;
       valid = has.valid;
       many = has.many;
+      ranked = has.ranked;
+      points = before.points;
       room = rw c.list_movers.ensures.room before.room;
       lower_rows = rw kinds swept.lower_rows;
       upper_rows = rw kinds swept.upper_rows;
