@@ -1,12 +1,13 @@
 -- Lists of what a die leads to.
-use Rattle.std.proofs.Common.{◌≡◌, ◌≤◌, ◌<◌, ◌+◌, ◌-◌, ◌∙◌, ◌++◌, All, take, inl, inr, ℕ, suc, get_or, List, [], ◌∷◌, length, length-append, refl, ap, sym, subst, arith}
+use Rattle.std.proofs.Common.{◌≡◌, ◌≤◌, ◌<◌, ◌+◌, ◌-◌, ◌∙◌, ◌++◌, All, drop, take, inl, inr, ℕ, suc, get_or, List, [], ◌∷◌, length, length-append, refl, ap, sym, subst, arith}
 use Rattle.std.proofs.lemmas.Bool.{cases_lt}
-use Rattle.std.proofs.lemmas.List.{get_or_append_left, get_or-append-add}
+use Rattle.std.proofs.lemmas.List.{get_or_append_left, get_or-append-add, get_or-drop, length-drop, take_all}
+use Rattle.std.proofs.lemmas.List.Elements.{All-take, All-drop}
 use Rattle.column_sums.specs.declared.cells.Reach.{Reach}
 use Rattle.column_sums.specs.Cells.{IsReach, IsCellOrNone}
 use Rattle.column_sums.specs.Listings.{AreListedStill, LeadsInto, LeadsToCells, IsListedOrNone}
 use Rattle.column_sums.specs.declared.moves.DieList.{DieList}
-use Rattle.column_sums.proofs.Listed.{kept-same, kept-again}
+use Rattle.column_sums.proofs.Listed.{kept-same, kept-again, into-kept}
 use Rattle.column_sums.specs.MoveLists.{AreReaches, IsAmongOrNone, LeadsAmong, IsDieList}
 
 module _ (reaches : List Reach) (reach : Reach) where
@@ -58,6 +59,26 @@ module _ (layouts others : List (List ℕ)) (die : ℕ) (cells last : List ℕ) 
 
   pub leads-among : (reach : Reach) → LeadsInto cells reach → LeadsAmong reaches (length cells) reach
   leads-among reach into = record { first = among reach.first into.first; second = among reach.second into.second; third = among reach.third into.third }
+
+-- a list from a place on to its end, as a slice has it
+pub rest-of : (n : ℕ) (reaches : List Reach) → take (length reaches - n) (drop n reaches) ≡ drop n reaches
+rest-of n reaches = take_all (length reaches - n) (drop n reaches) (omega (arith, length-drop n reaches))
+
+pub rest-all : (P : Reach → Type 0) (n : ℕ) (reaches : List Reach) → All P reaches → All P (take (length reaches - n) (drop n reaches))
+rest-all P n reaches all = All-take P (length reaches - n) (drop n reaches) (All-drop P n reaches all)
+
+-- what a longer list leads to is listed, where it is of the first few and of those after them
+pub into-longer : (old new : List ℕ) (n : ℕ) (r0 r1 : List Reach) → AreListedStill old new → n ≡ length r0
+    → ((i : ℕ) (none : Reach) → i < length r0 → get_or r1 i none ≡ get_or r0 i none) → All (LeadsInto old) r0 → All (LeadsInto new) (drop n r1) → All (LeadsInto new) r1
+into-longer old new n r0 r1 kept is same before after i none h = elim (cases_lt i n) [
+  | inl earlier ↦ (
+      let here : i < length r0 = omega (arith, earlier, is) in
+      subst (LeadsInto new) (sym (same i none here)) (into-kept old new (get_or r0 i none) kept (before i none here)))
+  | inr from ↦ (
+      let at : n + (i - n) ≡ i = omega (arith, from) in
+      let inside : i - n < length (drop n r1) = omega (arith, from, h, length-drop n r1) in
+      subst (λ (k : ℕ). LeadsInto new (get_or r1 k none)) at (subst (LeadsInto new) (get_or-drop n r1 (i - n) none) (after (i - n) none inside)))
+]
 
 pub die-list : (layouts others : List (List ℕ)) (near one two : List ℕ) (die : ℕ) (r0 r1 r2 : List Reach) (list : DieList)
     → AreListedStill near one → AreListedStill one two → length r0 ≤ length near → All (LeadsInto near) r0

@@ -14,7 +14,7 @@ use Rattle.turn_rule.proofs.RollSums.{few-rolls}
 use Rattle.column_sums.specs.Cascade.{best_pair, best_double, best_of_roll, best_sum}
 use Rattle.column_sums.specs.Cells.{no_cell, cell_placement}
 use Rattle.column_sums.specs.Rolls.{pair_found, double_found}
-use Rattle.column_sums.specs.MoveLists.{AreReady}
+use Rattle.column_sums.specs.MoveLists.{AreReady, IsDieList}
 use Rattle.column_sums.specs.Sums.{DoubleTables, PairTables, IsAdded, die_list, mover_placement, sum_at, ways}
 use Rattle.column_sums.specs.declared.cells.Reach.{Reach}
 use Rattle.column_sums.specs.declared.moves.DieList.{DieList}
@@ -36,6 +36,14 @@ module _ (P : ℕ → ℤ → ℤ → Type 0) (start sums : List ℤ) (at : ℕ)
 -- ---- what was found of a mover is right
 
 module _ (moves : Moves) (ready : AreReady moves) (i : ℕ) (h : i < moves.movers) where
+  -- what a die leads to from the mover's cell, as a slice of the die's list has it
+  pub from-slice : (die n : ℕ) (list : DieList) (none : Reach) (slice : List Reach) → 1 ≤ die → die ≤ 6 → n ≡ die → slice ≡ (get_or moves.lists (n - 1) list).reaches.items
+      → get_or slice i none ≡ get_or (get_or moves.lists (n - 1) list).reaches.items i (get_or slice i none)
+  from-slice die n list none slice a b same is =
+      let are = subst (λ (m : ℕ). IsDieList moves.steps moves.layers moves.listing moves.movers die (get_or moves.lists (m - 1) list)) (sym same) (ready.each die list a b) in
+      let here : i < length (get_or moves.lists (n - 1) list).reaches.items = omega (arith, h, are.first, are.longer, are.second) in
+      ap (λ (xs : List Reach). get_or xs i none) is ∙ any-default (get_or moves.lists (n - 1) list).reaches.items i none (get_or slice i none) here
+
   mover-cell : (die : ℕ) (list : DieList) (none : Reach) → 1 ≤ die → die ≤ 6 → (get_or (die_list moves die list).reaches.items i none).cell ≡ get_or moves.listing i 0
   mover-cell die list none a b = let is = ready.each die list a b in is.at i none (omega (arith, h, is.first))
 

@@ -122,12 +122,13 @@ fn finish(steps: &Steps, layers: &Layers, die: u8, listing: &mut Listing, list: 
     ensures list { IsDieList steps.now layers.now listing.old
         (length list.old.reaches.items) die list.new }
 {
+    let begun = list.reaches.len();
     let near = listing.cells().len();
     add_reaches(steps, layers, die, listing.cells(), &mut list.reaches);
-    listing.add_after(&list.reaches);
+    listing.add_after(&list.reaches[begun..]);
     let second = listing.cells().len();
     add_reaches(steps, layers, die, listing.cells(), &mut list.reaches);
-    listing.add_after(&list.reaches);
+    listing.add_after(&list.reaches[near..]);
     add_reaches(steps, layers, die, listing.cells(), &mut list.reaches);
     list.second = second;
     listing.rewind(near);

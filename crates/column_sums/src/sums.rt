@@ -87,9 +87,9 @@ fn add_double(
         (λ value. DoubleTables value moves.now die row.now one.now two.now three.now)
         (λ value. best_double value die) sums.old sums.new }
 {
-    let list = &moves.lists[usize::from(die) - 1];
+    let reaches = moves.lists[usize::from(die) - 1].reaches.as_slice();
     for i in 0..moves.movers {
-        let best = best_double(&list.reaches[i], row, one, two, three);
+        let best = best_double(&reaches[i], row, one, two, three);
         sums[i] = add_times(sums[i], 1, best);
     }
 }
@@ -116,16 +116,10 @@ fn add_pair(
         (λ value. PairTables value moves.now high low row.now after_high.now after_low.now)
         (λ value. best_pair value high low) sums.old sums.new }
 {
-    let by_high = &moves.lists[usize::from(high) - 1];
-    let by_low = &moves.lists[usize::from(low) - 1];
+    let by_high = moves.lists[usize::from(high) - 1].reaches.as_slice();
+    let by_low = moves.lists[usize::from(low) - 1].reaches.as_slice();
     for i in 0..moves.movers {
-        let best = best_pair(
-            &by_high.reaches[i],
-            &by_low.reaches[i],
-            row,
-            after_high,
-            after_low,
-        );
+        let best = best_pair(&by_high[i], &by_low[i], row, after_high, after_low);
         sums[i] = add_times(sums[i], 2, best);
     }
 }
