@@ -16,7 +16,7 @@ use Rattle.column_turns.specs.Columns.{ColumnPairs, IsRoomOf, position_in}
 use Rattle.column_turns.specs.Turns.{AreLiveMovers, AreTurnsOf}
 use Rattle.interval_words.specs.WordLists.{WordList, words_in_list, source_of}
 use Rattle.base_verify.specs.Findings.{WordHolds}
-use Rattle.base_verify.specs.Columns.{ColumnsHold, IsPositionTurned, PositionHolds}
+use Rattle.base_verify.specs.Columns.{ColumnsHold, IsPositionTurned}
 
 module _ (words : WordList) (column : ColumnPairs) (rank : ℕ) (room : IsRoomOf words.game column) (inside : rank < layouts words.game.checkers) (other_is : column.other ≡ layout_at column.layouts rank) (movers : AreLiveMovers column.layouts column.other column.movers) where
   here : rank < length column.layouts
@@ -47,7 +47,7 @@ module _ (words : WordList) (column : ColumnPairs) (rank : ℕ) (room : IsRoomOf
   }
 
   -- where all of a column's positions hold, the column does
-  pub column-held : ((i : ℕ) → i < length column.movers → PositionHolds words (position_in column i)) → ColumnsHold words rank (rank + 1)
+  pub column-held : ((side : End) (i k : ℕ) → i < length column.movers → k < kinds_of words.game → WordHolds words side (position_in column i) k) → ColumnsHold words rank (rank + 1)
   column-held held side p k state from to =
       let at : rank_of p.other ≡ rank = omega (arith, from, to) in
       let below : rank_of p.mover < length column.layouts = omega (arith, rank-below p.mover state.position.mover, room.layouts.many, ap (λ (n : ℕ). layouts n) state.many) in
@@ -58,7 +58,7 @@ module _ (words : WordList) (column : ColumnPairs) (rank : ℕ) (room : IsRoomOf
       let place : (r : ℕ) → r ≡ rank_of p.mover → record { mover = layout_at column.layouts r; other = column.other } ≡ p =
       λ r e. ap (λ (m : List ℕ). record { mover = m; other = column.other }) (ap (λ (n : ℕ). layout_at column.layouts n) e ∙ mover) ∙ ap (λ (o : List ℕ). record { mover = p.mover; other = o }) other in
       let found = movers.all (rank_of p.mover) below (subst IsLive (sym (place (rank_of p.mover) refl)) state.live) in
-      subst (λ (q : Placement). WordHolds words side q k) (place _ found.2) (held found.0 found.1 side k state.kind)
+      subst (λ (q : Placement). WordHolds words side q k) (place _ found.2) (held side found.0 k found.1 state.kind)
 
 module _ (words : WordList) where
   pub no-columns : (a : ℕ) → ColumnsHold words a a

@@ -23,9 +23,10 @@ pub record IsPositionTurned (words : WordList) (column : ColumnPairs) (i : ℕ) 
   pub turns : (k : ℕ) → k < kinds_of words.game
       → pair_in column i k ≡ pair_of (turn_over words) (position_in column i) k
 
--- both words of a position hold in each kind
-abbrev pub PositionHolds : WordList → Placement → Type 0
-PositionHolds words p = (side : End) (k : ℕ) → k < kinds_of words.game → WordHolds words side p k
+-- both words of the first few of a column's positions hold in a kind
+abbrev pub KindHolds : WordList → ColumnPairs → ℕ → ℕ → Type 0
+KindHolds words column k count =
+    (side : End) (i : ℕ) → i < count → WordHolds words side (position_in column i) k
 
 -- each column holds whose mark is set
 pub record AreHeld (words : WordList) (marks : List Bool) : Type 0 where

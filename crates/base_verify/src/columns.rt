@@ -1,8 +1,8 @@
-ghost use Rattle.std.specs.Prelude.{◌≡◌, ◌<◌, ◌+◌, ◌≤ℤ◌, IsTrue, length};
+ghost use Rattle.std.specs.Prelude.{◌≡◌, ◌<◌, ◌+◌, ◌≤ℤ◌, ℕ, IsTrue, length};
 ghost use Rattle.position_rank.specs.Ranks.{layouts};
 ghost use Rattle.turn_rule.specs.Games.{kinds_of};
-ghost use Rattle.base_verify.specs.Columns.{ColumnsHold, IsPositionTurned, PositionHolds};
-ghost use Rattle.column_turns.specs.Columns.{IsRoomOf, position_in};
+ghost use Rattle.base_verify.specs.Columns.{ColumnsHold, IsPositionTurned, KindHolds};
+ghost use Rattle.column_turns.specs.Columns.{IsRoomOf};
 
 use column_turns::ColumnTurns;
 use directed_fixed::Pair;
@@ -16,17 +16,17 @@ fn is_no_tighter(stored: Pair, turn: Pair) -> bool
     stored.lower().units() <= turn.lower().units() && turn.upper().units() <= stored.upper().units()
 }
 
-/// Whether all words of one of a column's positions hold.
-fn position_holds(words: &Words, turns: &ColumnTurns, i: usize) -> bool
-    requires inside { i < length turns.now.movers }
+/// Whether the words of all of a column's positions hold in one kind. They stand far apart in memory; in a short loop
+/// reads don't wait for one another.
+fn kind_holds(words: &Words, turns: &ColumnTurns, kind: usize) -> bool
+    requires kind { kind < turns.now.kinds }
     requires kinds { turns.now.kinds ≡ kinds_of words.now.game }
-    requires turned { IsPositionTurned words.now turns.now i }
-    ensures { IsTrue result → PositionHolds words.now (position_in turns.now i) }
+    requires turned { (i : ℕ) → i < length turns.now.movers
+        → IsPositionTurned words.now turns.now i }
+    ensures { IsTrue result → KindHolds words.now turns.now kind (length turns.now.movers) }
 {
-    let position = turns.position(i);
-    let square = position.square_rank();
-    for kind in 0..turns.kinds() {
-        let stored = words.pair_by_square(&position, square, kind);
+    for i in 0..turns.len() {
+        let stored = words.pair_by_square(&turns.position(i), turns.square(i), kind);
         if !is_no_tighter(stored, turns.pair(i, kind)) {
             return false;
         }
@@ -42,8 +42,8 @@ pub(crate) fn column_holds(words: &Words, turns: &mut ColumnTurns, other: usize)
     ensures held { IsTrue result → ColumnsHold words.now other (other + 1) }
 {
     turns.fill(other, words.stakes(), &mut words.reader());
-    for i in 0..turns.len() {
-        if !position_holds(words, turns, i) {
+    for kind in 0..turns.kinds() {
+        if !kind_holds(words, turns, kind) {
             return false;
         }
     }

@@ -28,7 +28,7 @@ fn tighten_position(pairs: &mut SeatPairs, turns: &ColumnTurns, i: usize, kinds:
         pairs.old.seat pairs.new.seat }
 {
     let position = turns.position(i);
-    let square = position.square_rank();
+    let square = turns.square(i);
     for kind in 0..kinds {
         pairs.tighten(&position, square, kind, turns.pair(i, kind));
     }
@@ -44,7 +44,7 @@ fn fetch_words(pairs: &mut SeatPairs, turns: &ColumnTurns)
     ensures work { pairs.new.seat.view.work ≡ pairs.old.seat.view.work }
 {
     for i in 0..turns.len() {
-        pairs.fetch(&turns.position(i));
+        pairs.fetch(&turns.position(i), turns.square(i));
     }
 }
 

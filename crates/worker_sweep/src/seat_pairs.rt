@@ -94,14 +94,15 @@ impl<'a> SeatPairs<'a> {
         SeatPairs { board, seat }
     }
 
-    /// Reads the lower word of a position's first kind.
-    pub(crate) fn fetch(&mut self, position: &Position)
+    /// Reads the lower word of a position's first kind, whose square rank is at hand.
+    pub(crate) fn fetch(&mut self, position: &Position, square: u64)
         requires state { IsState self.old.board.now.game position.now 0 }
+        requires square { square ≡ square_rank_of position.now }
         ensures board { self.new.board.now ≡ self.old.board.now }
         ensures kept { KeepsNotes self.old.seat self.new.seat }
         ensures work { self.new.seat.view.work ≡ self.old.seat.view.work }
     {
-        let state = self.board.number_at(position, position.square_rank(), 0);
+        let state = self.board.number_at(position, square, 0);
         // What the word is doesn't matter yet; it has to be on its way.
         let _word = self.board.read_lower(&mut self.seat, state);
     }

@@ -10,4 +10,4 @@ returns-clause-held c = λ _.
     let column = c.fill.new.self in
     let room : IsRoomOf words.game column = record { layouts = rw c.fill.ensures.layouts c.requires.room.layouts; kinds = c.fill.ensures.kinds ∙ c.requires.room.kinds } in
     let is : column.other ≡ layout_at column.layouts c.args.other = rw c.fill.ensures.layouts c.fill.ensures.other in
-    column-held words column c.args.other room c.requires.other is c.fill.ensures.movers (λ i below. c.loop-i.invariant i (omega (arith, below, c.loop-i-test.false, c.len-i-end.ensures, c.loop-i.auto.i-end)))
+    column-held words column c.args.other room c.requires.other is c.fill.ensures.movers (λ side i k below kind. c.loop-kind.invariant k (omega (arith, kind, c.loop-kind-test.false, c.kinds-kind-end.ensures, room.kinds)) side i below)

@@ -1,7 +1,6 @@
-use Rattle.std.proofs.Common.{◌<◌, ℕ}
-use Rattle.base_verify.specs.Columns.{PositionHolds}
-use Rattle.column_turns.specs.Columns.{position_in}
+use Rattle.std.proofs.Common.{◌<◌, ℕ, length}
+use Rattle.base_verify.specs.Columns.{KindHolds}
 use Rattle.base_verify.proofs.columns.column_holds.Given as goal
 
-abbrev pub invariant-loop-i : goal.invariant-loop-i
-invariant-loop-i l = (i : ℕ) → i < l.i → PositionHolds l.words (position_in l.turns i)
+abbrev pub invariant-loop-kind : goal.invariant-loop-kind
+invariant-loop-kind l = (k : ℕ) → k < l.kind → KindHolds l.words l.turns k (length l.turns.movers)

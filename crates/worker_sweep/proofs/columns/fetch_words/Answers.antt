@@ -8,11 +8,11 @@ use Rattle.worker_sweep.proofs.columns.fetch_words.Goals as goal
 pub loop-i-init : goal.loop-i-init
 loop-i-init c = record { board = refl; kept = keeps-refl _; work = refl }
 
-pub fetch-requires : goal.fetch-requires
-fetch-requires c =
+pub fetch-requires-clause-state : goal.fetch-requires-clause-state
+fetch-requires-clause-state c =
     let here : c.loop-i.i < length c.args.turns.now.movers = omega (arith, c.loop-i-test.true, c.len-i-end.ensures) in
     let is = subst (λ (p : Placement). IsState c.args.pairs.now.board.now.game p 0) (sym c.position.ensures.position) (c.requires.states c.loop-i.i here) in
-    record { state = subst (λ (b : GameTable). IsState b.game c.position.result 0) (sym c.loop-i.invariant.board) is }
+    subst (λ (b : GameTable). IsState b.game c.position.result 0) (sym c.loop-i.invariant.board) is
 
 pub loop-i-preserved : goal.loop-i-preserved
 loop-i-preserved c = record {
