@@ -8,7 +8,7 @@ ghost use Rattle.database_file.specs.Paged.{KeepsPagesOf};
 ghost use Rattle.equity_report.specs.declared.refusal.Refusal.TheVariants.{Read};
 ghost use Rattle.command_line.specs.Right.{IsRightAdviseList};
 ghost use Rattle.run_endings.specs.Endings.{EndsBy, IsOfListing, IsOutside};
-ghost use Rattle.refusal_notes.specs.Notes.{PutsTally};
+ghost use Rattle.run_endings.specs.Notes.{PutsTally};
 ghost use Rattle.run_endings.specs.declared.ending.RunStop.TheVariants.{Refused as RunRefused};
 ghost use Rattle.base_commands.specs.AdviseLists.{AdvisesLine, AdvisesRolled};
 ghost use Rattle.base_commands.specs.ListAnswers.{IsTellable, OfOpened, TellsListed};

@@ -8,7 +8,7 @@ ghost use Rattle.database_file.specs.Paged.{KeepsPagesOf};
 ghost use Rattle.equity_report.specs.declared.refusal.Refusal.TheVariants.{Read};
 ghost use Rattle.run_endings.specs.Endings.{EndsBy, IsOfListing, IsOfLoading, IsOutside};
 ghost use Rattle.run_endings.specs.Pages.{AnswersOpening};
-ghost use Rattle.refusal_notes.specs.Notes.{PutsTally};
+ghost use Rattle.run_endings.specs.Notes.{PutsTally};
 ghost use Rattle.run_endings.specs.declared.ending.RunStop.TheVariants.{Refused as RunRefused};
 ghost use Rattle.base_commands.specs.ListAnswers.{AddsAnswer, AddsAnswers, AnswersLine, AnswersListed, AnswersStop, IsTellable, OfOpened, TellsListed, answer_line};
 
@@ -25,8 +25,7 @@ use hyper_outside::{Failed, Gate, LookStop, NoMemory};
 use outside_log::{Files, Sink};
 use play_analyser::Ranking;
 use position_rank::Position;
-use refusal_notes::put_tally;
-use run_endings::{RunStop, look_refusal, open_keeping};
+use run_endings::{RunStop, look_refusal, open_keeping, put_tally};
 use std::alloc::Global;
 use std::thread::Threads;
 use worker_team::Team;

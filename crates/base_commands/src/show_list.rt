@@ -7,7 +7,7 @@ ghost use Rattle.database_file.specs.Paged.{KeepsPagesOf};
 ghost use Rattle.equity_report.specs.declared.refusal.Refusal.TheVariants.{Read};
 ghost use Rattle.command_line.specs.Right.{IsRightShowList};
 ghost use Rattle.run_endings.specs.Endings.{EndsBy, IsOfListing, IsOutside};
-ghost use Rattle.refusal_notes.specs.Notes.{PutsTally};
+ghost use Rattle.run_endings.specs.Notes.{PutsTally};
 ghost use Rattle.run_endings.specs.declared.ending.RunStop.TheVariants.{Refused as RunRefused};
 ghost use Rattle.base_commands.specs.ListAnswers.{IsTellable, OfOpened, TellsListed};
 ghost use Rattle.base_commands.specs.ShowLists.{ShowsLine, ShowsPosition};

@@ -1,7 +1,7 @@
 ghost use Rattle.std.specs.Prelude.{◌≡◌, ℕ, List, [], ◌∷◌, Some};
 ghost use Rattle.outside_log.specs.Log.{Found};
 ghost use Rattle.system_files.specs.Written.{output_of};
-ghost use Rattle.refusal_notes.specs.Notes.{PutsNotes};
+ghost use Rattle.run_endings.specs.Notes.{PutsNotes};
 ghost use Rattle.run_endings.specs.Endings.{Ending, IsStatus};
 ghost use Rattle.top_call.specs.Outcomes.{LeavesAllFiles, RunsAsAsked, asked, asks_list};
 

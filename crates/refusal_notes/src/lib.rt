@@ -8,4 +8,4 @@ mod record;
 mod sentence;
 mod texts;
 
-pub use note::{put_note, put_tally, put_unread_note};
+pub use note::{put_note, put_unread_note};

@@ -1,14 +1,14 @@
 ghost use Rattle.std.specs.Prelude.{◌≡◌, ◌≤◌, length};
-ghost use Rattle.refusal_notes.specs.Notes.{PutsNote, WasNoted};
+ghost use Rattle.run_endings.specs.Notes.{PutsNote, WasNoted};
 
 use crate::call::{Call, add_words};
 use crate::files::{add_file, add_game, add_missing, add_other, add_unheld};
 use crate::record::add_record;
-use crate::sentence::{Part, Text, line_of, say};
+use crate::sentence::{Text, say};
 use crate::texts::{add_condition, add_position, add_roll};
 use equity_report::Refusal;
 use outside_log::Sink;
-use run_endings::RunStop;
+use run_endings::{RunStop, put_line};
 
 const NOT_TEXT: &str = "a word isn't text: write it in UTF-8";
 
@@ -55,14 +55,6 @@ fn text_of(words: &[String], stop: &RunStop, wrong: &[u8]) -> Text {
     text
 }
 
-/// Puts the line of a sentence, or a front of it where that fails.
-fn put_line<N: Sink>(notes: &mut N, sentence: &str)
-    requires { length sentence.now ≤ 1000 }
-    ensures { WasNoted (N.output notes.old) (N.output notes.new) }
-{
-    let _ = notes.put(line_of(sentence).as_slice());
-}
-
 /// Puts it where a run ended before all was done.
 fn put_where_stopped<N: Sink>(notes: &mut N, ending: &Result<(), RunStop>, sentence: &str)
     requires { length sentence.now ≤ 1000 }
@@ -88,32 +80,6 @@ pub fn put_note<N: Sink>(
         Err(stop) => text_of(words, stop, wrong),
     };
     put_where_stopped(notes, ending, text.as_str());
-}
-
-/// Puts a line on how many lines of a report on a list tell what is wrong. Where putting fails, a front of it was put.
-pub fn put_tally<N: Sink>(notes: &mut N, report: &[u8])
-    ensures { WasNoted (N.output notes.old) (N.output notes.new) }
-{
-    let (wrong, lines) = tally(report);
-    let mut text = Text::new();
-    let parts = [Part::Number(wrong), Part::Number(lines)];
-    say(&mut text, "@ of @ lines are wrong", &parts);
-    put_line(notes, text.as_str());
-}
-
-/// How many lines begin with a `!`, and how many there are.
-fn tally(report: &[u8]) -> (u64, u64) {
-    let mut wrong: u64 = 0;
-    let mut lines: u64 = 0;
-    let mut begins = true;
-    for byte in report.iter() {
-        if begins && *byte == b'!' {
-            wrong = wrong.saturating_add(1);
-        }
-        begins = *byte == b'\n';
-        lines = lines.saturating_add(u64::from(begins));
-    }
-    (wrong, lines)
 }
 
 /// Puts such a line on words that couldn't be had: one isn't text, or there was no memory for them.

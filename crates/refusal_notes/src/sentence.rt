@@ -1,7 +1,6 @@
-ghost use Rattle.std.specs.Prelude.{◌≤◌, length};
-ghost use Rattle.refusal_notes.specs.Notes.{GoesOn, IsNote, IsShown};
+ghost use Rattle.refusal_notes.specs.Notes.{GoesOn};
 
-use arrayvec::{ArrayString, ArrayVec};
+use arrayvec::ArrayString;
 use command_line::CommandName;
 use cube_actions::KindName;
 use cube_text::print_kind;
@@ -12,9 +11,6 @@ use position_text::print_position;
 
 /// The most bytes of a sentence. None has more: of a word of the user's it has a front.
 const LONGEST: usize = 1000;
-
-/// The most bytes of a sentence's line.
-const LINE: usize = LONGEST + 1;
 
 /// The most bytes of a word that a sentence has.
 const LONGEST_FRONT: usize = 60;
@@ -130,32 +126,4 @@ pub(crate) fn say(text: &mut Text, form: &str, parts: &[Part<'_>])
         }
         add(text, piece);
     }
-}
-
-/// The byte, or `?` for one by which a terminal could be told to do something: a control byte, and what makes one of Unicode's control
-/// signs with the byte before it.
-fn shown(before: u8, byte: u8) -> u8
-    ensures { IsShown result }
-{
-    if byte < 32 || byte == 127 || before == 0xC2 && byte < 0xA0 {
-        b'?'
-    } else {
-        byte
-    }
-}
-
-/// The line of a sentence, in which no control byte stands but the line feed.
-pub(crate) fn line_of(sentence: &str) -> ArrayVec<u8, LINE>
-    requires { length sentence.now ≤ 1000 }
-    ensures { IsNote result.items }
-{
-    let mut line = ArrayVec::new();
-    let mut before = 0;
-    let bytes = sentence.as_bytes();
-    'bytes: for byte in bytes {
-        line.push(shown(before, *byte));
-        before = *byte;
-    }
-    line.push(b'\n');
-    line
 }

@@ -3,3 +3,4 @@ pub mod Beginnings
 pub mod Loads
 pub mod Pages
 pub mod Scores
+pub mod Notes

@@ -8,7 +8,7 @@ use Rattle.command_line.specs.declared.stop.WordsStop.{WordsStop}
 use Rattle.command_line.specs.declared.stop.WordsStop.TheVariants.{Bad, NoMemory}
 use Rattle.command_line.specs.Reading.{Gives}
 use Rattle.equity_report.specs.declared.refusal.Refusal.TheVariants.{Memory, Write}
-use Rattle.refusal_notes.specs.Notes.{PutsNote, PutsNotes, WasNoted}
+use Rattle.run_endings.specs.Notes.{PutsNote, PutsNotes, WasNoted}
 use Rattle.run_endings.specs.declared.ending.RunStop.{RunStop}
 use Rattle.run_endings.specs.declared.ending.RunStop.TheVariants.{Refused, NotWritten}
 use Rattle.run_endings.specs.Endings.{Ending, IsStatus, status_at}

@@ -16,7 +16,7 @@ use Rattle.equity_report.specs.declared.refusal.Refusal.{Refusal}
 use Rattle.equity_report.specs.declared.refusal.Refusal.TheVariants.{Read, Memory, Condition}
 use Rattle.run_endings.specs.declared.ending.RunStop.TheVariants.{Refused, NotWritten}
 use Rattle.run_endings.specs.Endings.{Ending, EndsBy, IsOfAnalysing, IsOfBounding, IsOfListing, IsOfMigrating, IsOfRacing, IsOfReplaying, IsOfScanning, IsOfShowing, IsOfVerifying, IsOfWriting, PutsEnding, status_at}
-use Rattle.refusal_notes.specs.Notes.{PutsTally}
+use Rattle.run_endings.specs.Notes.{PutsTally}
 use Rattle.base_commands.specs.Advises.{TellsAdvice}
 use Rattle.base_commands.specs.Lists.{words_refusal}
 use Rattle.base_commands.specs.Migrates.{Migrates}

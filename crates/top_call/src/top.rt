@@ -6,7 +6,7 @@ ghost use Rattle.command_line.specs.Right.{IsRightCommand};
 ghost use Rattle.equity_report.specs.declared.refusal.Refusal.TheVariants.{Read};
 ghost use Rattle.run_endings.specs.declared.ending.RunStop.TheVariants.{NotWritten, Refused};
 ghost use Rattle.run_endings.specs.Endings.{Ending, PutsEnding, status_at};
-ghost use Rattle.refusal_notes.specs.Notes.{PutsNote, PutsNotes};
+ghost use Rattle.run_endings.specs.Notes.{PutsNote, PutsNotes};
 ghost use Rattle.top_call.specs.Outcomes.{Ends, HasRun, KeepsFiles, LeavesAllFiles, LeavesFiles, NotesBefore, RunsAsAsked, asked, asks_list, is_list, unread_refusal};
 
 use crate::board::run_board;

@@ -1,6 +1,6 @@
 use Rattle.std.proofs.Common.{◌≡◌, All, length}
-use Rattle.refusal_notes.specs.Notes.{IsShown}
-use Rattle.refusal_notes.proofs.sentence.line_of.Given as goal
+use Rattle.run_endings.specs.Notes.{IsShown}
+use Rattle.run_endings.proofs.note.line_of.Given as goal
 
 -- a byte for each so far, and none a control byte
 abbrev pub invariant-bytes : goal.invariant-bytes

@@ -1,4 +1,4 @@
-use Rattle.refusal_notes.proofs.note.put_line.Goals as goal
+use Rattle.run_endings.proofs.note.put_line.Goals as goal
 
 pub returns : goal.returns
 returns g c =
