@@ -1,6 +1,5 @@
-mod asserts;
-mod gates;
-mod lists;
 mod meetings;
-mod positions;
 mod progress;
+mod test_asserts;
+mod test_gates;
+mod test_words;

@@ -1,9 +1,9 @@
 //! Workers that really run at once: each is held at its first block until all have come to theirs.
 ghost use Rattle.std.specs.Prelude.{◌≤◌};
 
-use crate::tests::asserts::{holds, same};
-use crate::tests::gates::Counting;
-use crate::tests::lists::units;
+use crate::tests::test_asserts::{holds, same};
+use crate::tests::test_gates::Counting;
+use crate::tests::test_words::units;
 use cube_actions::{MoneyRule, Stakes};
 use hyper_outside::Gate;
 use interval_words::Closed;

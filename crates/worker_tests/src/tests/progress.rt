@@ -1,5 +1,5 @@
 //! The line that tells how far a solve has come.
-use crate::tests::asserts::same;
+use crate::tests::test_asserts::same;
 use hyper_outside::Gate;
 use progress_line::{ProgressGate, WipingWriter};
 use std::alloc::Global;

@@ -1,5 +1,5 @@
 //! A gate that counts who passes.
-use crate::tests::asserts::same;
+use crate::tests::test_asserts::same;
 use hyper_outside::Gate;
 use std::alloc::Global;
 use std::process::Abort;
