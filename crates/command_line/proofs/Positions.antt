@@ -9,7 +9,7 @@ use Rattle.std.proofs.lemmas.List.Folds.{list_any_at}
 use Rattle.std.proofs.lemmas.List.FromFn.{length-range_with_len, get_or-range_with_len}
 use Rattle.position_rank.specs.Placement.{Placement, IsLayout, IsPosition, IsLive, AreApart}
 use Rattle.position_rank.specs.Packed.{counts_of}
-use Rattle.position_rank.specs.PackedLaws.{length-counts_of, sum-counts_of}
+use Rattle.position_rank.proofs.PlaceCounts.{length-counts_of, sum-counts_of}
 use Rattle.position_text.specs.Text.{place, read_placement, read_places, read_position, read_words, share_point, words}
 use Rattle.position_text.specs.declared.text.BadPosition.{BadPosition}
 use Rattle.position_text.specs.declared.text.BadPosition.TheVariants.{Shape, Place}

@@ -5,7 +5,7 @@ use Rattle.std.proofs.Math.Nat.{div-lt_iff_lt-mul}
 use Rattle.std.proofs.lemmas.Nat.{div-add-mod'}
 use Rattle.position_rank.specs.Placement.{Placement, IsLayout, IsPosition, IsLive}
 use Rattle.position_rank.specs.Packed.{counts_of}
-use Rattle.position_rank.specs.PackedLaws.{length-counts_of, sum-counts_of}
+use Rattle.position_rank.proofs.PlaceCounts.{length-counts_of, sum-counts_of}
 use Rattle.position_rank.specs.Ranks.{choose, layouts, rank_of, square_rank_of}
 use Rattle.position_rank.specs.LiveRanks.{is_live, live_below, live_positions, live_rank_of}
 use Rattle.position_rank.proofs.Choose.{choose-two-more, choose-three-more}

@@ -1,3 +1,4 @@
+pub mod PlaceCounts
 pub mod PackedCells
 pub mod PointLaws
 pub mod Choose

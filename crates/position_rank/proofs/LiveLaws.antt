@@ -8,7 +8,7 @@ use Rattle.std.proofs.lemmas.List.Elements.{All-weaker}
 use Rattle.std.proofs.lemmas.Bool.{cases_lt, cases_order, and_parts, and_from, or_cases, or_left, or_right, not-true, not_from_false, eqb-true, eqb-false, eq-eqb, ne_eqb, false_from_ne_true, le-leb, lt-leb, lt-ltb, le-ltb}
 use Rattle.position_rank.specs.Placement.{Placement, IsLayout, IsPosition, IsLive, InPlay, AreApart}
 use Rattle.position_rank.specs.Packed.{counts_of}
-use Rattle.position_rank.specs.PackedLaws.{one, count-below, count-same}
+use Rattle.position_rank.proofs.PlaceCounts.{one, count-below, count-same}
 use Rattle.position_rank.specs.Ranks.{choose, layouts, rising_places, sum_of_ways, rank_of, square_rank_of}
 use Rattle.position_rank.specs.LiveRanks.{are_apart, is_in_play, is_live, highest_place, falling_places, layout_at, placement_at, live_below, live_positions, live_rank_of}
 use Rattle.position_rank.proofs.PackedCells.{one-le}

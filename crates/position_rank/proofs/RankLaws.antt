@@ -3,8 +3,8 @@ use Rattle.std.proofs.Common.{◌≡◌, ℕ, ◌+◌, ◌-◌, ◌*◌, ◌<◌
 use Rattle.std.proofs.lemmas.Bool.{cases_lt, cases_order}
 use Rattle.std.proofs.lemmas.List.Elements.{All-cons, All-nil}
 use Rattle.position_rank.specs.Placement.{Placement, IsLayout, IsPosition}
-use Rattle.position_rank.specs.Packed.{counts_of, packed_counts, IsPacked}
-use Rattle.position_rank.specs.PackedLaws.{sum-packed}
+use Rattle.position_rank.specs.Packed.{counts_of, packed_counts, IsFalling}
+use Rattle.position_rank.proofs.PlaceCounts.{sum-packed}
 use Rattle.position_rank.specs.Ranks.{choose, layouts, rising_places, sum_of_ways, rank_of, square_rank_of}
 use Rattle.position_rank.proofs.Choose.{choose-one, choose-two, choose-three, choose-two-more, choose-three-more, choose-two-rises, choose-three-rises, two-below, three-below, two-same, three-same}
 use Rattle.position_rank.proofs.RisingPlaces.{often-cons, RiseFrom, rising_places-counts_of, counts_of-rising_places, rising_places-rise, rising_places-within, length-rising_places, counts_of-same}
@@ -51,17 +51,17 @@ rank-of_three l m h lower upper high =
     rw places (ways-three l m h)
 
 -- the rank of packed places
-rank-one : (h m l c : ℕ) → IsPacked h m l c → c ≡ 1 → rank_of (packed_counts h m l c) ≡ h
+rank-one : (h m l c : ℕ) → IsFalling h m l c → c ≡ 1 → rank_of (packed_counts h m l c) ≡ h
 unfolding packed_counts
 rank-one h m l c packed one_checker = rw one_checker (rank-of_one h packed.within)
 
-rank-two : (h m l c : ℕ) → IsPacked h m l c → c ≡ 2 → rank_of (packed_counts h m l c) ≡ m + choose (h + 1) 2
+rank-two : (h m l c : ℕ) → IsFalling h m l c → c ≡ 2 → rank_of (packed_counts h m l c) ≡ m + choose (h + 1) 2
 unfolding packed_counts
 rank-two h m l c packed two =
     let turned : counts_of (h ∷ m ∷ []) ≡ counts_of (m ∷ h ∷ []) = counts_of-same (h ∷ m ∷ []) (m ∷ h ∷ []) (λ k low. omega (arith, often-cons k h (m ∷ []), often-cons k m [], often-cons k m (h ∷ []), often-cons k h [])) in
     rw two (rw turned (rank-of_two m h packed.upper packed.within))
 
-rank-three : (h m l c : ℕ) → IsPacked h m l c → c ≡ 3 → rank_of (packed_counts h m l c) ≡ l + choose (m + 1) 2 + choose (h + 2) 3
+rank-three : (h m l c : ℕ) → IsFalling h m l c → c ≡ 3 → rank_of (packed_counts h m l c) ≡ l + choose (m + 1) 2 + choose (h + 2) 3
 unfolding packed_counts
 rank-three h m l c packed three =
     let turned : counts_of (h ∷ m ∷ l ∷ []) ≡ counts_of (l ∷ m ∷ h ∷ []) =
@@ -94,7 +94,7 @@ pub layouts-three : layouts 3 ≡ 3276
 layouts-three = omega (arith, choose-three 26)
 
 -- a layout's cells, the counts that they stand for, and the ways that the code adds up
-module _ (h m l c : ℕ) (counts : List ℕ) (packed : IsPacked h m l c) (view : packed_counts h m l c ≡ counts) where
+module _ (h m l c : ℕ) (counts : List ℕ) (packed : IsFalling h m l c) (view : packed_counts h m l c ≡ counts) where
   pub code-one : (x : ℕ) → c ≡ 1 → x ≡ choose (h + 1 - 1) 1 → (x ≡ rank_of counts) × (x < layouts (sum counts))
   code-one x one_checker e =
       let first : h + 1 - 1 ≡ h = omega arith in

@@ -5,7 +5,7 @@ use Rattle.std.proofs.lemmas.List.{length-append, get_or_append_left}
 use Rattle.std.proofs.lemmas.Nat.{div-mul-add, mod-mul-add}
 use Rattle.std.proofs.lemmas.Bool.{cases_lt, false_from_ne_true}
 use Rattle.position_rank.specs.Placement.{Placement, IsLayout, IsLive}
-use Rattle.position_rank.specs.PackedLaws.{one}
+use Rattle.position_rank.proofs.PlaceCounts.{one}
 use Rattle.position_rank.specs.Points.{AreOtherPoints, AreFirstPoints}
 use Rattle.position_rank.specs.Ranks.{layouts, rank_of}
 use Rattle.position_rank.specs.LiveRanks.{is_live, layout_at, placement_at, live_below}

@@ -7,7 +7,7 @@ use Rattle.std.proofs.lemmas.List.Sums.{sum_by-cons}
 use Rattle.std.specs.List.{All, range_with_len}
 use Rattle.position_rank.specs.LiveRanks.{is_live, are_apart}
 use Rattle.position_rank.specs.Packed.{counts_of, start_counts, start_placement}
-use Rattle.position_rank.specs.PackedLaws.{length-counts_of, counts_of-at, sum-counts_of}
+use Rattle.position_rank.proofs.PlaceCounts.{length-counts_of, counts_of-at, sum-counts_of}
 use Rattle.position_rank.specs.Placement.{IsLayout, IsPosition, IsLive}
 use Rattle.position_rank.proofs.LiveLaws.{All-range, live-from}
 

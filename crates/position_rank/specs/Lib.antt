@@ -2,6 +2,5 @@ pub mod Placement
 pub mod LiveRanks
 pub mod Points
 pub mod Packed
-pub mod PackedLaws
 pub mod Ranks
 pub mod Examples

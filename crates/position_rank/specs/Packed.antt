@@ -20,7 +20,7 @@ abbrev pub start_placement : ℕ → Placement
 start_placement checkers = record { mover = start_counts checkers; other = start_counts checkers }
 
 -- one to three places in falling order, and 0 where no checker is left
-pub record IsPacked (high middle low checkers : ℕ) : Type 0 where
+pub record IsFalling (high middle low checkers : ℕ) : Type 0 where
   pub at_least_one : 1 ≤ checkers
   pub at_most_three : checkers ≤ 3
   pub within : high ≤ 25
@@ -37,3 +37,11 @@ packed_counts high middle low checkers = counts_of (take checkers (high ∷ midd
 unfoldable pub place_from_top : List ℕ → ℕ → ℕ
 place_from_top counts number =
     count_by (λ place. nat_le number (sum (drop (place + 1) counts))) (range_with_len 0 25)
+
+-- cells that can be had back from the counts that they stand for
+pub record IsPacked (high middle low checkers : ℕ) : Type 0 where
+  pub falling : IsFalling high middle low checkers
+  pub first : place_from_top (packed_counts high middle low checkers) 1 ≡ high
+  pub second : place_from_top (packed_counts high middle low checkers) 2 ≡ middle
+  pub third : place_from_top (packed_counts high middle low checkers) 3 ≡ low
+  pub all : sum (packed_counts high middle low checkers) ≡ checkers

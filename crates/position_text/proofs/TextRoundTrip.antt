@@ -8,7 +8,7 @@ use Rattle.std.proofs.lemmas.List.Sums.{sum_by-append, sum_by-cons}
 use Rattle.std.specs.List.{list_all, list_any, filter_map, flat_map, range_with_len, join_with_byte, slice_split}
 use Rattle.position_rank.specs.Placement.{Placement, IsPosition, IsLive}
 use Rattle.position_rank.specs.Packed.{counts_of}
-use Rattle.position_rank.specs.PackedLaws.{length-counts_of, counts_of-at, sum-counts_of}
+use Rattle.position_rank.proofs.PlaceCounts.{length-counts_of, counts_of-at, sum-counts_of}
 use Rattle.position_text.specs.Text.{place, place_text, words, is_slash, have_shape, are_places, numbers_fit, share_point, all_off, read_placement, read_words, read_position, places_below, places_of, position_words, position_text, before_slash, after_slash}
 use Rattle.position_text.proofs.PlaceTexts.{both-true, not-true, lacks, read-back}
 use Rattle.position_text.proofs.TextPlacements.{is_shared}

@@ -1,7 +1,7 @@
 use Rattle.std.proofs.Common.{◌≡◌, true, false, sum, ap, sym, ◌∙◌, rules}
 use Rattle.position_rank.specs.Placement.{Placement}
 use Rattle.position_rank.specs.Packed.{counts_of}
-use Rattle.position_rank.specs.PackedLaws.{sum-counts_of}
+use Rattle.position_rank.proofs.PlaceCounts.{sum-counts_of}
 use Rattle.position_text.specs.Text.{all_off}
 use Rattle.position_id.proofs.Placements.{live-told}
 use Rattle.position_id.proofs.read.set_up.Goals as goal

@@ -1,5 +1,4 @@
--- Laws of the counts of places, proved. They show that a layout's places can be had back from its counts. No contract cites them. They
--- stand here and not in proofs/, as the model of `Layout` names the last ones, and a model can name nothing of its crate outside specs/.
+-- Laws of the counts of places. They show that a layout's places can be had back from its counts.
 use Rattle.std.proofs.Common.{◌≡◌, ℕ, zero, suc, ◌+◌, ◌-◌, ◌<◌, ◌≤◌, Bool, true, false, List, [], ◌∷◌, length, replicate, get_or, set, sum, drop, count_by, take, eqb, ltb, leb, cond, All, refl, ap, sym, subst, ◌∙◌, inl, inr, arith, length-set, length-drop, length-take, get_or-set_same, get_or-set_other}
 use Rattle.std.specs.List.{range_with_len}
 use Rattle.std.proofs.lemmas.List.{drop-set-lt, drop-set-add, drop-replicate, ext_get_or, get_or-drop}
@@ -8,7 +7,7 @@ use Rattle.std.proofs.lemmas.List.Sums.{sum_by-set, sum_by-cons}
 use Rattle.std.proofs.lemmas.List.Elements.{All-head, All-tail, All-take, All-cons, All-nil}
 use Rattle.std.proofs.lemmas.Bool.{cases_eq, cases_lt, lt-ltb, le-ltb}
 use Rattle.std.proofs.lemmas.Bool.Decides.{nat_tests}
-use Rattle.position_rank.specs.Packed.{counts_of, packed_counts, place_from_top, IsPacked}
+use Rattle.position_rank.specs.Packed.{counts_of, packed_counts, place_from_top, IsFalling, IsPacked}
 use Rattle.position_rank.specs.Placement.{IsLayout}
 
 pub length-counts_of : (places : List ℕ) → length (counts_of places) ≡ 26
@@ -124,13 +123,13 @@ count-take q h m l (suc (suc (suc zero))) a b s t = omega (arith, none (q 0))
 count-take q h m l (suc (suc (suc (suc n)))) a b s t = absurd (omega arith)
 
 -- all cells count, but for the 0s past the checkers
-count-packed : (q : ℕ → Bool) (h m l c : ℕ) → IsPacked h m l c
+count-packed : (q : ℕ → Bool) (h m l c : ℕ) → IsFalling h m l c
     → count_by q (take c (h ∷ m ∷ l ∷ [])) + cond (q 0) (3 - c) 0
     ≡ one (q h) + one (q m) + one (q l)
 count-packed q h m l c packed =
     count-take q h m l c packed.at_least_one packed.at_most_three packed.no_second packed.no_third
 
-within-packed : (h m l c : ℕ) → IsPacked h m l c
+within-packed : (h m l c : ℕ) → IsFalling h m l c
     → All (λ place. place ≤ 25) (take c (h ∷ m ∷ l ∷ []))
 within-packed h m l c packed =
     All-take (λ (p : ℕ). p ≤ 25) c (h ∷ m ∷ l ∷ [])
@@ -143,7 +142,7 @@ pub length-packed : (h m l c : ℕ) → length (packed_counts h m l c) ≡ 26
 unfolding packed_counts
 length-packed h m l c = length-counts_of (take c (h ∷ m ∷ l ∷ []))
 
-pub sum-packed : (h m l c : ℕ) → IsPacked h m l c → sum (packed_counts h m l c) ≡ c
+pub sum-packed : (h m l c : ℕ) → IsFalling h m l c → sum (packed_counts h m l c) ≡ c
 unfolding packed_counts
 sum-packed h m l c packed =
     omega (
@@ -153,14 +152,14 @@ sum-packed h m l c packed =
       packed.at_most_three,
     )
 
-pub IsLayout-packed : (h m l c : ℕ) → IsPacked h m l c → IsLayout (packed_counts h m l c)
+pub IsLayout-packed : (h m l c : ℕ) → IsFalling h m l c → IsLayout (packed_counts h m l c)
 IsLayout-packed h m l c packed = record {
   places = length-packed h m l c;
   at_least_one = omega (arith, sum-packed h m l c packed, packed.at_least_one);
   at_most_three = omega (arith, sum-packed h m l c packed, packed.at_most_three);
 }
 
-pub packed-at : (h m l c place : ℕ) → IsPacked h m l c → place ≤ 25
+pub packed-at : (h m l c place : ℕ) → IsFalling h m l c → place ≤ 25
     → get_or (packed_counts h m l c) place 0 + cond (eqb 0 place) (3 - c) 0
     ≡ one (eqb h place) + one (eqb m place) + one (eqb l place)
 unfolding packed_counts
@@ -172,7 +171,7 @@ packed-at h m l c place packed within =
           (λ p. eqb p place) h m l c packed,
     )
 
-pub packed-above : (h m l c place : ℕ) → IsPacked h m l c
+pub packed-above : (h m l c place : ℕ) → IsFalling h m l c
     → sum (drop (place + 1) (packed_counts h m l c))
     ≡ one (ltb place h) + one (ltb place m) + one (ltb place l)
 unfolding packed_counts
@@ -217,21 +216,21 @@ place_from_top-is counts number h high same =
     count-same (λ place. leb number (sum (drop (place + 1) counts))) (λ place. ltb place h) same
     (range_with_len 0 25) ∙ (count-below 25 0 h (omega arith) ∙ omega arith)
 
-pub top-packed : (h m l c : ℕ) → IsPacked h m l c → place_from_top (packed_counts h m l c) 1 ≡ h
+pub top-packed : (h m l c : ℕ) → IsFalling h m l c → place_from_top (packed_counts h m l c) 1 ≡ h
 top-packed h m l c packed =
     place_from_top-is (packed_counts h m l c) 1 h packed.within
     (λ place. let above = packed-above h m l c place
     packed in let a = packed.upper in let b = packed.lower in grind
     (arith, nat_tests, above, a, b))
 
-pub second-packed : (h m l c : ℕ) → IsPacked h m l c → place_from_top (packed_counts h m l c) 2 ≡ m
+pub second-packed : (h m l c : ℕ) → IsFalling h m l c → place_from_top (packed_counts h m l c) 2 ≡ m
 second-packed h m l c packed =
     place_from_top-is (packed_counts h m l c) 2 m (omega (arith, packed.within, packed.upper))
     (λ place. let above = packed-above h m l c place
     packed in let a = packed.upper in let b = packed.lower in grind
     (arith, nat_tests, above, a, b))
 
-pub third-packed : (h m l c : ℕ) → IsPacked h m l c → place_from_top (packed_counts h m l c) 3 ≡ l
+pub third-packed : (h m l c : ℕ) → IsFalling h m l c → place_from_top (packed_counts h m l c) 3 ≡ l
 third-packed h m l c packed =
     place_from_top-is (packed_counts h m l c) 3 l
     (omega (arith, packed.within, packed.upper, packed.lower))
@@ -239,16 +238,12 @@ third-packed h m l c packed =
     packed in let a = packed.upper in let b = packed.lower in grind
     (arith, nat_tests, above, a, b))
 
--- all fields, for a goal that names the view alone
-pub cells-packed : (h m l c : ℕ) → IsPacked h m l c
-    → (packed_counts h m l c ≡ packed_counts h m l c)
-    × (place_from_top (packed_counts h m l c) 1 ≡ h)
-    × (place_from_top (packed_counts h m l c) 2 ≡ m)
-    × (place_from_top (packed_counts h m l c) 3 ≡ l) × (sum (packed_counts h m l c) ≡ c)
-cells-packed h m l c packed = (
-  refl,
-  top-packed h m l c packed,
-  second-packed h m l c packed,
-  third-packed h m l c packed,
-  sum-packed h m l c packed,
-)
+-- falling cells can be had back from their counts
+pub packed : (h m l c : ℕ) → IsFalling h m l c → IsPacked h m l c
+packed h m l c falling = record {
+  falling = falling;
+  first = top-packed h m l c falling;
+  second = second-packed h m l c falling;
+  third = third-packed h m l c falling;
+  all = sum-packed h m l c falling;
+}
