@@ -17,12 +17,10 @@ use Rattle.turn_rule.specs.Truth.{Encloses}
 use Rattle.turn_rule.proofs.Fractions.{bound-neg}
 use Rattle.interval_words.specs.WordLists.{WordList, words_in_list}
 use Rattle.match_scores.specs.Openings.{start_over}
-use Rattle.match_scores.specs.Ladders.{AreEndScores, IsTrueFrom, start_pair_at, score_at, starts_till, with_pair}
-use Rattle.match_scores.specs.Payoffs.{EndScores, ExactStarts, exact_win, match_start, points_left, scale_of, start_scale, starts_before}
-use Rattle.match_scores.proofs.MatchPayoffs.{fewer-left, later-start, scale-some}
+use Rattle.match_scores.specs.Ladders.{IsScoredMatch, IsTrueFrom, start_pair_at, score_at, starts_till, with_pair}
+use Rattle.match_scores.specs.Payoffs.{ExactStarts, ScoredMatch, exact_win}
 use Rattle.match_scores.proofs.OneScore.{LeadDown}
 use Rattle.match_scores.proofs.Places.{place-first, score-found}
-use Rattle.match_scores.proofs.WholeLadder.{AreScores, score-valid}
 use Rattle.match_plan.specs.Plans.{value_of_loss}
 use Rattle.match_plan.specs.Points.{EnclosesGammonPrices, EnclosesTakePoints, LiesInside, gammon_price, take_point}
 use Rattle.match_plan.proofs.Enclosing.{gammon_price-encloses, take_point-encloses}
@@ -91,36 +89,29 @@ holds-inside plan score side scale starts some inside =
 
 -- ---- a match that was solved
 
-module _ (down : LeadDown) (scores : AreScores) (checkers enough : ℕ) (plan : StartPairs) (from : 1 ≤ plan.match_length) (to : plan.match_length ≤ 5) (whole : length plan.pairs ≡ length (ladder plan.match_length)) (words : ℕ → WordList) (is_true : IsTrueFrom enough checkers plan words) where
-  module _ (turns : ℕ) (more : enough ≤ turns) (ends : EndScores) (within : AreEndScores checkers turns ends) (place : ℕ) (here : place < length (ladder plan.match_length)) where
+module _ (down : LeadDown) (checkers enough : ℕ) (plan : StartPairs) (from : 1 ≤ plan.match_length) (to : plan.match_length ≤ 5) (whole : length plan.pairs ≡ length (ladder plan.match_length)) (words : ℕ → WordList) (is_true : IsTrueFrom enough checkers plan words) where
+  module _ (scored : ScoredMatch) (is_scored : IsScoredMatch checkers scored) (more : enough ≤ scored.turns) (place : ℕ) (here : place < length (ladder plan.match_length)) where
     abbrev score : MatchScore
     score = score_at plan.match_length place
-
-    abbrev left : ℕ
-    left = points_left score
-
-    valid : IsScore score
-    valid = score-valid scores plan.match_length from to place here
 
     listed : ladder_place plan.match_length score < length (ladder plan.match_length)
     listed = omega (arith, place-first plan.match_length place here, here)
 
     -- the exact starts of the scores that a win leads to lie inside their pairs
-    starts-inside : AreInside plan score (scale_of turns left) (starts_before checkers turns ends left)
+    starts-inside : AreInside plan score scored.scale scored.starts
     starts-inside winner won some less =
         let next = after_win score winner won in
         let at = ladder_place plan.match_length next in
         let before : at < ladder_place plan.match_length score = down plan.match_length score winner won from to listed some less in
         let there : at < length (ladder plan.match_length) = omega (arith, before, listed) in
-        let enclosed = (is_true turns more ends within at (omega (arith, there, whole))).1 in
-        later-start checkers turns ends (start_pair plan next) next left (fewer-left score winner won valid some less)
-        (subst (λ (s : MatchScore). Encloses (start_pair_at plan at) (match_start checkers turns ends s) (start_scale turns s)) (score-found plan.match_length next there) enclosed)
+        let enclosed = (is_true scored is_scored more at (omega (arith, there, whole))).1 in
+        subst (λ (s : MatchScore). Encloses (start_pair_at plan at) (scored.starts s) scored.scale) (score-found plan.match_length next there) enclosed
 
-    holds-there : (side : Side) → HoldsAt plan score side (scale_of turns left) (starts_before checkers turns ends left)
-    holds-there side = holds-inside plan score side (scale_of turns left) (starts_before checkers turns ends left) (scale-some turns left) starts-inside
+    holds-there : (side : Side) → HoldsAt plan score side scored.scale scored.starts
+    holds-there side = holds-inside plan score side scored.scale scored.starts is_scored.scale starts-inside
 
   holds-from : HoldsInTheEnd checkers plan
-  holds-from = (enough, λ turns more ends within place here side. holds-there turns more ends within place here side)
+  holds-from = (enough, λ scored is_scored more place here side. holds-there scored is_scored more place here side)
 
 -- ---- the last file of a match
 
@@ -173,7 +164,7 @@ module _ (base : FileBase) (starts : StartPairs) (words : ℕ → WordList) (som
       ∙ ap (with_pair (starts_till starts last)) pair-is
       ∙ ap (λ (pairs : List Bounds). record starts { pairs = pairs }) pairs-are
 
-  pub planned-hold : LeadDown → AreScores → HoldsInTheEnd base.head.checkers (planned_starts base)
-  planned-hold down scores =
+  pub planned-hold : LeadDown → HoldsInTheEnd base.head.checkers (planned_starts base)
+  planned-hold down =
       subst (HoldsInTheEnd base.head.checkers) (sym planned-are)
-      (holds-from down scores base.head.checkers ends.solved.true_from.0 starts from to ends.whole words ends.solved.true_from.1)
+      (holds-from down base.head.checkers ends.solved.true_from.0 starts from to ends.whole words ends.solved.true_from.1)

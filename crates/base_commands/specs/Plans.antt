@@ -10,9 +10,9 @@ use Rattle.cube_actions.specs.Scores.{MatchScore, needs, other_side}
 use Rattle.cube_actions.specs.Starts.{StartPairs, start_pair}
 use Rattle.turn_rule.specs.Truth.{Encloses}
 use Rattle.interval_words.specs.WordLists.{WordList, words_in_list}
-use Rattle.match_scores.specs.Ladders.{AreEndScores, IsLadder, score_at, starts_till, with_pair}
+use Rattle.match_scores.specs.Ladders.{IsLadder, IsScoredMatch, score_at, starts_till, with_pair}
 use Rattle.match_scores.specs.Openings.{start_over}
-use Rattle.match_scores.specs.Payoffs.{EndScores, ExactStarts, exact_win, points_left, scale_of, starts_before}
+use Rattle.match_scores.specs.Payoffs.{ExactStarts, ScoredMatch, exact_win}
 use Rattle.match_plan.specs.Plans.{gammon_price_at, plan_text, take_point_at}
 use Rattle.match_plan.specs.Quotients.{IsShare}
 use Rattle.base_head.specs.Heads.{FileHead}
@@ -89,17 +89,15 @@ HoldsInside plan =
     → AreInside plan score scale starts
     → HoldsAt plan score side scale starts
 
--- From some number of turns on, one for the whole match, and however unfinished games are scored, a plan holds at each score of its match and for
--- each side, for the exact starts of the match.
+-- From some number of turns on, one for the whole match, and however the match is scored, a plan holds at each score of it and for each side, for
+-- the exact starts of the match.
 abbrev pub HoldsInTheEnd : ℕ → StartPairs → Type 0
 HoldsInTheEnd checkers plan =
     (enough : ℕ)
-    × ((turns : ℕ) → enough ≤ turns → (ends : EndScores) → AreEndScores checkers turns ends
+    × ((scored : ScoredMatch) → IsScoredMatch checkers scored → enough ≤ scored.turns
     → (place : ℕ) → place < length (ladder plan.match_length)
     → (side : Side)
-    → HoldsAt plan (score_at plan.match_length place) side
-    (scale_of turns (points_left (score_at plan.match_length place)))
-    (starts_before checkers turns ends (points_left (score_at plan.match_length place))))
+    → HoldsAt plan (score_at plan.match_length place) side scored.scale scored.starts)
 
 -- The file is the last one of a match that was solved: of all scores these are the start pairs and the words, and it has the start pairs of the
 -- scores before it, and the words of its own.

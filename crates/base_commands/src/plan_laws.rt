@@ -4,7 +4,7 @@ ghost use Rattle.interval_words.specs.WordLists.{WordList};
 ghost use Rattle.database_file.specs.FileBases.{FileBase};
 ghost use Rattle.base_commands.specs.Plans.{EndsLadder, HoldsInTheEnd, HoldsInside, planned_starts};
 
-use cube_actions::{ladders_are_exact, wins_lead_down_the_ladder};
+use cube_actions::wins_lead_down_the_ladder;
 
 /// Take points and gammon prices from start pairs enclose those of all exact starts inside the pairs.
 pub fn plans_hold_inside_their_pairs()
@@ -19,5 +19,4 @@ pub fn plans_of_solved_matches_hold_in_the_end()
         → HoldsInTheEnd base.head.checkers (planned_starts base) }
 {
     wins_lead_down_the_ladder();
-    ladders_are_exact();
 }

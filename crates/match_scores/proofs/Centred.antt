@@ -1,5 +1,5 @@
 -- The numbers of the kinds with the cube centred.
-use Rattle.std.proofs.Common.{◌≡◌, ◌<◌, ◌≤◌, ◌*◌, ◌^◌, pos, length, refl, subst, arith}
+use Rattle.std.proofs.Common.{◌≡◌, ◌<◌, ◌*◌, ◌^◌, pos, length, refl, subst, arith}
 use Rattle.cube_actions.specs.declared.side.Side.{Side}
 use Rattle.cube_actions.specs.declared.side.Side.TheVariants.{Near, Far}
 use Rattle.cube_actions.specs.Scores.{MatchScore}

@@ -4,6 +4,8 @@ pub mod Starts
 pub mod Places
 pub mod MatchPayoffs
 pub mod OneScore
+pub mod Multiples
+pub mod ExactStarts
 pub mod TighterStarts
 pub mod WholeLadder
 pub mod Handing

@@ -1,11 +1,10 @@
 -- Where start pairs enclose the exact starts, the stakes of a score enclose the exact payoffs of its game.
-use Rattle.std.proofs.Common.{◌≡◌, ◌≢◌, ◌<◌, ◌≤◌, ◌+◌, ◌-◌, ◌*◌, ◌^◌, ◌∙◌, ℕ, zero, suc, ℤ, pos, neg_ℤ, ◌*ℤ◌, ◌≤ℤ◌, Bool, true, false, cond, eqb, nat_le, List, [], ◌∷◌, length, map, get_or, slice_index_or, Option, Some, None, IfSome, Contains, ◌⊎◌, inl, inr, ap, refl, subst, arith}
+use Rattle.std.proofs.Common.{◌≡◌, ◌<◌, ◌≤◌, ◌-◌, ◌*◌, ◌^◌, ◌∙◌, ℕ, zero, suc, ℤ, pos, neg_ℤ, ◌*ℤ◌, Bool, true, false, cond, nat_le, List, [], ◌∷◌, length, map, get_or, slice_index_or, Option, Some, None, IfSome, Contains, ◌⊎◌, inl, inr, ap, refl, subst, arith}
 use Rattle.std.proofs.lemmas.Bool.{cases_lt}
 use Rattle.std.proofs.lemmas.Bool.Decides.{nat_tests}
 use Rattle.std.proofs.lemmas.Int.{ints}
 use Rattle.std.proofs.lemmas.List.{get_or-map, length-map}
 use Rattle.std.proofs.lemmas.List.Folds.{list_all_at}
-use Rattle.std.proofs.Math.Nat.{mul-pos, pow-succ'}
 use Rattle.std.specs.List.{list_all}
 use Rattle.move_rules.specs.Listing.{Among}
 use Rattle.move_rules.proofs.Members.{filter-cases, Among-Contains}
@@ -22,7 +21,7 @@ use Rattle.cube_actions.specs.declared.kind.Kind.{Kind}
 use Rattle.cube_actions.specs.declared.kind.Double.{Double}
 use Rattle.cube_actions.specs.declared.kind.Taken.{Taken}
 use Rattle.cube_actions.specs.declared.side.Side.{Side}
-use Rattle.cube_actions.specs.declared.side.Side.TheVariants.{Near, Far}
+use Rattle.cube_actions.specs.declared.side.Side.TheVariants.{Near}
 use Rattle.cube_actions.specs.Scores.{MatchScore, IsScore, needs, other_side}
 use Rattle.cube_actions.specs.Stakes.{Terms, exactly, no_kind, kind_at}
 use Rattle.cube_actions.specs.Starts.{StartPairs, start_pair}
@@ -33,22 +32,11 @@ use Rattle.turn_rule.specs.Turn.{bound_words, win, if_won, sum_over, least}
 use Rattle.turn_rule.specs.Exact.{Scoring, Values, left_with, rolled, after_double, better_of, before_turn, exact}
 use Rattle.turn_rule.specs.States.{IsStateOf, pair_of}
 use Rattle.turn_rule.specs.Truth.{Encloses, IsScoring}
-use Rattle.turn_rule.proofs.Fractions.{bound-over, bound-neg}
-use Rattle.match_scores.specs.Payoffs.{EndScores, exact_win, mover_in, cube_in, points_left, game_parts, scale_of, scored_by, start_scored, starts_before, match_scoring, match_start, start_scale}
-use Rattle.match_scores.specs.Ladders.{AreEndScores}
+use Rattle.turn_rule.proofs.Fractions.{bound-neg}
+use Rattle.match_scores.specs.Payoffs.{ScoredMatch, exact_win, mover_in, cube_in, match_scoring}
+use Rattle.match_scores.specs.Ladders.{IsScoredMatch}
 
--- ---- scales
-
-power-some : (n : ℕ) → 0 < 36 ^ n
-power-some zero = omega arith
-power-some (suc n) = rw pow-succ' (mul-pos (omega arith) (power-some n))
-
-pub scale-some : (turns left : ℕ) → 0 < scale_of turns left
-scale-some turns zero = omega arith
-scale-some turns (suc left) = mul-pos (scale-some turns left) (mul-pos (omega arith) (power-some turns))
-
-over-encloses : (pair : Bounds) (x : ℤ) (over n : ℕ) → Encloses pair x over → Encloses pair (pos n *ℤ x) (over * n)
-over-encloses pair x over n h = record { lower = bound-over Lower n pair.lower x over h.lower; upper = bound-over Upper n pair.upper x over h.upper }
+-- ---- bounds
 
 neg-encloses : (pair : Bounds) (x : ℤ) (over : ℕ) → Encloses pair x over → Encloses (negated pair) (neg_ℤ x) over
 neg-encloses pair x over h = record { lower = bound-neg Lower pair.upper x over h.upper; upper = bound-neg Upper pair.lower x over h.lower }
@@ -56,47 +44,22 @@ neg-encloses pair x over h = record { lower = bound-neg Lower pair.upper x over 
 whole-encloses : (over : ℕ) → Encloses (exactly 1) (pos over) over
 whole-encloses over = record { lower = omega (arith, ints); upper = omega (arith, ints) }
 
-module _ (checkers turns : ℕ) (ends : EndScores) where
-  -- the start of a score over a greater scale is the same fraction
-  pub later-start : (pair : Bounds) (score : MatchScore) (left : ℕ) → points_left score < left → Encloses pair (match_start checkers turns ends score) (start_scale turns score) → Encloses pair (starts_before checkers turns ends left score) (scale_of turns left)
-  later-start pair score zero less start = absurd (omega arith)
-  later-start pair score (suc left) less start = by_test (eqb (points_left score) left) refl (λ before. later-start pair score left before start) where
-    by_test : (b : Bool) → eqb (points_left score) left ≡ b → (points_left score < left → Encloses pair (starts_before checkers turns ends left score) (scale_of turns left)) → Encloses pair (starts_before checkers turns ends (suc left) score) (scale_of turns (suc left))
-    by_test true is earlier =
-        let same : points_left score ≡ left = grind (arith, nat_tests) in
-        rw is (subst (λ (n : ℕ). Encloses pair (start_scored checkers turns score (scored_by (scale_of turns n) (starts_before checkers turns ends n) score (ends score))) (scale_of turns (suc n))) same start)
-    by_test false is earlier =
-        let before : points_left score < left = grind (arith, nat_tests) in
-        rw is (over-encloses pair (starts_before checkers turns ends left score) (scale_of turns left) (game_parts turns) (earlier before))
-
 -- ---- the next game
 
--- a win leaves fewer points to both sides together
-pub fewer-left : (score : MatchScore) (winner : Side) (won : ℕ) → IsScore score → 1 ≤ won → won < needs score winner → points_left (after_win score winner won) < points_left score
-fewer-left score Near won valid some less = omega (arith, valid.needs.from, valid.needs.in_order)
-fewer-left score Far won valid some less = omega (arith, valid.needs.from, valid.needs.in_order)
-
-module _ (checkers turns : ℕ) (ends : EndScores) (score : MatchScore) (starts : StartPairs) (valid : IsScore score)
-    (known : (winner : Side) (won : ℕ) → 1 ≤ won → won < needs score winner → Encloses (start_pair starts (after_win score winner won)) (match_start checkers turns ends (after_win score winner won)) (start_scale turns (after_win score winner won))) where
-  abbrev left : ℕ
-  left = points_left score
-
+module _ (scored : ScoredMatch) (score : MatchScore) (starts : StartPairs)
+    (known : (winner : Side) (won : ℕ) → 1 ≤ won → won < needs score winner → Encloses (start_pair starts (after_win score winner won)) (scored.starts (after_win score winner won)) scored.scale) where
   -- what winning so many points is worth is enclosed
-  pub win-encloses : (winner : Side) (won : ℕ) → 1 ≤ won → Encloses (value_of_win starts score winner won) (exact_win (scale_of turns left) (starts_before checkers turns ends left) score winner won) (scale_of turns left)
+  pub win-encloses : (winner : Side) (won : ℕ) → 1 ≤ won → Encloses (value_of_win starts score winner won) (exact_win scored.scale scored.starts score winner won) scored.scale
   win-encloses winner won some = by_need (nat_le (needs score winner) won) refl where
-    next : MatchScore
-    next = after_win score winner won
-
-    by_need : (b : Bool) → nat_le (needs score winner) won ≡ b → Encloses (value_of_win starts score winner won) (exact_win (scale_of turns left) (starts_before checkers turns ends left) score winner won) (scale_of turns left)
-    by_need true is = rw is (whole-encloses (scale_of turns left))
+    by_need : (b : Bool) → nat_le (needs score winner) won ≡ b → Encloses (value_of_win starts score winner won) (exact_win scored.scale scored.starts score winner won) scored.scale
+    by_need true is = rw is (whole-encloses scored.scale)
     by_need false is =
         let less : won < needs score winner = grind (arith, nat_tests) in
-        let start = later-start checkers turns ends (start_pair starts (after_win score winner won)) (after_win score winner won) left (fewer-left score winner won valid some less) (known winner won some less) in
-        rw is (by_side (stays_near winner (needs score winner - won) (needs score (other_side winner))) start) where
-          by_side : (b : Bool) → Encloses (start_pair starts (after_win score winner won)) (starts_before checkers turns ends left (after_win score winner won)) (scale_of turns left)
-              → Encloses (cond b (start_pair starts (after_win score winner won)) (negated (start_pair starts (after_win score winner won)))) (cond b (starts_before checkers turns ends left (after_win score winner won)) (neg_ℤ (starts_before checkers turns ends left (after_win score winner won)))) (scale_of turns left)
+        rw is (by_side (stays_near winner (needs score winner - won) (needs score (other_side winner))) (known winner won some less)) where
+          by_side : (b : Bool) → Encloses (start_pair starts (after_win score winner won)) (scored.starts (after_win score winner won)) scored.scale
+              → Encloses (cond b (start_pair starts (after_win score winner won)) (negated (start_pair starts (after_win score winner won)))) (cond b (scored.starts (after_win score winner won)) (neg_ℤ (scored.starts (after_win score winner won)))) scored.scale
           by_side true start = start
-          by_side false start = neg-encloses _ (starts_before checkers turns ends left (after_win score winner won)) (scale_of turns left) start
+          by_side false start = neg-encloses _ (scored.starts (after_win score winner won)) scored.scale start
 
 -- ---- the kinds of a score
 
@@ -136,13 +99,13 @@ kinds-many score starts = length-map (match_kinds score) (match_kind starts scor
 
 -- ---- how the game is scored
 
-module _ (checkers turns : ℕ) (ends : EndScores) (within : AreEndScores checkers turns ends) (score : MatchScore) (starts : StartPairs) (valid : IsScore score)
-    (known : (winner : Side) (won : ℕ) → 1 ≤ won → won < needs score winner → Encloses (start_pair starts (after_win score winner won)) (match_start checkers turns ends (after_win score winner won)) (start_scale turns (after_win score winner won))) where
+module _ (checkers : ℕ) (scored : ScoredMatch) (is_scored : IsScoredMatch checkers scored) (score : MatchScore) (starts : StartPairs) (valid : IsScore score)
+    (known : (winner : Side) (won : ℕ) → 1 ≤ won → won < needs score winner → Encloses (start_pair starts (after_win score winner won)) (scored.starts (after_win score winner won)) scored.scale) where
   abbrev scoring : Scoring
-  scoring = match_scoring checkers turns ends score
+  scoring = match_scoring scored score
 
-  won-encloses : (winner : Side) (won : ℕ) → 1 ≤ won → Encloses (value_of_win starts score winner won) (exact_win scoring.scale (starts_before checkers turns ends (points_left score)) score winner won) scoring.scale
-  won-encloses = win-encloses checkers turns ends score starts valid known
+  won-encloses : (winner : Side) (won : ℕ) → 1 ≤ won → Encloses (value_of_win starts score winner won) (exact_win scoring.scale scored.starts score winner won) scoring.scale
+  won-encloses = win-encloses scored score starts known
 
   wins-within : (k : ℕ) (won : Won) → k < length (match_kinds score) → Encloses (win (kind_at (terms_of score starts) k) won) (scoring.win k won) scoring.scale
   wins-within k won here = rw (kind-at score starts k here) (by_won won) where
@@ -160,15 +123,15 @@ module _ (checkers turns : ℕ) (ends : EndScores) (within : AreEndScores checke
     if-some true double h = h
     if-some false double h = tt
 
-  ends-within : (p : Placement) (k : ℕ) → IsStateOf checkers (length (match_kinds score)) p k → Encloses (pair_of (bound_words (terms_of score starts)) p k) (ends score p k) scoring.scale
+  ends-within : (p : Placement) (k : ℕ) → IsStateOf checkers (length (match_kinds score)) p k → Encloses (pair_of (bound_words (terms_of score starts)) p k) (scored.ends score p k) scoring.scale
   ends-within p k state =
-      let h = within.within score valid p k state in
+      let h = is_scored.ends score valid p k state in
       record { lower = omega (arith, ints, h.from); upper = omega (arith, ints, h.to) }
 
   -- the exact payoffs and the end scores lie within the stakes of the starts
   pub scored-within : IsScoring (game_of checkers (terms_of score starts)) scoring
   scored-within = record {
-    scale = scale-some turns (points_left score);
+    scale = is_scored.scale;
     wins = λ k won here. wins-within k won (rw kinds-many at here);
     passes = λ k here. passes-within k (rw kinds-many at here);
     unfinished = λ p k state. ends-within p k (subst (λ (n : ℕ). IsStateOf checkers n p k) (kinds-many score starts) state);

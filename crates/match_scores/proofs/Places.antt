@@ -1,9 +1,9 @@
 -- Places of scores in the ladder of a match.
-use Rattle.std.proofs.Common.{◌≡◌, ◌≢◌, ◌<◌, ◌≤◌, ◌∙◌, ℕ, Bool, true, false, not, List, length, get_or, inl, inr, refl, sym, ap, subst, arith}
+use Rattle.std.proofs.Common.{◌≡◌, ◌≢◌, ◌<◌, ◌≤◌, ◌∙◌, ℕ, Bool, true, false, not, length, inl, inr, refl, sym, ap, subst, arith}
 use Rattle.std.proofs.lemmas.Bool.{cases_lt, false≢true}
 use Rattle.std.proofs.lemmas.Bool.Decides.{nat_tests}
 use Rattle.std.proofs.lemmas.List.Sums.{prefix_len_passes, prefix_len_stops}
-use Rattle.std.specs.List.{position_or_len, AllPairs}
+use Rattle.std.specs.List.{AllPairs}
 use Rattle.cube_actions.specs.declared.phase.Phase.{Phase}
 use Rattle.cube_actions.specs.declared.phase.Phase.TheVariants.{Normal, Crawford, Post}
 use Rattle.cube_actions.specs.Scores.{MatchScore, is_crawford, last_game, same_score, same_phase}

@@ -1,5 +1,5 @@
 -- Tighter start pairs give tighter stakes.
-use Rattle.std.proofs.Common.{◌≡◌, ◌<◌, ◌≤◌, ◌-◌, ◌*◌, ◌∙◌, ℕ, Bool, true, false, cond, nat_le, length, get_or, Some, None, refl, sym, subst}
+use Rattle.std.proofs.Common.{◌≡◌, ◌<◌, ◌-◌, ◌*◌, ◌∙◌, ℕ, Bool, true, false, cond, nat_le, length, get_or, Some, None, refl, sym, subst}
 use Rattle.move_rules.specs.declared.payoff.Won.{Won}
 use Rattle.move_rules.specs.declared.payoff.Won.TheVariants.{Single, Gammon, Backgammon}
 use Rattle.directed_fixed.specs.Bounds.{Bounds, AreNoLooserPairs, negated}

@@ -1,6 +1,6 @@
 -- The whole ladder: from one number of turns on the words of each score enclose its game and each start pair its start, and they are as tight
 -- as the plain starts and the rounds for these.
-use Rattle.std.proofs.Common.{◌≡◌, ◌<◌, ◌≤◌, ◌+◌, ◌++◌, ◌∙◌, ℕ, zero, suc, max, List, [], ◌∷◌, Contains, length, length-append, take, get_or, cond, eqb, true, false, inl, inr, ap, refl, sym, subst, arith}
+use Rattle.std.proofs.Common.{◌≡◌, ◌<◌, ◌≤◌, ◌++◌, ◌∙◌, ℕ, zero, suc, max, List, [], ◌∷◌, Contains, length, length-append, take, get_or, cond, eqb, true, false, inl, inr, ap, refl, sym, subst, arith}
 use Rattle.std.proofs.lemmas.Bool.{cases_lt}
 use Rattle.std.proofs.lemmas.Bool.Decides.{nat_tests}
 use Rattle.std.proofs.lemmas.List.{take_all, get_or-take, get_or_default, length-take-le, take-append-le, get_or_append_left}
@@ -23,8 +23,8 @@ use Rattle.turn_rule.proofs.Monotone.{stakes-rounds-tighter}
 use Rattle.turn_rule.proofs.Tight.{words-trans}
 use Rattle.interval_words.specs.WordLists.{WordList, words_in_list}
 use Rattle.match_scores.specs.Openings.{start_over}
-use Rattle.match_scores.specs.Payoffs.{EndScores, match_scoring, match_start, start_scale}
-use Rattle.match_scores.specs.Ladders.{score_at, start_pair_at, starts_till, with_pair, game_at_score, AreEndScores, EnclosesStart, EncloseStarts, EnclosesGame, AreWordsAt, IsSolvedAt, IsSolved, IsTrueFrom, plain_starts, IsTightAt, IsLadder}
+use Rattle.match_scores.specs.Payoffs.{ScoredMatch, match_scoring}
+use Rattle.match_scores.specs.Ladders.{score_at, start_pair_at, starts_till, with_pair, game_at_score, IsScoredMatch, EnclosesStart, EncloseStarts, EnclosesGame, AreWordsAt, IsSolvedAt, IsSolved, IsTrueFrom, plain_starts, IsTightAt, IsLadder}
 use Rattle.match_scores.proofs.Centred.{centred-terms}
 use Rattle.match_scores.proofs.OpeningSums.{GoOn}
 use Rattle.match_scores.proofs.Starts.{start-tighter}
@@ -69,8 +69,8 @@ module _ (goes : GoOn) (down : LeadDown) (scores : AreScores) (checkers r : ℕ)
   -- from so many turns on, the first so many scores are enclosed
   abbrev IsTrueTill : ℕ → ℕ → Type 0
   IsTrueTill enough count =
-      (turns : ℕ) → enough ≤ turns → (ends : EndScores) → AreEndScores checkers turns ends → (place : ℕ) → place < count
-      → EnclosesGame checkers turns ends starts place (words place) × EnclosesStart checkers turns ends starts place
+      (scored : ScoredMatch) → IsScoredMatch checkers scored → enough ≤ scored.turns → (place : ℕ) → place < count
+      → EnclosesGame scored starts place (words place) × EnclosesStart scored starts place
 
   module _ (count : ℕ) (here : count < length starts.pairs) where
     listed : count < length (ladder starts.match_length)
@@ -80,37 +80,37 @@ module _ (goes : GoOn) (down : LeadDown) (scores : AreScores) (checkers r : ℕ)
     is-score = score-valid scores starts.match_length valid.from valid.to count listed
 
     -- the next score is enclosed, if those before it are
-    next-true : (turns : ℕ) (ends : EndScores) → AreEndScores checkers turns ends → ((place : ℕ) → place < count → EnclosesStart checkers turns ends starts place)
-        → (enough : ℕ) → AreSoundFrom (words count).game enough (words_in_list (words count)) → enough ≤ turns
-        → EnclosesGame checkers turns ends starts count (words count) × EnclosesStart checkers turns ends starts count
-    next-true turns ends within before enough sound more =
+    next-true : (scored : ScoredMatch) → IsScoredMatch checkers scored → ((place : ℕ) → place < count → EnclosesStart scored starts place)
+        → (enough : ℕ) → AreSoundFrom (words count).game enough (words_in_list (words count)) → enough ≤ scored.turns
+        → EnclosesGame scored starts count (words count) × EnclosesStart scored starts count
+    next-true scored is_scored before enough sound more =
         let at = solved count here in
         let score = score_at starts.match_length count in
         let first = starts_till starts count in
         let u = words_in_list (words count) in
-        let first-enclosed : EncloseStarts checkers turns ends first = λ place inside. (
+        let first-enclosed : EncloseStarts scored first = λ place inside. (
         let less : place < count = rw (length-take-le count starts.pairs (omega (arith, here))) at inside in
-        subst (λ (pair : Bounds). Encloses pair (match_start checkers turns ends (score_at starts.match_length place)) (start_scale turns (score_at starts.match_length place))) (sym (pair-till starts count place less)) (before place less)) in
-        let game : AreEnclosing (game_at_score checkers score first) (match_scoring checkers turns ends score) turns u =
-        game-enclosed down checkers turns ends score first within (till-valid starts count valid (omega (arith, here))) is-score (till-covers starts count listed (omega (arith, here))) first-enclosed enough u more
+        subst (λ (pair : Bounds). Encloses pair (scored.starts (score_at starts.match_length place)) scored.scale) (sym (pair-till starts count place less)) (before place less)) in
+        let game : AreEnclosing (game_at_score checkers score first) (match_scoring scored score) scored.turns u =
+        game-enclosed down checkers scored is_scored score first (till-valid starts count valid (omega (arith, here))) is-score (till-covers starts count listed (omega (arith, here))) first-enclosed enough u more
         (subst (λ (g : Game). AreSoundFrom g enough u) at.closed.game sound) in (
-          subst (λ (g : Game). AreEnclosing g (match_scoring checkers turns ends score) turns u) (sym at.closed.game) game,
-          subst (λ (pair : Bounds). Encloses pair (match_start checkers turns ends score) (start_scale turns score)) (sym at.start) (start-enclosed checkers turns ends score first goes low high u game),
+          subst (λ (g : Game). AreEnclosing g (match_scoring scored score) scored.turns u) (sym at.closed.game) game,
+          subst (λ (pair : Bounds). Encloses pair (scored.starts score) scored.scale) (sym at.start) (start-enclosed checkers scored score first (is_scored.starts score is-score) goes low high u game),
         )
 
   true-till : (count : ℕ) → count ≤ length starts.pairs → (enough : ℕ) × IsTrueTill enough count
-  true-till zero here = (0, λ turns more ends within place less. absurd (omega arith))
+  true-till zero here = (0, λ scored is_scored more place less. absurd (omega arith))
   true-till (suc count) here =
       let before = true-till count (omega (arith, here)) in
       let inside : count < length starts.pairs = omega (arith, here) in
       let sound = (solved count inside).closed.closed.sound in (
         max before.0 sound.0,
-        λ turns more ends within place less. (
-            let both = either-max before.0 sound.0 turns more in
+        λ scored is_scored more place less. (
+            let both = either-max before.0 sound.0 scored.turns more in
             elim (cases_lt place count) [
-              | inl earlier ↦ before.1 turns both.0 ends within place earlier
-              | inr last ↦ subst (λ (n : ℕ). EnclosesGame checkers turns ends starts n (words n) × EnclosesStart checkers turns ends starts n) (sym (same-place place count less last))
-                  (next-true count inside turns ends within (λ place earlier. (before.1 turns both.0 ends within place earlier).1) sound.0 sound.1 both.1)
+              | inl earlier ↦ before.1 scored is_scored both.0 place earlier
+              | inr last ↦ subst (λ (n : ℕ). EnclosesGame scored starts n (words n) × EnclosesStart scored starts n) (sym (same-place place count less last))
+                  (next-true count inside scored is_scored (λ place earlier. (before.1 scored is_scored both.0 place earlier).1) sound.0 sound.1 both.1)
             ]),
       )
 

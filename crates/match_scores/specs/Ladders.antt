@@ -1,5 +1,5 @@
 -- The ladder of a match, solved score by score: each score's words are of the game for the starts of the scores before it.
-use Rattle.std.specs.Prelude.{◌≡◌, ◌≤◌, ◌<◌, ◌++◌, ℕ, zero, suc, pos, [], ◌∷◌, length, slice_index_or, take}
+use Rattle.std.specs.Prelude.{◌≡◌, ◌≤◌, ◌<◌, ◌*◌, ◌++◌, ℕ, zero, suc, pos, [], ◌∷◌, length, slice_index_or, take}
 use Rattle.position_rank.specs.Placement.{Placement}
 use Rattle.directed_fixed.specs.Bounds.{Bounds, AreNoLooserPairs, IsWithinUnits}
 use Rattle.cube_actions.specs.Scores.{MatchScore, IsScore, last_game}
@@ -15,7 +15,7 @@ use Rattle.turn_rule.specs.States.{IsStateOf, AreNoLooser}
 use Rattle.turn_rule.specs.Truth.{Encloses, AreEnclosing}
 use Rattle.interval_words.specs.WordLists.{WordList, AreClosed, words_in_list}
 use Rattle.match_scores.specs.Openings.{start_over}
-use Rattle.match_scores.specs.Payoffs.{EndScores, points_left, scale_of, match_scoring, match_start, start_scale}
+use Rattle.match_scores.specs.Payoffs.{EndScores, ExactStarts, ScoredMatch, IsMeanStart, ends_over, match_scoring}
 
 -- ---- places of the ladder
 
@@ -42,29 +42,45 @@ game_at_score checkers score starts = game_of checkers (terms_of score starts)
 -- ---- what is true of it
 
 -- in each state of each score a game that is cut off is worth at most the match, to either side
-pub record AreEndScores (checkers turns : ℕ) (ends : EndScores) : Type 0 where
-  pub within :
-      (score : MatchScore) → IsScore score → (p : Placement) (k : ℕ)
-      → IsStateOf checkers (length (match_kinds score)) p k
-      → IsWithinUnits (pos (scale_of turns (points_left score))) (ends score p k)
+abbrev pub AreEndScores : ℕ → ℕ → EndScores → Type 0
+AreEndScores checkers scale ends =
+    (score : MatchScore) → IsScore score → (p : Placement) (k : ℕ)
+    → IsStateOf checkers (length (match_kinds score)) p k
+    → IsWithinUnits (pos scale) (ends score p k)
 
--- the start pair at a place encloses the start of its score, in the match whose games have so many turns and these end scores
-abbrev pub EnclosesStart : ℕ → ℕ → EndScores → StartPairs → ℕ → Type 0
-EnclosesStart checkers turns ends starts place =
-    let score = score_at starts.match_length place in
-    Encloses (start_pair_at starts place) (match_start checkers turns ends score)
-    (start_scale turns score)
+-- these are end scores of a match, and its starts: each is the mean of the game whose payoffs are the starts of the scores that a win leads to
+pub record IsScoredMatch (checkers : ℕ) (scored : ScoredMatch) : Type 0 where
+  pub scale : 0 < scored.scale
+  pub ends : AreEndScores checkers scored.scale scored.ends
+  pub starts : (score : MatchScore) → IsScore score → IsMeanStart checkers scored score
+
+-- a match has exact starts, over some times the scale of its end scores
+abbrev pub HasExactStarts : ℕ → ℕ → ℕ → EndScores → Type 0
+HasExactStarts checkers turns scale ends =
+    (times : ℕ) × (starts : ExactStarts)
+    × IsScoredMatch checkers (record {
+      turns = turns;
+      scale = scale * times;
+      ends = ends_over times ends;
+      starts = starts;
+    })
+
+-- the start pair at a place encloses the start of its score
+abbrev pub EnclosesStart : ScoredMatch → StartPairs → ℕ → Type 0
+EnclosesStart scored starts place =
+    Encloses (start_pair_at starts place) (scored.starts (score_at starts.match_length place))
+    scored.scale
 
 -- each start pair that is held encloses the start of its score
-abbrev pub EncloseStarts : ℕ → ℕ → EndScores → StartPairs → Type 0
-EncloseStarts checkers turns ends starts =
-    (place : ℕ) → place < length starts.pairs → EnclosesStart checkers turns ends starts place
+abbrev pub EncloseStarts : ScoredMatch → StartPairs → Type 0
+EncloseStarts scored starts =
+    (place : ℕ) → place < length starts.pairs → EnclosesStart scored starts place
 
 -- the words of the score at a place enclose its game with the exact payoffs of the match
-abbrev pub EnclosesGame : ℕ → ℕ → EndScores → StartPairs → ℕ → WordList → Type 0
-EnclosesGame checkers turns ends starts place words =
-    AreEnclosing words.game (match_scoring checkers turns ends (score_at starts.match_length place))
-    turns (words_in_list words)
+abbrev pub EnclosesGame : ScoredMatch → StartPairs → ℕ → WordList → Type 0
+EnclosesGame scored starts place words =
+    AreEnclosing words.game (match_scoring scored (score_at starts.match_length place))
+    scored.turns (words_in_list words)
 
 -- ---- how it is solved
 
@@ -89,14 +105,13 @@ abbrev pub IsSolved : ℕ → ℕ → StartPairs → (ℕ → WordList) → Type
 IsSolved checkers r starts words =
     (place : ℕ) → place < length starts.pairs → IsSolvedAt checkers r starts place (words place)
 
--- From so many turns on, one number for the whole ladder, and for all end scores, the words of each score enclose its game, and each start
--- pair encloses the start of its score.
+-- From so many turns on, one number for the whole ladder, and however the match is scored, the words of each score enclose its game, and each
+-- start pair encloses the start of its score.
 abbrev pub IsTrueFrom : ℕ → ℕ → StartPairs → (ℕ → WordList) → Type 0
 IsTrueFrom enough checkers starts words =
-    (turns : ℕ) → enough ≤ turns → (ends : EndScores) → AreEndScores checkers turns ends
+    (scored : ScoredMatch) → IsScoredMatch checkers scored → enough ≤ scored.turns
     → (place : ℕ) → place < length starts.pairs
-    → EnclosesGame checkers turns ends starts place (words place)
-    × EnclosesStart checkers turns ends starts place
+    → EnclosesGame scored starts place (words place) × EnclosesStart scored starts place
 
 -- ---- how tight it is
 

@@ -1,7 +1,6 @@
 -- How the games of a match are scored exactly, where each is cut off after so many turns: by the starts of the games that a win leads to.
--- All are whole numbers, each over a scale.
-use Rattle.std.specs.Prelude.{ℕ, zero, suc, ◌+◌, ◌-◌, ◌*◌, ◌^◌, ◌==◌, nat_le, ℤ, pos, neg_ℤ, ◌*ℤ◌, [], None, slice_index_or, if◌then◌else◌}
-use Rattle.position_rank.specs.Placement.{Placement}
+-- All are whole numbers over one scale.
+use Rattle.std.specs.Prelude.{◌≡◌, ℕ, ◌-◌, ◌*◌, ◌^◌, nat_le, ℤ, pos, neg_ℤ, ◌*ℤ◌, [], None, slice_index_or, if◌then◌else◌}
 use Rattle.move_rules.specs.declared.payoff.Won.{Won}
 use Rattle.move_rules.specs.declared.payoff.Won.TheVariants.{Single, Gammon, Backgammon}
 use Rattle.cube_actions.specs.declared.phase.Phase.{Phase}
@@ -68,45 +67,27 @@ start_scored checkers turns score scoring =
 
 -- ---- the whole match
 
--- how many points the sides need together beyond one each: the fewer, the later in the match
-abbrev pub points_left : MatchScore → ℕ
-points_left score = (score.near + score.far) - 2
-
--- a game multiplies what values are counted over by 36 for each of its turns and by 30 for its opening
-abbrev pub game_parts : ℕ → ℕ
-game_parts turns = 30 * 36 ^ turns
-
--- what the exact values of a game at which so many points are left are counted over
-abbrev pub scale_of : ℕ → ℕ → ℕ
-scale_of turns zero = 1
-scale_of turns (suc left) = scale_of turns left * game_parts turns
-
--- what each state of each score is worth to the side to move where the game is cut off, over the scale of that score
+-- what each state of each score is worth to the side to move where the game is cut off
 abbrev pub EndScores : Type 0
 EndScores = MatchScore → Values
 
--- The starts of all scores at which fewer than so many points are left, over the scale of so many. Those known before are counted over the
--- greater scale. The others are of games whose payoffs are the starts known before.
-abbrev pub starts_before : ℕ → ℕ → EndScores → ℕ → ExactStarts
-starts_before checkers turns ends zero score = pos 0
-starts_before checkers turns ends (suc left) score =
-    let known = starts_before checkers turns ends left in
-    if points_left score == left
-    then start_scored checkers turns score
-    (scored_by (scale_of turns left) known score (ends score))
-    else pos (game_parts turns) *ℤ known score
+-- the same over so many times the scale
+abbrev pub ends_over : ℕ → EndScores → EndScores
+ends_over times ends score p k = pos times *ℤ ends score p k
 
--- how the game at a score is scored, in a match whose games are cut off after so many turns with these end scores
-abbrev pub match_scoring : ℕ → ℕ → EndScores → MatchScore → Scoring
-match_scoring checkers turns ends score =
-    scored_by (scale_of turns (points_left score))
-    (starts_before checkers turns ends (points_left score)) score (ends score)
+-- a match that is scored exactly: after how many turns its games are cut off, and over one scale their end scores and the starts of all scores
+pub record ScoredMatch : Type 0 where
+  pub turns : ℕ
+  pub scale : ℕ
+  pub ends : EndScores
+  pub starts : ExactStarts
 
--- What the near side has of the game at a score: the mean over the 30 openings of the game whose payoffs are the starts known before.
-abbrev pub match_start : ℕ → ℕ → EndScores → MatchScore → ℤ
-match_start checkers turns ends score =
-    start_scored checkers turns score (match_scoring checkers turns ends score)
+-- how the game at a score is scored: its payoffs are the starts of the scores that a win leads to
+abbrev pub match_scoring : ScoredMatch → MatchScore → Scoring
+match_scoring scored score = scored_by scored.scale scored.starts score (scored.ends score)
 
--- what that is counted over
-abbrev pub start_scale : ℕ → MatchScore → ℕ
-start_scale turns score = scale_of turns (suc (points_left score))
+-- The start of a score is the mean of its game over the 30 openings, and over the 36 rolls of each turn: so many times the start is their sum.
+abbrev pub IsMeanStart : ℕ → ScoredMatch → MatchScore → Type 0
+IsMeanStart checkers scored score =
+    pos (30 * 36 ^ scored.turns) *ℤ scored.starts score
+    ≡ start_scored checkers scored.turns score (match_scoring scored score)

@@ -18,8 +18,8 @@ use Rattle.game_record.specs.declared.record.RecordStakes.TheVariants.{Unlimited
 use Rattle.turn_rule.specs.declared.game.Game.{Game}
 use Rattle.turn_rule.specs.Games.{IsGame, game_of}
 use Rattle.turn_rule.specs.Truth.{AreSoundFrom}
-use Rattle.match_scores.specs.Ladders.{AreEndScores, EncloseStarts, game_at_score as score_game}
-use Rattle.match_scores.specs.Payoffs.{EndScores}
+use Rattle.match_scores.specs.Ladders.{EncloseStarts, IsScoredMatch, game_at_score as score_game}
+use Rattle.match_scores.specs.Payoffs.{ScoredMatch}
 use Rattle.record_analysis.specs.Analyses.{lost}
 use Rattle.record_analysis.specs.Truth.{IsDecisionOf}
 use Rattle.record_analysis.specs.declared.analysis.Judged.{Judged}
@@ -79,19 +79,19 @@ decision-at rec points score decision in_match here head is game =
 -- from some number of turns on, a decision's pair encloses what it loses exactly
 abbrev pub IsTrueOne : ℕ → Judged → Type 0
 IsTrueOne checkers one =
-    (enough : ℕ) × ((turns : ℕ) → enough ≤ turns → (ends : EndScores) → AreEndScores checkers turns ends → (left : ℕ) → enough ≤ left
-    → IfSome one.decision.score (λ score. IfSome one.loss (λ pair. EnclosesLossAt checkers turns ends left one.decision pair score)))
+    (enough : ℕ) × ((scored : ScoredMatch) → IsScoredMatch checkers scored → enough ≤ scored.turns → (left : ℕ) → enough ≤ left
+    → IfSome one.decision.score (λ score. IfSome one.loss (λ pair. EnclosesLossAt scored left one.decision pair score)))
 
 -- so there is one number for all of them
 pub all-true : (checkers : ℕ) (list : List Judged) → All (IsTrueOne checkers) list → IsTrueMatch checkers list
-all-true checkers [] all = (0, λ left turns more late ends within i d below. absurd (omega arith))
+all-true checkers [] all = (0, λ scored is_scored late left more i d below. absurd (omega arith))
 all-true checkers (one ∷ list) all =
     let first = All-head (IsTrueOne checkers) one list all in
     let rest = all-true checkers list (All-tail (IsTrueOne checkers) one list all) in (
       max first.0 rest.0,
-      λ left turns more late ends within.
-          All-cons (λ (judged : Judged). IfSome judged.decision.score (λ score. IfSome judged.loss (λ pair. EnclosesLossAt checkers turns ends left judged.decision pair score))) one list
-          (first.1 turns (omega (arith, late)) ends within left (omega (arith, more))) (rest.1 left turns (omega (arith, more)) (omega (arith, late)) ends within),
+      λ scored is_scored late left more.
+          All-cons (λ (judged : Judged). IfSome judged.decision.score (λ score. IfSome judged.loss (λ pair. EnclosesLossAt scored left judged.decision pair score))) one list
+          (first.1 scored is_scored (omega (arith, late)) left (omega (arith, more))) (rest.1 scored is_scored (omega (arith, late)) left (omega (arith, more))),
     )
 
 module _ (payoffs : PayoffsLieWithin) (rec : RecordRead) (points : ℕ) where
@@ -116,12 +116,12 @@ module _ (payoffs : PayoffsLieWithin) (rec : RecordRead) (points : ℕ) where
       let sound : AreSoundFrom (score_game rec.checkers score head.starts) truth.sound.0 u = subst (λ (g : Game). AreSoundFrom g truth.sound.0 u) told truth.sound.1 in
       let loss : one.loss ≡ Some (lost (terms_of score head.starts) u one.decision) = judges.over u truth.pairs ∙ ap (λ (t : Terms). Some (lost t u one.decision)) stakes in (
         max truth.sound.0 truth.starts.0,
-        λ turns late ends within left more.
-            (let within' : AreEndScores head.checkers turns ends = subst (λ (n : ℕ). AreEndScores n turns ends) (sym checkers) within in
-            let encloses : EncloseStarts rec.checkers turns ends head.starts = subst (λ (n : ℕ). EncloseStarts n turns ends head.starts) checkers (truth.starts.1 turns (omega (arith, late)) ends within') in
-            let enclosed = loss-encloses payoffs rec.checkers turns ends within head.starts judges.file.head.valid encloses score is_score (covers-of head score judges.file.head (told-name rec score head judges.file.game)) game truth.sound.0 u sound left (omega (arith, more)) one.decision of in
-            if-given (λ (s : MatchScore). IfSome one.loss (λ pair. EnclosesLossAt rec.checkers turns ends left one.decision pair s)) one.decision.score score at
-            (if-given (λ (pair : Bounds). EnclosesLossAt rec.checkers turns ends left one.decision pair score) one.loss (lost (terms_of score head.starts) u one.decision) loss enclosed)),
+        λ scored is_scored late left more.
+            (let is_scored' : IsScoredMatch head.checkers scored = subst (λ (n : ℕ). IsScoredMatch n scored) (sym checkers) is_scored in
+            let encloses : EncloseStarts scored head.starts = truth.starts.1 scored is_scored' (omega (arith, late)) in
+            let enclosed = loss-encloses payoffs rec.checkers scored is_scored head.starts judges.file.head.valid encloses score is_score (covers-of head score judges.file.head (told-name rec score head judges.file.game)) game truth.sound.0 u sound left (omega (arith, more)) one.decision of in
+            if-given (λ (s : MatchScore). IfSome one.loss (λ pair. EnclosesLossAt scored left one.decision pair s)) one.decision.score score at
+            (if-given (λ (pair : Bounds). EnclosesLossAt scored left one.decision pair score) one.loss (lost (terms_of score head.starts) u one.decision) loss enclosed)),
       )
 
   some-of : {X : Type 0} (P : X → Type 0) (o : Option X) (x : X) → o ≡ Some x → IfSome o P → P x

@@ -22,8 +22,8 @@ use Rattle.play_analyser.proofs.Enclosing.{loss-of-encloses}
 use Rattle.play_analyser.proofs.Tighter.{loss-of-tighter}
 use Rattle.game_record.specs.Lines.{IsRecord}
 use Rattle.game_record.specs.declared.record.Record.{Record}
-use Rattle.match_scores.specs.Ladders.{IsSolved, score_at, starts_till, game_at_score, AreEndScores, EncloseStarts, IsLadder, IsTightAt, plain_starts}
-use Rattle.match_scores.specs.Payoffs.{EndScores, match_scoring, match_start, start_scale}
+use Rattle.match_scores.specs.Ladders.{IsSolved, score_at, starts_till, game_at_score, EncloseStarts, IsLadder, IsScoredMatch, IsTightAt, plain_starts}
+use Rattle.match_scores.specs.Payoffs.{ScoredMatch, match_scoring}
 use Rattle.match_scores.proofs.Places.{place-first, score-found}
 use Rattle.match_scores.proofs.TighterStarts.{stakes-no-looser}
 use Rattle.match_scores.proofs.WholeLadder.{pair-till, till-covers, till-tight, till-valid}
@@ -41,16 +41,16 @@ use Rattle.record_study.proofs.Regrets.{regret-same}
 -- where start pairs enclose, the exact payoffs lie within the stakes that they give
 abbrev pub PayoffsLieWithin : Type 0
 PayoffsLieWithin =
-    (checkers turns : ℕ) (ends : EndScores) → AreEndScores checkers turns ends → (starts : StartPairs) → AreStarts starts → EncloseStarts checkers turns ends starts
-    → (score : MatchScore) → IsScore score → Covers starts score → IsScoring (game_at_score checkers score starts) (match_scoring checkers turns ends score)
+    (checkers : ℕ) (scored : ScoredMatch) → IsScoredMatch checkers scored → (starts : StartPairs) → AreStarts starts → EncloseStarts scored starts
+    → (score : MatchScore) → IsScore score → Covers starts score → IsScoring (game_at_score checkers score starts) (match_scoring scored score)
 
 -- what a decision loses over sound words of its score's game encloses what it loses exactly with the payoffs of the match
-pub loss-encloses : PayoffsLieWithin → (checkers turns : ℕ) (ends : EndScores) → AreEndScores checkers turns ends → (starts : StartPairs) → AreStarts starts → EncloseStarts checkers turns ends starts
+pub loss-encloses : PayoffsLieWithin → (checkers : ℕ) (scored : ScoredMatch) → IsScoredMatch checkers scored → (starts : StartPairs) → AreStarts starts → EncloseStarts scored starts
     → (score : MatchScore) → IsScore score → Covers starts score → IsGame (game_at_score checkers score starts) → (enough : ℕ) (u : Words) → AreSoundFrom (game_at_score checkers score starts) enough u
-    → (left : ℕ) → enough ≤ left → (decision : Decision) → IsDecisionOf (game_at_score checkers score starts) decision → EnclosesLossAt checkers turns ends left decision (lost (terms_of score starts) u decision) score
-loss-encloses payoffs checkers turns ends within starts valid encloses score is covers game enough u sound left more decision of =
-    let scoring = match_scoring checkers turns ends score in
-    let fits = payoffs checkers turns ends within starts valid encloses score is covers in
+    → (left : ℕ) → enough ≤ left → (decision : Decision) → IsDecisionOf (game_at_score checkers score starts) decision → EnclosesLossAt scored left decision (lost (terms_of score starts) u decision) score
+loss-encloses payoffs checkers scored is_scored starts valid encloses score is covers game enough u sound left more decision of =
+    let scoring = match_scoring scored score in
+    let fits = payoffs checkers scored is_scored starts valid encloses score is covers in
     let loss = loss-of-encloses (game_at_score checkers score starts) game scoring fits left u (sound left more scoring fits) decision.position decision.kind of.state decision.choice of.choice in
     subst (λ (x : ℤ). Encloses (lost (terms_of score starts) u decision) x (counted_over scoring left decision.choice))
     (regret-same score starts (record { match_length = 1; pairs = [] }) scoring left decision.position decision.kind decision.choice) loss
@@ -106,10 +106,10 @@ module _ (payoffs : PayoffsLieWithin) (checkers r : ℕ) (starts : StartPairs) (
   all-sound = sound-till (length starts.pairs) (omega arith)
 
   -- the start pairs before a place enclose
-  till-encloses : (turns : ℕ) (ends : EndScores) (place : ℕ) → place ≤ length starts.pairs → EncloseStarts checkers turns ends starts → EncloseStarts checkers turns ends (starts_till starts place)
-  till-encloses turns ends place here all earlier inside =
+  till-encloses : (scored : ScoredMatch) (place : ℕ) → place ≤ length starts.pairs → EncloseStarts scored starts → EncloseStarts scored (starts_till starts place)
+  till-encloses scored place here all earlier inside =
       let less : earlier < place = rw (length-take-le place starts.pairs here) at inside in
-      subst (λ (pair : Bounds). Encloses pair (match_start checkers turns ends (score_at match_length earlier)) (start_scale turns (score_at match_length earlier))) (sym (pair-till starts place earlier less)) (all earlier (omega (arith, less, here)))
+      subst (λ (pair : Bounds). Encloses pair (scored.starts (score_at match_length earlier)) scored.scale) (sym (pair-till starts place earlier less)) (all earlier (omega (arith, less, here)))
 
   -- ---- a decision
 
@@ -154,16 +154,16 @@ module _ (payoffs : PayoffsLieWithin) (checkers r : ℕ) (starts : StartPairs) (
     covers = subst (Covers first) found (till-covers starts place listed (omega (arith, inside)))
 
     -- its loss encloses what it loses exactly
-    one-true : (turns : ℕ) (ends : EndScores) → AreEndScores checkers turns ends → EncloseStarts checkers turns ends starts → (left : ℕ) → all-sound.0 ≤ left
-        → IfSome one.decision.score (λ score. IfSome one.loss (λ pair. EnclosesLossAt checkers turns ends left one.decision pair score))
-    one-true turns ends within encloses left more =
+    one-true : (scored : ScoredMatch) → IsScoredMatch checkers scored → EncloseStarts scored starts → (left : ℕ) → all-sound.0 ≤ left
+        → IfSome one.decision.score (λ score. IfSome one.loss (λ pair. EnclosesLossAt scored left one.decision pair score))
+    one-true scored is_scored encloses left more =
         let u = words_in_list own in
         let sound : AreSoundFrom (game_at_score checkers score first) all-sound.0 u = subst (λ (g : Game). AreSoundFrom g all-sound.0 u) own-game (all-sound.1 place inside) in
-        let loss = loss-encloses payoffs checkers turns ends within first (till-valid starts place valid (omega (arith, inside))) (till-encloses turns ends place (omega (arith, inside)) encloses) score is.of_match.valid covers
+        let loss = loss-encloses payoffs checkers scored is_scored first (till-valid starts place valid (omega (arith, inside))) (till-encloses scored place (omega (arith, inside)) encloses) score is.of_match.valid covers
         (subst IsGame own-game own-valid) all-sound.0 u sound left more one.decision (subst (λ (g : Game). IsDecisionOf g one.decision) own-game of-own) in
-        let loss' : EnclosesLossAt checkers turns ends left one.decision (lost own.game.stakes u one.decision) score = subst (λ (g : Game). EnclosesLossAt checkers turns ends left one.decision (lost g.stakes u one.decision) score) (sym own-game) loss in
-        if-given (λ (s : MatchScore). IfSome one.loss (λ pair. EnclosesLossAt checkers turns ends left one.decision pair s)) one.decision.score score is.at
-        (if-given (λ (pair : Bounds). EnclosesLossAt checkers turns ends left one.decision pair score) one.loss (lost own.game.stakes u one.decision) own-loss loss')
+        let loss' : EnclosesLossAt scored left one.decision (lost own.game.stakes u one.decision) score = subst (λ (g : Game). EnclosesLossAt scored left one.decision (lost g.stakes u one.decision) score) (sym own-game) loss in
+        if-given (λ (s : MatchScore). IfSome one.loss (λ pair. EnclosesLossAt scored left one.decision pair s)) one.decision.score score is.at
+        (if-given (λ (pair : Bounds). EnclosesLossAt scored left one.decision pair score) one.loss (lost own.game.stakes u one.decision) own-loss loss')
 
     -- and is as tight as over the rounds for the stakes of the plain starts
     one-tight : IsNoLooserJudged one (judged_plainly checkers r match_length one.decision)
@@ -187,9 +187,9 @@ module _ (payoffs : PayoffsLieWithin) (checkers r : ℕ) (starts : StartPairs) (
   all-true : (list : List Judged) → All (λ (one : Judged). IsDecisionInMatch checkers match_length one.decision) list → All (IsJudgedBy starts words) list → IsTrueMatch checkers list
   all-true list right judged = (
     max is_ladder.true_from.0 all-sound.0,
-    λ left turns more late ends within. λ i d below.
-        one-true (get_or list i d) (right i d below) (judged i d below) turns ends within
-        (λ place here. (is_ladder.true_from.1 turns (omega (arith, late)) ends within place here).1) left (omega (arith, more)),
+    λ scored is_scored late left more. λ i d below.
+        one-true (get_or list i d) (right i d below) (judged i d below) scored is_scored
+        (λ place here. (is_ladder.true_from.1 scored is_scored (omega (arith, late)) place here).1) left (omega (arith, more)),
   )
 
   all-tight : (list : List Judged) → All (λ (one : Judged). IsDecisionInMatch checkers match_length one.decision) list → All (IsJudgedBy starts words) list → IsNoLooserAnalysis list (map (judged_plainly checkers r match_length) (decisions_in list))

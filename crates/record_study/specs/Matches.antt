@@ -10,41 +10,38 @@ use Rattle.cube_actions.specs.Starts.{StartPairs, ladder_place}
 use Rattle.game_record.specs.declared.decision.Decision.{Decision}
 use Rattle.turn_rule.specs.Turn.{rounds}
 use Rattle.interval_words.specs.WordLists.{WordList}
-use Rattle.match_scores.specs.Ladders.{AreEndScores, EncloseStarts, IsSolved, plain_starts}
-use Rattle.match_scores.specs.Payoffs.{EndScores, cube_game, match_scoring}
+use Rattle.match_scores.specs.Ladders.{EncloseStarts, IsScoredMatch, IsSolved, plain_starts}
+use Rattle.match_scores.specs.Payoffs.{ScoredMatch, cube_game, match_scoring}
 use Rattle.record_analysis.specs.Analyses.{lost}
 use Rattle.record_analysis.specs.Truth.{EnclosesLoss, IsNoLooserAnalysis}
 use Rattle.record_analysis.specs.declared.analysis.Judged.{Judged}
 use Rattle.record_study.specs.Keeping.{IsBestByScore}
 
--- A pair encloses what a decision of a game at a score loses exactly with the payoffs of the match, whose games are cut off after so many turns with
--- these end scores, where so many turns follow the decision.
-abbrev pub EnclosesLossAt : ℕ → ℕ → EndScores → ℕ → Decision → Bounds → MatchScore → Type 0
-EnclosesLossAt checkers turns ends left decision pair score =
-    EnclosesLoss (cube_game score) (match_scoring checkers turns ends score) left decision pair
+-- A pair encloses what a decision of a game at a score loses exactly with the payoffs of the match, where so many turns follow the decision.
+abbrev pub EnclosesLossAt : ScoredMatch → ℕ → Decision → Bounds → MatchScore → Type 0
+EnclosesLossAt scored left decision pair score =
+    EnclosesLoss (cube_game score) (match_scoring scored score) left decision pair
 
 -- each pair of the decisions of a match does, with the score of its own game
-abbrev pub EncloseMatchLosses : ℕ → ℕ → EndScores → ℕ → List Judged → Type 0
-EncloseMatchLosses checkers turns ends left list =
+abbrev pub EncloseMatchLosses : ScoredMatch → ℕ → List Judged → Type 0
+EncloseMatchLosses scored left list =
     All (λ judged. IfSome judged.decision.score (λ score.
-    IfSome judged.loss (λ pair. EnclosesLossAt checkers turns ends left judged.decision pair
-    score))) list
+    IfSome judged.loss (λ pair. EnclosesLossAt scored left judged.decision pair score))) list
 
 -- The analysis of a match is true where from some number of turns on, one for all its decisions, each pair encloses what its decision loses exactly with
 -- the payoffs of the match, however many turns are left after the decision in its own game, and however many each game after it has.
 abbrev pub IsTrueMatch : ℕ → List Judged → Type 0
 IsTrueMatch checkers list =
     (enough : ℕ)
-    × ((left turns : ℕ) → enough ≤ left → enough ≤ turns
-    → (ends : EndScores) → AreEndScores checkers turns ends
-    → EncloseMatchLosses checkers turns ends left list)
+    × ((scored : ScoredMatch) → IsScoredMatch checkers scored → enough ≤ scored.turns
+    → (left : ℕ) → enough ≤ left → EncloseMatchLosses scored left list)
 
--- from some number of turns on, and for all end scores, start pairs enclose the exact starts of their scores
+-- from some number of turns on, however the match is scored, start pairs enclose the exact starts of their scores
 abbrev pub AreTrueStarts : ℕ → StartPairs → Type 0
 AreTrueStarts checkers starts =
     (enough : ℕ)
-    × ((turns : ℕ) → enough ≤ turns → (ends : EndScores) → AreEndScores checkers turns ends
-    → EncloseStarts checkers turns ends starts)
+    × ((scored : ScoredMatch) → IsScoredMatch checkers scored → enough ≤ scored.turns
+    → EncloseStarts scored starts)
 
 -- the stakes of the plain starts at a score
 abbrev pub plain_terms : ℕ → ℕ → ℕ → MatchScore → Terms

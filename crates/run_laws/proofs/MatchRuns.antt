@@ -14,7 +14,6 @@ use Rattle.game_record.specs.declared.record.RecordStakes.{RecordStakes}
 use Rattle.game_record.specs.declared.record.RecordStakes.TheVariants.{Match}
 use Rattle.directed_fixed.specs.Bounds.{Bounds}
 use Rattle.turn_rule.specs.Truth.{Encloses}
-use Rattle.match_scores.specs.Payoffs.{match_start, start_scale}
 use Rattle.match_scores.specs.Ladders.{score_at, starts_till}
 use Rattle.match_scores.proofs.WholeLadder.{pair-till}
 use Rattle.record_analysis.specs.declared.analysis.Judged.{Judged}
@@ -55,10 +54,10 @@ module _ (law : Law) (task : LadderTask) (starts : StartPairs) (scores : ℕ →
       let (enough, true_from) = solved.solved.true_from in
       let few = length-take-le place starts.pairs (omega (arith, inside)) in (
         enough,
-        λ turns late ends are earlier below.
+        λ scored is_scored late earlier below.
             let before : earlier < place = omega (arith, below, few) in
-            subst (λ (pair : Bounds). Encloses pair (match_start task.checkers turns ends (score_at starts.match_length earlier)) (start_scale turns (score_at starts.match_length earlier)))
-            (sym (pair-till starts place earlier before)) (true_from turns late ends are earlier (omega (arith, before, inside))).1,
+            subst (λ (pair : Bounds). Encloses pair (scored.starts (score_at starts.match_length earlier)) scored.scale)
+            (sym (pair-till starts place earlier before)) (true_from scored is_scored late earlier (omega (arith, before, inside))).1,
       )
 
   -- the file of a score holds what is true

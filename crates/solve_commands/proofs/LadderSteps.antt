@@ -85,7 +85,7 @@ none-solved task = record {
   each = λ place here. absurd (omega (arith, here));
   solved = record {
     solved = λ place here. absurd (omega (arith, here));
-    true_from = (0, λ turns enough ends are place here. absurd (omega (arith, here)));
+    true_from = (0, λ scored is enough place here. absurd (omega (arith, here)));
     tight = λ place here. absurd (omega (arith, here));
   };
 }

@@ -1,14 +1,14 @@
 -- Words, end scores and starts of worked examples, of games of one checker a side.
-use Rattle.std.specs.Prelude.{ℕ, zero, suc, ◌+◌, ◌*◌, ℤ, pos, neg_ℤ}
+use Rattle.std.specs.Prelude.{ℕ, zero, suc, ◌+◌, ◌*◌, ◌==◌, ℤ, pos, neg_ℤ, if◌then◌else◌}
 use Rattle.position_rank.specs.Placement.{Placement}
 use Rattle.directed_fixed.specs.declared.bounds.End.{End}
 use Rattle.directed_fixed.specs.declared.bounds.End.TheVariants.{Lower, Upper}
 use Rattle.cube_actions.specs.declared.phase.Phase.{Phase}
 use Rattle.cube_actions.specs.declared.phase.Phase.TheVariants.{Normal, Crawford, Post}
-use Rattle.cube_actions.specs.Scores.{MatchScore}
+use Rattle.cube_actions.specs.Scores.{MatchScore, is_crawford}
 use Rattle.cube_actions.specs.Stakes.{point_units}
 use Rattle.turn_rule.specs.Turn.{Words}
-use Rattle.match_scores.specs.Payoffs.{EndScores, ExactStarts}
+use Rattle.match_scores.specs.Payoffs.{EndScores, ExactStarts, ScoredMatch, ends_over}
 
 -- so much for whichever side is to roll
 abbrev pub to_roller : ℤ → Words
@@ -37,6 +37,20 @@ near_wins score p (suc k) = neg_ℤ (pos 1)
 -- each unfinished game is worth nothing
 abbrev pub drawn : EndScores
 drawn score p k = pos 0
+
+-- a match whose games have so many turns, with these end scores and starts over a scale
+abbrev pub match_over : ℕ → ℕ → EndScores → ExactStarts → ScoredMatch
+match_over turns scale ends starts = record {
+  turns = turns;
+  scale = scale;
+  ends = ends_over scale ends;
+  starts = starts;
+}
+
+-- over 2160, starts of Crawford games, of 2-2 and of 2-3
+abbrev pub before_crawford : ExactStarts
+before_crawford score =
+    if is_crawford score.phase then pos 1080 else if score.far == 2 then pos 2160 else pos 2110
 
 -- a number for each score, by which it can be told
 abbrev pub digit : Phase → ℕ

@@ -1,13 +1,13 @@
-ghost use Rattle.std.specs.Prelude.{◌≡◌, ◌*◌, pos, neg_ℤ};
+ghost use Rattle.std.specs.Prelude.{◌≡◌, pos, neg_ℤ};
 ghost use Rattle.cube_actions.specs.declared.phase.Phase.TheVariants.{Normal, Crawford, Post};
 ghost use Rattle.cube_actions.specs.declared.side.Side.TheVariants.{Near, Far};
-ghost use Rattle.worked_examples.specs.Matches.{needing, one_and_two, two_and_three};
+ghost use Rattle.worked_examples.specs.Matches.{needing, two_and_three};
 ghost use Rattle.cube_actions.specs.Scores.{last_game};
 ghost use Rattle.cube_actions.specs.Stakes.{exactly, nothing};
 ghost use Rattle.worked_examples.specs.Turns.{between, gains, losses};
 ghost use Rattle.match_scores.specs.Openings.{start_over};
-ghost use Rattle.match_scores.specs.Payoffs.{exact_win, match_start, start_scale};
-ghost use Rattle.worked_examples.specs.Starts.{to_roller, to_near, to_near_second, unknown_starts, near_wins, drawn, told};
+ghost use Rattle.match_scores.specs.Payoffs.{IsMeanStart, exact_win};
+ghost use Rattle.worked_examples.specs.Starts.{to_roller, to_near, to_near_second, unknown_starts, near_wins, drawn, match_over, before_crawford, told};
 
 /// Starts of the last game, of one checker a side. A game that the near side is sure to win is worth the match to it,
 /// whichever side opens. What whoever rolls next has, as much for both sides, makes no start. Where only the far side's
@@ -22,16 +22,18 @@ pub fn start_examples()
     ensures rounded { start_over 1 (to_near_second (pos 1)) last_game ≡ gains 0 1 }
 {}
 
-/// Exact starts of the last game, of one checker a side. Cut off before its first turn, and won by the near side, it is
-/// worth 30 of 30. With one turn after the opening, double sixes alone bear the checker off: where near opens, far wins so in
-/// one way of 36 and near has 34 of 36 left; where far opens, near has all 36. That is 15 times 70 of 1080. At 1-2 after the Crawford game the scale is 30 times as great.
+/// Exact starts of games of one checker a side. The last game, cut off before its first turn and won by the near side, is
+/// worth the match to it. With one turn after the opening, double sixes alone bear the checker off: where near opens, far
+/// wins so in one way of 36 and near has 34 of 36 left; where far opens, near has all 36. That is a mean of 35 of 36. At 2-3
+/// before the Crawford game far's gammon leads to 1-2, of which it has a half here. After near's 1-2, 1-3 and 1-4, which
+/// leave near in far's home, and 2-3 and 5-6, where the double sixes hit, it is a backgammon, which wins the match. Far doesn't
+/// double, since near would pass, and is sure to win at 2-2 here. So near has 34 and a half of 36 after 10 openings, 34 after
+/// 5, and all 36 after 15.
 pub fn exact_start_examples()
-    ensures won { match_start 1 0 near_wins last_game ≡ pos 30 }
-    ensures one_turn { match_start 1 1 near_wins last_game ≡ pos 1050 }
-    ensures drawn { match_start 1 0 drawn last_game ≡ pos 0 }
-    ensures scale { start_scale 0 last_game ≡ 30 }
-    ensures later { start_scale 0 one_and_two ≡ 900 }
-    ensures turns { start_scale 1 last_game ≡ 30 * 36 }
+    ensures won { IsMeanStart 1 (match_over 0 1 near_wins (λ score. pos 1)) last_game }
+    ensures one_turn { IsMeanStart 1 (match_over 1 36 near_wins (λ score. pos 35)) last_game }
+    ensures drawn { IsMeanStart 1 (match_over 0 1 drawn (λ score. pos 0)) last_game }
+    ensures payoffs { IsMeanStart 1 (match_over 1 2160 near_wins before_crawford) two_and_three }
 {}
 
 /// What wins are worth at 2-3 before the Crawford game, where each start is told by the needs of near and far and by 1, 2

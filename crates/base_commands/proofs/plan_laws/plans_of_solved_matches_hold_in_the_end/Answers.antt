@@ -4,4 +4,3 @@ use Rattle.base_commands.proofs.plan_laws.plans_of_solved_matches_hold_in_the_en
 pub returns : goal.returns
 returns c = λ base starts words some few ends.
     planned-hold base starts words some few ends c.wins_lead_down_the_ladder.ensures
-    (λ match_length from to score listed. (c.ladders_are_exact.ensures.scores match_length from to score).0 listed)

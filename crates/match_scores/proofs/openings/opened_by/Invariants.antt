@@ -1,4 +1,4 @@
-use Rattle.std.proofs.Common.{◌≡◌, ◌≤◌, ◌*◌, ◌^◌, take, pos}
+use Rattle.std.proofs.Common.{◌≡◌, ◌*◌, ◌^◌, take, pos}
 use Rattle.position_rank.specs.Packed.{start_placement}
 use Rattle.directed_fixed.specs.Bounds.{IsWithinUnits, other}
 use Rattle.turn_rule.specs.Turn.{sum_over}

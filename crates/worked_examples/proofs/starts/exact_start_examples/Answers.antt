@@ -9,4 +9,4 @@ use Rattle.worked_examples.proofs.starts.exact_start_examples.Goals as goal
 
 pub returns : goal.returns
 unfolding exact all_rolls opening_rolls counts_of legal_ends legal_lines all_lines lines lines_from places after_move match_kinds
-returns c = record { won = refl; one_turn = refl; drawn = refl; scale = refl; later = refl; turns = refl }
+returns c = record { won = refl; one_turn = refl; drawn = refl; payoffs = refl }
