@@ -12,7 +12,8 @@ use move_rules::opening_plays_go_on;
 
 /// Every match has exact starts, however many turns its games have and whatever its unfinished games are worth.
 pub fn each_match_has_exact_starts()
-    ensures { (checkers turns scale : ℕ) (ends : EndScores) → 0 < scale → AreEndScores checkers scale ends
+    ensures { (checkers turns scale : ℕ) (ends : EndScores)
+        → 0 < scale → AreEndScores checkers scale ends
         → HasExactStarts checkers turns scale ends }
 {}
 
