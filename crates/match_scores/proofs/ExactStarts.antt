@@ -1,5 +1,5 @@
--- Every match has exact starts: from the last game backwards, each is the mean of its game.
-use Rattle.std.proofs.Common.{◌≡◌, ◌<◌, ◌≤◌, ◌+◌, ◌-◌, ◌*◌, ◌^◌, ◌∙◌, ℕ, zero, suc, ℤ, pos, neg_ℤ, ◌*ℤ◌, Bool, true, false, cond, eqb, nat_le, List, [], ◌∷◌, None, length, slice_index_or, inl, inr, ap, refl, sym, arith}
+-- Every match has exact starts, from the last game backwards each the mean of its game, and no others.
+use Rattle.std.proofs.Common.{◌≡◌, ◌<◌, ◌≤◌, ◌+◌, ◌-◌, ◌*◌, ◌^◌, ◌∙◌, ℕ, zero, suc, ℤ, pos, neg_ℤ, ◌*ℤ◌, ◌≤ℤ◌, Bool, true, false, cond, eqb, nat_le, min, ◌==◌, ◌||◌, List, [], ◌∷◌, None, length, slice_index_or, inl, inr, ap, refl, sym, arith}
 use Rattle.std.proofs.lemmas.Bool.{cases_lt}
 use Rattle.std.proofs.lemmas.Bool.Decides.{nat_tests}
 use Rattle.std.proofs.lemmas.Int.{ints}
@@ -7,18 +7,20 @@ use Rattle.std.proofs.Math.Nat.{mul-pos}
 use Rattle.directed_fixed.specs.Bounds.{IsWithinUnits}
 use Rattle.move_rules.specs.declared.payoff.Won.{Won}
 use Rattle.move_rules.specs.declared.payoff.Won.TheVariants.{Single, Gammon, Backgammon}
+use Rattle.cube_actions.specs.declared.phase.Phase.{Phase}
+use Rattle.cube_actions.specs.declared.phase.Phase.TheVariants.{Normal, Crawford, Post}
 use Rattle.cube_actions.specs.declared.side.Side.{Side}
 use Rattle.cube_actions.specs.declared.side.Side.TheVariants.{Near, Far}
 use Rattle.cube_actions.specs.MatchKinds.{match_kinds}
-use Rattle.cube_actions.specs.Matches.{after_win, stays_near}
+use Rattle.cube_actions.specs.Matches.{after_win, next_score, stays_near}
 use Rattle.cube_actions.specs.Scores.{MatchScore, IsScore, needs, other_side}
 use Rattle.turn_rule.specs.Exact.{Scoring}
 use Rattle.turn_rule.proofs.Integers.{mul_mono, regroup, times-neg}
-use Rattle.match_scores.specs.Payoffs.{EndScores, ExactStarts, cube_in, ends_over, exact_win, mover_in, scored_by, start_scored}
-use Rattle.match_scores.specs.Ladders.{AreEndScores, HasExactStarts}
+use Rattle.match_scores.specs.Payoffs.{EndScores, ExactStarts, ScoredMatch, cube_in, ends_over, exact_win, mover_in, scored_by, start_scored}
+use Rattle.match_scores.specs.Ladders.{AreEndScores, HasExactStarts, IsScoredMatch}
 use Rattle.match_scores.proofs.MatchPayoffs.{cube-some}
 use Rattle.match_scores.proofs.Multiples.{times-negated, times-start}
-use Rattle.match_scores.proofs.OneScore.{parts-some}
+use Rattle.match_scores.proofs.OneScore.{cancel, parts-some}
 
 -- how many points the sides need together beyond one each: the fewer, the later in the match
 abbrev points_left : MatchScore → ℕ
@@ -133,3 +135,94 @@ module _ (checkers turns scale : ℕ) (ends : EndScores) where
       starts = λ score valid. means-till 9 score valid (few-left score valid);
     },
   )
+
+-- ---- and no others
+
+next-is : (phase : Phase) (a b : ℕ) → 1 ≤ a → a ≤ 5 → 1 ≤ b → b ≤ 5 → (phase ≡ Normal → 3 ≤ a + b) → (phase ≡ Crawford → min a b ≡ 1) → (phase ≡ Post → min a b ≡ 1) → IsScore (next_score phase a b)
+next-is Normal a b low high least most normal crawford post = by_test (a == 1 || b == 1) refl where
+  three : 3 ≤ a + b
+  three = normal refl
+
+  by_test : (one : Bool) → (a == 1 || b == 1) ≡ one → IsScore (next_score Normal a b)
+  by_test true is = rw is (record {
+    needs = record { from = omega arith; in_order = omega arith; to = omega arith };
+    fits = record { normal = λ e. cc; crawford = λ e. (grind (arith, nat_tests, three), omega (arith, three)); post = λ e. cc };
+  })
+  by_test false is = rw is (record {
+    needs = record { from = omega arith; in_order = omega arith; to = omega arith };
+    fits = record { normal = λ e. grind (arith, nat_tests, three); crawford = λ e. cc; post = λ e. cc };
+  })
+next-is Crawford a b low high least most normal crawford post = record {
+  needs = record { from = omega arith; in_order = omega arith; to = omega arith };
+  fits = record { normal = λ e. cc; crawford = λ e. cc; post = λ e. crawford refl };
+}
+next-is Post a b low high least most normal crawford post = record {
+  needs = record { from = omega arith; in_order = omega arith; to = omega arith };
+  fits = record { normal = λ e. cc; crawford = λ e. cc; post = λ e. post refl };
+}
+
+-- a win that doesn't end the match leads to a score
+next-valid : (score : MatchScore) (winner : Side) (won : ℕ) → IsScore score → 1 ≤ won → won < needs score winner → IsScore (after_win score winner won)
+next-valid score Near won valid some less =
+    next-is score.phase (score.near - won) score.far (omega (arith, less)) (omega (arith, valid.needs.in_order, valid.needs.to)) (omega (arith, valid.needs.from, valid.needs.in_order)) valid.needs.to
+    (λ e. let two = valid.fits.normal e in omega (arith, two, valid.needs.in_order, less))
+    (λ e. let one = (valid.fits.crawford e).0 in absurd (omega (arith, one, some, less)))
+    (λ e. let one = valid.fits.post e in absurd (omega (arith, one, some, less)))
+next-valid score Far won valid some less =
+    next-is score.phase (score.far - won) score.near (omega (arith, less)) (omega (arith, valid.needs.to)) valid.needs.from (omega (arith, valid.needs.in_order, valid.needs.to))
+    (λ e. let two = valid.fits.normal e in omega (arith, two, less))
+    (λ e. let one = (valid.fits.crawford e).0 in omega (arith, one, less))
+    (λ e. let one = valid.fits.post e in omega (arith, one, less))
+
+once : (x y : ℤ) → x ≡ y → pos 1 *ℤ x ≡ y
+once x y h = omega (arith, ints, h)
+
+of-once : (x y : ℤ) → pos 1 *ℤ x ≡ y → x ≡ y
+of-once x y h = omega (arith, ints, h)
+
+same-le : (x y : ℤ) → x ≡ y → x ≤ℤ y
+same-le x y h = omega (arith, ints, h)
+
+le-both : (x y : ℤ) → x ≤ℤ y → y ≤ℤ x → x ≡ y
+le-both x y h k = omega (arith, ints, h, k)
+
+cancelled : (n : ℕ) (x y : ℤ) → 0 < n → pos n *ℤ x ≡ pos n *ℤ y → x ≡ y
+cancelled n x y some h = le-both x y (cancel n x y some (same-le _ _ h)) (cancel n y x some (same-le _ _ (sym h)))
+
+module _ (checkers : ℕ) (scored : ScoredMatch) (others : ExactStarts) (is_scored : IsScoredMatch checkers scored) (others_are : IsScoredMatch checkers (record scored { starts = others })) where
+  abbrev own : MatchScore → Scoring
+  own score = scored_by scored.scale scored.starts score (scored.ends score)
+
+  abbrev other : MatchScore → Scoring
+  other score = scored_by scored.scale others score (scored.ends score)
+
+  module _ (score : MatchScore) (valid : IsScore score) (known : (winner : Side) (won : ℕ) → 1 ≤ won → won < needs score winner → others (after_win score winner won) ≡ scored.starts (after_win score winner won)) where
+    win-same : (winner : Side) (won : ℕ) → 1 ≤ won → exact_win scored.scale others score winner won ≡ exact_win scored.scale scored.starts score winner won
+    win-same winner won some = by_need (nat_le (needs score winner) won) refl where
+      by_need : (b : Bool) → nat_le (needs score winner) won ≡ b → exact_win scored.scale others score winner won ≡ exact_win scored.scale scored.starts score winner won
+      by_need true is = rw is refl
+      by_need false is =
+          let less : won < needs score winner = grind (arith, nat_tests) in
+          let same = known winner won some less in
+          rw is (ap (λ (x : ℤ). cond (stays_near winner (needs score winner - won) (needs score (other_side winner))) x (neg_ℤ x)) same)
+
+    won-same : (k : ℕ) (won : Won) → pos 1 *ℤ (other score).win k won ≡ (own score).win k won
+    won-same k Single = once _ _ (win-same (mover_in score k) (1 * cube_in score k) (let some = cube-shown score k in omega (arith, some)))
+    won-same k Gammon = once _ _ (win-same (mover_in score k) (2 * cube_in score k) (let some = cube-shown score k in omega (arith, some)))
+    won-same k Backgammon = once _ _ (win-same (mover_in score k) (3 * cube_in score k) (let some = cube-shown score k in omega (arith, some)))
+
+    start-same : others score ≡ scored.starts score
+    start-same =
+        cancelled (30 * 36 ^ scored.turns) (others score) (scored.starts score) (parts-some scored.turns)
+        (others_are.starts score valid
+        ∙ of-once (start_scored checkers scored.turns score (other score)) (start_scored checkers scored.turns score (own score))
+        (times-start 1 checkers scored.turns score (other score) (own score) won-same (λ k. once _ _ (win-same (mover_in score k) (cube_in score k) (cube-shown score k))) (λ p k. once _ _ refl))
+        ∙ sym (is_scored.starts score valid))
+
+  same-till : (left : ℕ) (score : MatchScore) → IsScore score → points_left score < left → others score ≡ scored.starts score
+  same-till zero score valid less = absurd (omega arith)
+  same-till (suc left) score valid less =
+      start-same score valid (λ winner won some need. same-till left (after_win score winner won) (next-valid score winner won valid some need) (let fewer = fewer-left score winner won valid some need in omega (arith, fewer, less)))
+
+  pub no-others : (score : MatchScore) → IsScore score → others score ≡ scored.starts score
+  no-others score valid = same-till 9 score valid (few-left score valid)

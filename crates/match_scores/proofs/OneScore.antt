@@ -54,7 +54,7 @@ swapped : (c w : ℕ) (a : ℤ) → pos c *ℤ (pos w *ℤ a) ≡ pos w *ℤ (po
 swapped c w a = regroup c w a ∙ ap (λ (n : ℕ). pos n *ℤ a) (mul_comm c w) ∙ sym (regroup w c a)
 
 -- numbers that are in order so many times are in order
-cancel : (n : ℕ) (a b : ℤ) → 0 < n → (pos n *ℤ a) ≤ℤ (pos n *ℤ b) → a ≤ℤ b
+pub cancel : (n : ℕ) (a b : ℤ) → 0 < n → (pos n *ℤ a) ≤ℤ (pos n *ℤ b) → a ≤ℤ b
 cancel n a b some h =
     let apart : n * (up a + down b) ≤ n * (up b + down a) = omega (arith, ints, h) in
     omega (arith, ints, le_of_mul-le-mul_left apart some)

@@ -54,7 +54,7 @@ pub record IsScoredMatch (checkers : ℕ) (scored : ScoredMatch) : Type 0 where
   pub ends : AreEndScores checkers scored.scale scored.ends
   pub starts : (score : MatchScore) → IsScore score → IsMeanStart checkers scored score
 
--- a match has exact starts, over some times the scale of its end scores
+-- a match has exact starts, over some times the scale of its end scores,
 abbrev pub HasExactStarts : ℕ → ℕ → ℕ → EndScores → Type 0
 HasExactStarts checkers turns scale ends =
     (times : ℕ) × (starts : ExactStarts)
@@ -64,6 +64,12 @@ HasExactStarts checkers turns scale ends =
       ends = ends_over times ends;
       starts = starts;
     })
+
+-- and it has no others
+abbrev pub HasNoOtherStarts : ℕ → ScoredMatch → Type 0
+HasNoOtherStarts checkers scored =
+    (starts : ExactStarts) → IsScoredMatch checkers (record scored { starts = starts })
+    → (score : MatchScore) → IsScore score → starts score ≡ scored.starts score
 
 -- the start pair at a place encloses the start of its score
 abbrev pub EnclosesStart : ScoredMatch → StartPairs → ℕ → Type 0

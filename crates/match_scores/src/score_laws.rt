@@ -5,16 +5,18 @@ ghost use Rattle.turn_rule.specs.Turn.{Words};
 ghost use Rattle.turn_rule.specs.Truth.{Encloses, IsScoring, AreEnclosing, AreSoundFrom};
 ghost use Rattle.match_scores.specs.Openings.{start_over};
 ghost use Rattle.match_scores.specs.Payoffs.{EndScores, ScoredMatch, IsMeanStart, match_scoring};
-ghost use Rattle.match_scores.specs.Ladders.{AreEndScores, HasExactStarts, IsScoredMatch, EncloseStarts, game_at_score};
+ghost use Rattle.match_scores.specs.Ladders.{AreEndScores, HasExactStarts, HasNoOtherStarts, IsScoredMatch, EncloseStarts, game_at_score};
 
 use cube_actions::wins_lead_down_the_ladder;
 use move_rules::opening_plays_go_on;
 
-/// Every match has exact starts, however many turns its games have and whatever its unfinished games are worth.
+/// Every match has exact starts, however many turns its games have and whatever its unfinished games are worth, and no
+/// others.
 pub fn each_match_has_exact_starts()
-    ensures { (checkers turns scale : ℕ) (ends : EndScores)
-        → 0 < scale → AreEndScores checkers scale ends
-        → HasExactStarts checkers turns scale ends }
+    ensures some { (checkers turns scale : ℕ) (ends : EndScores)
+        → 0 < scale → AreEndScores checkers scale ends → HasExactStarts checkers turns scale ends }
+    ensures no_other { (checkers : ℕ) (scored : ScoredMatch) → IsScoredMatch checkers scored
+        → HasNoOtherStarts checkers scored }
 {}
 
 /// Where start pairs enclose the starts of the scores before a score, the exact payoffs of its game, and its end scores,
