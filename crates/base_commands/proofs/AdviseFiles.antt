@@ -10,6 +10,7 @@ use Rattle.turn_rule.specs.Games.{IsGame, kinds_of}
 use Rattle.position_rank.specs.Placement.{Placement, IsPosition, IsLive}
 use Rattle.cube_actions.specs.Stakes.{Terms}
 use Rattle.turn_rule.specs.Looks.{Damage, HasDamage, Looked, Meets, Notes, Source}
+use Rattle.turn_rule.proofs.Found.{look}
 use Rattle.turn_rule.proofs.MetFirst.{met-on_roll, met-on_turn}
 use Rattle.play_analyser.specs.declared.advice.CubeAdvice.{CubeAdvice}
 use Rattle.play_analyser.specs.declared.ranking.Ranking.{Ranking}
@@ -50,7 +51,7 @@ state-opened task (Some bytes) base kind a position live valid many name asked g
 
 -- what was looked up in a file, where all answers were faithful
 pub sought-told : {A : Type 0} (header : Header) (file : Option (List ℕ)) (meets : Meets) (right : Source → Notes → A → Type 0) (s : Source) (old noted : Notes) (before now : ℕ) (result : Result A LookStop) → s ≡ paged_source header file → noted ≡ told_notes header file
-    → Looked s old noted before now (meets s) (right s noted) result → AnswersSought header file meets (right (paged_source header file) (told_notes header file)) result
+    → Looked (look s old noted before now) (meets s) (right s noted) result → AnswersSought header file meets (right (paged_source header file) (told_notes header file)) result
 sought-told header file meets right s old noted before now (Ok found) source notes looked = subst (λ (n : Notes). right (paged_source header file) n found) notes (subst (λ (t : Source). right t noted found) source looked.answer)
 sought-told header file meets right s old noted before now (Err looks.ReadFault) source notes looked = tt
 sought-told header file meets right s old noted before now (Err looks.NoMemory) source notes looked = tt

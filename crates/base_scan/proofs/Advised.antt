@@ -16,6 +16,7 @@ use Rattle.play_analyser.specs.declared.advice.CubeAction.{CubeAction}
 use Rattle.play_analyser.specs.declared.advice.CubeAdvice.{CubeAdvice}
 use Rattle.turn_rule.specs.Turn.{Words}
 use Rattle.turn_rule.specs.Looks.{all_told, Damage, Looked, MayFollowTurn, MayStop, Notes, Source}
+use Rattle.turn_rule.proofs.Found.{look}
 use Rattle.turn_rule.specs.Following.{AgreeOn}
 use Rattle.directed_fixed.specs.declared.bounds.End.{End}
 use Rattle.cube_actions.specs.Stakes.{Terms, kind_at}
@@ -89,7 +90,7 @@ module _ (words : WordList) (p : Placement) (k : ℕ) where
       → IsTrue u.told → ((end : End) → AgreeOn (MayFollowTurn stakes p k) end source.floor u.words) → IsCubeAdvice stakes p k source u advice → IsCubeAdviceOver stakes u.words p k advice)
       → (source : Source) (stakes : Terms) (new : WordList) → source ≡ source_of words → stakes ≡ words.game.stakes → source_of new ≡ source
       → (before now : ℕ) (old : Notes) (meant : Damage → Type 0) (r : Result CubeAdvice LookStop)
-      → Looked source old (all_told (words_in_list new)) before now meant (IsCubeAdvice stakes p k source (all_told (words_in_list new))) r
+      → Looked (look source old (all_told (words_in_list new)) before now) meant (IsCubeAdvice stakes p k source (all_told (words_in_list new))) r
       → IsOkAnd r (IsCubeAdviceOver words.game.stakes (words_in_list words) p k)
   advised law source stakes new at same there before now old meant (Err stop) looked = absurd (false≢true (sym (stops stop looked.stop) ∙ ap (λ (s : Source). s.sure) at)) where
     stops : (stop : LookStop) → MayStop source (all_told (words_in_list new)) before now meant stop → source.sure ≡ false

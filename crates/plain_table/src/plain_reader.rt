@@ -4,7 +4,7 @@ ghost use Rattle.directed_fixed.specs.declared.bounds.End.TheVariants.{Lower, Up
 ghost use Rattle.turn_rule.specs.Turn.{Words};
 ghost use Rattle.turn_rule.specs.States.{IsStateOf, AreWithinOf};
 ghost use Rattle.plain_table.specs.Tables.{words_at, read_from};
-ghost use Rattle.turn_rule.specs.Looks.{Source, Looked, IsAnswer, all_told};
+ghost use Rattle.turn_rule.specs.Looks.{Source, IsAnswer, all_told};
 
 use crate::table::Table;
 use directed_fixed::Fixed;

@@ -17,7 +17,7 @@ use Rattle.turn_rule.specs.Found.{LeavesState, of_play}
 use Rattle.turn_rule.proofs.Integers.{neg_le}
 use Rattle.turn_rule.proofs.Tight.{tight-refl, tight-trans}
 use Rattle.turn_rule.proofs.Tightness.{tight-neg}
-use Rattle.turn_rule.proofs.Found.{then-ok}
+use Rattle.turn_rule.proofs.Found.{look, then-ok}
 use Rattle.play_analyser.specs.Sought.{ArePairsFor}
 
 -- over tighter words of a source, what is sought is as tight
@@ -79,9 +79,9 @@ module _ {X : Type 0} (s : Source) (sought : X → Sought) where
 
   -- one more, after those before it
   pub next-pair : {m m' m'' : Damage → Type 0} (xs : List X) (u v w : Notes) (a b c i : ℕ) (x : X) (found now : ArrayVec Bounds) (pair : Bounds) → i < length xs → x ≡ get_or xs i x → ((y : X) → Among y xs → Tightens s (sought y)) → now.items ≡ found.items ++ pair ∷ []
-      → Looked s u v a b m (λ (f : ArrayVec Bounds). ArePairsFor sought (take i xs) s v f.items) (Ok found)
-      → Looked s v w b c m' (IsPairFor (sought x) s w) (Ok pair)
-      → Looked s u w a c m'' (λ (f : ArrayVec Bounds). ArePairsFor sought (take (i + 1) xs) s w f.items) (Ok now)
+      → Looked (look s u v a b) m (λ (f : ArrayVec Bounds). ArePairsFor sought (take i xs) s v f.items) (Ok found)
+      → Looked (look s v w b c) m' (IsPairFor (sought x) s w) (Ok pair)
+      → Looked (look s u w a c) m'' (λ (f : ArrayVec Bounds). ArePairsFor sought (take (i + 1) xs) s w f.items) (Ok now)
   next-pair xs u v w a b c i x found now pair here at_i tightens is so_far looked =
       then-ok s u v w a b c _ _ _ _ _ _ found pair now so_far looked
       (λ tighter before one.

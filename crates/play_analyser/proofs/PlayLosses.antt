@@ -21,7 +21,7 @@ use Rattle.turn_rule.specs.Looks.{Source, Notes, Damage, Looked, IsPairFor, AreS
 use Rattle.turn_rule.specs.Found.{LeavesState, of_play}
 use Rattle.turn_rule.proofs.Within.{bound-positive, bound-small, win-within, next_state}
 use Rattle.turn_rule.proofs.Integers.{le_refl}
-use Rattle.turn_rule.proofs.Found.{notes-refl, then-err}
+use Rattle.turn_rule.proofs.Found.{look, notes-refl, then-err}
 use Rattle.turn_rule.specs.declared.choice.Choice.TheVariants.{Played}
 use Rattle.play_analyser.specs.Losses.{Options, ahead, loss}
 use Rattle.play_analyser.specs.Choices.{all_but, same_position}
@@ -79,11 +79,11 @@ all-of P (x ∷ xs) h zero d below = h x (inl refl)
 all-of P (x ∷ xs) h (suc i) d below = all-of P xs (λ y m. h y (inr m)) i d (omega arith)
 
 -- no look-up
-pub nothing-looked : (s : Source) (u : Notes) (a : ℕ) (meant : Damage → Type 0) → Looked s u u a a meant (λ (x : Unit {0}). ⊤) (Ok tt)
+pub nothing-looked : (s : Source) (u : Notes) (a : ℕ) (meant : Damage → Type 0) → Looked (look s u u a a) meant (λ (x : Unit {0}). ⊤) (Ok tt)
 nothing-looked s u a meant = record { later = omega arith; notes = notes-refl s u; answer = tt; stop = tt }
 
 -- the first look-up stopped
-pub first-err : {A B : Type 0} (s : Source) (u v : Notes) (a b : ℕ) (meant meant' : Damage → Type 0) (right : A → Type 0) (right' : B → Type 0) (stop : LookStop) → Looked s u v a b meant right (Err stop) → ((damage : Damage) → meant damage → meant' damage) → Looked s u v a b meant' right' (Err stop)
+pub first-err : {A B : Type 0} (s : Source) (u v : Notes) (a b : ℕ) (meant meant' : Damage → Type 0) (right : A → Type 0) (right' : B → Type 0) (stop : LookStop) → Looked (look s u v a b) meant right (Err stop) → ((damage : Damage) → meant damage → meant' damage) → Looked (look s u v a b) meant' right' (Err stop)
 first-err s u v a b meant meant' right right' stop looked within = then-err s u u v a a b meant' meant meant' (λ (x : Unit {0}). ⊤) right right' tt stop (nothing-looked s u a meant') looked (λ damage told. within damage)
 
 -- the play and the others over words

@@ -9,7 +9,7 @@ use Rattle.hyper_outside.specs.Causes.{Rose}
 use Rattle.hyper_outside.specs.declared.outside.LookStop.{LookStop}
 use Rattle.hyper_outside.specs.declared.outside.LookStop.TheVariants.{ReadFault, BadPage, NoMemory}
 use Rattle.turn_rule.specs.Turn.{Words}
-use Rattle.turn_rule.specs.Looks.{Source, Notes, Damage, States, MayStop, AreLater, Looked}
+use Rattle.turn_rule.specs.Looks.{Source, Notes, Damage, States, MayStop, AreLater, Look, Looked}
 use Rattle.turn_rule.specs.Found.{IsFound}
 use Rattle.turn_rule.proofs.Tightness.{tight-neg}
 use Rattle.turn_rule.proofs.Tight.{words-refl, words-trans}
@@ -31,13 +31,16 @@ notes-trans s u v w first second = record {
   words = λ told. words-trans s.checkers s.kinds w.words v.words u.words (second.words told) (first.words (second.told told));
 }
 
+abbrev pub look : Source → Notes → Notes → ℕ → ℕ → Look
+look source old new before now = record { source = source; before = old; after = new; faults_before = before; faults_after = now }
+
 -- a look-up of one end, with its parts apart
 abbrev pub FindsFrom : End → Source → Notes → Notes → ℕ → ℕ → (Damage → Type 0) → States → ℤ → (Words → ℤ) → Result ℤ LookStop → Type 0
-FindsFrom end source old new before now meant states bound value = Looked source old new before now meant (IsFound end source new states bound value)
+FindsFrom end source old new before now meant states bound value = Looked (look source old new before now) meant (IsFound end source new states bound value)
 
 -- a look-up, and then another
 pub then-ok : {A B C : Type 0} (s : Source) (u v w : Notes) (a b c : ℕ) (meant meant' meant'' : Damage → Type 0) (right : A → Type 0) (right' : B → Type 0) (right'' : C → Type 0) (x : A) (y : B) (z : C)
-    → Looked s u v a b meant right (Ok x) → Looked s v w b c meant' right' (Ok y) → (AreLater s v w → right x → right' y → right'' z) → Looked s u w a c meant'' right'' (Ok z)
+    → Looked (look s u v a b) meant right (Ok x) → Looked (look s v w b c) meant' right' (Ok y) → (AreLater s v w → right x → right' y → right'' z) → Looked (look s u w a c) meant'' right'' (Ok z)
 then-ok s u v w a b c meant meant' meant'' right right' right'' x y z first second both = record {
   later = omega (arith, first.later, second.later);
   notes = notes-trans s u v w first.notes second.notes;
@@ -46,7 +49,7 @@ then-ok s u v w a b c meant meant' meant'' right right' right'' x y z first seco
 }
 
 pub then-err : {A B C : Type 0} (s : Source) (u v w : Notes) (a b c : ℕ) (meant meant' meant'' : Damage → Type 0) (right : A → Type 0) (right' : B → Type 0) (right'' : C → Type 0) (x : A) (stop : LookStop)
-    → Looked s u v a b meant right (Ok x) → Looked s v w b c meant' right' (Err stop) → ((damage : Damage) → IsTrue v.told → meant' damage → meant'' damage) → Looked s u w a c meant'' right'' (Err stop)
+    → Looked (look s u v a b) meant right (Ok x) → Looked (look s v w b c) meant' right' (Err stop) → ((damage : Damage) → IsTrue v.told → meant' damage → meant'' damage) → Looked (look s u w a c) meant'' right'' (Err stop)
 then-err s u v w a b c meant meant' meant'' right right' right'' x stop first second within = record {
   later = omega (arith, first.later, second.later);
   notes = notes-trans s u v w first.notes second.notes;
@@ -56,7 +59,7 @@ then-err s u v w a b c meant meant' meant'' right right' right'' x stop first se
 
 -- the answer, mover_view otherwise
 pub mapped-ok : {A B : Type 0} (s : Source) (u v : Notes) (a b : ℕ) (meant meant' : Damage → Type 0) (right : A → Type 0) (right' : B → Type 0) (x : A) (y : B)
-    → Looked s u v a b meant right (Ok x) → (right x → right' y) → Looked s u v a b meant' right' (Ok y)
+    → Looked (look s u v a b) meant right (Ok x) → (right x → right' y) → Looked (look s u v a b) meant' right' (Ok y)
 mapped-ok s u v a b meant meant' right right' x y looked turned = record { later = looked.later; notes = looked.notes; answer = turned looked.answer; stop = tt }
 
 -- some states are among others

@@ -8,6 +8,7 @@ use Rattle.hyper_outside.specs.declared.outside.LookStop.{LookStop}
 use Rattle.hyper_outside.specs.declared.outside.LookStop.TheVariants.{ReadFault, BadPage, NoMemory}
 use Rattle.turn_rule.specs.Turn.{Words}
 use Rattle.turn_rule.specs.Looks.{Source, Notes, Damage, States, MayStop, Looked, IsPairOf}
+use Rattle.turn_rule.proofs.Found.{look}
 use Rattle.turn_rule.proofs.Tight.{tight-both}
 
 -- a pair by its two ends
@@ -22,7 +23,7 @@ never_stops s v a b meant ReadFault sure stopped = cc (sure, stopped.0)
 never_stops s v a b meant (BadPage fault at) sure stopped = cc (sure, stopped.0)
 never_stops s v a b meant NoMemory sure stopped = cc (sure, stopped)
 
-pub sure-answer : {A : Type 0} (s : Source) (u v : Notes) (a b : ℕ) (meant : Damage → Type 0) (right : A → Type 0) (result : Result A LookStop) → IsTrue s.sure → Looked s u v a b meant right result → IsOk result
+pub sure-answer : {A : Type 0} (s : Source) (u v : Notes) (a b : ℕ) (meant : Damage → Type 0) (right : A → Type 0) (result : Result A LookStop) → IsTrue s.sure → Looked (look s u v a b) meant right result → IsOk result
 sure-answer s u v a b meant right (Ok x) sure looked = refl
 sure-answer s u v a b meant right (Err stop) sure looked = absurd (never_stops s v a b meant stop sure looked.stop)
 

@@ -25,7 +25,7 @@ use Rattle.turn_rule.proofs.Tightness.{tight-max, tight-times, tight-outwards}
 use Rattle.turn_rule.proofs.Tight.{each-end, tight-min, words-refl}
 use Rattle.turn_rule.proofs.Within.{turn-within, roll-in_order}
 use Rattle.turn_rule.proofs.MetFirst.{met-at}
-use Rattle.turn_rule.proofs.Found.{FindsFrom, notes-refl, mapped-ok, then-ok, found-as, found-later, found-step, found-through, max-within, min-within}
+use Rattle.turn_rule.proofs.Found.{look, FindsFrom, notes-refl, mapped-ok, then-ok, found-as, found-later, found-step, found-through, max-within, min-within}
 
 -- ---- a 36th
 
@@ -225,7 +225,7 @@ between x a b y h k l = omega (arith, ints)
 
 -- the lower end and then the upper end
 pub paired : {m m' : Damage → Type 0} (m'' : Damage → Type 0) (s : Source) (states : States) (bound : ℤ) (value : End → Words → ℤ) (u v w : Notes) (a b c : ℕ) (x y : ℤ) (pair : Bounds) → pair.lower ≡ int_min x y → pair.upper ≡ int_max x y → (IsTrue w.told → value Lower w.words ≤ℤ value Upper w.words)
-    → FindsFrom Lower s u v a b m states bound (value Lower) (Ok x) → FindsFrom Upper s v w b c m' states bound (value Upper) (Ok y) → Looked s u w a c m'' (IsPairOf s w states bound value) (Ok pair)
+    → FindsFrom Lower s u v a b m states bound (value Lower) (Ok x) → FindsFrom Upper s v w b c m' states bound (value Upper) (Ok y) → Looked (look s u w a c) m'' (IsPairOf s w states bound value) (Ok pair)
 paired m'' s states bound value u v w a b c x y pair low high order lower upper =
     then-ok s u v w a b c _ _ _ _ _ _ x y pair lower upper
     (λ tighter one other.

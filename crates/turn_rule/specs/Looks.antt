@@ -81,19 +81,37 @@ pub record AreLater (source : Source) (old new : Notes) : Type 0 where
   pub told : IsTrue new.told → IsTrue old.told
   pub words : IsTrue new.told → AreNoLooserOf source.checkers source.kinds new.words old.words
 
+-- two moments of a place of look-ups: where it looks, and what was noted and how often a call of the outside had failed at each
+pub record Look : Type 0 where
+  pub source : Source
+  pub before : Notes
+  pub after : Notes
+  pub faults_before : ℕ
+  pub faults_after : ℕ
+
 -- an answer or a stop, after which the count of faults hasn't fallen and the notes are later ones
-pub record Looked {A : Type 0} (source : Source) (old new : Notes) (before now : ℕ)
-    (meant : Damage → Type 0) (right : A → Type 0) (result : Result A LookStop) : Type 0 where
-  pub later : before ≤ now
-  pub notes : AreLater source old new
+pub record Looked {A : Type 0} (look : Look) (meant : Damage → Type 0) (right : A → Type 0)
+    (result : Result A LookStop) : Type 0 where
+  pub later : look.faults_before ≤ look.faults_after
+  pub notes : AreLater look.source look.before look.after
   pub answer : IfOk result right
-  pub stop : IfErr result (MayStop source new before now meant)
+  pub stop :
+      IfErr result
+      (MayStop look.source look.after look.faults_before look.faults_after meant)
 
 -- a look-up between two moments
 abbrev pub LooksUp : {A : Type 0} → Seen → Seen → (Damage → Type 0) → (A → Type 0)
     → Result A LookStop → Type 0
 LooksUp old new meant right result =
-    Looked old.source old.notes new.notes old.faults new.faults meant right result
+    Looked
+    (record {
+      source = old.source;
+      before = old.notes;
+      after = new.notes;
+      faults_before = old.faults;
+      faults_after = new.faults;
+    })
+    meant right result
 
 -- a look-up of one word of a state
 abbrev pub FindsWord : End → Placement → ℕ → Seen → Seen → Result ℤ LookStop → Type 0

@@ -9,6 +9,7 @@ use Rattle.turn_rule.specs.Games.{kinds_of}
 use Rattle.turn_rule.specs.Turn.{rounds}
 use Rattle.turn_rule.specs.States.{IsState, AreWithin}
 use Rattle.turn_rule.specs.Looks.{Looked, IsAnswer, all_told}
+use Rattle.turn_rule.proofs.Found.{look}
 use Rattle.turn_rule.specs.declared.game.Game.{Game}
 use Rattle.interval_words.specs.Numbers.{state_of, word_of}
 use Rattle.interval_words.specs.Core.{noted, known}
@@ -29,7 +30,7 @@ known-floor game seat end p k value h = tight-trans end _ _ _ h (tightest-right 
 -- a word that was read is an answer
 pub looked-noting : (board : GameTable) (old new : GameSeat) (state : ℕ) (value : ℤ) (end : End) (p : Placement) (k : ℕ) → new ≡ noting old (word_of end state) value → SitsAt board old → state ≡ state_of (kinds_of board.game) p k
     → IsWithinUnits board.game.stakes.bound value → IsNoLooser end value (known board.game old.view end p k)
-    → Looked (board_source board.game old.view.base) (all_told (noted board.game old.view.notes)) (all_told (noted board.game new.view.notes)) 0 0 (λ damage. None ≡ Some damage) (IsAnswer end (board_source board.game old.view.base) (all_told (noted board.game new.view.notes)) p k) (Ok value)
+    → Looked (look (board_source board.game old.view.base) (all_told (noted board.game old.view.notes)) (all_told (noted board.game new.view.notes)) 0 0) (λ damage. None ≡ Some damage) (IsAnswer end (board_source board.game old.view.base) (all_told (noted board.game new.view.notes)) p k) (Ok value)
 looked-noting board old new state value end p k noting_is sits at within fresh = record {
   later = omega arith;
   notes = record { told = λ told. told; words = λ _. (keeps-noting board old new (word_of end state) value noting_is sits).notes board.game sits.game };
