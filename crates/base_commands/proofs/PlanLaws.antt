@@ -10,7 +10,7 @@ use Rattle.directed_fixed.specs.Bounds.{Bounds, negated}
 use Rattle.cube_actions.specs.declared.side.Side.{Side}
 use Rattle.cube_actions.specs.Ladder.{in_order, ladder}
 use Rattle.cube_actions.specs.Matches.{after_win, stays_near, value_of_win}
-use Rattle.cube_actions.specs.Scores.{MatchScore, IsScore, needs, other_side}
+use Rattle.cube_actions.specs.Scores.{MatchScore, needs, other_side}
 use Rattle.cube_actions.specs.Stakes.{exactly, nothing}
 use Rattle.cube_actions.specs.Starts.{StartPairs, ladder_place, start_pair}
 use Rattle.turn_rule.specs.Truth.{Encloses}
