@@ -1,11 +1,9 @@
 -- Words, end scores and starts of worked examples, of games of one checker a side.
 use Rattle.std.specs.Prelude.{ℕ, zero, suc, ◌+◌, ◌*◌, ◌==◌, ℤ, pos, neg_ℤ, if◌then◌else◌}
-use Rattle.position_rank.specs.Placement.{Placement}
-use Rattle.directed_fixed.specs.declared.bounds.End.{End}
 use Rattle.directed_fixed.specs.declared.bounds.End.TheVariants.{Lower, Upper}
 use Rattle.cube_actions.specs.declared.phase.Phase.{Phase}
 use Rattle.cube_actions.specs.declared.phase.Phase.TheVariants.{Normal, Crawford, Post}
-use Rattle.cube_actions.specs.Scores.{MatchScore, is_crawford}
+use Rattle.cube_actions.specs.Scores.{is_crawford}
 use Rattle.cube_actions.specs.Stakes.{point_units}
 use Rattle.turn_rule.specs.Turn.{Words}
 use Rattle.match_scores.specs.Payoffs.{EndScores, ExactStarts, ScoredMatch, ends_over}
