@@ -23,7 +23,7 @@ use std::alloc::Global;
 pub const MOST_LIST_BYTES: u64 = 67_108_864;
 
 /// A position and a roll that is to be played from it.
-#[derive(Clone, Copy, Debug, PartialEq, Eq)]
+#[derive(Clone, Copy, PartialEq, Eq)]
 pub struct RolledPosition {
     pub position: Position,
     pub roll: Roll,

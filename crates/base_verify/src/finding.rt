@@ -7,7 +7,7 @@ use position_rank::Position;
 use std::alloc::AllocError;
 
 /// A word that is tighter than the turn over the words of its list.
-#[derive(Clone, Copy, Debug)]
+#[derive(Clone, Copy)]
 pub struct Finding {
     /// The position of its state.
     pub position: Position,
@@ -22,7 +22,7 @@ pub struct Finding {
 }
 
 /// Why words weren't found to be consistent.
-#[derive(Clone, Copy, Debug)]
+#[derive(Clone, Copy)]
 pub enum VerifyStop {
     /// They aren't, and this is the first word that tells it.
     Inconsistent(Finding),

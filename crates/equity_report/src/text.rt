@@ -13,7 +13,7 @@ use point_text::{print_down, print_units, print_up};
 pub type Report = ArrayString<3072>;
 
 /// A game told by its name.
-#[derive(Clone, Copy, Debug, PartialEq, Eq)]
+#[derive(Clone, Copy, PartialEq, Eq)]
 pub struct GameName {
     /// How many checkers a side has, 1 to 3.
     pub checkers: u8,

@@ -9,7 +9,7 @@ use std::marker::Model;
 use turn_rule::Choice;
 
 /// What a player chose in a recorded game, and the state in which he chose it.
-#[derive(Clone, Copy, Debug, PartialEq, Eq)]
+#[derive(Clone, Copy, PartialEq, Eq)]
 pub struct Decision {
     /// The number of the game, counted from 1.
     pub game: u32,

@@ -12,14 +12,14 @@ use move_rules::{Won, points};
 use position_rank::Position;
 
 /// Who has won a game, and how many points, of 1 to 3, in units of what the cube shows.
-#[derive(Clone, Copy, Debug, PartialEq, Eq)]
+#[derive(Clone, Copy, PartialEq, Eq)]
 pub struct Win {
     pub winner: Player,
     pub points: u8,
 }
 
 /// How far a game has come.
-#[derive(Clone, Copy, Debug, PartialEq, Eq)]
+#[derive(Clone, Copy, PartialEq, Eq)]
 pub struct Progress {
     /// Seen by the player whose turn it is.
     pub position: Position,

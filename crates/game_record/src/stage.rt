@@ -5,7 +5,7 @@ use crate::line::{Line, LineKind};
 use crate::player::Player;
 
 /// What may come next in a record.
-#[derive(Clone, Copy, Debug, PartialEq, Eq)]
+#[derive(Clone, Copy, PartialEq, Eq)]
 pub enum Next {
     Title,
     Checkers,
@@ -30,7 +30,7 @@ pub enum Next {
 }
 
 /// How far a record has come.
-#[derive(Clone, Copy, Debug, PartialEq, Eq)]
+#[derive(Clone, Copy, PartialEq, Eq)]
 pub struct Stage {
     pub next: Next,
     /// Its stakes are a match.

@@ -1,7 +1,7 @@
 use std::alloc::{AllocError, AllocFailed};
 
 /// A call of the outside failed.
-#[derive(Clone, Copy, Debug, PartialEq, Eq)]
+#[derive(Clone, Copy, PartialEq, Eq)]
 pub struct Failed;
 
 /// There was no memory.
@@ -34,7 +34,7 @@ pub enum PageFault {
 }
 
 /// Why a word could not be looked up.
-#[derive(Clone, Copy, Debug, PartialEq, Eq)]
+#[derive(Clone, Copy, PartialEq, Eq)]
 pub enum LookStop {
     /// A call of the outside failed.
     ReadFault,
@@ -45,7 +45,7 @@ pub enum LookStop {
 }
 
 /// What is wrong with a program's words.
-#[derive(Clone, Copy, Debug, PartialEq, Eq)]
+#[derive(Clone, Copy, PartialEq, Eq)]
 pub enum WordsKind {
     /// They name no command.
     Command,
@@ -58,7 +58,7 @@ pub enum WordsKind {
 }
 
 /// Words of a program that were refused.
-#[derive(Clone, Copy, Debug, PartialEq, Eq)]
+#[derive(Clone, Copy, PartialEq, Eq)]
 pub struct BadWords {
     pub kind: WordsKind,
     /// The word's place at `Word`, the argument's number at `Value`, otherwise 0.

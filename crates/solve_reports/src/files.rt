@@ -9,7 +9,7 @@ use outside_log::Sink;
 use point_text::print_up;
 
 /// A game that was solved.
-#[derive(Clone, Copy, Debug, PartialEq, Eq)]
+#[derive(Clone, Copy, PartialEq, Eq)]
 pub struct Solved {
     pub game: GameName,
     pub rounds: u32,
