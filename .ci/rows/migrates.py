@@ -34,7 +34,7 @@ DAMAGES = (
 )
 
 # The call that fails, the status, and the new file then: none, or the whole one. The file is begun, and what stands there is looked at; size, front
-# and page of the old one are read; then front, page and digest are appended, and it is brought to the disk and to its place.
+# and page of the old one are read; then front and page are appended, and it is brought to the disk and to its place.
 FAULTS = (
     (FailCall("open-to-write", 1), Ask(MIGRATE, 7), File("new", Nothing())),
     (FailCall("open-to-read", 1), Ask(MIGRATE, 6), File("new", Nothing())),
@@ -43,11 +43,10 @@ FAULTS = (
     (FailCall("read", 2), Ask(MIGRATE, 6), File("new", Nothing())),
     (FailCall("write", 1), Ask(MIGRATE, 7), File("new", Nothing())),
     (FailCall("write", 2), Ask(MIGRATE, 7), File("new", Nothing())),
-    (FailCall("write", 3), Ask(MIGRATE, 7), File("new", Nothing())),
     (FailCall("sync", 1), Ask(MIGRATE, 7), File("new", Nothing())),
     (FailCall("rename", 1), Ask(MIGRATE, 7), File("new", Nothing())),
     (FailCall("read", 3), Ask(MIGRATE, 0), File("new", Length(6138))),
-    (FailCall("write", 4), Ask(MIGRATE, 0), File("new", Length(6138))),
+    (FailCall("write", 3), Ask(MIGRATE, 0), File("new", Length(6138))),
 )
 
 TESTS = {

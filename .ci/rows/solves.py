@@ -33,14 +33,13 @@ KEPT = "HYPGAMMN, and no more of a file of bounds"
 
 OLD = (Make("c1", Text(KEPT)),)
 
-# The files' call that fails: the file is begun, what stands there is looked at, front, page and digest are appended, the report is put, and the file
-# is brought to the disk and to its place. The old one stays.
+# The files' call that fails: the file is begun, what stands there is looked at, front and page are appended, the report is put, and the file is
+# brought to the disk and to its place. The old one stays.
 STOPS = (
     (FailCall("open-to-write", 1), Row(SOLVE, 7, "refused 7 write\n"), File("c1", Text(KEPT))),
     (FailCall("read", 1), Row(SOLVE, 6, "refused 6 read\n"), File("c1", Text(KEPT))),
     (FailCall("write", 1), Row(SOLVE, 7, "refused 7 write\n"), File("c1", Text(KEPT))),
     (FailCall("write", 2), Row(SOLVE, 7, "refused 7 write\n"), File("c1", Text(KEPT))),
-    (FailCall("write", 3), Row(SOLVE, 7, "refused 7 write\n"), File("c1", Text(KEPT))),
     (FailCall("sync", 1), Ask(SOLVE, 7), File("c1", Text(KEPT))),
     (FailCall("rename", 1), Ask(SOLVE, 7), File("c1", Text(KEPT))),
 )

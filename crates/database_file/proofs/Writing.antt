@@ -1,11 +1,12 @@
 -- What pages add one after another.
 use Rattle.std.proofs.Common.{◌≡◌, ◌∙◌, ℕ, suc, zero, ◌+◌, ◌*◌, ◌-◌, ◌<◌, min, length, arith, List, ◌++◌, take, drop, map, Ok, sym, ap, ap₂, subst, append_assoc}
+use Rattle.std.proofs.Math.Nat.{le-div_iff_mul-le, suc-mul}
 use Rattle.std.proofs.lemmas.List.{append-nil, drop-drop, length-drop, take_min}
 use Rattle.outside_log.specs.Log.{Event, Appended, Adds, AddsAll}
 use Rattle.outside_log.proofs.Logs.{adds-both, adds-leaves, failures-later}
 use Rattle.word_pages.specs.declared.version.Version.{Version}
 use Rattle.word_pages.specs.Sealed.{binding_of}
-use Rattle.word_pages.specs.Pages.{page_text, first_pages}
+use Rattle.word_pages.specs.Pages.{page_text, first_pages, pages_in}
 
 -- a part of words, which ends where they do
 pub part : (from size : ℕ) (words : List ℕ) → take (min (length words) (from + size) - from) (drop from words) ≡ take size (drop from words)
@@ -42,11 +43,48 @@ next_page version digest size n words =
     ∙ ap (λ (number : ℕ). first_pages version digest size 0 n words ++ first_pages version digest size number 1 (drop (n * size) words)) is
     ∙ ap (λ (page : List ℕ). first_pages version digest size 0 n words ++ page) (append-nil (page_text version (binding_of version digest n) (take size (drop (n * size) words))))
 
+-- one page more, which stands behind so many words
+next_behind : (version : Version) (digest : List ℕ) (size first n : ℕ) (words : List ℕ)
+    → first_pages version digest size first (n + 1) (drop (first * size) words)
+    ≡ first_pages version digest size first n (drop (first * size) words) ++ page_text version (binding_of version digest (first + n)) (take size (drop ((first + n) * size) words))
+next_behind version digest size first n words =
+    let place : first * size + n * size ≡ (first + n) * size = omega arith in
+    let behind : drop (n * size) (drop (first * size) words) ≡ drop ((first + n) * size) words = drop-drop (n * size) (first * size) words ∙ ap (λ (place : ℕ). drop place words) place in
+    more_pages version digest size first n 1 (drop (first * size) words)
+    ∙ ap (λ (page : List ℕ). first_pages version digest size first n (drop (first * size) words) ++ page)
+    (append-nil (page_text version (binding_of version digest (first + n)) (take size (drop (n * size) (drop (first * size) words))))
+    ∙ ap (λ (words : List ℕ). page_text version (binding_of version digest (first + n)) (take size words)) behind)
+
+-- where one page more was added, the pages were up to it
+pub one_page_more : (name : List ℕ) (version : Version) (digest : List ℕ) (size first n : ℕ) (words : List ℕ) (old middle new : List Event)
+    → Adds name (first_pages version digest size first n (drop (first * size) words)) old middle
+    → Adds name (page_text version (binding_of version digest (first + n)) (take size (drop ((first + n) * size) words))) middle new
+    → Adds name (first_pages version digest size first (n + 1) (drop (first * size) words)) old new
+one_page_more name version digest size first n words old middle new before page =
+    subst (λ (bytes : List ℕ). Adds name bytes old new) (sym (next_behind version digest size first n words)) (adds-both name _ _ old middle new before page)
+
+-- where so many pages more were added, the pages were up to the last of them
+pub pages_more : (name : List ℕ) (version : Version) (digest : List ℕ) (size n m : ℕ) (words : List ℕ) (old middle new : List Event)
+    → Adds name (first_pages version digest size 0 n words) old middle
+    → Adds name (first_pages version digest size n m (drop (n * size) words)) middle new
+    → Adds name (first_pages version digest size 0 (n + m) words) old new
+pages_more name version digest size n m words old middle new before pages =
+    let is : n ≡ 0 + n = omega arith in
+    let there : Adds name (first_pages version digest size (0 + n) m (drop (n * size) words)) middle new =
+    subst (λ (first : ℕ). Adds name (first_pages version digest size first m (drop (n * size) words)) middle new) is pages in
+    subst (λ (bytes : List ℕ). Adds name bytes old new) (sym (more_pages version digest size 0 n m words)) (adds-both name _ _ old middle new before there)
+
 -- where one page more was added, the first pages were up to it
-pub one_page_more : (name : List ℕ) (version : Version) (digest : List ℕ) (size n : ℕ) (words : List ℕ) (old middle new : List Event) → Adds name (first_pages version digest size 0 n words) old middle → Adds name (page_text version (binding_of version digest n) (take size (drop (n * size) words))) middle new
-    → Adds name (first_pages version digest size 0 (n + 1) words) old new
-one_page_more name version digest size n words old middle new first page =
+pub first_page_more : (name : List ℕ) (version : Version) (digest : List ℕ) (size n : ℕ) (words : List ℕ) (old middle new : List Event) → Adds name (first_pages version digest size 0 n words) old middle
+    → Adds name (page_text version (binding_of version digest n) (take size (drop (n * size) words))) middle new → Adds name (first_pages version digest size 0 (n + 1) words) old new
+first_page_more name version digest size n words old middle new first page =
     subst (λ (bytes : List ℕ). Adds name bytes old new) (sym (next_page version digest size n words)) (adds-both name _ _ old middle new first page)
+
+-- each page begins before the words' end
+pub begins_before_the_end : (size count page : ℕ) → 0 < size → page < pages_in size count → page * size < count
+begins_before_the_end size count page some there =
+    let fill = (le-div_iff_mul-le {k = size} {x = suc page} {y = count + (size - 1)} some).0 there in
+    omega (arith, fill, suc-mul page size, some)
 
 -- all of these were added
 pub all-added : {T E : Type 0} (name bytes : List ℕ) (old new : List Event) (x : T) → Adds name bytes old new → AddsAll {E = E} name bytes old new (Ok x)

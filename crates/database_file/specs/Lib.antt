@@ -9,3 +9,4 @@ pub mod Pages
 pub mod Places
 pub mod Stops
 pub mod Texts
+pub mod Writing

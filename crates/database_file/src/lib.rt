@@ -21,4 +21,4 @@ pub use load::{Base, load_base};
 pub use opening::open_paged;
 pub use paged::{PagedBase, PagedReader};
 pub use stop::LoadStop;
-pub use write::{LONGEST_PAGE, append_base};
+pub use write::{LONGEST_PAGE, append_base, append_base_by};

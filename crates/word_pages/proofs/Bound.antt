@@ -1,8 +1,8 @@
 -- Pages that are bound to their file and their place.
-use Rattle.std.proofs.Common.{◌≡◌, ◌≢◌, ◌∙◌, ℕ, ◌+◌, ◌-◌, ◌*◌, ◌^◌, ◌<◌, ◌≤◌, Bool, true, List, [], ◌++◌, length, take, drop, None, ℤ, nat_le, refl, sym, ap, ap₂, subst, arith}
+use Rattle.std.proofs.Common.{◌≡◌, ◌≢◌, ◌∙◌, ℕ, ◌+◌, ◌-◌, ◌*◌, ◌^◌, ◌<◌, ◌≤◌, true, List, [], ◌++◌, length, take, drop, None, ℤ, nat_le, sym, ap, ap₂, subst, arith}
 use Rattle.std.proofs.Math.Seq.{take-append_seam, drop-append_seam}
 use Rattle.std.proofs.lemmas.Bool.Decides.{nat_tests}
-use Rattle.std.proofs.lemmas.List.{append-nil, append_cancel_left, append_cancel_right, length-take-le, take-take}
+use Rattle.std.proofs.lemmas.List.{append_cancel_left, append_cancel_right, length-take-le, take-take}
 use Rattle.hyper_outside.specs.declared.outside.PageFault.TheVariants.{Short, PageDigest}
 use Rattle.byteorder.specs.Endian.{big_bytes, big_number}
 use Rattle.byteorder.specs.Numbers.{big_number-reads_back}

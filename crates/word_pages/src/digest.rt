@@ -1,12 +1,9 @@
 ghost use Rattle.std.specs.Prelude.{◌≡◌, ◌≤◌, ◌+◌, ◌-◌, ◌++◌, ◌↔◌, IsTrue, length, take};
-ghost use Rattle.outside_log.specs.Log.{AddsAll};
 ghost use Rattle.sha2.specs.Sha256.{sha256};
 ghost use Rattle.word_pages.specs.Sealed.{binding_of, is_sealed, is_sealed_under, sealed, sealed_under};
 
 use crate::version::Version;
 use arrayvec::ArrayVec;
-use hyper_outside::Failed;
-use outside_log::Files;
 use sha2::{Digest, Sha256};
 
 /// How many bytes a digest has.
@@ -55,19 +52,14 @@ pub fn put_digest<const N: usize>(out: &mut ArrayVec<u8, N>) -> [u8; 32]
     digest
 }
 
-/// Adds bytes to the file that was begun, and then, of 32 bytes, the digest of what they are bound to and of them.
-pub fn append_sealed<F: Files>(
-    files: &mut F,
-    name: &str,
-    binding: &[u8],
-    bytes: &[u8],
-) -> Result<(), Failed>
-    ensures { AddsAll name.now (sealed_under binding.now bytes.now)
-        (F.log files.old) (F.log files.new) result }
+/// Adds the digest, of 32 bytes, of what the bytes are bound to and of them.
+pub fn put_digest_under<const N: usize>(binding: &[u8], out: &mut ArrayVec<u8, N>)
+    requires { length out.old.items + 32 ≤ N }
+    ensures { out.new.items ≡ sealed_under binding.now out.old.items }
 {
-    let digest = digest_under(binding, bytes);
-    files.append(name, bytes)?;
-    files.append(name, &digest)
+    let digest = digest_under(binding, out.as_slice());
+    // There is room for it.
+    let _added = out.try_extend_from_slice(&digest);
 }
 
 /// Whether the last 32 bytes are the digest of what those before them are bound to and of these. Fewer

@@ -9,7 +9,7 @@ mod page;
 mod version;
 mod words;
 
-pub use digest::{Binding, append_sealed, binding_of, is_sealed, is_sealed_under, put_digest};
+pub use digest::{Binding, binding_of, is_sealed, is_sealed_under, put_digest, put_digest_under};
 pub use flaws::{Flaw, check_pairs, read_pairs};
 pub use laws::{
     flaw_examples, lengths_are_known, pages_are_bound, pages_stand_in_order, right_pages_are_texts,

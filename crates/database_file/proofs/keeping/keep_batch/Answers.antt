@@ -1,4 +1,4 @@
-use Rattle.std.proofs.Common.{◌-◌, ◌∙◌, refl, take}
+use Rattle.std.proofs.Common.{◌-◌, ◌∙◌, refl}
 use Rattle.std.proofs.lemmas.List.{length-take-le}
 use Rattle.database_file.proofs.ManyPages.{same_length}
 use Rattle.outside_log.specs.Log.{standing}

@@ -1,4 +1,4 @@
-use Rattle.std.proofs.Common.{◌≡◌, ◌∙◌, ◌<◌, ℕ, All, length, sym, ap, subst, arith}
+use Rattle.std.proofs.Common.{◌≡◌, ◌∙◌, ◌<◌, All, length, sym, ap, subst, arith}
 use Rattle.cube_actions.specs.Names.{names_of}
 use Rattle.turn_rule.specs.declared.game.Game.{Game}
 use Rattle.outside_log.proofs.Logs.{added-then, failed}

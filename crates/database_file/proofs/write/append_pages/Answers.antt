@@ -1,19 +1,25 @@
-use Rattle.std.proofs.Common.{◌≡◌, ℕ, length, subst, arith}
+use Rattle.std.proofs.Common.{◌≡◌, ◌∙◌, ℕ, Err, List, length, subst, arith}
+use Rattle.hyper_outside.specs.declared.outside.Failed.{Failed}
 use Rattle.outside_log.specs.Log.{Adds}
-use Rattle.outside_log.proofs.Logs.{failed-behind}
+use Rattle.outside_log.proofs.Logs.{added-once, adds-one, failed-behind}
 use Rattle.word_pages.specs.Pages.{first_pages, pages_in, pages_text}
-use Rattle.database_file.proofs.Writing.{all-added, one_page_more}
+use Rattle.database_file.proofs.Writing.{all-added, first_page_more}
 use Rattle.database_file.proofs.write.append_pages.Goals as goal
 
 pub pages-preserved : goal.pages-preserved
 pages-preserved g c =
-    one_page_more c.args.name.now c.args.version c.args.digest.now c.args.size c.pages.page c.args.words.now (g.F.Files.log c.args.files.now) (g.F.Files.log c.pages.files) (g.F.Files.log c.append_next.new.files)
-    c.pages.invariant c.in_ok-append_next.ensures.adds
+    let middle = g.F.Files.log c.pages.files in
+    let new = g.F.Files.log c.append.new.self in
+    first_page_more c.args.name.now c.args.version c.args.digest.now c.args.size c.pages.page c.args.words.now (g.F.Files.log c.args.files.now) middle new c.pages.invariant
+    (subst (λ (bytes : List ℕ). Adds c.args.name.now bytes middle new) (c.as_slice.ensures.value ∙ c.make_page.ensures) (adds-one c.args.name.now c.as_slice.result.now middle new c.in_ok-append.ensures))
 
-pub returns-in_err-append_next : goal.returns-in_err-append_next
-returns-in_err-append_next g c =
-    failed-behind c.args.name.now _ (pages_text c.args.version c.args.digest.now c.args.size c.args.words.now) (g.F.Files.log c.args.files.now) (g.F.Files.log c.pages.files) (g.F.Files.log c.append_next.new.files)
-    c.from_residual.result c.from_residual.ensures.0 c.pages.invariant c.in_err-append_next.ensures.leaves c.in_err-append_next.ensures.cause.later c.in_err-append_next.ensures.cause.failed
+pub returns-in_err-append : goal.returns-in_err-append
+returns-in_err-append g c =
+    let middle = g.F.Files.log c.pages.files in
+    let new = g.F.Files.log c.append.new.self in
+    let once = added-once {T = Unit {0}} {E = Failed} c.args.name.now c.as_slice.result.now middle new (Err c.in_err-append.field-0.0) c.in_err-append.ensures in
+    failed-behind c.args.name.now _ (pages_text c.args.version c.args.digest.now c.args.size c.args.words.now) (g.F.Files.log c.args.files.now) middle new
+    c.from_residual.result c.from_residual.ensures.0 c.pages.invariant once.leaves once.cause.later once.cause.failed
 
 pub returns : goal.returns
 returns g c =
