@@ -13,7 +13,7 @@ ghost use Rattle.solve_commands.specs.Solves.{AreSolved, Solves, head_of, solved
 use base_head::{BASE_START, Head, Header};
 use command_line::Solve;
 use cube_actions::StakesName;
-use database_file::append_base;
+use database_file::append_base_by;
 use directed_fixed::Fixed;
 use equity_report::{GameName, Refusal};
 use hyper_outside::{Failed, Gate, NoMemory};
@@ -86,7 +86,9 @@ fn report<O: Sink>(task: &Solve, made: u32, widest: Fixed, out: &mut O) -> Resul
 }
 
 /// Adds the file's text to what was begun for it, puts the report, and has the file take its place.
-fn complete<F: Files, O: Sink>(
+fn complete<R: Threads + Sync, F: Files, O: Sink>(
+    team: &Team<R>,
+    alloc: Global,
     task: &Solve,
     words: &Words,
     widest: Fixed,
@@ -102,7 +104,8 @@ fn complete<F: Files, O: Sink>(
 {
     let name = task.file.as_str();
     let made = words.rounds();
-    append_base(files, name, &head_of(task, made), words, Version::Three)?;
+    let head = head_of(task, made);
+    append_base_by(team, alloc, files, name, &head, words, Version::Three)?;
     let put = report(task, made, widest, out);
     settle(files, name, put)
 }
@@ -137,6 +140,6 @@ pub fn run_solve<R: Threads + Sync, F: Files, O: Sink, G: Gate + Sync>(
         return Err(RunStop::Refused(Refusal::Memory));
     };
     let words = closed.words();
-    complete(task, words, words.widest(), files, out)?;
+    complete(team, alloc, task, words, words.widest(), files, out)?;
     Ok(())
 }
