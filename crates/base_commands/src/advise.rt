@@ -31,7 +31,7 @@ use run_endings::{RunStop, game_told, look_refusal, open_file};
 use std::alloc::Global;
 
 /// A kind of state of a game.
-#[derive(Clone, Copy, PartialEq, Eq)]
+#[derive(Clone, Copy)]
 pub struct AskedKind {
     pub number: usize,
     pub name: KindName,
@@ -52,7 +52,7 @@ pub struct FoundRanking {
 }
 
 /// What a file says of the cube.
-#[derive(Clone, Copy, PartialEq, Eq)]
+#[derive(Clone, Copy)]
 pub struct FoundAdvice {
     pub kind: AskedKind,
     pub advice: CubeAdvice,

@@ -37,7 +37,7 @@ const PAGES_KEPT: usize = 8192;
 const LONG_LIST: usize = 262_144;
 
 /// What is sought for each line of a list.
-#[derive(Clone, Copy, PartialEq, Eq)]
+#[derive(Clone, Copy)]
 pub enum LineSought {
     /// The pairs of the position that the line gives.
     Pairs,

@@ -23,7 +23,7 @@ use std::alloc::Global;
 pub const MOST_LIST_BYTES: u64 = 67_108_864;
 
 /// A position and a roll that is to be played from it.
-#[derive(Clone, Copy, PartialEq, Eq)]
+#[derive(Clone, Copy)]
 pub struct RolledPosition {
     pub position: Position,
     pub roll: Roll,

@@ -36,7 +36,7 @@ pub struct LoadedFile {
 }
 
 /// What the side to move has in a state.
-#[derive(Clone, Copy, PartialEq, Eq)]
+#[derive(Clone, Copy)]
 pub struct FoundReply {
     /// Where it makes the plays that some words advise, and the other side replies at its best.
     pub follow: Pair,

@@ -2,7 +2,7 @@ ghost use Rattle.std.specs.Prelude.{◌≡◌, not, [], ◌∷◌};
 ghost use Rattle.base_head.specs.Faults.{check, checked, first_wrong};
 
 /// What can be wrong with a file of bounds.
-#[derive(Clone, Copy, Debug, PartialEq, Eq)]
+#[derive(Clone, Copy)]
 pub enum FileFault {
     /// It ends too early.
     Short,
@@ -25,7 +25,7 @@ pub enum FileFault {
 }
 
 /// What is wrong first with a file, and at which byte, counted from 0.
-#[derive(Clone, Copy, Debug, PartialEq, Eq)]
+#[derive(Clone, Copy)]
 pub struct BadFile {
     pub fault: FileFault,
     pub at: u64,

@@ -16,7 +16,7 @@ use position_id::id_told;
 use position_rank::Position;
 
 /// A kind of state with a position's pair in it.
-#[derive(Clone, Copy, Default, PartialEq, Eq)]
+#[derive(Clone, Copy, Default)]
 pub struct KindRow {
     pub kind: KindName,
     pub pair: Pair,

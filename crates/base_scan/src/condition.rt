@@ -8,7 +8,7 @@ use std::marker::Model;
 pub const MOST_TESTS: usize = 64;
 
 /// What a test asks of a state: each has a whole number.
-#[derive(Clone, Copy, Default, PartialEq, Eq)]
+#[derive(Clone, Copy, Default)]
 pub enum Field {
     /// The lower word, in units.
     #[default]
@@ -39,7 +39,7 @@ pub enum Field {
 }
 
 /// How a number is compared with that of a test.
-#[derive(Clone, Copy, Default, PartialEq, Eq)]
+#[derive(Clone, Copy, Default)]
 pub enum Comparison {
     #[default]
     Below,
@@ -48,7 +48,7 @@ pub enum Comparison {
 }
 
 /// A question to a state, which a state answers by yes or no.
-#[derive(Clone, Copy, Default, PartialEq, Eq)]
+#[derive(Clone, Copy, Default)]
 pub struct Test {
     /// Whether the answer is turned round.
     pub negated: bool,
@@ -115,7 +115,7 @@ impl Model for Condition {
 }
 
 /// A text isn't that of a condition.
-#[derive(Clone, Copy, PartialEq, Eq)]
+#[derive(Clone, Copy)]
 pub struct BadCondition {
     /// The number from 0 of the first word with which no text of a condition can go on, the text's
     /// end counted as a word.

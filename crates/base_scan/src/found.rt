@@ -4,7 +4,7 @@ use position_rank::Position;
 use std::marker::Model;
 
 /// A state of a game.
-#[derive(Clone, Copy, PartialEq, Eq)]
+#[derive(Clone, Copy)]
 pub struct State {
     pub position: Position,
     /// The number of its kind.

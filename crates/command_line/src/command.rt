@@ -138,7 +138,7 @@ pub struct Ladder {
 }
 
 /// Which decisions of a recorded game a report shows.
-#[derive(Clone, Copy, PartialEq, Eq)]
+#[derive(Clone, Copy)]
 pub enum Shown {
     /// All, each with no more than what it lost.
     Losses,
@@ -247,7 +247,7 @@ pub enum Command {
 }
 
 /// The commands.
-#[derive(Clone, Copy, PartialEq, Eq)]
+#[derive(Clone, Copy)]
 pub enum CommandName {
     Bound,
     Race,

@@ -7,7 +7,7 @@ use roll_table::BadRoll;
 use word_forms::FormStop;
 
 /// Why words ask for nothing.
-#[derive(Clone, Copy, PartialEq, Eq)]
+#[derive(Clone, Copy)]
 pub enum WordsFault {
     /// They are no command's words.
     Words(BadWords),
@@ -18,7 +18,7 @@ pub enum WordsFault {
 }
 
 /// Why words were not read.
-#[derive(Clone, Copy, PartialEq, Eq)]
+#[derive(Clone, Copy)]
 pub enum WordsStop {
     Bad(WordsFault),
     NoMemory,

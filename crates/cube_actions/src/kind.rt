@@ -5,14 +5,14 @@ use arrayvec::ArrayVec;
 use directed_fixed::{Fixed, Pair};
 
 /// An answer to a double that plays on: the kind in which the doubler then rolls, and how often its value counts.
-#[derive(Clone, Copy, Debug, Default, PartialEq, Eq)]
+#[derive(Clone, Copy, Default)]
 pub struct Taken {
     pub kind: usize,
     pub factor: u8,
 }
 
 /// A right to double: what the doubler gets from a pass, and the other answers.
-#[derive(Debug, Drop)]
+#[derive(Drop)]
 pub struct Double {
     pub pass: Pair,
     pub answers: ArrayVec<Taken, 2>,
@@ -20,7 +20,7 @@ pub struct Double {
 
 /// Where the cube is: the opponent's kind after the mover's play, what a single game, a gammon and a backgammon win,
 /// and the mover's right to double before he rolls.
-#[derive(Debug, Drop)]
+#[derive(Drop)]
 pub struct Kind {
     pub next: usize,
     pub win: [Pair; 3],

@@ -9,7 +9,7 @@ use crate::side::Side;
 use arrayvec::ArrayVec;
 
 /// A kind of state in a match: who moves, and where the cube is.
-#[derive(Clone, Copy, Debug, PartialEq, Eq)]
+#[derive(Clone, Copy, PartialEq, Eq)]
 pub(crate) struct MatchKind {
     pub(crate) mover: Side,
     /// What the cube shows: 1, 2, 4 or 8.

@@ -5,7 +5,7 @@ use crate::score::Score;
 use crate::side::Side;
 
 /// By which rule games are played that are no match.
-#[derive(Clone, Copy, Debug, PartialEq, Eq)]
+#[derive(Clone, Copy, PartialEq, Eq)]
 pub enum MoneyRule {
     /// There is no cube.
     Cubeless,
@@ -29,7 +29,7 @@ impl MoneyRule {
 }
 
 /// Which stakes a game is played for.
-#[derive(Clone, Copy, Debug, PartialEq, Eq)]
+#[derive(Clone, Copy, PartialEq, Eq)]
 pub enum StakesName {
     /// No match.
     Unlimited(MoneyRule),
@@ -38,7 +38,7 @@ pub enum StakesName {
 }
 
 /// Where the cube is, seen by the side that moves.
-#[derive(Clone, Copy, Debug, Default, PartialEq, Eq)]
+#[derive(Clone, Copy, Default, PartialEq, Eq)]
 pub enum KindName {
     /// There is no cube.
     #[default]

@@ -1,5 +1,5 @@
 /// Where a match stands with respect to the Crawford game, in which nobody may double.
-#[derive(Clone, Copy, Debug, PartialEq, Eq)]
+#[derive(Clone, Copy, PartialEq, Eq)]
 pub enum Phase {
     /// Before the Crawford game.
     Normal,

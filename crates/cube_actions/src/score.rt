@@ -6,7 +6,7 @@ use crate::side::Side;
 use std::marker::Model;
 
 /// The points that the two sides of a match still need, 1 to 5, the smaller number first.
-#[derive(Clone, Copy, Debug, PartialEq, Eq)]
+#[derive(Clone, Copy, PartialEq, Eq)]
 pub struct Score {
     pub near: u8,
     pub far: u8,
@@ -26,7 +26,7 @@ impl Model for Score {
 }
 
 /// Why numbers and a phase are no score.
-#[derive(Clone, Copy, Debug, PartialEq, Eq)]
+#[derive(Clone, Copy)]
 pub enum BadScore {
     /// The numbers aren't 1 to 5, the smaller first.
     Range = 1,

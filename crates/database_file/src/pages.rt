@@ -36,7 +36,7 @@ pub struct Pages {
 }
 
 /// Why pages of a file could not be read.
-#[derive(Clone, Copy, Debug, PartialEq, Eq)]
+#[derive(Clone, Copy)]
 pub enum PagesStop {
     /// A call of the files failed.
     ReadFault,

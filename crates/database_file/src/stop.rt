@@ -7,7 +7,7 @@ use base_head::BadFile;
 use hyper_outside::{Failed, LookStop, NoMemory};
 
 /// Why a file could not be loaded.
-#[derive(Clone, Copy, Debug, PartialEq, Eq)]
+#[derive(Clone, Copy)]
 pub enum LoadStop {
     /// There is no file of this name.
     Missing,

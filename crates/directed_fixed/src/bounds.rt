@@ -4,14 +4,14 @@ use crate::fixed::Fixed;
 use std::marker::Model;
 
 /// One of the two ends of a pair.
-#[derive(Clone, Copy, Debug, PartialEq, Eq)]
+#[derive(Clone, Copy)]
 pub enum End {
     Lower,
     Upper,
 }
 
 /// A lower and an upper bound of a value, the lower at most the upper.
-#[derive(Clone, Copy, Debug, PartialEq, Eq)]
+#[derive(Clone, Copy)]
 pub struct Pair {
     lower: Fixed,
     upper: Fixed,

@@ -9,7 +9,7 @@ use std::marker::Model;
 pub const ONE: i64 = 1 << 32;
 
 /// A value, in units of 2 ^ -32 of a point, at most 2 ^ 56 of them on either side of 0.
-#[derive(Clone, Copy, Debug, PartialEq, Eq, PartialOrd, Ord)]
+#[derive(Clone, Copy)]
 pub struct Fixed {
     units: i64,
 }

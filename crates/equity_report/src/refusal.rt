@@ -19,7 +19,7 @@ use roll_table::BadRoll;
 pub type FileName = ArrayString<272>;
 
 /// What a run wants of the game of a file, or of the words, and what that game hasn't.
-#[derive(Clone, Copy, PartialEq, Eq)]
+#[derive(Clone, Copy)]
 pub enum Wanted {
     /// So many checkers a side.
     Checkers(u8),
@@ -32,7 +32,7 @@ pub enum Wanted {
 }
 
 /// Why a run was refused.
-#[derive(Clone, Copy, PartialEq, Eq)]
+#[derive(Clone, Copy)]
 pub enum Refusal {
     /// The words are outside their form.
     Words(BadWords),

@@ -12,7 +12,7 @@ use position_rank::Position;
 use position_text::print_position;
 
 /// A word of a file that is tighter than the turn over the file's words.
-#[derive(Clone, Copy, PartialEq, Eq)]
+#[derive(Clone, Copy)]
 pub struct Unheld {
     /// Whether it is the lower or the upper word of its state.
     pub side: End,

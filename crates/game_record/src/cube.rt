@@ -4,7 +4,7 @@ ghost use Rattle.game_record.specs.Cube.{centred, is_free_to, shows, turned};
 use crate::player::Player;
 
 /// The doubling cube.
-#[derive(Clone, Copy, PartialEq, Eq)]
+#[derive(Clone, Copy)]
 pub struct Cube {
     /// How often it was turned: it shows 1, 2, 4 and so on.
     pub turns: u32,

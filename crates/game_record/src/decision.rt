@@ -9,7 +9,7 @@ use std::marker::Model;
 use turn_rule::Choice;
 
 /// What a player chose in a recorded game, and the state in which he chose it.
-#[derive(Clone, Copy, PartialEq, Eq)]
+#[derive(Clone, Copy)]
 pub struct Decision {
     /// The number of the game, counted from 1.
     pub game: u32,

@@ -2,7 +2,7 @@ use hyper_outside::NoMemory;
 use move_rules::BadPlay;
 
 /// What is wrong with a record. The last three are faults of the play and come from replaying alone.
-#[derive(Clone, Copy, PartialEq, Eq)]
+#[derive(Clone, Copy)]
 pub enum RecordFault {
     /// The line has none of the forms.
     Shape,
@@ -27,14 +27,14 @@ pub enum RecordFault {
 }
 
 /// The first wrong line of a record, counted from 1, and what is wrong with it. The line is 0 where the text is too long.
-#[derive(Clone, Copy, PartialEq, Eq)]
+#[derive(Clone, Copy)]
 pub struct BadRecord {
     pub line: u32,
     pub fault: RecordFault,
 }
 
 /// Why there is no record.
-#[derive(Clone, Copy, PartialEq, Eq)]
+#[derive(Clone, Copy)]
 pub enum RecordStop {
     Bad(BadRecord),
     NoMemory,

@@ -15,7 +15,7 @@ pub enum Line {
 }
 
 /// What of a line decides whether it may come somewhere, and what may come after it.
-#[derive(Clone, Copy, PartialEq, Eq)]
+#[derive(Clone, Copy)]
 pub enum LineKind {
     OfTitle,
     OfCheckers,

@@ -25,7 +25,7 @@ use hyper_outside::NoMemory;
 use turn_rule::Choice;
 
 /// A moment of a replay, before one of the record's lines.
-#[derive(Clone, Copy, PartialEq, Eq)]
+#[derive(Clone, Copy)]
 pub struct Moment {
     pub checkers: u8,
     pub stakes: RecordStakes,

@@ -19,7 +19,7 @@ pub struct Win {
 }
 
 /// How far a game has come.
-#[derive(Clone, Copy, PartialEq, Eq)]
+#[derive(Clone, Copy)]
 pub struct Progress {
     /// Seen by the player whose turn it is.
     pub position: Position,

@@ -21,7 +21,7 @@ pub struct Record {
 }
 
 /// What the games of a record are played for.
-#[derive(Clone, Copy, PartialEq, Eq)]
+#[derive(Clone, Copy)]
 pub enum RecordStakes {
     /// No match.
     Unlimited(MoneyRule),
@@ -85,7 +85,7 @@ pub enum What {
 }
 
 /// How a game ended.
-#[derive(Clone, Copy, PartialEq, Eq)]
+#[derive(Clone, Copy)]
 pub enum Ending {
     /// It was won for 1 to 3 points in units of the cube.
     Ended { winner: Player, points: u8 },

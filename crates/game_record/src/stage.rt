@@ -30,7 +30,7 @@ pub enum Next {
 }
 
 /// How far a record has come.
-#[derive(Clone, Copy, PartialEq, Eq)]
+#[derive(Clone, Copy)]
 pub struct Stage {
     pub next: Next,
     /// Its stakes are a match.

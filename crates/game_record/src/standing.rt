@@ -8,7 +8,7 @@ use crate::record::RecordStakes;
 use cube_actions::{Phase, Score, Side};
 
 /// How a match stands.
-#[derive(Clone, Copy, PartialEq, Eq)]
+#[derive(Clone, Copy)]
 pub struct Standing {
     /// How many points A still needs: 0 where A has won the match, and for money.
     pub a: u8,

@@ -9,7 +9,7 @@ pub trait Gate {
 }
 
 /// Returns at once.
-#[derive(Clone, Copy, PartialEq, Eq)]
+#[derive(Clone, Copy)]
 pub struct OpenGate;
 
 impl Gate for OpenGate {

@@ -1,11 +1,11 @@
 use std::alloc::{AllocError, AllocFailed};
 
 /// A call of the outside failed.
-#[derive(Clone, Copy, PartialEq, Eq)]
+#[derive(Clone, Copy)]
 pub struct Failed;
 
 /// There was no memory.
-#[derive(Clone, Copy, Debug, PartialEq, Eq)]
+#[derive(Clone, Copy)]
 pub struct NoMemory;
 
 impl From<AllocError> for NoMemory {
@@ -21,7 +21,7 @@ impl<T: Drop> From<AllocFailed<T>> for NoMemory {
 }
 
 /// What is wrong with a page of a file of pairs.
-#[derive(Clone, Copy, Debug, PartialEq, Eq)]
+#[derive(Clone, Copy)]
 pub enum PageFault {
     /// The file ends before it.
     Short,
@@ -34,7 +34,7 @@ pub enum PageFault {
 }
 
 /// Why a word could not be looked up.
-#[derive(Clone, Copy, PartialEq, Eq)]
+#[derive(Clone, Copy)]
 pub enum LookStop {
     /// A call of the outside failed.
     ReadFault,
@@ -45,7 +45,7 @@ pub enum LookStop {
 }
 
 /// What is wrong with a program's words.
-#[derive(Clone, Copy, PartialEq, Eq)]
+#[derive(Clone, Copy)]
 pub enum WordsKind {
     /// They name no command.
     Command,
@@ -58,7 +58,7 @@ pub enum WordsKind {
 }
 
 /// Words of a program that were refused.
-#[derive(Clone, Copy, PartialEq, Eq)]
+#[derive(Clone, Copy)]
 pub struct BadWords {
     pub kind: WordsKind,
     /// The word's place at `Word`, the argument's number at `Value`, otherwise 0.

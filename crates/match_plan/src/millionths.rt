@@ -2,7 +2,7 @@ ghost use Rattle.std.specs.Prelude.{◌≡◌, ◌<◌, ◌≤◌, ◌^◌};
 ghost use Rattle.match_plan.specs.Quotients.{quotient_down, quotient_up};
 
 /// A quotient in millionths, rounded outwards.
-#[derive(Clone, Copy, PartialEq, Eq)]
+#[derive(Clone, Copy)]
 pub struct Millionths {
     /// It is at least so many.
     pub low: u64,

@@ -17,7 +17,7 @@ use worker_sweep::words_after_rounds;
 use worker_team::Team;
 
 /// Why a ladder wasn't solved to its end. The scores that were handed over are its first ones.
-#[derive(Clone, Copy, Debug, PartialEq, Eq)]
+#[derive(Clone, Copy)]
 pub enum LadderStop {
     /// The keeper has failed.
     Keep,

@@ -13,7 +13,7 @@ use position_rank::Position;
 use roll_table::Roll;
 
 /// What is wrong with a play: of its first wrong move the first of these that holds, up to `HitMark`; where all moves are right, one of the last two.
-#[derive(Clone, Copy, Debug, PartialEq, Eq)]
+#[derive(Clone, Copy)]
 pub enum BadPlay {
     /// The die doesn't remain.
     WrongDice,

@@ -4,7 +4,7 @@ ghost use Rattle.move_rules.specs.Payoff.{points};
 use position_rank::Position;
 
 /// How a game was won: for one, two or three points in units of the cube.
-#[derive(Clone, Copy, Debug, PartialEq, Eq)]
+#[derive(Clone, Copy)]
 pub enum Won {
     Single,
     Gammon,

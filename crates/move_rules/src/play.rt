@@ -2,7 +2,7 @@ use arrayvec::ArrayVec;
 use position_rank::Position;
 
 /// One checker's move by one die, from a place of 1 to 25.
-#[derive(Clone, Copy, Debug, Default, PartialEq, Eq)]
+#[derive(Clone, Copy, Default)]
 pub struct Move {
     pub from: u8,
     pub die: u8,

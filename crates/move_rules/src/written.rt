@@ -3,7 +3,7 @@ ghost use Rattle.std.specs.Prelude.{◌≡◌, ◌≤◌, ◌<◌, false};
 use arrayvec::ArrayVec;
 
 /// A move as it is written, from a place of 1 to 25 to a lower one, which is 0 for off, with the mark of a hit.
-#[derive(Clone, Copy, Debug, PartialEq, Eq)]
+#[derive(Clone, Copy)]
 pub struct Step {
     pub from: u8,
     pub to: u8,

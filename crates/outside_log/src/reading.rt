@@ -89,7 +89,7 @@ pub fn begins_otherwise<F: Files>(files: &mut F, name: &str, start: &[u8]) -> Re
 }
 
 /// Why a whole file could not be read.
-#[derive(Clone, Copy, PartialEq, Eq)]
+#[derive(Clone, Copy)]
 pub enum WholeStop {
     /// There is no file of the name.
     Missing,

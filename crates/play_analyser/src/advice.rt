@@ -20,7 +20,7 @@ use turn_rule::{Pairs, RollEnds};
 
 /// What a double would lead to, and what is advised. Each pair is what the side to move gets, in
 /// units of the cube before the double, or in match equity.
-#[derive(Clone, Copy, PartialEq, Eq)]
+#[derive(Clone, Copy)]
 pub struct CubeAction {
     /// What rolling is worth after a take.
     pub take: Pair,
@@ -39,7 +39,7 @@ pub struct CubeAction {
 }
 
 /// What is told to a player before he rolls.
-#[derive(Clone, Copy, PartialEq, Eq)]
+#[derive(Clone, Copy)]
 pub struct CubeAdvice {
     /// What rolling is worth.
     pub no_double: Pair,

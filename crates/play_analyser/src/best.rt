@@ -11,7 +11,7 @@ use directed_fixed::Pair;
 use move_rules::{Move, Play};
 
 /// The moves of a play, which can be copied.
-#[derive(Clone, Copy, PartialEq, Eq)]
+#[derive(Clone, Copy)]
 pub struct Moves {
     pub list: [Move; 4],
     /// How many of them there are; those behind them mean nothing.
@@ -19,7 +19,7 @@ pub struct Moves {
 }
 
 /// What is advised where a player can choose.
-#[derive(Clone, Copy, PartialEq, Eq)]
+#[derive(Clone, Copy)]
 pub enum Advised {
     Play(Moves),
     Offer(Offer),
@@ -27,7 +27,7 @@ pub enum Advised {
 }
 
 /// What was best where a player chose, and what it gives the side to move: a double as it is answered best.
-#[derive(Clone, Copy, PartialEq, Eq)]
+#[derive(Clone, Copy)]
 pub struct Best {
     pub advised: Advised,
     pub pair: Pair,

@@ -26,7 +26,7 @@ use roll_table::Roll;
 use turn_rule::{Choice, Pairs};
 
 /// What a choice loses, and what was best.
-#[derive(Clone, Copy, PartialEq, Eq)]
+#[derive(Clone, Copy)]
 pub struct Weighed {
     pub loss: Pair,
     pub best: Best,

@@ -11,7 +11,7 @@ use std::marker::Model;
 
 /// The points where the mover stands, in the numbering of the other side, to be tested against
 /// those of many layouts of that side.
-#[derive(Clone, Copy, Debug)]
+#[derive(Clone, Copy)]
 pub struct MoverPoints {
     bits: u32,
 }
@@ -27,7 +27,7 @@ impl Model for MoverPoints {
 }
 
 /// The points where the side that doesn't move stands, in its own numbering.
-#[derive(Clone, Copy, Debug, Default)]
+#[derive(Clone, Copy, Default)]
 pub struct OtherPoints {
     bits: u32,
 }

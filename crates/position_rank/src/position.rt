@@ -9,7 +9,7 @@ use crate::rank::layout_count;
 use std::marker::Model;
 
 /// Where all the checkers stand, seen by the side that moves.
-#[derive(Clone, Copy, Debug, PartialEq, Eq)]
+#[derive(Clone, Copy, PartialEq, Eq)]
 pub struct Position {
     mover: Layout,
     other: Layout,

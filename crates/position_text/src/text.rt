@@ -17,7 +17,7 @@ const KEPT: usize = MOST_CHECKERS + 1;
 type Side = ArrayVec<u8, KEPT>;
 
 /// Why a text isn't that of a position.
-#[derive(Clone, Copy, Debug, PartialEq, Eq)]
+#[derive(Clone, Copy)]
 pub enum BadPosition {
     /// A word is empty, or the slash doesn't stand exactly once.
     Shape = 1,

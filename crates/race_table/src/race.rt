@@ -7,7 +7,7 @@ use position_rank::Position;
 
 /// What is known of a race: bounds of what it is worth to the side that moves, and how many turns
 /// it may still take.
-#[derive(Clone, Copy, PartialEq, Eq)]
+#[derive(Clone, Copy)]
 pub struct Race {
     pub pair: Pair,
     pub turns: u32,

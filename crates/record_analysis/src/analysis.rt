@@ -12,7 +12,7 @@ use std::marker::Model;
 use turn_rule::Choice;
 
 /// A decision, and where it was judged, the pair of what it loses and what was best.
-#[derive(Clone, Copy, PartialEq, Eq)]
+#[derive(Clone, Copy)]
 pub struct Judged {
     pub decision: Decision,
     pub loss: Option<Pair>,

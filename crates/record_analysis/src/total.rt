@@ -7,7 +7,7 @@ use directed_fixed::{Fixed, Pair};
 use game_record::Player;
 
 /// How many decisions were judged, and the sums of the lower and of the upper ends of their pairs.
-#[derive(Clone, Copy, PartialEq, Eq)]
+#[derive(Clone, Copy)]
 pub struct Total {
     pub decisions: u32,
     pub lower: Fixed,

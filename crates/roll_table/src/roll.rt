@@ -6,7 +6,7 @@ use arrayvec::ArrayString;
 use std::marker::Model;
 
 /// The numbers that two dice show, 1 to 6 each, in no order.
-#[derive(Clone, Copy, Debug, PartialEq, Eq)]
+#[derive(Clone, Copy)]
 pub struct Roll {
     high: u8,
     low: u8,
@@ -82,7 +82,7 @@ impl Roll {
 }
 
 /// Why a text isn't that of a roll.
-#[derive(Clone, Copy, Debug, PartialEq, Eq)]
+#[derive(Clone, Copy)]
 pub enum BadRoll {
     /// It isn't two digits from 1 to 6.
     Shape = 1,

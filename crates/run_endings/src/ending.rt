@@ -2,7 +2,7 @@ use equity_report::Refusal;
 use hyper_outside::{Failed, NoMemory};
 
 /// Why a command ended before all was done.
-#[derive(Clone, Copy, PartialEq, Eq)]
+#[derive(Clone, Copy)]
 pub enum RunStop {
     /// It was refused, and nothing was put but the lines of a ladder's scores.
     Refused(Refusal),

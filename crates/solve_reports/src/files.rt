@@ -9,7 +9,7 @@ use outside_log::Sink;
 use point_text::print_up;
 
 /// A game that was solved.
-#[derive(Clone, Copy, PartialEq, Eq)]
+#[derive(Clone, Copy)]
 pub struct Solved {
     pub game: GameName,
     pub rounds: u32,

@@ -3,7 +3,7 @@ use position_rank::Position;
 use roll_table::Roll;
 
 /// What a player chose.
-#[derive(Clone, Copy, Debug, PartialEq, Eq)]
+#[derive(Clone, Copy)]
 pub enum Choice {
     /// A play of a roll, told by the position that it leaves, seen by the same player.
     Played { roll: Roll, end: Position },

@@ -9,7 +9,7 @@ use directed_fixed::{Fixed, from_word};
 use hyper_outside::PageFault;
 
 /// What is wrong, and at which place of the file.
-#[derive(Clone, Copy, Debug, PartialEq, Eq)]
+#[derive(Clone, Copy)]
 pub struct Flaw {
     pub fault: PageFault,
     /// The place of the byte, counted from the file's first.

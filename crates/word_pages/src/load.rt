@@ -15,7 +15,7 @@ use hyper_outside::Failed;
 use outside_log::{Files, fill};
 
 /// Why a page of a file could not be read.
-#[derive(Clone, Copy, PartialEq, Eq)]
+#[derive(Clone, Copy)]
 pub enum PageStop {
     /// A call of the files failed.
     ReadFault,

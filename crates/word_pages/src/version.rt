@@ -3,7 +3,7 @@ ghost use Rattle.word_pages.specs.Words.{word_size};
 ghost use Rattle.word_pages.specs.Pages.{page_size};
 
 /// A version of the file's text.
-#[derive(Clone, Copy, PartialEq, Eq)]
+#[derive(Clone, Copy)]
 pub enum Version {
     /// A word takes 8 bytes.
     One,

@@ -13,7 +13,7 @@ pub fn live(rt: &impl Abort, text: &str, checkers: u8) -> Position
     ensures many { sum result.mover ≡ checkers }
     ensures live { IsLive result }
 {
-    let position = read_position(text).expect(rt, "no position");
+    let position = read_position(text).ok().expect(rt, "no position");
     assert!(rt; position.checkers() == checkers);
     position
 }
