@@ -13,7 +13,7 @@ use crate::verify::load_verified;
 use base_head::{BASE_START, Head, Header};
 use base_reports::write_migrated;
 use command_line::Migrate;
-use database_file::{Base, append_base};
+use database_file::{Base, append_base_by};
 use hyper_outside::{Failed, Gate};
 use outside_log::{Files, Sink};
 use run_endings::{RunStop, begin, game_told, settle};
@@ -39,7 +39,9 @@ fn report<O: Sink>(task: &Migrate, head: &Head, out: &mut O) -> Result<(), Faile
 }
 
 /// Adds the file's text to what was begun for the new name, puts the report, and has the file take its place.
-fn complete<F: Files, O: Sink>(
+fn complete<R: Threads + Sync, F: Files, O: Sink>(
+    team: &Team<R>,
+    alloc: Global,
     task: &Migrate,
     base: &Base,
     files: &mut F,
@@ -50,7 +52,15 @@ fn complete<F: Files, O: Sink>(
         (F.log files.old) (F.log files.new) (O.output out.old) (O.output out.new) result }
 {
     let name = task.new.as_str();
-    match append_base(files, name, base.head(), base.words(), Version::Three) {
+    match append_base_by(
+        team,
+        alloc,
+        files,
+        name,
+        base.head(),
+        base.words(),
+        Version::Three,
+    ) {
         Ok(()) => {
             let put = report(task, base.head(), out);
             settle(files, name, put)
@@ -94,7 +104,7 @@ pub fn run_migrate<R: Threads + Sync, F: Files, O: Sink, G: Gate + Sync>(
             return Err(RunStop::Refused(refusal));
         }
     };
-    match complete(task, &base, files, out) {
+    match complete(team, alloc, task, &base, files, out) {
         Ok(()) => Ok(()),
         Err(Failed) => Err(RunStop::NotWritten),
     }
