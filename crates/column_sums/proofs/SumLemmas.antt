@@ -3,7 +3,8 @@ use Rattle.std.proofs.Common.{◌≡◌, ◌≤◌, ◌<◌, ◌-◌, ◌/◌, �
 use Rattle.std.proofs.lemmas.List.{get_or-take, length-take}
 use Rattle.position_rank.specs.Placement.{Placement}
 use Rattle.column_sums.specs.Cells.{no_cell, cell_of, IsCell, IsCellOrNone, IsReach}
-use Rattle.column_sums.specs.Tables.{IsTable, IsRow, IsRightAt, IsRightAfter, AreRightIn}
+use Rattle.column_sums.specs.Tables.{IsRowOf, IsRow, IsRightAt, IsRightAfter, AreRightIn}
+use Rattle.column_sums.specs.Needed.{IsNeeded, LeadsToNeeded}
 use Rattle.column_sums.specs.MoveLists.{IsAmongOrNone, LeadsAmong, AreReady}
 use Rattle.column_sums.specs.Leaps.{layout_at}
 use Rattle.column_sums.specs.ColumnOf.{begun_at}
@@ -31,21 +32,25 @@ module _ (value : Placement → ℤ) (moves : Moves) (ready : AreReady moves) wh
   right-none : (dice : List ℕ) (table : List (Option ℤ)) → get_or table no_cell None ≡ None → IsRightAt value dice layouts others table no_cell
   right-none dice table missing = missing ∙ sym (best-none layouts others ready.few value dice)
 
-  pub row-right : (row : List (Option ℤ)) (cell : ℕ) → IsTable value [] layouts others row → IsCell (length layouts) (length others) cell → IsRightAt value [] layouts others row cell
-  row-right row cell tabled is =
-      ap (λ (c : ℕ). get_or row c None) (sym (whole-cell cell)) ∙ (tabled (cell / 4096) (cell % 4096) is.layer is.rank ∙ sym (best-cell layouts others ready.few value [] cell is))
+  pub row-right : (row : List (Option ℤ)) (cell : ℕ) → IsRowOf value layouts others moves.needed.items row → IsCell (length layouts) (length others) cell → IsNeeded moves.needed.items cell → IsRightAt value [] layouts others row cell
+  row-right row cell tabled is needed =
+      ap (λ (c : ℕ). get_or row c None) (sym (whole-cell cell)) ∙ (tabled (cell / 4096) (cell % 4096) is.layer is.rank (subst (IsNeeded moves.needed.items) (sym (whole-cell cell)) needed) ∙ sym (best-cell layouts others ready.few value [] cell is))
 
-  row-or-none : (row : List (Option ℤ)) (cell : ℕ) → IsRow row → IsTable value [] layouts others row → IsCellOrNone (length layouts) (length others) cell → IsRightAt value [] layouts others row cell
-  row-or-none row cell is tabled (inl none) = subst (IsRightAt value [] layouts others row) (sym none) (right-none [] row is.missing)
-  row-or-none row cell is tabled (inr here) = row-right row cell tabled here
+  row-or-none : (row : List (Option ℤ)) (cell : ℕ) → IsRow row → IsRowOf value layouts others moves.needed.items row → IsNeeded moves.needed.items cell → IsCellOrNone (length layouts) (length others) cell → IsRightAt value [] layouts others row cell
+  row-or-none row cell is tabled needed (inl none) = subst (IsRightAt value [] layouts others row) (sym none) (right-none [] row is.missing)
+  row-or-none row cell is tabled needed (inr here) = row-right row cell tabled here needed
 
   -- a row is right wherever a die leads
-  pub row-after : (row : List (Option ℤ)) (die : ℕ) (reach : Reach) → IsRow row → IsTable value [] layouts others row → IsReach layouts others die reach → IsRightAfter value [] layouts others row reach
-  row-after row die reach is tabled leads = record {
-    first = row-or-none row reach.first is tabled leads.first;
-    second = row-or-none row reach.second is tabled leads.second;
-    third = row-or-none row reach.third is tabled leads.third;
+  pub row-after : (row : List (Option ℤ)) (die : ℕ) (reach : Reach) → IsRow row → IsRowOf value layouts others moves.needed.items row → LeadsToNeeded moves.needed.items reach → IsReach layouts others die reach → IsRightAfter value [] layouts others row reach
+  row-after row die reach is tabled needed leads = record {
+    first = row-or-none row reach.first is tabled needed.first leads.first;
+    second = row-or-none row reach.second is tabled needed.second leads.second;
+    third = row-or-none row reach.third is tabled needed.third leads.third;
   }
+
+  -- a row is right where a turn begins, in the cell that the list of a die has for it
+  row-begun : (row : List (Option ℤ)) (reach : Reach) (i : ℕ) → i < length moves.listing → IsRowOf value layouts others moves.needed.items row → reach.cell ≡ get_or moves.listing i 0 → IsCell (length layouts) (length others) reach.cell → IsRightAt value [] layouts others row reach.cell
+  row-begun row reach i near tabled at is = row-right row reach.cell tabled is (subst (IsNeeded moves.needed.items) (sym at) (ready.needed.listed i near))
 
   module _ (dice : List ℕ) (table : List (Option ℤ)) (missing : get_or table no_cell None ≡ None) (reaches : List Reach) (end : ℕ)
       (right : (i : ℕ) (none : Reach) → i < end → IsRightAt value dice layouts others table (get_or reaches i none).cell) where
@@ -69,7 +74,7 @@ module _ (value : Placement → ℤ) (moves : Moves) (ready : AreReady moves) wh
       record {
         few = ready.few;
         reaches = reach;
-        none = row-right row (get_or all i none).cell tables.none reach.cell;
+        none = row-begun row (get_or all i none) i near tables.none (is.at i none near) reach.cell;
         once = tables.once list i none here;
         twice = tables.more.twice list i none second;
         thrice = tables.more.thrice list i none near;
@@ -97,7 +102,7 @@ module _ (value : Placement → ℤ) (moves : Moves) (ready : AreReady moves) wh
         by_high = by_high.each i none in_high;
         by_low = by_low.each i none in_low;
         same = same i none near;
-        none = row-right row (get_or highs i none).cell tables.none (by_high.each i none in_high).cell;
+        none = row-begun row (get_or highs i none) i near tables.none (by_high.at i none near) (by_high.each i none in_high).cell;
         higher = tables.higher first i none in_high;
         lower = lower i none near;
         high_first = after-among (low ∷ []) after_low miss_low highs (length moves.listing) lower (get_or highs i none) (by_high.one_die i none h);
@@ -133,7 +138,7 @@ same-list moves ready die one other a b = any-default moves.lists (die - 1) one 
 
 -- a mover's cell is in the first layer
 pub begun-is : (moves : Moves) → AreReady moves → (i : ℕ) → i < moves.movers
-    → mover_placement moves i ≡ begun_at (record { layouts = moves.steps; others = moves.layers; movers = take moves.movers moves.listing }) i
+    → mover_placement moves i ≡ begun_at (record { layouts = moves.steps; others = moves.layers; movers = take moves.movers moves.listing; needed = moves.needed.items }) i
 begun-is moves ready i h =
     let low = ready.begun i h in
     let cell = get_or moves.listing i 0 in

@@ -1,6 +1,8 @@
 -- The moves that a column needs: of each die, the cells that can be reached by it, dice after dice.
-use Rattle.std.specs.Prelude.{◌≡◌, ◌⊎◌, ◌≤◌, ◌<◌, ◌-◌, ℕ, List, [], length, slice_index, slice_index_or, vec_capacity}
+use Rattle.std.specs.Prelude.{◌≡◌, ◌⊎◌, ◌≤◌, ◌<◌, ◌-◌, ℕ, All, IsFalse, List, [], length, slice_index, slice_index_or, vec_capacity}
 use Rattle.column_sums.specs.Cells.{no_cell, IsReach}
+use Rattle.column_sums.specs.Needed.{AreNeeded}
+use Rattle.column_sums.specs.Tables.{HasNoThird}
 use Rattle.column_sums.specs.declared.cells.Reach.{Reach}
 use Rattle.column_sums.specs.declared.moves.DieList.{DieList}
 use Rattle.column_sums.specs.declared.moves.Moves.{Moves}
@@ -29,7 +31,7 @@ pub record LeadsAmong (reaches : List Reach) (end : ℕ) (reach : Reach) : Type 
   pub third : IsAmongOrNone reaches end reach.third
 
 -- What a die leads to: first from the cells where the mover's turn begins, then from these cells, which any one die may lead to from
--- there, and then from those that one die more and two dice more of this number may lead to.
+-- there, and then from those that one die more and two dice more of this number may lead to. It tells whether some cell leads to a third.
 pub record IsDieList (layouts others : List (List ℕ)) (near : List ℕ) (begun die : ℕ)
     (list : DieList) : Type 0 where
   pub first : begun ≤ length near
@@ -47,6 +49,7 @@ pub record IsDieList (layouts others : List (List ℕ)) (near : List ℕ) (begun
   pub three_dice : (i : ℕ) (none : Reach) → i < list.second
       → LeadsAmong list.reaches.items (length list.reaches.items)
       (slice_index_or list.reaches.items i none)
+  pub two_cells : IsFalse list.has_third → All HasNoThird list.reaches.items
 
 -- room for what a die leads to from all cells
 abbrev pub HasListRoom : DieList → Type 0
@@ -92,3 +95,4 @@ pub record AreReady (moves : Moves) : Type 0 where
   pub within : moves.movers ≤ length moves.listing
   pub begun : AreMovers (length moves.steps) moves.listing moves.movers
   pub each : AreDieLists moves.steps moves.layers moves.listing moves.movers moves.lists
+  pub needed : AreNeeded moves.listing moves.lists moves.needed.items

@@ -1,9 +1,10 @@
 -- Tables of a column: a value for each cell.
-use Rattle.std.specs.Prelude.{◌≡◌, ◌≢◌, ◌<◌, ℕ, ℤ, All, List, length, Option, Some, None, slice_index_or}
+use Rattle.std.specs.Prelude.{◌≡◌, ◌≢◌, ◌<◌, ℕ, ℤ, Bool, All, List, [], length, Option, Some, None, slice_index_or}
 use Rattle.position_rank.specs.Placement.{Placement}
 use Rattle.column_sums.specs.Cascade.{or_max, best_over}
 use Rattle.column_sums.specs.Leaps.{layout_at}
 use Rattle.column_sums.specs.Cells.{no_cell, cell_of, best_from}
+use Rattle.column_sums.specs.Needed.{IsNeeded}
 use Rattle.column_sums.specs.declared.cells.Reach.{Reach}
 
 -- a value for each cell, and none for a move that can't be made
@@ -18,13 +19,14 @@ pub record IsRow (cells : List (Option ℤ)) : Type 0 where
   pub filled : (cell : ℕ) → cell < 32768 → cell ≢ no_cell → (x : ℤ)
       × (slice_index_or cells cell None ≡ Some x)
 
--- in each cell of each layer, the greatest value that these dice lead to
-abbrev pub IsTable : (Placement → ℤ) → List ℕ → List (List ℕ) → List (List ℕ) → List (Option ℤ)
+-- in each cell of each layer that is needed, the value with no dice to play
+abbrev pub IsRowOf : (Placement → ℤ) → List (List ℕ) → List (List ℕ) → List Bool → List (Option ℤ)
     → Type 0
-IsTable value dice layouts others table =
+IsRowOf value layouts others needed row =
     (layer rank : ℕ) → layer < length others → rank < length layouts
-    → slice_index_or table (cell_of layer rank) None
-    ≡ best_over value dice
+    → IsNeeded needed (cell_of layer rank)
+    → slice_index_or row (cell_of layer rank) None
+    ≡ best_over value []
     (record { mover = layout_at layouts rank; other = layout_at others layer })
 
 -- in this cell, the greatest value that these dice lead to
@@ -53,6 +55,10 @@ pub record IsReachWithin (reach : Reach) : Type 0 where
   pub first : reach.first < 32768
   pub second : reach.second < 32768
   pub third : reach.third < 32768
+
+-- it leads to two cells at most
+abbrev pub HasNoThird : Reach → Type 0
+HasNoThird reach = reach.third ≡ no_cell
 
 -- the greatest value of the cells that this leads to
 abbrev pub best_after : List (Option ℤ) → Reach → Option ℤ

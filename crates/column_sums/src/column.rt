@@ -1,13 +1,14 @@
-ghost use Rattle.std.specs.Prelude.{◌≡◌, ◌<◌, ◌≤◌, ℕ, ℤ, All, IfOk, [], length, slice_index};
+ghost use Rattle.std.specs.Prelude.{◌≡◌, ◌<◌, ◌≤◌, ℕ, ℤ, false, All, IfOk, length, slice_index, slice_index_or};
 ghost use Rattle.position_rank.specs.Placement.{Placement};
 ghost use Rattle.roll_table.specs.Rolls.{all_rolls};
 ghost use Rattle.turn_rule.specs.Layouts.{AreLayouts};
 ghost use Rattle.column_sums.specs.AfterHits.{AreDistinct, AreClosedByHits};
+ghost use Rattle.column_sums.specs.Cells.{cell_of};
 ghost use Rattle.column_sums.specs.ColumnOf.{AreColumnSums};
 ghost use Rattle.column_sums.specs.Leaps.{layout_at};
 ghost use Rattle.column_sums.specs.Listings.{IsListed};
 ghost use Rattle.column_sums.specs.Sums.{AreSmall};
-ghost use Rattle.column_sums.specs.Tables.{IsTable};
+ghost use Rattle.column_sums.specs.Tables.{IsRowOf};
 
 use crate::moves::Moves;
 use crate::sums::sum_rolls;
@@ -39,6 +40,7 @@ impl Model for Column {
       layouts = a.moves.steps;
       others = a.moves.layers;
       movers = take a.moves.movers a.moves.listing;
+      needed = a.moves.needed.items;
     } };
 
     ghost invariant = { λ a. AreReady a.moves };
@@ -120,15 +122,25 @@ impl Column {
         &self.moves.listing.cells()[..self.moves.movers]
     }
 
+    /// Whether the sums are made of the value of a cell: of this layer, and of the mover's layout with this rank.
+    #[inline]
+    pub fn needs(&self, layer: usize, rank: usize) -> bool
+        requires layer { layer < 8 }
+        requires rank { rank < 4096 }
+        ensures { result ≡ slice_index_or self.now.needed (cell_of layer rank) false }
+    {
+        self.moves.needed[layer * 4096 + rank]
+    }
+
     /// For each mover, by its place among the movers, the sum over the 36 ways of two dice of what the best play is worth, by what the row
-    /// has for its end.
+    /// has for its end. The row may have any values where none is needed.
     pub fn sum(&mut self, row: &Row, sums: &mut [Fixed])
         requires { length self.old.movers ≤ length sums.old }
         ensures column { self.new ≡ self.old }
         ensures many { length sums.new ≡ length sums.old }
         ensures small { AreSmall sums.new (length self.old.movers) }
         ensures sums { (value : Placement → ℤ)
-            → IsTable value [] self.old.layouts self.old.others row.now
+            → IsRowOf value self.old.layouts self.old.others self.old.needed row.now
             → AreColumnSums value self.old all_rolls sums.new }
     {
         sum_rolls(

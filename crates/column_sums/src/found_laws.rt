@@ -1,4 +1,4 @@
-ghost use Rattle.std.specs.Prelude.{◌≤◌, ℕ, ℤ, pos, ◌≤ℤ◌, Option, List, length};
+ghost use Rattle.std.specs.Prelude.{◌≡◌, ◌≤◌, ℕ, ℤ, pos, ◌≤ℤ◌, Bool, Option, List, length};
 ghost use Rattle.position_rank.specs.Placement.{Placement};
 ghost use Rattle.roll_table.specs.Rolls.{Dice, IsRoll, all_rolls};
 ghost use Rattle.move_rules.specs.Ends.{legal_ends};
@@ -12,8 +12,7 @@ ghost use Rattle.turn_rule.specs.Layouts.{AreLayouts};
 ghost use Rattle.column_sums.specs.AfterHits.{AreDistinct, AreClosedByHits, IsLayer};
 ghost use Rattle.column_sums.specs.Cascade.{best_sum};
 ghost use Rattle.column_sums.specs.FoundCells.{AreFoundCells};
-ghost use Rattle.column_sums.specs.Tables.{IsRow};
-ghost use Rattle.column_sums.specs.Values.{cell_value};
+ghost use Rattle.column_sums.specs.Tables.{IsRow, IsRowOf};
 
 /// What was found of the ends of all rolls, each as it was looked up, makes the sum over the rolls found.
 pub fn found_ends_give_the_sum()
@@ -25,15 +24,19 @@ pub fn found_ends_give_the_sum()
         → IsFoundOf end (of_sum stakes p k) source noted (best_sum all_rolls value p) }
 {}
 
-/// What was looked up cell by cell makes the sums of a column found, at one end in a kind.
+/// What was looked up cell by cell, where it is needed, makes the sums of a column found, at one end in a kind. A sum is the same for all values
+/// that have this row: so each end of a legal play is in a cell that is needed.
 pub fn found_cells_give_the_sum()
     ensures { (end : End) (source : Source) (stakes : Terms) (noted : Notes) (k : ℕ)
-        (layouts others : List (List ℕ)) (row : List (Option ℤ)) → IsValid stakes
+        (layouts others : List (List ℕ)) (needed : List Bool) (row : List (Option ℤ))
+        → IsValid stakes
         → AreStakesOf source stakes
         → AreLayouts source.checkers layouts → length layouts ≤ 3276 → length others ≤ 8
         → AreDistinct others → AreClosedByHits others → IsRow row
-        → AreFoundCells end source noted (kind_at stakes k) layouts others row
+        → AreFoundCells end source noted (kind_at stakes k) layouts others needed row
         → (p : Placement) → IsStateOf source.checkers source.kinds p k → IsLayer others p.other
-        → IsFoundOf end (of_sum stakes p k) source noted
-        (best_sum all_rolls (cell_value others row) p) }
+        → (sum : ℤ)
+        → ((value : Placement → ℤ) → IsRowOf value layouts others needed row
+        → sum ≡ best_sum all_rolls value p)
+        → IsFoundOf end (of_sum stakes p k) source noted sum }
 {}

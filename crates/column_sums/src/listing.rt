@@ -91,7 +91,7 @@ impl Listing {
 }
 
 /// So many marks, none of them set.
-fn no_marks(alloc: Global, count: usize) -> Result<Vec<bool>, NoMemory>
+pub(crate) fn no_marks(alloc: Global, count: usize) -> Result<Vec<bool>, NoMemory>
     ensures { IfOk result (λ marks. marks.items ≡ replicate count false) }
 {
     let marks = vec![in alloc; false; count]?;

@@ -1,14 +1,16 @@
-ghost use Rattle.std.specs.Prelude.{◌≡◌, ◌+◌, ◌-◌, ◌<◌, ◌≤◌, ℕ, All, IfOk, [], length, slice_index, slice_index_or, vec_capacity};
+ghost use Rattle.std.specs.Prelude.{◌≡◌, ◌+◌, ◌-◌, ◌<◌, ◌≤◌, ℕ, All, IfOk, IsFalse, [], length, slice_index, slice_index_or, vec_capacity};
 ghost use Rattle.turn_rule.specs.Layouts.{AreLayouts};
 ghost use Rattle.column_sums.specs.Leaps.{layout_at};
 ghost use Rattle.column_sums.specs.Listings.{IsListed, AreListedStill, AreCells, LeadsInto, LeadsToCells};
 ghost use Rattle.column_sums.specs.MoveLists.{AreReaches, AreReady, AreRooms, AreBegun, AreDieLists, IsEmpty, IsMover, HasListRoom, IsDieList};
+ghost use Rattle.column_sums.specs.Tables.{HasNoThird};
 ghost use Rattle.column_sums.specs.declared.cells.Reach.{Reach as ReachData};
 ghost use Rattle.column_sums.specs.declared.moves.DieList.{DieList as DieListData};
 
-use crate::cells::{CELLS, Reach, reach_of};
+use crate::cells::{CELLS, NO_CELL, Reach, reach_of};
 use crate::layers::Layers;
-use crate::listing::Listing;
+use crate::listing::{Listing, no_marks};
+use crate::needed::mark_needed;
 use crate::steps::Steps;
 use hyper_outside::NoMemory;
 use position_rank::Layout;
@@ -20,6 +22,8 @@ pub(crate) struct DieList {
     pub(crate) reaches: Vec<Reach>,
     /// How many there are without those that take two dice more to come to.
     pub(crate) second: usize,
+    /// Whether one of them may lead to a third cell, as only with three checkers.
+    pub(crate) has_third: bool,
 }
 
 /// What the dice lead to from the cells of a column that are needed.
@@ -33,6 +37,8 @@ pub(crate) struct Moves {
     pub(crate) movers: usize,
     /// For each die.
     pub(crate) lists: [DieList; 6],
+    /// Of each cell, whether a turn begins there or some die leads to it.
+    pub(crate) needed: Vec<bool>,
 }
 
 /// Adds what a die leads to from the cells past those that are done.
@@ -107,6 +113,18 @@ fn list_one_die(listing: &mut Listing, lists: &[DieList; 6])
     }
 }
 
+/// Whether one of these leads to a third cell.
+fn has_third(reaches: &[Reach]) -> bool
+    ensures { IsFalse result → All HasNoThird reaches.now }
+{
+    for reach in reaches {
+        if reach.third != NO_CELL {
+            return true;
+        }
+    }
+    false
+}
+
 /// The whole list of a die. The listing stays as it is.
 fn finish(steps: &Steps, layers: &Layers, die: u8, listing: &mut Listing, list: &mut DieList)
     requires low { 1 ≤ die }
@@ -131,6 +149,7 @@ fn finish(steps: &Steps, layers: &Layers, die: u8, listing: &mut Listing, list: 
     listing.add_after(&list.reaches[near..]);
     add_reaches(steps, layers, die, listing.cells(), &mut list.reaches);
     list.second = second;
+    list.has_third = has_third(&list.reaches);
     listing.rewind(near);
 }
 
@@ -172,6 +191,7 @@ impl Moves {
             listing: Listing::new(alloc)?,
             movers: 0,
             lists: six_lists(alloc)?,
+            needed: no_marks(alloc, CELLS)?,
         })
     }
 
@@ -200,6 +220,7 @@ impl Moves {
             self.movers,
             &mut self.lists,
         );
+        mark_needed(self.listing.cells(), &self.lists, &mut self.needed);
     }
 }
 
@@ -209,7 +230,11 @@ fn empty_list(alloc: Global) -> Result<DieList, NoMemory>
     ensures empty { IfOk result IsEmpty }
 {
     let reaches = Vec::with_capacity(alloc, CELLS)?;
-    Ok(DieList { reaches, second: 0 })
+    Ok(DieList {
+        reaches,
+        second: 0,
+        has_third: false,
+    })
 }
 
 /// An empty list for each die.

@@ -1,7 +1,7 @@
-ghost use Rattle.std.specs.Prelude.{◌≡◌, ◌^◌, ◌<◌, pos, length};
+ghost use Rattle.std.specs.Prelude.{◌≡◌, ◌^◌, ◌<◌, pos, IsFalse, length};
 ghost use Rattle.directed_fixed.specs.Bounds.{IsWithinUnits};
 ghost use Rattle.column_sums.specs.Rolls.{pair_found, double_found, fewer_of_pair, fewer_of_double};
-ghost use Rattle.column_sums.specs.Tables.{IsReachWithin};
+ghost use Rattle.column_sums.specs.Tables.{HasNoThird, IsReachWithin, IsTableOfCells};
 
 use crate::best::Best;
 use crate::cells::Reach;
@@ -32,17 +32,19 @@ pub(crate) fn best_pair(
     row: &[Best],
     after_high: &[Best],
     after_low: &[Best],
+    third: bool,
 ) -> Fixed
     requires high { IsReachWithin high.now }
     requires low { IsReachWithin low.now }
     requires row { length row.now ≡ 32768 }
-    requires after_high { length after_high.now ≡ 32768 }
-    requires after_low { length after_low.now ≡ 32768 }
+    requires after_high { IsTableOfCells after_high.now }
+    requires after_low { IsTableOfCells after_low.now }
+    requires third { IsFalse third → HasNoThird high.now × HasNoThird low.now }
     ensures best { result ≡ pair_found high.now low.now row.now after_high.now after_low.now }
     ensures within { IsWithinUnits (pos (2 ^ 36)) result }
 {
-    let high_first = best_after(after_low, high);
-    let low_first = best_after(after_high, low);
+    let high_first = best_after(after_low, high, third);
+    let low_first = best_after(after_high, low, third);
     let both = high_first.max(low_first);
     if both.is_missing() {
         fewer_of_pair(high.cell, row, after_high, after_low)
@@ -77,16 +79,18 @@ pub(crate) fn best_double(
     one: &[Best],
     two: &[Best],
     three: &[Best],
+    third: bool,
 ) -> Fixed
     requires reach { IsReachWithin reach.now }
     requires row { length row.now ≡ 32768 }
     requires one { length one.now ≡ 32768 }
     requires two { length two.now ≡ 32768 }
-    requires three { length three.now ≡ 32768 }
+    requires three { IsTableOfCells three.now }
+    requires third { IsFalse third → HasNoThird reach.now }
     ensures best { result ≡ double_found reach.now row.now one.now two.now three.now }
     ensures within { IsWithinUnits (pos (2 ^ 36)) result }
 {
-    let four = best_after(three, reach);
+    let four = best_after(three, reach, third);
     if four.is_missing() {
         fewer_of_double(reach.cell, row, one, two, three)
     } else {

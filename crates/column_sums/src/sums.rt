@@ -5,7 +5,7 @@ ghost use Rattle.directed_fixed.specs.Bounds.{IsWithinUnits};
 ghost use Rattle.column_sums.specs.Cascade.{best_pair, best_double, best_of_roll};
 ghost use Rattle.column_sums.specs.MoveLists.{AreReady};
 ghost use Rattle.column_sums.specs.Sums.{AreOnes, AreTwoAndThree, AreRightEach, AreSmall, AreSums, DoubleTables, PairTables, RollTables, IsRollAdded, sum_at, ways};
-ghost use Rattle.column_sums.specs.Tables.{IsRow, IsTable, IsTableOfCells};
+ghost use Rattle.column_sums.specs.Tables.{IsRow, IsRowOf, IsTableOfCells};
 
 use crate::best::Best;
 use crate::moves::Moves;
@@ -39,13 +39,14 @@ fn add_times(sum: Fixed, times: u32, best: Fixed) -> Fixed
 fn fill_ones(moves: &Moves, row: &[Best], ones: &mut [Table; 6])
     requires ready { AreReady moves.now }
     requires row { IsRow row.now }
-    ensures { (value : Placement → ℤ) → IsTable value [] moves.now.steps moves.now.layers row.now
+    ensures { (value : Placement → ℤ)
+        → IsRowOf value moves.now.steps moves.now.layers moves.now.needed.items row.now
         → AreOnes value moves.now ones.new }
 {
     for d in 0..6 {
         let list = &moves.lists[d];
         let table = &mut ones[d];
-        table.fill(&list.reaches, row);
+        table.fill(&list.reaches, row, list.has_third);
     }
 }
 
@@ -60,8 +61,8 @@ fn fill_two_and_three(moves: &Moves, die: u8, one: &[Best], two: &mut Table, thr
 {
     let list = &moves.lists[usize::from(die) - 1];
     let near = moves.listing.cells().len();
-    two.fill(&list.reaches[..list.second], one);
-    three.fill(&list.reaches[..near], two.cells());
+    two.fill(&list.reaches[..list.second], one, list.has_third);
+    three.fill(&list.reaches[..near], two.cells(), list.has_third);
 }
 
 /// Adds what the best play of a double is worth to the sum of each mover, once.
@@ -87,9 +88,11 @@ fn add_double(
         (λ value. DoubleTables value moves.now die row.now one.now two.now three.now)
         (λ value. best_double value die) sums.old sums.new }
 {
-    let reaches = moves.lists[usize::from(die) - 1].reaches.as_slice();
+    let list = &moves.lists[usize::from(die) - 1];
+    let reaches = list.reaches.as_slice();
+    let third = list.has_third;
     for i in 0..moves.movers {
-        let best = best_double(&reaches[i], row, one, two, three);
+        let best = best_double(&reaches[i], row, one, two, three, third);
         sums[i] = add_times(sums[i], 1, best);
     }
 }
@@ -116,10 +119,13 @@ fn add_pair(
         (λ value. PairTables value moves.now high low row.now after_high.now after_low.now)
         (λ value. best_pair value high low) sums.old sums.new }
 {
-    let by_high = moves.lists[usize::from(high) - 1].reaches.as_slice();
-    let by_low = moves.lists[usize::from(low) - 1].reaches.as_slice();
+    let high_list = &moves.lists[usize::from(high) - 1];
+    let low_list = &moves.lists[usize::from(low) - 1];
+    let by_high = high_list.reaches.as_slice();
+    let by_low = low_list.reaches.as_slice();
+    let third = high_list.has_third || low_list.has_third;
     for i in 0..moves.movers {
-        let best = best_pair(&by_high[i], &by_low[i], row, after_high, after_low);
+        let best = best_pair(&by_high[i], &by_low[i], row, after_high, after_low, third);
         sums[i] = add_times(sums[i], 2, best);
     }
 }
@@ -176,7 +182,7 @@ pub(crate) fn sum_rolls(
     requires sums { moves.now.movers ≤ length sums.old }
     ensures small { AreSmall sums.new moves.now.movers }
     ensures sums { (value : Placement → ℤ)
-        → IsTable value [] moves.now.steps moves.now.layers row.now
+        → IsRowOf value moves.now.steps moves.now.layers moves.now.needed.items row.now
         → AreSums value moves.now all_rolls sums.new }
 {
     clear(sums, moves.movers);

@@ -1,8 +1,8 @@
-ghost use Rattle.std.specs.Prelude.{◌≡◌, ◌^◌, ◌<◌, ◌≤◌, ℕ, ℤ, pos, All, IfOk, List, ◌∷◌, Some, None, length, replicate, slice_index_or, slice_set};
+ghost use Rattle.std.specs.Prelude.{◌≡◌, ◌^◌, ◌<◌, ◌≤◌, ℕ, ℤ, pos, All, IfOk, IsFalse, List, ◌∷◌, Some, None, length, replicate, slice_index_or, slice_set};
 ghost use Rattle.position_rank.specs.Placement.{Placement};
 ghost use Rattle.directed_fixed.specs.Bounds.{IsWithinUnits};
 ghost use Rattle.column_sums.specs.Cells.{IsReach, cell_of, no_cell};
-ghost use Rattle.column_sums.specs.Tables.{IsRow, IsTableOfCells, IsReachWithin, IsRightAfter, AreRightIn, best_after};
+ghost use Rattle.column_sums.specs.Tables.{HasNoThird, IsRow, IsTableOfCells, IsReachWithin, IsRightAfter, AreRightIn, best_after};
 
 use crate::best::Best;
 use crate::cells::{CELLS, NO_CELL, Reach};
@@ -96,8 +96,9 @@ impl Table {
     }
 
     /// One die more: in each of these cells, the best of the cells that it leads to in a table of the dice after it.
-    pub(crate) fn fill(&mut self, reaches: &[Reach], from: &[Best])
-        requires from { length from.now ≡ 32768 }
+    pub(crate) fn fill(&mut self, reaches: &[Reach], from: &[Best], third: bool)
+        requires from { IsTableOfCells from.now }
+        requires third { IsFalse third → All HasNoThird reaches.now }
         requires reaches { All IsReachWithin reaches.now }
         ensures filled { (value : Placement
             → ℤ) (dice : List ℕ) (layouts others : List (List ℕ)) (die : ℕ)
@@ -105,7 +106,7 @@ impl Table {
             → All (IsRightAfter value dice layouts others from.now) reaches.now
             → AreRightIn value (die ∷ dice) layouts others self.new reaches.now }
     {
-        fill_cells(reaches, from, &mut self.cells);
+        fill_cells(reaches, from, third, &mut self.cells);
     }
 }
 
@@ -117,22 +118,28 @@ fn cells_of(alloc: Global, value: Best, count: usize) -> Result<Vec<Best>, NoMem
     Ok(cells)
 }
 
-/// The greatest value of the cells that this leads to.
+/// The greatest value of the cells that this leads to. `third` may be false where there is no third: that spares a look.
 #[inline]
-pub(crate) fn best_after(table: &[Best], reach: &Reach) -> Best
-    requires table { length table.now ≡ 32768 }
+pub(crate) fn best_after(table: &[Best], reach: &Reach, third: bool) -> Best
+    requires table { IsTableOfCells table.now }
     requires reach { IsReachWithin reach.now }
+    requires third { IsFalse third → HasNoThird reach.now }
     ensures { result ≡ best_after table.now reach.now }
 {
     let first = table[usize::from(reach.first)];
     let second = table[usize::from(reach.second)];
-    let third = table[usize::from(reach.third)];
-    first.max(second).max(third)
+    let both = first.max(second);
+    if third {
+        both.max(table[usize::from(reach.third)])
+    } else {
+        both
+    }
 }
 
 /// One die more in each of these cells.
-fn fill_cells(reaches: &[Reach], from: &[Best], to: &mut [Best])
-    requires from { length from.now ≡ 32768 }
+fn fill_cells(reaches: &[Reach], from: &[Best], third: bool, to: &mut [Best])
+    requires from { IsTableOfCells from.now }
+    requires third { IsFalse third → All HasNoThird reaches.now }
     requires to { length to.old ≡ 32768 }
     requires reaches { All IsReachWithin reaches.now }
     ensures missing { slice_index_or to.new no_cell None ≡ slice_index_or to.old no_cell None }
@@ -143,6 +150,6 @@ fn fill_cells(reaches: &[Reach], from: &[Best], to: &mut [Best])
         → AreRightIn value (die ∷ dice) layouts others to.new reaches.now }
 {
     for reach in reaches {
-        to[usize::from(reach.cell)] = best_after(from, reach);
+        to[usize::from(reach.cell)] = best_after(from, reach, third);
     }
 }

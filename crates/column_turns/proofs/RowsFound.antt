@@ -1,5 +1,5 @@
 -- Rows of all kinds in which one cell more was found.
-use Rattle.std.proofs.Common.{◌≡◌, ◌<◌, ◌≤◌, ◌≢◌, ◌+◌, ◌∙◌, ℕ, ℤ, List, [], length, set, Option, Some, None, get_or-set_same, get_or-set_other, below_more, ap, sym, subst, arith}
+use Rattle.std.proofs.Common.{◌≡◌, ◌<◌, ◌≤◌, ◌≢◌, ◌+◌, ◌∙◌, Bool, ℕ, ℤ, List, [], length, set, Option, Some, None, get_or-set_same, get_or-set_other, below_more, ap, sym, subst, arith}
 use Rattle.std.proofs.lemmas.List.{set-get_or}
 use Rattle.position_rank.specs.Placement.{Placement, IsPosition}
 use Rattle.directed_fixed.specs.declared.bounds.End.{End}
@@ -8,6 +8,7 @@ use Rattle.turn_rule.specs.Looks.{Notes, Seen}
 use Rattle.turn_rule.specs.Found.{LeavesState, IsFoundOf, of_play}
 use Rattle.column_sums.specs.Leaps.{layout_at}
 use Rattle.column_sums.specs.Cells.{cell_of}
+use Rattle.column_sums.specs.Needed.{IsNeeded}
 use Rattle.column_turns.specs.Moments.{IsLater}
 use Rattle.column_turns.specs.Rows.{AreFoundTo, AreFoundRows, AreFoundRowsTo, ArePut, AreRows, IsWorthPut, IsSameBefore, row_at}
 use Rattle.column_turns.proofs.Laters.{found-then}
@@ -50,17 +51,17 @@ module _ (end : End) (old : Seen) (stakes : Terms) where
         let apart : k ≢ number = omega (arith, from) in
         get_or-set_other rows number k row [] apart ∙ rest k (omega (arith, from))
 
-  module _ (layouts : List (List ℕ)) (other : List ℕ) where
-    pub rows-none : (noted : Notes) (first rows : List (List (Option ℤ))) (layer rank : ℕ) → (IsPosition (record { mover = layout_at layouts rank; other = other }) → ⊥)
-        → AreFoundRowsTo end old.source noted stakes layouts other first rows layer rank → AreFoundRowsTo end old.source noted stakes layouts other first rows layer (rank + 1)
+  module _ (layouts : List (List ℕ)) (other : List ℕ) (needed : List Bool) where
+    pub rows-none : (noted : Notes) (first rows : List (List (Option ℤ))) (layer rank : ℕ) → (IsNeeded needed (cell_of layer rank) → IsPosition (record { mover = layout_at layouts rank; other = other }) → ⊥)
+        → AreFoundRowsTo end old.source noted stakes layouts other needed first rows layer rank → AreFoundRowsTo end old.source noted stakes layouts other needed first rows layer (rank + 1)
     rows-none noted first rows layer rank none before = record {
       same = before.same;
-      found = λ k below. cell-none end old (kind_at stakes k) layouts other noted (row_at rows k) layer rank none (before.found k below);
+      found = λ k below. cell-none end old (kind_at stakes k) layouts other needed noted (row_at rows k) layer rank none (before.found k below);
     }
 
     pub rows-more : (mid new : Seen) (first rows after : List (List (Option ℤ))) (layer rank : ℕ) (left : Placement) → IsLater old mid → IsLater mid new → AreRows (length stakes.kinds) after → layer < 8 → rank < 4096
         → left ≡ record { mover = layout_at layouts rank; other = other } → ArePut end old.source new.notes stakes left layer rank rows after (length stakes.kinds)
-        → AreFoundRowsTo end old.source mid.notes stakes layouts other first rows layer rank → AreFoundRowsTo end old.source new.notes stakes layouts other first after layer (rank + 1)
+        → AreFoundRowsTo end old.source mid.notes stakes layouts other needed first rows layer rank → AreFoundRowsTo end old.source new.notes stakes layouts other needed first after layer (rank + 1)
     rows-more mid new first rows after layer rank left one two are eight few left_is puts before = record {
       same = λ k below.
           let put = puts k below in
@@ -69,13 +70,13 @@ module _ (end : End) (old : Seen) (stakes : Terms) where
           let put = puts k below in
           let here : k < length after = omega (arith, below, are.many) in
           let cells = ap (λ (r : List (Option ℤ)). length r) (sym put.1) ∙ (are.each k [] here).many in
-          subst (λ (row : List (Option ℤ)). AreFoundTo end old.source new.notes (kind_at stakes k) layouts other row layer (rank + 1)) (sym put.1)
-          (cell-more end old (kind_at stakes k) layouts other mid new (row_at rows k) layer rank put.0 left one two cells eight few left_is put.2 (before.found k below));
+          subst (λ (row : List (Option ℤ)). AreFoundTo end old.source new.notes (kind_at stakes k) layouts other needed row layer (rank + 1)) (sym put.1)
+          (cell-more end old (kind_at stakes k) layouts other needed mid new (row_at rows k) layer rank put.0 left one two cells eight few left_is put.2 (before.found k below));
     }
 
     -- one layer more was found
     pub layers-more : (others : List (List ℕ)) (mid new : Seen) (rows after : List (List (Option ℤ))) (layer : ℕ) → IsLater old mid → IsLater mid new → length layouts ≤ 3276 → other ≡ layout_at others layer
-        → AreFoundRows end old.source mid.notes stakes layouts others rows layer → AreFoundRowsTo end old.source new.notes stakes layouts other rows after layer (length layouts)
-        → AreFoundRows end old.source new.notes stakes layouts others after (layer + 1)
+        → AreFoundRows end old.source mid.notes stakes layouts others needed rows layer → AreFoundRowsTo end old.source new.notes stakes layouts other needed rows after layer (length layouts)
+        → AreFoundRows end old.source new.notes stakes layouts others needed after (layer + 1)
     layers-more others mid new rows after layer one two few other_is before this k below =
-        layer-more end old (kind_at stakes k) layouts other others mid new (row_at rows k) (row_at after k) layer one two (this.same k below) few other_is (before k below) (this.found k below)
+        layer-more end old (kind_at stakes k) layouts other needed others mid new (row_at rows k) (row_at after k) layer one two (this.same k below) few other_is (before k below) (this.found k below)

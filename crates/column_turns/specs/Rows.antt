@@ -1,6 +1,6 @@
 -- A row: for each cell of a column, what a turn that ends there is worth. A cell tells which layer the other side is left with, and the rank
 -- of the mover's layout.
-use Rattle.std.specs.Prelude.{◌≡◌, ◌<◌, ◌*◌, ℕ, ℤ, All, List, [], length, Option, Some, None, slice_index_or, slice_set}
+use Rattle.std.specs.Prelude.{◌≡◌, ◌<◌, ◌*◌, ℕ, ℤ, Bool, All, List, [], length, Option, Some, None, slice_index_or, slice_set}
 use Rattle.position_rank.specs.Placement.{Placement, IsPosition}
 use Rattle.directed_fixed.specs.declared.bounds.End.{End}
 use Rattle.cube_actions.specs.declared.kind.Kind.{Kind}
@@ -9,6 +9,7 @@ use Rattle.turn_rule.specs.Looks.{Source, Notes}
 use Rattle.turn_rule.specs.Found.{LeavesState, IsFoundOf, of_play}
 use Rattle.column_sums.specs.Leaps.{layout_at}
 use Rattle.column_sums.specs.Cells.{cell_of}
+use Rattle.column_sums.specs.Needed.{IsNeeded}
 use Rattle.column_sums.specs.Tables.{IsRow}
 
 abbrev pub at_cell : List (Option ℤ) → ℕ → ℕ → Option ℤ
@@ -20,20 +21,21 @@ IsFoundEnd end source noted kind left worth =
     IsPosition left → LeavesState source kind.next left
     → (x : ℤ) × (worth ≡ Some x) × IsFoundOf end (of_play kind left) source noted x
 
--- so it is of the first few cells of a layer
-abbrev pub AreFoundTo : End → Source → Notes → Kind → List (List ℕ) → List ℕ → List (Option ℤ) → ℕ
-    → ℕ → Type 0
-AreFoundTo end source noted kind layouts other row layer count =
-    (rank : ℕ) → rank < count
+-- so it is of those among the first few cells of a layer that are needed
+abbrev pub AreFoundTo : End → Source → Notes → Kind → List (List ℕ) → List ℕ → List Bool
+    → List (Option ℤ) → ℕ → ℕ → Type 0
+AreFoundTo end source noted kind layouts other needed row layer count =
+    (rank : ℕ) → rank < count → IsNeeded needed (cell_of layer rank)
     → IsFoundEnd end source noted kind (record { mover = layout_at layouts rank; other = other })
     (at_cell row layer rank)
 
--- so it is of all cells of the first few layers
-abbrev pub AreFoundLayers : End → Source → Notes → Kind → List (List ℕ) → List (List ℕ)
+-- so it is of all needed cells of the first few layers
+abbrev pub AreFoundLayers : End → Source → Notes → Kind → List (List ℕ) → List (List ℕ) → List Bool
     → List (Option ℤ) → ℕ → Type 0
-AreFoundLayers end source noted kind layouts others row count =
+AreFoundLayers end source noted kind layouts others needed row count =
     (layer : ℕ) → layer < count
-    → AreFoundTo end source noted kind layouts (layout_at others layer) row layer (length layouts)
+    → AreFoundTo end source noted kind layouts (layout_at others layer) needed row layer
+    (length layouts)
 
 -- the layers before this one have the same values
 abbrev pub IsSameBefore : ℕ → List (Option ℤ) → List (Option ℤ) → Type 0
@@ -62,17 +64,17 @@ ArePut end source noted stakes left layer rank old new count =
     (k : ℕ) → k < count
     → IsWorthPut end source noted (kind_at stakes k) left layer rank (row_at old k) (row_at new k)
 
--- in each kind's row the layers before this one have the same values, and the first few cells of this one were found
+-- in each kind's row the layers before this one have the same values, and the needed ones among the first few cells of this one were found
 pub record AreFoundRowsTo (end : End) (source : Source) (noted : Notes) (stakes : Terms)
-    (layouts : List (List ℕ)) (other : List ℕ) (old new : List (List (Option ℤ)))
-    (layer count : ℕ) : Type 0 where
+    (layouts : List (List ℕ)) (other : List ℕ) (needed : List Bool)
+    (old new : List (List (Option ℤ))) (layer count : ℕ) : Type 0 where
   pub same : (k : ℕ) → k < length stakes.kinds → IsSameBefore layer (row_at old k) (row_at new k)
   pub found : (k : ℕ) → k < length stakes.kinds
-      → AreFoundTo end source noted (kind_at stakes k) layouts other (row_at new k) layer count
+      → AreFoundTo end source noted (kind_at stakes k) layouts other needed (row_at new k) layer count
 
--- in each kind's row all cells of the first few layers were found
-abbrev pub AreFoundRows : End → Source → Notes → Terms → List (List ℕ) → List (List ℕ)
+-- in each kind's row all needed cells of the first few layers were found
+abbrev pub AreFoundRows : End → Source → Notes → Terms → List (List ℕ) → List (List ℕ) → List Bool
     → List (List (Option ℤ)) → ℕ → Type 0
-AreFoundRows end source noted stakes layouts others rows count =
+AreFoundRows end source noted stakes layouts others needed rows count =
     (k : ℕ) → k < length stakes.kinds
-    → AreFoundLayers end source noted (kind_at stakes k) layouts others (row_at rows k) count
+    → AreFoundLayers end source noted (kind_at stakes k) layouts others needed (row_at rows k) count

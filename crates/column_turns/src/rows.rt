@@ -1,16 +1,17 @@
-ghost use Rattle.std.specs.Prelude.{◌≡◌, ◌<◌, ◌≤◌, ◌^◌, ◌↔◌, ℕ, pos, IsTrue, Some, length, slice_set, sum};
+ghost use Rattle.std.specs.Prelude.{◌≡◌, ◌<◌, ◌≤◌, ◌^◌, ◌↔◌, ℕ, pos, IfSome, IsTrue, None, Some, length, slice_set, sum};
 ghost use Rattle.directed_fixed.specs.declared.bounds.End.TheVariants.{Lower, Upper};
 ghost use Rattle.directed_fixed.specs.Bounds.{IsWithinUnits};
-ghost use Rattle.position_rank.specs.Placement.{IsLive, swap};
+ghost use Rattle.position_rank.specs.Placement.{IsLive, IsPosition, swap};
 ghost use Rattle.position_rank.specs.Ranks.{square_rank_of};
 ghost use Rattle.turn_rule.specs.Looks.{AreStakesOf};
 ghost use Rattle.turn_rule.specs.Layouts.{AreLayouts};
 ghost use Rattle.column_sums.specs.Cells.{cell_of};
 ghost use Rattle.column_sums.specs.Leaps.{layout_at};
+ghost use Rattle.column_sums.specs.Needed.{IsNeeded};
 ghost use Rattle.column_turns.specs.Moments.{IsLater};
 ghost use Rattle.move_rules.specs.Payoff.{points as points_won};
 ghost use Rattle.column_turns.specs.Rows.{AreFoundRows, AreFoundRowsTo, ArePut, AreRows, row_at};
-ghost use Rattle.column_turns.specs.Turns.{ArePointsOf};
+ghost use Rattle.column_turns.specs.Turns.{ArePointsOf, at_rank};
 
 use crate::play_worth::play_worth;
 use column_sums::{Column, Row};
@@ -93,6 +94,24 @@ fn fill_cell<P: Pairs>(
     }
 }
 
+/// The position of a cell, unless there is none or its value isn't needed.
+#[inline]
+fn needed_position(column: &Column, layer: usize, rank: usize) -> Option<Position>
+    requires layer { layer < length column.now.others }
+    requires eight { layer < 8 }
+    requires rank { rank < length column.now.layouts }
+    requires few { rank < 4096 }
+    ensures position { IfSome result (λ left.
+        left ≡ at_rank column.now.layouts (layout_at column.now.others layer) rank) }
+    ensures none { result ≡ None → IsNeeded column.now.needed (cell_of layer rank)
+        → ¬ IsPosition (at_rank column.now.layouts (layout_at column.now.others layer) rank) }
+{
+    if !column.needs(layer, rank) {
+        return None;
+    }
+    Position::new(*column.layout(rank), *column.layer(layer))
+}
+
 /// Finds what the mover has after each play that leaves the other side with the layout of one layer, in each kind and at both ends.
 fn fill_layer<P: Pairs>(
     stakes: &Stakes,
@@ -114,11 +133,11 @@ fn fill_layer<P: Pairs>(
     ensures lower { AreRows (length stakes.now.kinds) lower.new }
     ensures upper { AreRows (length stakes.now.kinds) upper.new }
     ensures found_lower { AreFoundRowsTo Lower (P.seen pairs.old).source (P.seen pairs.new).notes
-        stakes.now column.now.layouts (layout_at column.now.others layer) lower.old lower.new
-        layer (length column.now.layouts) }
+        stakes.now column.now.layouts (layout_at column.now.others layer) column.now.needed
+        lower.old lower.new layer (length column.now.layouts) }
     ensures found_upper { AreFoundRowsTo Upper (P.seen pairs.old).source (P.seen pairs.new).notes
-        stakes.now column.now.layouts (layout_at column.now.others layer) upper.old upper.new
-        layer (length column.now.layouts) }
+        stakes.now column.now.layouts (layout_at column.now.others layer) column.now.needed
+        upper.old upper.new layer (length column.now.layouts) }
     ensures few { length column.now.layouts ≤ 3276 }
     ensures later { IsLater (P.seen pairs.old) (P.seen pairs.new) }
     ensures stays { P.stays pairs.new ≡ P.stays pairs.old }
@@ -127,7 +146,7 @@ fn fill_layer<P: Pairs>(
     let theirs = MoverPoints::of(&other);
     let first = u64::from(other.rank()) * column.many() as u64;
     for rank in 0..column.many() {
-        match Position::new(*column.layout(rank), other) {
+        match needed_position(column, layer, rank) {
             None => {}
             Some(left) => {
                 let live = theirs.are_live(points[rank]);
@@ -159,9 +178,11 @@ pub(crate) fn fill_rows<P: Pairs>(
     ensures lower { AreRows (length stakes.now.kinds) lower.new }
     ensures upper { AreRows (length stakes.now.kinds) upper.new }
     ensures found_lower { AreFoundRows Lower (P.seen pairs.old).source (P.seen pairs.new).notes
-        stakes.now column.now.layouts column.now.others lower.new (length column.now.others) }
+        stakes.now column.now.layouts column.now.others column.now.needed lower.new
+        (length column.now.others) }
     ensures found_upper { AreFoundRows Upper (P.seen pairs.old).source (P.seen pairs.new).notes
-        stakes.now column.now.layouts column.now.others upper.new (length column.now.others) }
+        stakes.now column.now.layouts column.now.others column.now.needed upper.new
+        (length column.now.others) }
     ensures later { IsLater (P.seen pairs.old) (P.seen pairs.new) }
     ensures stays { P.stays pairs.new ≡ P.stays pairs.old }
 {

@@ -62,7 +62,7 @@ fn sum_kind(
     ensures found { (end : End) (source : Source) (noted : Notes) → AreStakesOf source stakes.now
         → IsColumnOf source column.old.layouts column.old.others column.old.movers
         → AreFoundLayers end source noted (kind_at stakes.now number) column.old.layouts
-        column.old.others (row_at rows.now number) (length column.old.others)
+        column.old.others column.old.needed (row_at rows.now number) (length column.old.others)
         → AreSumsOfKind end source noted stakes.now
         (mover_at column.old.layouts (layout_at column.old.others 0) column.old.movers)
         (length column.old.movers) number all.new }
@@ -100,7 +100,7 @@ pub(crate) fn sum_kinds(
     ensures found { (end : End) (source : Source) (noted : Notes) → AreStakesOf source stakes.now
         → IsColumnOf source column.old.layouts column.old.others column.old.movers
         → AreFoundRows end source noted stakes.now column.old.layouts column.old.others
-        rows.now (length column.old.others)
+        column.old.needed rows.now (length column.old.others)
         → AreSumsOf end source noted stakes.now
         (mover_at column.old.layouts (layout_at column.old.others 0) column.old.movers)
         (length column.old.movers) (length stakes.now.kinds) all.new }

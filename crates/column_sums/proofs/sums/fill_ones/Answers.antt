@@ -37,7 +37,7 @@ loop-d-preserved c =
           (λ i table. (list : DieList) → AreRightTo value ((i + 1) ∷ []) moves table (get_or moves.lists i list).reaches.items (length (get_or moves.lists i list).reaches.items))
           ones d new here (c.loop-d.invariant.filled value tabled)
           (λ list. (
-          let after : All (IsRightAfter value [] moves.steps moves.layers row) all = λ k none h. row-after value moves ready row (d + 1) _ c.requires.row tabled (is.each k none h) in
+          let after : All (IsRightAfter value [] moves.steps moves.layers row) all = λ k none h. row-after value moves ready row (d + 1) _ c.requires.row tabled (ready.needed.ends d item c.loop-d-test.true k none h) (is.each k none h) in
           let done = c.fill.ensures.filled value [] moves.steps moves.layers (d + 1) ready.few (subst (All (IsReach moves.steps moves.layers (d + 1))) (sym c.deref.ensures.value) is.each)
           (subst (All (IsRightAfter value [] moves.steps moves.layers row)) (sym c.deref.ensures.value) after) in
           let there : AreRightIn value ((d + 1) ∷ []) moves.steps moves.layers new all = subst (λ (rs : List Reach). AreRightIn value ((d + 1) ∷ []) moves.steps moves.layers new rs) c.deref.ensures.value done in

@@ -1,7 +1,6 @@
-use Rattle.std.proofs.Common.{◌≡◌, ◌<◌, ◌∙◌, ◌↔◌, IsTrue, Option, None, length, sym, subst, arith}
+use Rattle.std.proofs.Common.{◌<◌, ◌∙◌, ◌↔◌, IsTrue, length, sym, subst, arith}
 use Rattle.std.proofs.lemmas.List.{get_or_default}
-use Rattle.std.specs.Option.{IsSome}
-use Rattle.position_rank.specs.Placement.{Placement, IsPosition, IsLive, swap}
+use Rattle.position_rank.specs.Placement.{Placement, IsLive, swap}
 use Rattle.position_rank.specs.Points.{AreMoverPoints, AreOtherPoints}
 use Rattle.directed_fixed.specs.declared.bounds.End.TheVariants.{Lower, Upper}
 use Rattle.column_sums.specs.Leaps.{layout_at}
@@ -9,9 +8,6 @@ use Rattle.column_turns.proofs.Laters.{later-trans}
 use Rattle.column_turns.proofs.RowsFound.{rows-more, rows-none}
 use Rattle.column_turns.proofs.rows.fill_layer.Goals as goal
 use Rattle.column_turns.proofs.rows.fill_layer.Goals.{in-None, in-Some}
-
-none-some : {X : Type 0} (o : Option X) → o ≡ None → IsSome o → ⊥
-none-some o is some = cc (is, some)
 
 pub fill_cell-requires-clause-live : goal.fill_cell-requires-clause-live
 fill_cell-requires-clause-live g c =
@@ -23,7 +19,7 @@ fill_cell-requires-clause-live g c =
     let theirs : AreMoverPoints c.of-theirs.result other = rw c.layer.ensures at c.of-theirs.ensures in
     let mover : AreOtherPoints c.index-points-rank.result (layout_at layouts rank) =
     rw (c.index-points-rank.is, get_or_default c.args.points.now rank c.index-points-rank.result 0 there) (c.requires.points.each rank inside) in
-    let left_is = rw (c.layout.ensures, c.layer.ensures) at c.in-Some.ensures.value.0 in
+    let left_is = c.in-Some.ensures.position in
     subst (λ (p : Placement). IsTrue c.are_live-live.result ↔ IsLive (swap p)) (sym left_is)
     (c.are_live-live.ensures (record { mover = other; other = layout_at layouts rank }) theirs mover)
 
@@ -37,26 +33,26 @@ loop-rank-preserved g c =
     let layouts = c.args.column.now.layouts in
     let other = layout_at c.args.column.now.others c.args.layer in
     let few : rank < 4096 = omega (arith, c.loop-rank-test.true, c.many-rank-end.ensures.few) in
-    elim c.match-new.branch [
+    elim c.match-needed_position.branch [
       | in-Some w ↦ (
           let new = g.P.Pairs.seen w.fill_cell.new.pairs in
           let cell = w.fill_cell.ensures in
-          let left_is = rw (c.layout.ensures, c.layer.ensures) at w.in-Some.ensures.value.0 in
+          let left_is = w.in-Some.ensures.position in
           rw (w.lower-is, w.upper-is, w.pairs-is) (record {
             lower = cell.lower;
             upper = cell.upper;
-            found_lower = rows-more Lower old stakes layouts other mid new c.args.lower.now c.loop-rank.lower w.fill_cell.new.lower c.args.layer rank w.in-Some.left before.later cell.later cell.lower c.requires.eight few left_is (rw before.later.source at cell.put_lower) before.found_lower;
-            found_upper = rows-more Upper old stakes layouts other mid new c.args.upper.now c.loop-rank.upper w.fill_cell.new.upper c.args.layer rank w.in-Some.left before.later cell.later cell.upper c.requires.eight few left_is (rw before.later.source at cell.put_upper) before.found_upper;
+            found_lower = rows-more Lower old stakes layouts other c.args.column.now.needed mid new c.args.lower.now c.loop-rank.lower w.fill_cell.new.lower c.args.layer rank w.in-Some.left before.later cell.later cell.lower c.requires.eight few left_is (rw before.later.source at cell.put_lower) before.found_lower;
+            found_upper = rows-more Upper old stakes layouts other c.args.column.now.needed mid new c.args.upper.now c.loop-rank.upper w.fill_cell.new.upper c.args.layer rank w.in-Some.left before.later cell.later cell.upper c.requires.eight few left_is (rw before.later.source at cell.put_upper) before.found_upper;
             later = later-trans old mid new before.later cell.later;
             stays = cell.stays ∙ before.stays;
           }))
       | in-None w ↦ (
-          let none : IsPosition (record { mover = layout_at layouts rank; other = other }) → ⊥ = λ position. none-some _ w.in-None.is ((rw (c.layout.ensures, c.layer.ensures) at c.new.ensures.same).1 position.same) in
+          let none = c.needed_position.ensures.none w.in-None.is in
           rw (w.lower-is, w.upper-is, w.pairs-is) (record {
             lower = before.lower;
             upper = before.upper;
-            found_lower = rows-none Lower old stakes layouts other mid.notes c.args.lower.now c.loop-rank.lower c.args.layer rank none before.found_lower;
-            found_upper = rows-none Upper old stakes layouts other mid.notes c.args.upper.now c.loop-rank.upper c.args.layer rank none before.found_upper;
+            found_lower = rows-none Lower old stakes layouts other c.args.column.now.needed mid.notes c.args.lower.now c.loop-rank.lower c.args.layer rank none before.found_lower;
+            found_upper = rows-none Upper old stakes layouts other c.args.column.now.needed mid.notes c.args.upper.now c.loop-rank.upper c.args.layer rank none before.found_upper;
             later = before.later;
             stays = before.stays;
           }))

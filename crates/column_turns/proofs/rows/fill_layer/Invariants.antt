@@ -14,8 +14,8 @@ invariant-loop-rank g l =
     record {
       lower : AreRows (length l.stakes.kinds) l.lower;
       upper : AreRows (length l.stakes.kinds) l.upper;
-      found_lower : AreFoundRowsTo Lower old.source now.notes l.stakes l.column.layouts other l.fn.lower l.lower l.layer l.rank;
-      found_upper : AreFoundRowsTo Upper old.source now.notes l.stakes l.column.layouts other l.fn.upper l.upper l.layer l.rank;
+      found_lower : AreFoundRowsTo Lower old.source now.notes l.stakes l.column.layouts other l.column.needed l.fn.lower l.lower l.layer l.rank;
+      found_upper : AreFoundRowsTo Upper old.source now.notes l.stakes l.column.layouts other l.column.needed l.fn.upper l.upper l.layer l.rank;
       later : IsLater old now;
       stays : g.P.Pairs.stays l.pairs ≡ g.P.Pairs.stays l.fn.pairs;
     }

@@ -19,9 +19,9 @@ loop-layer-preserved g c =
     record {
       lower = filled.lower;
       upper = filled.upper;
-      found_lower = layers-more Lower old stakes column.layouts other column.others mid new c.loop-layer.lower c.fill_layer.new.lower layer before.later filled.later filled.few refl before.found_lower
+      found_lower = layers-more Lower old stakes column.layouts other column.needed column.others mid new c.loop-layer.lower c.fill_layer.new.lower layer before.later filled.later filled.few refl before.found_lower
           (rw before.later.source at filled.found_lower);
-      found_upper = layers-more Upper old stakes column.layouts other column.others mid new c.loop-layer.upper c.fill_layer.new.upper layer before.later filled.later filled.few refl before.found_upper
+      found_upper = layers-more Upper old stakes column.layouts other column.needed column.others mid new c.loop-layer.upper c.fill_layer.new.upper layer before.later filled.later filled.few refl before.found_upper
           (rw before.later.source at filled.found_upper);
       later = later-trans old mid new before.later filled.later;
       stays = filled.stays ∙ before.stays;

@@ -12,8 +12,8 @@ invariant-loop-layer g l =
     record {
       lower : AreRows (length l.stakes.kinds) l.lower;
       upper : AreRows (length l.stakes.kinds) l.upper;
-      found_lower : AreFoundRows Lower old.source now.notes l.stakes l.column.layouts l.column.others l.lower l.layer;
-      found_upper : AreFoundRows Upper old.source now.notes l.stakes l.column.layouts l.column.others l.upper l.layer;
+      found_lower : AreFoundRows Lower old.source now.notes l.stakes l.column.layouts l.column.others l.column.needed l.lower l.layer;
+      found_upper : AreFoundRows Upper old.source now.notes l.stakes l.column.layouts l.column.others l.column.needed l.upper l.layer;
       later : IsLater old now;
       stays : g.P.Pairs.stays l.pairs ≡ g.P.Pairs.stays l.fn.pairs;
     }

@@ -17,6 +17,6 @@ invariant-loop-number l =
       room : length l.all ≡ length l.fn.all;
       small : All (IsWithinUnits (pos (2 ^ 42))) l.all;
       found : (end : End) (source : Source) (noted : Notes) → AreStakesOf source l.stakes → IsColumnOf source first.layouts first.others first.movers
-          → AreFoundRows end source noted l.stakes first.layouts first.others l.rows (length first.others)
+          → AreFoundRows end source noted l.stakes first.layouts first.others first.needed l.rows (length first.others)
           → AreSumsOf end source noted l.stakes (mover_at first.layouts (layout_at first.others 0) first.movers) (length first.movers) l.number l.all;
     }

@@ -1,9 +1,11 @@
 use Rattle.std.proofs.Common.{◌≡◌, ◌<◌, ◌+◌, ◌∙◌, ℕ, All, List, get_or, length, subst, sym, ap, arith}
 use Rattle.column_sums.specs.declared.moves.DieList.{DieList}
 use Rattle.column_sums.specs.Listings.{LeadsToCells}
-use Rattle.column_sums.specs.MoveLists.{AreReaches, AreBegun, AreDieLists, AreMovers}
+use Rattle.column_sums.specs.MoveLists.{AreReaches, AreBegun, AreDieLists, AreMovers, IsDieList}
+use Rattle.column_sums.specs.Needed.{AreNeeded}
 use Rattle.column_sums.proofs.Listed.{cells-more, cell-rank}
 use Rattle.column_sums.proofs.Reached.{by-die, leads-cells, leads-room, reaches-kept}
+use Rattle.column_sums.proofs.TableLemmas.{cell-low, reach-within}
 use Rattle.column_sums.proofs.moves.Moves.begin.Goals as goal
 
 -- each list that was begun leads to cells
@@ -36,6 +38,20 @@ finish_lists-requires-clause-begun c = record {
   many = λ die none a b. c.begin_lists.ensures.begun.many die none a b ∙ ap (λ (xs : List ℕ). length xs) (sym c.cells.ensures.cells);
 }
 
+pub mark_needed-requires-clause-cells : goal.mark_needed-requires-clause-cells
+mark_needed-requires-clause-cells c =
+    let many = length c.args.self.now.steps in
+    let layers = length c.set.new.self in
+    let cells = c.list_one_die.ensures.cells many layers
+    (cells-more many layers c.list_movers.new.listing c.set.ensures.some (c.list_movers.ensures.cells many (omega (arith, c.requires.ready.few)) c.requires.movers))
+    (all-lead c.args.self.now.steps c.set.new.self c.list_movers.new.listing _ c.begin_lists.new.lists c.begin_lists.ensures.begun) in
+    rw (c.cells-2.ensures.cells, c.finish_lists.ensures.same) (λ i h. cell-low many layers _ c.set.ensures.few (cells i h))
+
+pub mark_needed-requires-clause-within : goal.mark_needed-requires-clause-within
+mark_needed-requires-clause-within c = λ i none h k d below.
+    let lists = by-die (λ die list. IsDieList c.args.self.now.steps c.set.new.self c.list_one_die.new.listing (length c.cells.result.now) die list) c.finish_lists.new.lists c.finish_lists.ensures.lists i none h in
+    reach-within c.args.self.now.steps c.set.new.self (i + 1) _ c.requires.ready.few c.set.ensures.few (lists.each k d below)
+
 pub returns-clause-ready : goal.returns-clause-ready
 returns-clause-ready c =
     let many = length c.args.self.now.steps in
@@ -55,6 +71,7 @@ returns-clause-ready c =
       within = omega (arith, count, kept.longer, ap (λ (xs : List ℕ). length xs) same);
       begun = subst (λ (xs : List ℕ). AreMovers many xs (length c.cells.result.now)) (sym same) begun;
       each = subst (λ (xs : List ℕ). AreDieLists c.args.self.now.steps c.set.new.self xs (length c.cells.result.now) c.finish_lists.new.lists) (sym same) c.finish_lists.ensures.lists;
+      needed = subst (λ (xs : List ℕ). AreNeeded xs c.finish_lists.new.lists c.mark_needed.new.needed.items) c.cells-2.ensures.cells c.mark_needed.ensures;
     }
 
 pub returns-clause-movers : goal.returns-clause-movers
