@@ -21,7 +21,7 @@ use Rattle.column_sums.specs.Cascade.{best_sum}
 use Rattle.column_sums.specs.Leaps.{layout_at}
 use Rattle.column_sums.specs.Cells.{cell_of}
 use Rattle.column_sums.specs.Needed.{IsNeeded}
-use Rattle.column_sums.specs.Tables.{IsRow, IsRowOf}
+use Rattle.column_sums.specs.Tables.{IsRow, IsNeededRow}
 use Rattle.column_sums.specs.AfterHits.{AreDistinct, IsLayer, AreClosedByHits}
 use Rattle.column_sums.specs.Values.{cell_value}
 use Rattle.column_sums.specs.FoundCells.{placement_of, AreFoundCells}
@@ -53,7 +53,7 @@ module _ (end : End) (s : Source) (stakes : Terms) (noted : Notes) (k : ℕ) (al
       subst (λ (b : Placement). IsFound end s noted (IsLeft kind.next b) s.bound (λ u. worth end kind u b) (cell_value others row b)) is at_cell
 
   pub column-found : IsValid stakes → AreStakesOf s stakes → AreClosedByHits others → (p : Placement) → IsStateOf s.checkers s.kinds p k → IsLayer others p.other
-      → (x : ℤ) → ((value : Placement → ℤ) → IsRowOf value all others needed row → x ≡ best_sum all_rolls value p)
+      → (x : ℤ) → ((value : Placement → ℤ) → IsNeededRow value all others needed row → x ≡ best_sum all_rolls value p)
       → IsFound end s noted (MayFollow stakes p k) (pos 36 *ℤ s.bound) (λ u. sum_over all_rolls (worth end (kind_at stakes k) u) p) x
   column-found valid fits closed p state is x best =
       subst (λ (x : ℤ). IsFound end s noted (MayFollow stakes p k) (pos 36 *ℤ s.bound) (λ u. sum_over all_rolls (worth end (kind_at stakes k) u) p) x) (all-best (cell_value others row) p ∙ sym (best (cell_value others row) (row-values s.checkers all others needed row layouts-are few eight distinct is-row)))

@@ -18,7 +18,7 @@ use Rattle.turn_rule.proofs.Greatest.{greatest-mono, greatest-bound}
 use Rattle.column_sums.specs.Cascade.{or_value, best_over, best_sum}
 use Rattle.column_sums.specs.Cells.{cell_of}
 use Rattle.column_sums.specs.Needed.{IsNeeded}
-use Rattle.column_sums.specs.Tables.{IsRow, IsRowOf}
+use Rattle.column_sums.specs.Tables.{IsRow, IsNeededRow}
 use Rattle.column_sums.specs.AfterHits.{AreDistinct}
 use Rattle.column_sums.specs.Values.{index_in, cell_value}
 use Rattle.column_sums.specs.FoundCells.{placement_of}
@@ -93,7 +93,7 @@ module _ (checkers : ℕ) (all others : List (List ℕ)) (needed : List Bool) (l
   unfolding best_over
   value-at row layer rank is h k = row-values checkers all others (replicate 32768 true) row layouts-are few eight distinct is layer rank h k (get_or-replicate 32768 (cell_of layer rank) true false (omega (arith, h, k, few, eight)))
 
-  module _ (row : List (Option ℤ)) (is-row : IsRow row) (p : Placement) (x : ℤ) (sum : (value : Placement → ℤ) → IsRowOf value all others needed row → x ≡ best_sum all_rolls value p)
+  module _ (row : List (Option ℤ)) (is-row : IsRow row) (p : Placement) (x : ℤ) (sum : (value : Placement → ℤ) → IsNeededRow value all others needed row → x ≡ best_sum all_rolls value p)
       (roll : Dice) (right : IsRoll roll) (q : Placement) (m : Among q (legal_ends p roll)) (layer rank : ℕ) (h : layer < length others) (k : rank < length all) (at : placement_of all others layer rank ≡ q) where
     abbrev value : Placement → ℤ
     value = cell_value others row
@@ -133,7 +133,7 @@ module _ (checkers : ℕ) (all others : List (List ℕ)) (needed : List Bool) (l
           rw same (le_refl (value r)))
     ]
 
-    still : get_or needed (cell_of layer rank) false ≡ false → IsRowOf raised_value all others needed row
+    still : get_or needed (cell_of layer rank) false ≡ false → IsNeededRow raised_value all others needed row
     still unmarked l r a b n =
         let apart : cell_of l r ≢ cell_of layer rank = λ e. false≢true (sym unmarked ∙ (ap (λ (c : ℕ). get_or needed c false) (sym e) ∙ n)) in
         sym (get_or-set_other row (cell_of layer rank) (cell_of l r) (Some more) None apart) ∙ row-values checkers all others needed raised layouts-are few eight distinct raised-row l r a b n

@@ -6,7 +6,7 @@ use Rattle.turn_rule.specs.Layouts.{AreLayouts}
 use Rattle.column_sums.specs.Cascade.{or_value, best_over}
 use Rattle.column_sums.specs.Leaps.{layout_at}
 use Rattle.column_sums.specs.Cells.{cell_of, no_cell}
-use Rattle.column_sums.specs.Tables.{IsRow, IsRowOf}
+use Rattle.column_sums.specs.Tables.{IsRow, IsNeededRow}
 use Rattle.column_sums.specs.AfterHits.{AreDistinct}
 use Rattle.column_sums.specs.Values.{index_in, cell_value}
 
@@ -28,7 +28,7 @@ filled_cell None x e = absurd (grind arith)
 filled_cell (Some y) x e = refl
 
 pub row-values : (checkers : ℕ) (layouts others : List (List ℕ)) (needed : List Bool) (row : List (Option ℤ)) → AreLayouts checkers layouts → length layouts ≤ 3276 → length others ≤ 8 → AreDistinct others → IsRow row
-    → IsRowOf (cell_value others row) layouts others needed row
+    → IsNeededRow (cell_value others row) layouts others needed row
 unfolding best_over
 row-values checkers layouts others needed row all few eight distinct is layer rank h k _ =
     let some : cell_of layer rank ≢ no_cell = λ e. absurd (omega (arith, e, k, few)) in

@@ -3,7 +3,7 @@ use Rattle.std.proofs.Common.{◌≡◌, ◌≤◌, ◌<◌, ◌-◌, ◌/◌, �
 use Rattle.std.proofs.lemmas.List.{get_or-take, length-take}
 use Rattle.position_rank.specs.Placement.{Placement}
 use Rattle.column_sums.specs.Cells.{no_cell, cell_of, IsCell, IsCellOrNone, IsReach}
-use Rattle.column_sums.specs.Tables.{IsRowOf, IsRow, IsRightAt, IsRightAfter, AreRightIn}
+use Rattle.column_sums.specs.Tables.{IsNeededRow, IsRow, IsRightAt, IsRightAfter, AreRightIn}
 use Rattle.column_sums.specs.Needed.{IsNeeded, LeadsToNeeded}
 use Rattle.column_sums.specs.MoveLists.{IsAmongOrNone, LeadsAmong, AreReady}
 use Rattle.column_sums.specs.Leaps.{layout_at}
@@ -32,16 +32,16 @@ module _ (value : Placement → ℤ) (moves : Moves) (ready : AreReady moves) wh
   right-none : (dice : List ℕ) (table : List (Option ℤ)) → get_or table no_cell None ≡ None → IsRightAt value dice layouts others table no_cell
   right-none dice table missing = missing ∙ sym (best-none layouts others ready.few value dice)
 
-  pub row-right : (row : List (Option ℤ)) (cell : ℕ) → IsRowOf value layouts others moves.needed.items row → IsCell (length layouts) (length others) cell → IsNeeded moves.needed.items cell → IsRightAt value [] layouts others row cell
+  pub row-right : (row : List (Option ℤ)) (cell : ℕ) → IsNeededRow value layouts others moves.needed.items row → IsCell (length layouts) (length others) cell → IsNeeded moves.needed.items cell → IsRightAt value [] layouts others row cell
   row-right row cell tabled is needed =
       ap (λ (c : ℕ). get_or row c None) (sym (whole-cell cell)) ∙ (tabled (cell / 4096) (cell % 4096) is.layer is.rank (subst (IsNeeded moves.needed.items) (sym (whole-cell cell)) needed) ∙ sym (best-cell layouts others ready.few value [] cell is))
 
-  row-or-none : (row : List (Option ℤ)) (cell : ℕ) → IsRow row → IsRowOf value layouts others moves.needed.items row → IsNeeded moves.needed.items cell → IsCellOrNone (length layouts) (length others) cell → IsRightAt value [] layouts others row cell
+  row-or-none : (row : List (Option ℤ)) (cell : ℕ) → IsRow row → IsNeededRow value layouts others moves.needed.items row → IsNeeded moves.needed.items cell → IsCellOrNone (length layouts) (length others) cell → IsRightAt value [] layouts others row cell
   row-or-none row cell is tabled needed (inl none) = subst (IsRightAt value [] layouts others row) (sym none) (right-none [] row is.missing)
   row-or-none row cell is tabled needed (inr here) = row-right row cell tabled here needed
 
   -- a row is right wherever a die leads
-  pub row-after : (row : List (Option ℤ)) (die : ℕ) (reach : Reach) → IsRow row → IsRowOf value layouts others moves.needed.items row → LeadsToNeeded moves.needed.items reach → IsReach layouts others die reach → IsRightAfter value [] layouts others row reach
+  pub row-after : (row : List (Option ℤ)) (die : ℕ) (reach : Reach) → IsRow row → IsNeededRow value layouts others moves.needed.items row → LeadsToNeeded moves.needed.items reach → IsReach layouts others die reach → IsRightAfter value [] layouts others row reach
   row-after row die reach is tabled needed leads = record {
     first = row-or-none row reach.first is tabled needed.first leads.first;
     second = row-or-none row reach.second is tabled needed.second leads.second;
@@ -49,7 +49,7 @@ module _ (value : Placement → ℤ) (moves : Moves) (ready : AreReady moves) wh
   }
 
   -- a row is right where a turn begins, in the cell that the list of a die has for it
-  row-begun : (row : List (Option ℤ)) (reach : Reach) (i : ℕ) → i < length moves.listing → IsRowOf value layouts others moves.needed.items row → reach.cell ≡ get_or moves.listing i 0 → IsCell (length layouts) (length others) reach.cell → IsRightAt value [] layouts others row reach.cell
+  row-begun : (row : List (Option ℤ)) (reach : Reach) (i : ℕ) → i < length moves.listing → IsNeededRow value layouts others moves.needed.items row → reach.cell ≡ get_or moves.listing i 0 → IsCell (length layouts) (length others) reach.cell → IsRightAt value [] layouts others row reach.cell
   row-begun row reach i near tabled at is = row-right row reach.cell tabled is (subst (IsNeeded moves.needed.items) (sym at) (ready.needed.listed i near))
 
   module _ (dice : List ℕ) (table : List (Option ℤ)) (missing : get_or table no_cell None ≡ None) (reaches : List Reach) (end : ℕ)

@@ -5,7 +5,7 @@ use Rattle.roll_table.specs.Rolls.{Dice}
 use Rattle.directed_fixed.specs.Bounds.{IsWithinUnits}
 use Rattle.column_sums.specs.Cascade.{best_sum}
 use Rattle.column_sums.specs.Cells.{cell_placement}
-use Rattle.column_sums.specs.Tables.{IsRowOf, IsRightAt}
+use Rattle.column_sums.specs.Tables.{IsNeededRow, IsRightAt}
 use Rattle.column_sums.specs.declared.cells.Reach.{Reach}
 use Rattle.column_sums.specs.declared.moves.DieList.{DieList}
 use Rattle.column_sums.specs.declared.moves.Moves.{Moves}
@@ -79,19 +79,19 @@ AreSums value moves rolls sums =
 -- the tables that a double needs are right
 pub record DoubleTables (value : Placement → ℤ) (moves : Moves) (die : ℕ)
     (row one two three : List (Option ℤ)) : Type 0 where
-  pub none : IsRowOf value moves.steps moves.layers moves.needed.items row
+  pub none : IsNeededRow value moves.steps moves.layers moves.needed.items row
   pub once : AreRightEach value moves die one
   pub more : AreTwoAndThree value moves die two three
 
 -- the tables that two unequal dice need are right
 pub record PairTables (value : Placement → ℤ) (moves : Moves) (high low : ℕ)
     (row after_high after_low : List (Option ℤ)) : Type 0 where
-  pub none : IsRowOf value moves.steps moves.layers moves.needed.items row
+  pub none : IsNeededRow value moves.steps moves.layers moves.needed.items row
   pub higher : AreRightEach value moves high after_high
   pub lower : AreRightEach value moves low after_low
 
 -- the row is right, and the tables of the dice
 pub record RollTables (value : Placement → ℤ) (moves : Moves) (row : List (Option ℤ))
     (ones : List (List (Option ℤ))) : Type 0 where
-  pub none : IsRowOf value moves.steps moves.layers moves.needed.items row
+  pub none : IsNeededRow value moves.steps moves.layers moves.needed.items row
   pub each : AreOnes value moves ones

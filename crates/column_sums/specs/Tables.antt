@@ -20,9 +20,9 @@ pub record IsRow (cells : List (Option ℤ)) : Type 0 where
       × (slice_index_or cells cell None ≡ Some x)
 
 -- in each cell of each layer that is needed, the value with no dice to play
-abbrev pub IsRowOf : (Placement → ℤ) → List (List ℕ) → List (List ℕ) → List Bool → List (Option ℤ)
-    → Type 0
-IsRowOf value layouts others needed row =
+abbrev pub IsNeededRow : (Placement → ℤ) → List (List ℕ) → List (List ℕ) → List Bool
+    → List (Option ℤ) → Type 0
+IsNeededRow value layouts others needed row =
     (layer rank : ℕ) → layer < length others → rank < length layouts
     → IsNeeded needed (cell_of layer rank)
     → slice_index_or row (cell_of layer rank) None

@@ -8,7 +8,7 @@ ghost use Rattle.column_sums.specs.ColumnOf.{AreColumnSums};
 ghost use Rattle.column_sums.specs.Leaps.{layout_at};
 ghost use Rattle.column_sums.specs.Listings.{IsListed};
 ghost use Rattle.column_sums.specs.Sums.{AreSmall};
-ghost use Rattle.column_sums.specs.Tables.{IsRowOf};
+ghost use Rattle.column_sums.specs.Tables.{IsNeededRow};
 
 use crate::moves::Moves;
 use crate::sums::sum_rolls;
@@ -140,7 +140,7 @@ impl Column {
         ensures many { length sums.new ≡ length sums.old }
         ensures small { AreSmall sums.new (length self.old.movers) }
         ensures sums { (value : Placement → ℤ)
-            → IsRowOf value self.old.layouts self.old.others self.old.needed row.now
+            → IsNeededRow value self.old.layouts self.old.others self.old.needed row.now
             → AreColumnSums value self.old all_rolls sums.new }
     {
         sum_rolls(

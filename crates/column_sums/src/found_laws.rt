@@ -12,7 +12,7 @@ ghost use Rattle.turn_rule.specs.Layouts.{AreLayouts};
 ghost use Rattle.column_sums.specs.AfterHits.{AreDistinct, AreClosedByHits, IsLayer};
 ghost use Rattle.column_sums.specs.Cascade.{best_sum};
 ghost use Rattle.column_sums.specs.FoundCells.{AreFoundCells};
-ghost use Rattle.column_sums.specs.Tables.{IsRow, IsRowOf};
+ghost use Rattle.column_sums.specs.Tables.{IsRow, IsNeededRow};
 
 /// What was found of the ends of all rolls, each as it was looked up, makes the sum over the rolls found.
 pub fn found_ends_give_the_sum()
@@ -36,7 +36,7 @@ pub fn found_cells_give_the_sum()
         → AreFoundCells end source noted (kind_at stakes k) layouts others needed row
         → (p : Placement) → IsStateOf source.checkers source.kinds p k → IsLayer others p.other
         → (sum : ℤ)
-        → ((value : Placement → ℤ) → IsRowOf value layouts others needed row
+        → ((value : Placement → ℤ) → IsNeededRow value layouts others needed row
         → sum ≡ best_sum all_rolls value p)
         → IsFoundOf end (of_sum stakes p k) source noted sum }
 {}

@@ -8,7 +8,7 @@ ghost use Rattle.turn_rule.specs.Layouts.{AreLayouts};
 ghost use Rattle.column_sums.specs.AfterHits.{AreDistinct};
 ghost use Rattle.column_sums.specs.Cascade.{over_places, best_over, best_of_roll, best_sum, greatest_if_any, line_ends};
 ghost use Rattle.column_sums.specs.Columns.{Step, step_from, landed_if, steps_from, over_steps, AreStruck};
-ghost use Rattle.column_sums.specs.Tables.{IsRow, IsRowOf};
+ghost use Rattle.column_sums.specs.Tables.{IsRow, IsNeededRow};
 ghost use Rattle.column_sums.specs.Values.{cell_value};
 
 /// What is found die by die is the greatest value of the ends of the lines that use these dice, or missing where there is none.
@@ -65,5 +65,5 @@ pub fn rows_have_values()
     ensures { (checkers : ℕ) (layouts others : List (List ℕ)) (needed : List Bool)
         (row : List (Option ℤ)) → AreLayouts checkers layouts → length layouts ≤ 3276 → length others ≤ 8
         → AreDistinct others → IsRow row
-        → IsRowOf (cell_value others row) layouts others needed row }
+        → IsNeededRow (cell_value others row) layouts others needed row }
 {}

@@ -5,7 +5,7 @@ ghost use Rattle.directed_fixed.specs.Bounds.{IsWithinUnits};
 ghost use Rattle.column_sums.specs.Cascade.{best_pair, best_double, best_of_roll};
 ghost use Rattle.column_sums.specs.MoveLists.{AreReady};
 ghost use Rattle.column_sums.specs.Sums.{AreOnes, AreTwoAndThree, AreRightEach, AreSmall, AreSums, DoubleTables, PairTables, RollTables, IsRollAdded, sum_at, ways};
-ghost use Rattle.column_sums.specs.Tables.{IsRow, IsRowOf, IsTableOfCells};
+ghost use Rattle.column_sums.specs.Tables.{IsRow, IsNeededRow, IsTableOfCells};
 
 use crate::best::Best;
 use crate::moves::Moves;
@@ -40,7 +40,7 @@ fn fill_ones(moves: &Moves, row: &[Best], ones: &mut [Table; 6])
     requires ready { AreReady moves.now }
     requires row { IsRow row.now }
     ensures { (value : Placement → ℤ)
-        → IsRowOf value moves.now.steps moves.now.layers moves.now.needed.items row.now
+        → IsNeededRow value moves.now.steps moves.now.layers moves.now.needed.items row.now
         → AreOnes value moves.now ones.new }
 {
     for d in 0..6 {
@@ -182,7 +182,7 @@ pub(crate) fn sum_rolls(
     requires sums { moves.now.movers ≤ length sums.old }
     ensures small { AreSmall sums.new moves.now.movers }
     ensures sums { (value : Placement → ℤ)
-        → IsRowOf value moves.now.steps moves.now.layers moves.now.needed.items row.now
+        → IsNeededRow value moves.now.steps moves.now.layers moves.now.needed.items row.now
         → AreSums value moves.now all_rolls sums.new }
 {
     clear(sums, moves.movers);

@@ -9,7 +9,7 @@ use Rattle.turn_rule.specs.Looks.{Source, Notes, AreStakesOf}
 use Rattle.turn_rule.specs.Found.{IsFoundOf, of_sum}
 use Rattle.column_sums.specs.Leaps.{layout_at}
 use Rattle.column_sums.specs.AfterHits.{AreDistinct, AreClosedByHits}
-use Rattle.column_sums.specs.Tables.{IsRow, IsRowOf}
+use Rattle.column_sums.specs.Tables.{IsRow, IsNeededRow}
 use Rattle.column_sums.specs.ColumnOf.{ColumnOf, AreColumnSums}
 use Rattle.column_sums.specs.FoundCells.{AreFoundCells}
 use Rattle.turn_rule.proofs.Within.{bound-positive, bound-small}
@@ -21,7 +21,7 @@ use Rattle.column_turns.specs.Turns.{mover_at, IsColumnOf}
 module _ (end : End) (s : Source) (stakes : Terms) (noted : Notes) (k : ℕ) (column : ColumnOf) (row : List (Option ℤ)) (one : List ℤ) where
   pub sums-found : IsValid stakes → AreStakesOf s stakes → IsColumnOf s column.layouts column.others column.movers → length column.others ≤ 8 → AreDistinct column.others → AreClosedByHits column.others → IsRow row → k < length stakes.kinds
       → AreFoundLayers end s noted (kind_at stakes k) column.layouts column.others column.needed row (length column.others)
-      → ((value : Placement → ℤ) → IsRowOf value column.layouts column.others column.needed row → AreColumnSums value column all_rolls one)
+      → ((value : Placement → ℤ) → IsNeededRow value column.layouts column.others column.needed row → AreColumnSums value column all_rolls one)
       → (i : ℕ) → i < length column.movers → IsFoundOf end (of_sum stakes (mover_at column.layouts (layout_at column.others 0) column.movers i) k) s noted (get_or one i (pos 0))
   sums-found valid fits is few distinct closed right here found sums i below =
       let layouts = column.layouts in

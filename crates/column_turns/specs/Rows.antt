@@ -70,7 +70,8 @@ pub record AreFoundRowsTo (end : End) (source : Source) (noted : Notes) (stakes 
     (old new : List (List (Option ℤ))) (layer count : ℕ) : Type 0 where
   pub same : (k : ℕ) → k < length stakes.kinds → IsSameBefore layer (row_at old k) (row_at new k)
   pub found : (k : ℕ) → k < length stakes.kinds
-      → AreFoundTo end source noted (kind_at stakes k) layouts other needed (row_at new k) layer count
+      → AreFoundTo end source noted (kind_at stakes k) layouts other needed
+      (row_at new k) layer count
 
 -- in each kind's row all needed cells of the first few layers were found
 abbrev pub AreFoundRows : End → Source → Notes → Terms → List (List ℕ) → List (List ℕ) → List Bool

@@ -23,7 +23,7 @@ use worker_team::Team;
 pub const LONGEST_PAGE: usize = 229_408;
 
 /// How many pages are made together before they are appended, so many that the workers seldom wait for the slowest of them.
-const PAGES_MADE: usize = 64;
+const PAGES_MADE: usize = 32;
 
 /// The bytes of a page that are put together before they are appended.
 type PageBytes = ArrayVec<u8, LONGEST_PAGE>;

@@ -4,7 +4,7 @@ use Rattle.roll_table.specs.Rolls.{all_rolls}
 use Rattle.column_sums.specs.Cascade.{best_sum}
 use Rattle.column_sums.specs.ColumnOf.{ColumnOf, AreColumnSums}
 use Rattle.column_sums.specs.Sums.{AreSmall}
-use Rattle.column_sums.specs.Tables.{IsRowOf}
+use Rattle.column_sums.specs.Tables.{IsNeededRow}
 use Rattle.column_sums.proofs.SumLemmas.{begun-is, begun-low}
 use Rattle.column_sums.proofs.column.Column.sum.Goals as goal
 
@@ -19,8 +19,8 @@ pub returns-clause-sums : goal.returns-clause-sums
 returns-clause-sums c =
     let moves = c.self.inside.moves in
     let sums = c.sum_rolls.new.sums in
-    subst (λ (v : ColumnOf). (value : Placement → ℤ) → IsRowOf value v.layouts v.others v.needed c.args.row.now → AreColumnSums value v all_rolls sums) c.self.view_is
+    subst (λ (v : ColumnOf). (value : Placement → ℤ) → IsNeededRow value v.layouts v.others v.needed c.args.row.now → AreColumnSums value v all_rolls sums) c.self.view_is
     (λ value tabled i h.
     let mover = begun-low moves i h in
-    c.sum_rolls.ensures.sums value (subst (λ (row : List (Option ℤ)). IsRowOf value moves.steps moves.layers moves.needed.items row) (sym c.cells.ensures.cells) tabled) i mover
+    c.sum_rolls.ensures.sums value (subst (λ (row : List (Option ℤ)). IsNeededRow value moves.steps moves.layers moves.needed.items row) (sym c.cells.ensures.cells) tabled) i mover
     ∙ ap (best_sum all_rolls value) (begun-is moves c.self.invariant i mover))
