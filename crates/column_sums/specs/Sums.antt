@@ -2,10 +2,13 @@
 use Rattle.std.specs.Prelude.{◌≡◌, ◌≤◌, ◌<◌, ◌-◌, ◌^◌, ℕ, ℤ, pos, ◌+ℤ◌, ◌*ℤ◌, List, [], ◌∷◌, length, Option, slice_index, slice_index_or, ◌==◌, if◌then◌else◌}
 use Rattle.position_rank.specs.Placement.{Placement}
 use Rattle.roll_table.specs.Rolls.{Dice}
+use Rattle.directed_fixed.specs.declared.bounds.End.{End}
 use Rattle.directed_fixed.specs.Bounds.{IsWithinUnits}
 use Rattle.column_sums.specs.Cascade.{best_sum}
 use Rattle.column_sums.specs.Cells.{cell_placement}
 use Rattle.column_sums.specs.Tables.{IsNeededRow, IsRightAt}
+use Rattle.column_sums.specs.Worths.{cells_at}
+use Rattle.column_sums.specs.declared.best.Bests.{Bests}
 use Rattle.column_sums.specs.declared.cells.Reach.{Reach}
 use Rattle.column_sums.specs.declared.moves.DieList.{DieList}
 use Rattle.column_sums.specs.declared.moves.Moves.{Moves}
@@ -27,10 +30,10 @@ AreRightEach value moves die table =
     ∷ []) moves table (die_list moves die none).reaches.items
     (length (die_list moves die none).reaches.items)
 
--- a table of each die: the best with this die to play
-abbrev pub AreOnes : (Placement → ℤ) → Moves → List (List (Option ℤ)) → Type 0
-AreOnes value moves ones = (die : ℕ) (none : List (Option ℤ)) → 1 ≤ die → die ≤ 6
-    → AreRightEach value moves die (slice_index_or ones (die - 1) none)
+-- a table of each die, at this end: the best with this die to play
+abbrev pub AreOnes : End → (Placement → ℤ) → Moves → List (List Bests) → Type 0
+AreOnes end value moves ones = (die : ℕ) (none : List Bests) → 1 ≤ die → die ≤ 6
+    → AreRightEach value moves die (cells_at end (slice_index_or ones (die - 1) none))
 
 -- in how many ways a roll comes
 abbrev pub ways : Dice → ℕ
@@ -90,8 +93,8 @@ pub record PairTables (value : Placement → ℤ) (moves : Moves) (high low : �
   pub higher : AreRightEach value moves high after_high
   pub lower : AreRightEach value moves low after_low
 
--- the row is right, and the tables of the dice
-pub record RollTables (value : Placement → ℤ) (moves : Moves) (row : List (Option ℤ))
-    (ones : List (List (Option ℤ))) : Type 0 where
-  pub none : IsNeededRow value moves.steps moves.layers moves.needed.items row
-  pub each : AreOnes value moves ones
+-- at this end the row is right, and the tables of the dice
+pub record RollTables (end : End) (value : Placement → ℤ) (moves : Moves) (row : List Bests)
+    (ones : List (List Bests)) : Type 0 where
+  pub none : IsNeededRow value moves.steps moves.layers moves.needed.items (cells_at end row)
+  pub each : AreOnes end value moves ones

@@ -3,8 +3,11 @@ use Rattle.std.specs.Prelude.{◌≡◌, ◌≢◌, ◌<◌, ℕ, ℤ, Bool, All
 use Rattle.position_rank.specs.Placement.{Placement}
 use Rattle.column_sums.specs.Cascade.{or_max, best_over}
 use Rattle.column_sums.specs.Leaps.{layout_at}
+use Rattle.directed_fixed.specs.declared.bounds.End.{End}
 use Rattle.column_sums.specs.Cells.{no_cell, cell_of, best_from}
 use Rattle.column_sums.specs.Needed.{IsNeeded}
+use Rattle.column_sums.specs.Worths.{cells_at}
+use Rattle.column_sums.specs.declared.best.Bests.{Bests}
 use Rattle.column_sums.specs.declared.cells.Reach.{Reach}
 
 -- a value for each cell, and none for a move that can't be made
@@ -18,6 +21,15 @@ pub record IsRow (cells : List (Option ℤ)) : Type 0 where
   pub missing : slice_index_or cells no_cell None ≡ None
   pub filled : (cell : ℕ) → cell < 32768 → cell ≢ no_cell → (x : ℤ)
       × (slice_index_or cells cell None ≡ Some x)
+
+-- so it is at both ends
+pub record AreTable (cells : List Bests) : Type 0 where
+  pub many : length cells ≡ 32768
+  pub each : (end : End) → IsTableOfCells (cells_at end cells)
+
+pub record AreRow (cells : List Bests) : Type 0 where
+  pub many : length cells ≡ 32768
+  pub each : (end : End) → IsRow (cells_at end cells)
 
 -- in each cell of each layer that is needed, the value with no dice to play
 abbrev pub IsNeededRow : (Placement → ℤ) → List (List ℕ) → List (List ℕ) → List Bool

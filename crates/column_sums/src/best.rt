@@ -1,6 +1,7 @@
-ghost use Rattle.std.specs.Prelude.{◌≡◌, ◌^◌, ◌↔◌, ℤ, pos, IsTrue, None, Some};
+ghost use Rattle.std.specs.Prelude.{◌≡◌, ◌≢◌, ◌^◌, ◌↔◌, ℤ, pos, IsFalse, IsTrue, None, Some};
 ghost use Rattle.directed_fixed.specs.Bounds.{IsWithinUnits};
 ghost use Rattle.column_sums.specs.Cascade.{or_max, or_value};
+ghost use Rattle.column_sums.specs.Worths.{AreSmallWorths};
 
 use directed_fixed::Fixed;
 use std::marker::Model;
@@ -73,6 +74,73 @@ impl Best {
             other
         } else {
             self.value
+        }
+    }
+}
+
+/// What something is worth by lower words, and by upper ones.
+#[derive(Clone, Copy)]
+pub struct Worths {
+    pub lower: Fixed,
+    pub upper: Fixed,
+}
+
+/// What is best by lower words, and by upper ones.
+#[derive(Clone, Copy)]
+pub(crate) struct Bests {
+    pub(crate) lower: Best,
+    pub(crate) upper: Best,
+}
+
+impl Bests {
+    /// No value at either end.
+    #[inline]
+    pub(crate) fn missing() -> Bests
+        ensures lower { result.lower ≡ None }
+        ensures upper { result.upper ≡ None }
+    {
+        Bests {
+            lower: Best::missing(),
+            upper: Best::missing(),
+        }
+    }
+
+    /// A value at each end.
+    #[inline]
+    pub(crate) fn of(worths: Worths) -> Bests
+        requires { AreSmallWorths worths }
+        ensures lower { result.lower ≡ Some worths.lower }
+        ensures upper { result.upper ≡ Some worths.upper }
+    {
+        Bests {
+            lower: Best::of(worths.lower),
+            upper: Best::of(worths.upper),
+        }
+    }
+
+    /// At each end the greater of the two, or the one that there is.
+    #[inline]
+    pub(crate) fn max(self, other: Bests) -> Bests
+        ensures lower { result.lower ≡ or_max self.lower other.lower }
+        ensures upper { result.upper ≡ or_max self.upper other.upper }
+    {
+        Bests {
+            lower: self.lower.max(other.lower),
+            upper: self.upper.max(other.upper),
+        }
+    }
+
+    /// At each end this value, or the other where this one is missing.
+    #[inline]
+    pub(crate) fn or(self, other: Worths) -> Worths
+        requires { AreSmallWorths other }
+        ensures lower { result.lower ≡ or_value self.lower other.lower }
+        ensures upper { result.upper ≡ or_value self.upper other.upper }
+        ensures small { AreSmallWorths result }
+    {
+        Worths {
+            lower: self.lower.or(other.lower),
+            upper: self.upper.or(other.upper),
         }
     }
 }

@@ -9,11 +9,13 @@ ghost use Rattle.column_sums.specs.Leaps.{layout_at};
 ghost use Rattle.column_sums.specs.Listings.{IsListed};
 ghost use Rattle.column_sums.specs.Sums.{AreSmall};
 ghost use Rattle.column_sums.specs.Tables.{IsNeededRow};
+ghost use Rattle.column_sums.specs.Worths.{cells_at, worths_at};
+ghost use Rattle.directed_fixed.specs.declared.bounds.End.{End};
 
+use crate::best::Worths;
 use crate::moves::Moves;
 use crate::sums::sum_rolls;
 use crate::tables::{Row, Table};
-use directed_fixed::Fixed;
 use hyper_outside::NoMemory;
 use position_rank::Layout;
 use std::alloc::Global;
@@ -134,14 +136,15 @@ impl Column {
 
     /// For each mover, by its place among the movers, the sum over the 36 ways of two dice of what the best play is worth, by what the row
     /// has for its end. The row may have any values where none is needed.
-    pub fn sum(&mut self, row: &Row, sums: &mut [Fixed])
+    pub fn sum(&mut self, row: &Row, sums: &mut [Worths])
         requires { length self.old.movers ≤ length sums.old }
         ensures column { self.new ≡ self.old }
         ensures many { length sums.new ≡ length sums.old }
-        ensures small { AreSmall sums.new (length self.old.movers) }
-        ensures sums { (value : Placement → ℤ)
-            → IsNeededRow value self.old.layouts self.old.others self.old.needed row.now
-            → AreColumnSums value self.old all_rolls sums.new }
+        ensures small { (end : End) → AreSmall (worths_at end sums.new) (length self.old.movers) }
+        ensures sums { (end : End) (value : Placement → ℤ)
+            → IsNeededRow value self.old.layouts self.old.others self.old.needed
+            (cells_at end row.now)
+            → AreColumnSums value self.old all_rolls (worths_at end sums.new) }
     {
         sum_rolls(
             &self.moves,

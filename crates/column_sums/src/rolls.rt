@@ -1,25 +1,38 @@
-ghost use Rattle.std.specs.Prelude.{◌≡◌, ◌^◌, ◌<◌, pos, IsFalse, length};
-ghost use Rattle.directed_fixed.specs.Bounds.{IsWithinUnits};
+ghost use Rattle.std.specs.Prelude.{◌≡◌, ◌<◌, pos, IsFalse, length};
+ghost use Rattle.directed_fixed.specs.declared.bounds.End.{End};
 ghost use Rattle.column_sums.specs.Rolls.{pair_found, double_found, fewer_of_pair, fewer_of_double};
-ghost use Rattle.column_sums.specs.Tables.{HasNoThird, IsReachWithin, IsTableOfCells};
+ghost use Rattle.column_sums.specs.Tables.{AreTable, HasNoThird, IsReachWithin};
+ghost use Rattle.column_sums.specs.Worths.{AreSmallWorths, cells_at, worth_at};
 
-use crate::best::Best;
+use crate::best::{Bests, Worths};
 use crate::cells::Reach;
 use crate::tables::best_after;
 use directed_fixed::Fixed;
 
+/// 0 at both ends.
+#[inline]
+pub(crate) fn zeros() -> Worths
+    ensures { result ≡ record { lower = pos 0; upper = pos 0 } }
+{
+    Worths {
+        lower: Fixed::whole(0),
+        upper: Fixed::whole(0),
+    }
+}
+
 /// Where not both dice can be played: the higher one, else the lower one, else none.
 #[cold]
-fn fewer_of_pair(cell: u16, row: &[Best], after_high: &[Best], after_low: &[Best]) -> Fixed
+fn fewer_of_pair(cell: u16, row: &[Bests], after_high: &[Bests], after_low: &[Bests]) -> Worths
     requires cell { cell < 32768 }
     requires row { length row.now ≡ 32768 }
     requires after_high { length after_high.now ≡ 32768 }
     requires after_low { length after_low.now ≡ 32768 }
-    ensures best { result ≡ fewer_of_pair cell row.now after_high.now after_low.now }
-    ensures within { IsWithinUnits (pos (2 ^ 36)) result }
+    ensures best { (end : End) → worth_at end result ≡ fewer_of_pair cell
+        (cells_at end row.now) (cells_at end after_high.now) (cells_at end after_low.now) }
+    ensures small { AreSmallWorths result }
 {
     let cell = usize::from(cell);
-    let none = row[cell].or(Fixed::whole(0));
+    let none = row[cell].or(zeros());
     let lower = after_low[cell].or(none);
     after_high[cell].or(lower)
 }
@@ -29,43 +42,51 @@ fn fewer_of_pair(cell: u16, row: &[Best], after_high: &[Best], after_low: &[Best
 pub(crate) fn best_pair(
     high: &Reach,
     low: &Reach,
-    row: &[Best],
-    after_high: &[Best],
-    after_low: &[Best],
+    row: &[Bests],
+    after_high: &[Bests],
+    after_low: &[Bests],
     third: bool,
-) -> Fixed
+) -> Worths
     requires high { IsReachWithin high.now }
     requires low { IsReachWithin low.now }
     requires row { length row.now ≡ 32768 }
-    requires after_high { IsTableOfCells after_high.now }
-    requires after_low { IsTableOfCells after_low.now }
+    requires after_high { AreTable after_high.now }
+    requires after_low { AreTable after_low.now }
     requires third { IsFalse third → HasNoThird high.now × HasNoThird low.now }
-    ensures best { result ≡ pair_found high.now low.now row.now after_high.now after_low.now }
-    ensures within { IsWithinUnits (pos (2 ^ 36)) result }
+    ensures best { (end : End) → worth_at end result ≡ pair_found high.now low.now
+        (cells_at end row.now) (cells_at end after_high.now) (cells_at end after_low.now) }
+    ensures small { AreSmallWorths result }
 {
     let high_first = best_after(after_low, high, third);
     let low_first = best_after(after_high, low, third);
     let both = high_first.max(low_first);
-    if both.is_missing() {
-        fewer_of_pair(high.cell, row, after_high, after_low)
+    if both.lower.is_missing() || both.upper.is_missing() {
+        both.or(fewer_of_pair(high.cell, row, after_high, after_low))
     } else {
-        both.or(Fixed::whole(0))
+        both.or(zeros())
     }
 }
 
 /// Where not all four dice can be played: as many as can.
 #[cold]
-fn fewer_of_double(cell: u16, row: &[Best], one: &[Best], two: &[Best], three: &[Best]) -> Fixed
+fn fewer_of_double(
+    cell: u16,
+    row: &[Bests],
+    one: &[Bests],
+    two: &[Bests],
+    three: &[Bests],
+) -> Worths
     requires cell { cell < 32768 }
     requires row { length row.now ≡ 32768 }
     requires one { length one.now ≡ 32768 }
     requires two { length two.now ≡ 32768 }
     requires three { length three.now ≡ 32768 }
-    ensures best { result ≡ fewer_of_double cell row.now one.now two.now three.now }
-    ensures within { IsWithinUnits (pos (2 ^ 36)) result }
+    ensures best { (end : End) → worth_at end result ≡ fewer_of_double cell (cells_at end row.now)
+        (cells_at end one.now) (cells_at end two.now) (cells_at end three.now) }
+    ensures small { AreSmallWorths result }
 {
     let cell = usize::from(cell);
-    let none = row[cell].or(Fixed::whole(0));
+    let none = row[cell].or(zeros());
     let once = one[cell].or(none);
     let twice = two[cell].or(once);
     three[cell].or(twice)
@@ -75,25 +96,26 @@ fn fewer_of_double(cell: u16, row: &[Best], one: &[Best], two: &[Best], three: &
 #[inline]
 pub(crate) fn best_double(
     reach: &Reach,
-    row: &[Best],
-    one: &[Best],
-    two: &[Best],
-    three: &[Best],
+    row: &[Bests],
+    one: &[Bests],
+    two: &[Bests],
+    three: &[Bests],
     third: bool,
-) -> Fixed
+) -> Worths
     requires reach { IsReachWithin reach.now }
     requires row { length row.now ≡ 32768 }
     requires one { length one.now ≡ 32768 }
     requires two { length two.now ≡ 32768 }
-    requires three { IsTableOfCells three.now }
+    requires three { AreTable three.now }
     requires third { IsFalse third → HasNoThird reach.now }
-    ensures best { result ≡ double_found reach.now row.now one.now two.now three.now }
-    ensures within { IsWithinUnits (pos (2 ^ 36)) result }
+    ensures best { (end : End) → worth_at end result ≡ double_found reach.now (cells_at end row.now)
+        (cells_at end one.now) (cells_at end two.now) (cells_at end three.now) }
+    ensures small { AreSmallWorths result }
 {
     let four = best_after(three, reach, third);
-    if four.is_missing() {
-        fewer_of_double(reach.cell, row, one, two, three)
+    if four.lower.is_missing() || four.upper.is_missing() {
+        four.or(fewer_of_double(reach.cell, row, one, two, three))
     } else {
-        four.or(Fixed::whole(0))
+        four.or(zeros())
     }
 }

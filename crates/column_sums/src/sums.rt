@@ -1,32 +1,34 @@
 ghost use Rattle.std.specs.Prelude.{◌≡◌, ◌<◌, ◌≤◌, ◌^◌, ◌-◌, ℕ, ℤ, pos, ◌+ℤ◌, ◌*ℤ◌, List, [], ◌∷◌, length, slice_index_or};
 ghost use Rattle.roll_table.specs.Rolls.{Dice, all_rolls};
 ghost use Rattle.position_rank.specs.Placement.{Placement};
+ghost use Rattle.directed_fixed.specs.declared.bounds.End.{End};
 ghost use Rattle.directed_fixed.specs.Bounds.{IsWithinUnits};
 ghost use Rattle.column_sums.specs.Cascade.{best_pair, best_double, best_of_roll};
 ghost use Rattle.column_sums.specs.MoveLists.{AreReady};
 ghost use Rattle.column_sums.specs.Sums.{AreOnes, AreTwoAndThree, AreRightEach, AreSmall, AreSums, DoubleTables, PairTables, RollTables, IsRollAdded, sum_at, ways};
-ghost use Rattle.column_sums.specs.Tables.{IsRow, IsNeededRow, IsTableOfCells};
+ghost use Rattle.column_sums.specs.Tables.{AreRow, AreTable, IsNeededRow};
+ghost use Rattle.column_sums.specs.Worths.{AreSmallWorths, cells_at, worths_at};
 
-use crate::best::Best;
+use crate::best::{Bests, Worths};
 use crate::moves::Moves;
-use crate::rolls::{best_double, best_pair};
+use crate::rolls::{best_double, best_pair, zeros};
 use crate::tables::{Row, Table};
 use directed_fixed::Fixed;
 use roll_table::{Roll, rolls};
 
 /// Makes the first few sums 0.
-fn clear(sums: &mut [Fixed], many: usize)
+fn clear(sums: &mut [Worths], many: usize)
     requires { many ≤ length sums.old }
-    ensures { (i : ℕ) → i < many → sum_at sums.new i ≡ pos 0 }
+    ensures { (end : End) (i : ℕ) → i < many → sum_at (worths_at end sums.new) i ≡ pos 0 }
 {
     for i in 0..many {
-        sums[i] = Fixed::whole(0);
+        sums[i] = zeros();
     }
 }
 
-/// One more value, so many times.
+/// One value more, so many times.
 #[inline]
-fn add_times(sum: Fixed, times: u32, best: Fixed) -> Fixed
+fn add_one(sum: Fixed, times: u32, best: Fixed) -> Fixed
     requires sum { IsWithinUnits (pos (2 ^ 42)) sum }
     requires times { times ≤ 2 }
     requires best { IsWithinUnits (pos (2 ^ 36)) best }
@@ -35,13 +37,30 @@ fn add_times(sum: Fixed, times: u32, best: Fixed) -> Fixed
     sum.add(best.times(times))
 }
 
+/// One value more at each end, so many times.
+#[inline]
+fn add_times(sum: Worths, times: u32, best: Worths) -> Worths
+    requires lower { IsWithinUnits (pos (2 ^ 42)) sum.lower }
+    requires upper { IsWithinUnits (pos (2 ^ 42)) sum.upper }
+    requires times { times ≤ 2 }
+    requires best { AreSmallWorths best }
+    ensures lower { result.lower ≡ (sum.lower +ℤ pos times *ℤ best.lower) }
+    ensures upper { result.upper ≡ (sum.upper +ℤ pos times *ℤ best.upper) }
+{
+    Worths {
+        lower: add_one(sum.lower, times, best.lower),
+        upper: add_one(sum.upper, times, best.upper),
+    }
+}
+
 /// The best with one die to play, for each die.
-fn fill_ones(moves: &Moves, row: &[Best], ones: &mut [Table; 6])
+fn fill_ones(moves: &Moves, row: &[Bests], ones: &mut [Table; 6])
     requires ready { AreReady moves.now }
-    requires row { IsRow row.now }
-    ensures { (value : Placement → ℤ)
-        → IsNeededRow value moves.now.steps moves.now.layers moves.now.needed.items row.now
-        → AreOnes value moves.now ones.new }
+    requires row { AreRow row.now }
+    ensures { (end : End) (value : Placement → ℤ)
+        → IsNeededRow value moves.now.steps moves.now.layers moves.now.needed.items
+        (cells_at end row.now)
+        → AreOnes end value moves.now ones.new }
 {
     for d in 0..6 {
         let list = &moves.lists[d];
@@ -51,13 +70,14 @@ fn fill_ones(moves: &Moves, row: &[Best], ones: &mut [Table; 6])
 }
 
 /// The best with two and with three dice of one number to play.
-fn fill_two_and_three(moves: &Moves, die: u8, one: &[Best], two: &mut Table, three: &mut Table)
+fn fill_two_and_three(moves: &Moves, die: u8, one: &[Bests], two: &mut Table, three: &mut Table)
     requires ready { AreReady moves.now }
     requires low { 1 ≤ die }
     requires high { die ≤ 6 }
-    requires one { IsTableOfCells one.now }
-    ensures { (value : Placement → ℤ) → AreRightEach value moves.now die one.now
-        → AreTwoAndThree value moves.now die two.new three.new }
+    requires one { AreTable one.now }
+    ensures { (end : End) (value : Placement → ℤ)
+        → AreRightEach value moves.now die (cells_at end one.now)
+        → AreTwoAndThree value moves.now die (cells_at end two.new) (cells_at end three.new) }
 {
     let list = &moves.lists[usize::from(die) - 1];
     let near = moves.listing.cells().len();
@@ -69,24 +89,25 @@ fn fill_two_and_three(moves: &Moves, die: u8, one: &[Best], two: &mut Table, thr
 fn add_double(
     moves: &Moves,
     die: u8,
-    row: &[Best],
-    one: &[Best],
-    two: &[Best],
-    three: &[Best],
-    sums: &mut [Fixed],
+    row: &[Bests],
+    one: &[Bests],
+    two: &[Bests],
+    three: &[Bests],
+    sums: &mut [Worths],
 )
     requires ready { AreReady moves.now }
     requires low { 1 ≤ die }
     requires high { die ≤ 6 }
-    requires row { IsRow row.now }
-    requires one { IsTableOfCells one.now }
-    requires two { IsTableOfCells two.now }
-    requires three { IsTableOfCells three.now }
+    requires row { AreRow row.now }
+    requires one { AreTable one.now }
+    requires two { AreTable two.now }
+    requires three { AreTable three.now }
     requires sums { moves.now.movers ≤ length sums.old }
-    requires small { AreSmall sums.old moves.now.movers }
-    ensures { IsRollAdded moves.now 1
-        (λ value. DoubleTables value moves.now die row.now one.now two.now three.now)
-        (λ value. best_double value die) sums.old sums.new }
+    requires small { (end : End) → AreSmall (worths_at end sums.old) moves.now.movers }
+    ensures { (end : End) → IsRollAdded moves.now 1
+        (λ value. DoubleTables value moves.now die (cells_at end row.now) (cells_at end one.now)
+        (cells_at end two.now) (cells_at end three.now))
+        (λ value. best_double value die) (worths_at end sums.old) (worths_at end sums.new) }
 {
     let list = &moves.lists[usize::from(die) - 1];
     let reaches = list.reaches.as_slice();
@@ -102,22 +123,23 @@ fn add_pair(
     moves: &Moves,
     high: u8,
     low: u8,
-    row: &[Best],
-    after_high: &[Best],
-    after_low: &[Best],
-    sums: &mut [Fixed],
+    row: &[Bests],
+    after_high: &[Bests],
+    after_low: &[Bests],
+    sums: &mut [Worths],
 )
     requires ready { AreReady moves.now }
     requires high { (1 ≤ high) × (high ≤ 6) }
     requires low { (1 ≤ low) × (low ≤ 6) }
-    requires row { IsRow row.now }
-    requires after_high { IsTableOfCells after_high.now }
-    requires after_low { IsTableOfCells after_low.now }
+    requires row { AreRow row.now }
+    requires after_high { AreTable after_high.now }
+    requires after_low { AreTable after_low.now }
     requires sums { moves.now.movers ≤ length sums.old }
-    requires small { AreSmall sums.old moves.now.movers }
-    ensures { IsRollAdded moves.now 2
-        (λ value. PairTables value moves.now high low row.now after_high.now after_low.now)
-        (λ value. best_pair value high low) sums.old sums.new }
+    requires small { (end : End) → AreSmall (worths_at end sums.old) moves.now.movers }
+    ensures { (end : End) → IsRollAdded moves.now 2
+        (λ value. PairTables value moves.now high low (cells_at end row.now)
+        (cells_at end after_high.now) (cells_at end after_low.now))
+        (λ value. best_pair value high low) (worths_at end sums.old) (worths_at end sums.new) }
 {
     let high_list = &moves.lists[usize::from(high) - 1];
     let low_list = &moves.lists[usize::from(low) - 1];
@@ -134,19 +156,19 @@ fn add_pair(
 fn add_roll(
     moves: &Moves,
     roll: Roll,
-    row: &[Best],
+    row: &[Bests],
     ones: &[Table; 6],
     two: &mut Table,
     three: &mut Table,
-    sums: &mut [Fixed],
+    sums: &mut [Worths],
 )
     requires ready { AreReady moves.now }
-    requires row { IsRow row.now }
+    requires row { AreRow row.now }
     requires sums { moves.now.movers ≤ length sums.old }
-    requires small { AreSmall sums.old moves.now.movers }
-    ensures { IsRollAdded moves.now (ways roll)
-        (λ value. RollTables value moves.now row.now ones.now)
-        (λ value p. best_of_roll value p roll) sums.old sums.new }
+    requires small { (end : End) → AreSmall (worths_at end sums.old) moves.now.movers }
+    ensures { (end : End) → IsRollAdded moves.now (ways roll)
+        (λ value. RollTables end value moves.now row.now ones.now)
+        (λ value p. best_of_roll value p roll) (worths_at end sums.old) (worths_at end sums.new) }
 {
     let high = roll.high();
     let low = roll.low();
@@ -171,19 +193,20 @@ fn add_roll(
 /// For each mover, the sum over the 36 ways of two dice of the best play's value.
 pub(crate) fn sum_rolls(
     moves: &Moves,
-    row: &[Best],
+    row: &[Bests],
     ones: &mut [Table; 6],
     two: &mut Table,
     three: &mut Table,
-    sums: &mut [Fixed],
+    sums: &mut [Worths],
 )
     requires ready { AreReady moves.now }
-    requires row { IsRow row.now }
+    requires row { AreRow row.now }
     requires sums { moves.now.movers ≤ length sums.old }
-    ensures small { AreSmall sums.new moves.now.movers }
-    ensures sums { (value : Placement → ℤ)
-        → IsNeededRow value moves.now.steps moves.now.layers moves.now.needed.items row.now
-        → AreSums value moves.now all_rolls sums.new }
+    ensures small { (end : End) → AreSmall (worths_at end sums.new) moves.now.movers }
+    ensures sums { (end : End) (value : Placement → ℤ)
+        → IsNeededRow value moves.now.steps moves.now.layers moves.now.needed.items
+        (cells_at end row.now)
+        → AreSums value moves.now all_rolls (worths_at end sums.new) }
 {
     clear(sums, moves.movers);
     fill_ones(moves, row, ones);

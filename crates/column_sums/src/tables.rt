@@ -1,10 +1,11 @@
-ghost use Rattle.std.specs.Prelude.{◌≡◌, ◌^◌, ◌<◌, ◌≤◌, ℕ, ℤ, pos, All, IfOk, IsFalse, List, ◌∷◌, Some, None, length, replicate, slice_index_or, slice_set};
+ghost use Rattle.std.specs.Prelude.{◌≡◌, ◌<◌, ◌≤◌, ℕ, ℤ, All, IfOk, IsFalse, List, ◌∷◌, Some, length, replicate, slice_set};
 ghost use Rattle.position_rank.specs.Placement.{Placement};
-ghost use Rattle.directed_fixed.specs.Bounds.{IsWithinUnits};
-ghost use Rattle.column_sums.specs.Cells.{IsReach, cell_of, no_cell};
-ghost use Rattle.column_sums.specs.Tables.{HasNoThird, IsRow, IsTableOfCells, IsReachWithin, IsRightAfter, AreRightIn, best_after};
+ghost use Rattle.directed_fixed.specs.declared.bounds.End.{End};
+ghost use Rattle.column_sums.specs.Cells.{IsReach, cell_of};
+ghost use Rattle.column_sums.specs.Tables.{AreRow, AreTable, HasNoThird, IsReachWithin, IsRightAfter, AreRightIn, best_after};
+ghost use Rattle.column_sums.specs.Worths.{AreSmallWorths, best_at, cells_at, worth_at};
 
-use crate::best::Best;
+use crate::best::{Bests, Worths};
 use crate::cells::{CELLS, NO_CELL, Reach};
 use directed_fixed::Fixed;
 use hyper_outside::NoMemory;
@@ -14,47 +15,53 @@ use std::marker::Model;
 /// For each cell of a column, what ending the turn there is worth.
 #[derive(Drop)]
 pub struct Row {
-    cells: Vec<Best>,
+    cells: Vec<Bests>,
 }
 
 impl Model for Row {
-    ghost use Rattle.std.specs.Prelude.{ℤ, List, Option};
-    ghost use Rattle.column_sums.specs.Tables.{IsRow};
+    ghost use Rattle.std.specs.Prelude.{List};
+    ghost use Rattle.column_sums.specs.Tables.{AreRow};
+    ghost use Rattle.column_sums.specs.declared.best.Bests.{Bests};
 
-    ghost Value = { List (Option ℤ) };
+    ghost Value = { List Bests };
 
     ghost view = { λ a. a.cells.items };
 
-    ghost invariant = { λ a. IsRow a.cells.items };
+    ghost invariant = { λ a. AreRow a.cells.items };
 }
 
 impl Row {
     /// 0 in each cell. It asks for memory, and may answer `NoMemory`.
     pub fn new(alloc: Global) -> Result<Row, NoMemory>
-        ensures { IfOk result IsRow }
+        ensures { IfOk result AreRow }
     {
-        let mut cells = cells_of(alloc, Best::of(Fixed::whole(0)), CELLS)?;
-        cells[usize::from(NO_CELL)] = Best::missing();
+        let zero = Worths {
+            lower: Fixed::whole(0),
+            upper: Fixed::whole(0),
+        };
+        let mut cells = cells_of(alloc, Bests::of(zero), CELLS)?;
+        cells[usize::from(NO_CELL)] = Bests::missing();
         Ok(Row { cells })
     }
 
-    /// Puts what the cell with this layer and this rank of the mover is worth, at most 2 ^ 36 units on either side of 0.
+    /// Puts what the cell with this layer and this rank of the mover is worth at both ends, at most 2 ^ 36 units on either side of 0.
     #[inline]
-    pub fn set(&mut self, layer: usize, rank: usize, value: Fixed)
+    pub fn set(&mut self, layer: usize, rank: usize, worths: Worths)
         requires layer { layer < 8 }
         requires rank { rank < 4095 }
-        requires value { IsWithinUnits (pos (2 ^ 36)) value }
-        ensures set { self.new ≡ slice_set self.old (cell_of layer rank) (Some value) }
-        ensures row { IsRow self.new }
+        requires small { AreSmallWorths worths }
+        ensures set { (end : End) → cells_at end self.new
+            ≡ slice_set (cells_at end self.old) (cell_of layer rank) (Some (worth_at end worths)) }
+        ensures row { AreRow self.new }
     {
-        self.cells[layer * 4096 + rank] = Best::of(value);
+        self.cells[layer * 4096 + rank] = Bests::of(worths);
     }
 
     /// The cells.
     #[inline]
-    pub(crate) fn cells(&self) -> &[Best]
+    pub(crate) fn cells(&self) -> &[Bests]
         ensures cells { result.now ≡ self.now }
-        ensures row { IsRow self.now }
+        ensures row { AreRow self.now }
     {
         self.cells.as_slice()
     }
@@ -63,55 +70,56 @@ impl Row {
 /// For each cell of a column that is needed, the best of playing some more dice.
 #[derive(Drop)]
 pub(crate) struct Table {
-    cells: Vec<Best>,
+    cells: Vec<Bests>,
 }
 
 impl Model for Table {
-    ghost use Rattle.std.specs.Prelude.{ℤ, List, Option};
-    ghost use Rattle.column_sums.specs.Tables.{IsTableOfCells};
+    ghost use Rattle.std.specs.Prelude.{List};
+    ghost use Rattle.column_sums.specs.Tables.{AreTable};
+    ghost use Rattle.column_sums.specs.declared.best.Bests.{Bests};
 
-    ghost Value = { List (Option ℤ) };
+    ghost Value = { List Bests };
 
     ghost view = { λ a. a.cells.items };
 
-    ghost invariant = { λ a. IsTableOfCells a.cells.items };
+    ghost invariant = { λ a. AreTable a.cells.items };
 }
 
 impl Table {
     /// No value in any cell.
     pub(crate) fn new(alloc: Global) -> Result<Table, NoMemory>
-        ensures { IfOk result IsTableOfCells }
+        ensures { IfOk result AreTable }
     {
-        let cells = cells_of(alloc, Best::missing(), CELLS)?;
+        let cells = cells_of(alloc, Bests::missing(), CELLS)?;
         Ok(Table { cells })
     }
 
     /// The cells.
     #[inline]
-    pub(crate) fn cells(&self) -> &[Best]
+    pub(crate) fn cells(&self) -> &[Bests]
         ensures cells { result.now ≡ self.now }
-        ensures table { IsTableOfCells self.now }
+        ensures table { AreTable self.now }
     {
         self.cells.as_slice()
     }
 
     /// One die more: in each of these cells, the best of the cells that it leads to in a table of the dice after it.
-    pub(crate) fn fill(&mut self, reaches: &[Reach], from: &[Best], third: bool)
-        requires from { IsTableOfCells from.now }
+    pub(crate) fn fill(&mut self, reaches: &[Reach], from: &[Bests], third: bool)
+        requires from { AreTable from.now }
         requires third { IsFalse third → All HasNoThird reaches.now }
         requires reaches { All IsReachWithin reaches.now }
-        ensures filled { (value : Placement
+        ensures filled { (end : End) (value : Placement
             → ℤ) (dice : List ℕ) (layouts others : List (List ℕ)) (die : ℕ)
             → length layouts ≤ 3276 → All (IsReach layouts others die) reaches.now
-            → All (IsRightAfter value dice layouts others from.now) reaches.now
-            → AreRightIn value (die ∷ dice) layouts others self.new reaches.now }
+            → All (IsRightAfter value dice layouts others (cells_at end from.now)) reaches.now
+            → AreRightIn value (die ∷ dice) layouts others (cells_at end self.new) reaches.now }
     {
         fill_cells(reaches, from, third, &mut self.cells);
     }
 }
 
 /// So many cells of one value.
-fn cells_of(alloc: Global, value: Best, count: usize) -> Result<Vec<Best>, NoMemory>
+fn cells_of(alloc: Global, value: Bests, count: usize) -> Result<Vec<Bests>, NoMemory>
     ensures { IfOk result (λ cells. cells.items ≡ replicate count value) }
 {
     let cells = vec![in alloc; value; count]?;
@@ -120,11 +128,11 @@ fn cells_of(alloc: Global, value: Best, count: usize) -> Result<Vec<Best>, NoMem
 
 /// The greatest value of the cells that this leads to. `third` may be false where there is no third: that spares a look.
 #[inline]
-pub(crate) fn best_after(table: &[Best], reach: &Reach, third: bool) -> Best
-    requires table { IsTableOfCells table.now }
+pub(crate) fn best_after(table: &[Bests], reach: &Reach, third: bool) -> Bests
+    requires table { AreTable table.now }
     requires reach { IsReachWithin reach.now }
     requires third { IsFalse third → HasNoThird reach.now }
-    ensures { result ≡ best_after table.now reach.now }
+    ensures { (end : End) → best_at end result ≡ best_after (cells_at end table.now) reach.now }
 {
     let first = table[usize::from(reach.first)];
     let second = table[usize::from(reach.second)];
@@ -137,17 +145,17 @@ pub(crate) fn best_after(table: &[Best], reach: &Reach, third: bool) -> Best
 }
 
 /// One die more in each of these cells.
-fn fill_cells(reaches: &[Reach], from: &[Best], third: bool, to: &mut [Best])
-    requires from { IsTableOfCells from.now }
+fn fill_cells(reaches: &[Reach], from: &[Bests], third: bool, to: &mut [Bests])
+    requires from { AreTable from.now }
     requires third { IsFalse third → All HasNoThird reaches.now }
-    requires to { length to.old ≡ 32768 }
+    requires to { AreTable to.old }
     requires reaches { All IsReachWithin reaches.now }
-    ensures missing { slice_index_or to.new no_cell None ≡ slice_index_or to.old no_cell None }
-    ensures filled { (value : Placement
+    ensures table { AreTable to.new }
+    ensures filled { (end : End) (value : Placement
         → ℤ) (dice : List ℕ) (layouts others : List (List ℕ)) (die : ℕ)
         → length layouts ≤ 3276 → All (IsReach layouts others die) reaches.now
-        → All (IsRightAfter value dice layouts others from.now) reaches.now
-        → AreRightIn value (die ∷ dice) layouts others to.new reaches.now }
+        → All (IsRightAfter value dice layouts others (cells_at end from.now)) reaches.now
+        → AreRightIn value (die ∷ dice) layouts others (cells_at end to.new) reaches.now }
 {
     for reach in reaches {
         to[usize::from(reach.cell)] = best_after(from, reach, third);

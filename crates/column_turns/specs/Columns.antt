@@ -1,5 +1,5 @@
 -- A column's pairs, and the room in which they are worked out.
-use Rattle.std.specs.Prelude.{◌≡◌, ◌≤◌, ◌*◌, ◌^◌, ℕ, ℤ, pos, All, List, Option, length, slice_index_or, sum}
+use Rattle.std.specs.Prelude.{◌≡◌, ◌≤◌, ◌*◌, ◌^◌, ℕ, ℤ, pos, All, List, length, slice_index_or, sum}
 use Rattle.position_rank.specs.Placement.{IsLayout, Placement}
 use Rattle.position_rank.specs.Ranks.{rank_of}
 use Rattle.directed_fixed.specs.Bounds.{Bounds, IsWithinUnits}
@@ -7,6 +7,8 @@ use Rattle.cube_actions.specs.Stakes.{nothing}
 use Rattle.turn_rule.specs.declared.game.Game.{Game}
 use Rattle.turn_rule.specs.Games.{kinds_of}
 use Rattle.turn_rule.specs.Layouts.{AreLayouts}
+use Rattle.column_sums.specs.declared.best.Bests.{Bests}
+use Rattle.column_sums.specs.declared.best.Worths.{Worths}
 use Rattle.column_turns.specs.Rows.{AreRows}
 use Rattle.column_turns.specs.Turns.{mover_at, place_in, ArePointsOf}
 
@@ -39,20 +41,19 @@ pub record HasRoom (layouts : List (List ℕ)) (kinds : ℕ) (sums : List ℤ) :
 
 -- the points of these layouts, and room for a value of each and for one of each in each kind
 pub record HasRoomFor (layouts : List (List ℕ)) (kinds capacity : ℕ) (bits : List ℕ)
-    (sums low high : List ℤ) (turns : List Bounds)
-    (lower_cells upper_cells : List (List (Option ℤ))) : Type 0 where
+    (sums : List Worths) (low high : List ℤ) (turns : List Bounds)
+    (cells : List (List Bests)) : Type 0 where
   pub points : ArePointsOf layouts bits
   pub movers : length layouts ≤ capacity
   pub one : length sums ≡ length layouts
   pub lower : HasRoom layouts kinds low
   pub upper : HasRoom layouts kinds high
   pub pairs : length turns ≡ length layouts * kinds
-  pub lower_rows : AreRows kinds lower_cells
-  pub upper_rows : AreRows kinds upper_cells
+  pub rows : AreRows kinds cells
 
 -- a column of a game of so many checkers, with room for its movers, its sums and its pairs
 pub record IsColumn (checkers rank capacity : ℕ) (bits : List ℕ) (column : ColumnPairs)
-    (lower_cells upper_cells : List (List (Option ℤ))) (one lower upper : List ℤ) : Type 0 where
+    (cells : List (List Bests)) (one : List Worths) (lower upper : List ℤ) : Type 0 where
   pub low : 1 ≤ checkers
   pub high : checkers ≤ 3
   pub kinds : column.kinds ≤ 14
@@ -63,8 +64,7 @@ pub record IsColumn (checkers rank capacity : ℕ) (bits : List ℕ) (column : C
   pub ranked : rank_of column.other ≡ rank
   pub points : ArePointsOf column.layouts bits
   pub room : length column.layouts ≤ capacity
-  pub lower_rows : AreRows column.kinds lower_cells
-  pub upper_rows : AreRows column.kinds upper_cells
+  pub rows : AreRows column.kinds cells
   pub room_one : length column.layouts ≤ length one
   pub room_lower : HasRoom column.layouts column.kinds lower
   pub room_upper : HasRoom column.layouts column.kinds upper

@@ -1,4 +1,5 @@
 pub mod Moments
 pub mod Rows
 pub mod Turns
+pub mod SumsOfKinds
 pub mod Columns

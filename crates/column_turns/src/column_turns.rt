@@ -13,7 +13,7 @@ ghost use Rattle.column_turns.specs.Turns.{mover_at, place_in, AreLiveMovers, Ar
 
 use crate::movers::{list_movers, points_of};
 use crate::turns::turn_column;
-use column_sums::{Column, Row};
+use column_sums::{Column, Row, Worths};
 use cube_actions::Stakes;
 use directed_fixed::{Fixed, Pair};
 use hyper_outside::NoMemory;
@@ -30,12 +30,11 @@ pub struct ColumnTurns {
     kinds: usize,
     points: Vec<OtherPoints>,
     column: Column,
-    lower_rows: Vec<Row>,
-    upper_rows: Vec<Row>,
+    rows: Vec<Row>,
     other: Layout,
     rank: u32,
     movers: Vec<u16>,
-    one: Vec<Fixed>,
+    one: Vec<Worths>,
     lower: Vec<Fixed>,
     upper: Vec<Fixed>,
     pairs: Vec<Pair>,
@@ -62,7 +61,7 @@ impl Model for ColumnTurns {
           other = a.other;
           movers = a.column.movers;
           pairs = a.pairs.items;
-        }) a.lower_rows.items a.upper_rows.items a.one.items a.lower.items a.upper.items };
+        }) a.rows.items a.one.items a.lower.items a.upper.items };
 }
 
 /// So many values of 0.
@@ -72,6 +71,18 @@ fn zeros(alloc: Global, count: usize) -> Result<Vec<Fixed>, NoMemory>
 {
     let values = vec![in alloc; Fixed::whole(0); count]?;
     Ok(values)
+}
+
+/// So many worths of 0 at both ends.
+fn zero_worths(alloc: Global, count: usize) -> Result<Vec<Worths>, NoMemory>
+    ensures { IfOk result (λ worths. length worths.items ≡ count) }
+{
+    let zero = Worths {
+        lower: Fixed::whole(0),
+        upper: Fixed::whole(0),
+    };
+    let worths = vec![in alloc; zero; count]?;
+    Ok(worths)
 }
 
 /// So many pairs of 0 and 0.
@@ -98,12 +109,11 @@ fn empty_rows(alloc: Global, kinds: usize) -> Result<Vec<Row>, NoMemory>
 struct Room {
     points: Vec<OtherPoints>,
     movers: Vec<u16>,
-    one: Vec<Fixed>,
+    one: Vec<Worths>,
     lower: Vec<Fixed>,
     upper: Vec<Fixed>,
     pairs: Vec<Pair>,
-    lower_rows: Vec<Row>,
-    upper_rows: Vec<Row>,
+    rows: Vec<Row>,
 }
 
 /// Room for the layouts of a column and for so many kinds.
@@ -111,19 +121,18 @@ fn room_for(alloc: Global, column: &Column, kinds: usize) -> Result<Room, NoMemo
     requires kinds { kinds ≤ 14 }
     ensures { IfOk result (λ room. HasRoomFor column.now.layouts kinds (vec_capacity room.movers)
         room.points.items room.one.items room.lower.items room.upper.items room.pairs.items
-        room.lower_rows.items room.upper_rows.items) }
+        room.rows.items) }
 {
     let many = column.many();
     let places = many * kinds;
     Ok(Room {
         points: points_of(alloc, column)?,
         movers: Vec::with_capacity(alloc, many)?,
-        one: zeros(alloc, many)?,
+        one: zero_worths(alloc, many)?,
         lower: zeros(alloc, places)?,
         upper: zeros(alloc, places)?,
         pairs: zero_pairs(alloc, places)?,
-        lower_rows: empty_rows(alloc, kinds)?,
-        upper_rows: empty_rows(alloc, kinds)?,
+        rows: empty_rows(alloc, kinds)?,
     })
 }
 
@@ -145,8 +154,7 @@ impl ColumnTurns {
             kinds,
             points: room.points,
             column,
-            lower_rows: room.lower_rows,
-            upper_rows: room.upper_rows,
+            rows: room.rows,
             other,
             rank: other.rank(),
             movers: room.movers,
@@ -185,8 +193,7 @@ impl ColumnTurns {
             stakes,
             &mut self.column,
             &self.points,
-            self.lower_rows.as_mut_slice(),
-            self.upper_rows.as_mut_slice(),
+            self.rows.as_mut_slice(),
             self.one.as_mut_slice(),
             self.lower.as_mut_slice(),
             self.upper.as_mut_slice(),

@@ -1,6 +1,5 @@
-ghost use Rattle.std.specs.Prelude.{◌≡◌, ◌<◌, ◌≤◌, ◌^◌, ◌↔◌, ℕ, pos, IfSome, IsTrue, None, Some, length, slice_set, sum};
-ghost use Rattle.directed_fixed.specs.declared.bounds.End.TheVariants.{Lower, Upper};
-ghost use Rattle.directed_fixed.specs.Bounds.{IsWithinUnits};
+ghost use Rattle.std.specs.Prelude.{◌≡◌, ◌<◌, ◌≤◌, ◌↔◌, ℕ, IfSome, IsTrue, None, length, sum};
+ghost use Rattle.directed_fixed.specs.declared.bounds.End.{End as EndData};
 ghost use Rattle.position_rank.specs.Placement.{IsLive, IsPosition, swap};
 ghost use Rattle.position_rank.specs.Ranks.{square_rank_of};
 ghost use Rattle.turn_rule.specs.Looks.{AreStakesOf};
@@ -10,30 +9,30 @@ ghost use Rattle.column_sums.specs.Leaps.{layout_at};
 ghost use Rattle.column_sums.specs.Needed.{IsNeeded};
 ghost use Rattle.column_turns.specs.Moments.{IsLater};
 ghost use Rattle.move_rules.specs.Payoff.{points as points_won};
-ghost use Rattle.column_turns.specs.Rows.{AreFoundRows, AreFoundRowsTo, ArePut, AreRows, row_at};
+ghost use Rattle.column_turns.specs.Rows.{AreFoundRows, AreFoundRowsTo, ArePut, AreRows, AreWorthsPut};
+ghost use Rattle.column_sums.specs.Worths.{AreSmallWorths};
 ghost use Rattle.column_turns.specs.Turns.{ArePointsOf, at_rank};
 
 use crate::play_worth::play_worth;
-use column_sums::{Column, Row};
+use column_sums::{Column, Row, Worths};
 use cube_actions::Stakes;
-use directed_fixed::{End, Fixed};
+use directed_fixed::End;
 use move_rules::{Won, points as points_won};
 use position_rank::{MoverPoints, OtherPoints, Position};
 use turn_rule::Pairs;
 
 /// Puts what a cell is worth in the row of one kind.
 #[inline]
-fn put_worth(rows: &mut [Row], number: usize, layer: usize, rank: usize, worth: Fixed)
+fn put_worth(rows: &mut [Row], number: usize, layer: usize, rank: usize, worths: Worths)
     requires number { number < length rows.old }
     requires layer { layer < 8 }
     requires rank { rank < 4095 }
-    requires worth { IsWithinUnits (pos (2 ^ 36)) worth }
-    ensures put { rows.new ≡ slice_set rows.old number
-        (slice_set (row_at rows.old number) (cell_of layer rank) (Some worth)) }
+    requires small { AreSmallWorths worths }
+    ensures put { AreWorthsPut number layer rank worths rows.old rows.new }
     ensures rows { (kinds : ℕ) → AreRows kinds rows.old → AreRows kinds rows.new }
 {
     let row = &mut rows[number];
-    row.set(layer, rank, worth);
+    row.set(layer, rank, worths);
 }
 
 /// How the mover has won, where it is at hand whether the other side's position is live.
@@ -57,8 +56,7 @@ fn fill_cell<P: Pairs>(
     square: u64,
     layer: usize,
     rank: usize,
-    lower: &mut [Row],
-    upper: &mut [Row],
+    rows: &mut [Row],
     pairs: &mut P,
 )
     requires sure { IsTrue (P.seen pairs.old).source.sure }
@@ -68,14 +66,10 @@ fn fill_cell<P: Pairs>(
     requires square { square ≡ square_rank_of (swap left.now) }
     requires layer { layer < 8 }
     requires rank { rank < 4095 }
-    requires lower { AreRows (length stakes.now.kinds) lower.old }
-    requires upper { AreRows (length stakes.now.kinds) upper.old }
-    ensures lower { AreRows (length stakes.now.kinds) lower.new }
-    ensures upper { AreRows (length stakes.now.kinds) upper.new }
-    ensures put_lower { ArePut Lower (P.seen pairs.old).source (P.seen pairs.new).notes stakes.now
-        left.now layer rank lower.old lower.new (length stakes.now.kinds) }
-    ensures put_upper { ArePut Upper (P.seen pairs.old).source (P.seen pairs.new).notes stakes.now
-        left.now layer rank upper.old upper.new (length stakes.now.kinds) }
+    requires rows { AreRows (length stakes.now.kinds) rows.old }
+    ensures rows { AreRows (length stakes.now.kinds) rows.new }
+    ensures put { (end : EndData) → ArePut end (P.seen pairs.old).source (P.seen pairs.new).notes
+        stakes.now left.now layer rank rows.old rows.new (length stakes.now.kinds) }
     ensures later { IsLater (P.seen pairs.old) (P.seen pairs.new) }
     ensures stays { P.stays pairs.new ≡ P.stays pairs.old }
 {
@@ -87,10 +81,9 @@ fn fill_cell<P: Pairs>(
     }
     for number in 0..stakes.kinds() {
         let kind = stakes.kind(number);
-        let low = play_worth(End::Lower, left, won, live, square, kind, pairs);
-        put_worth(lower, number, layer, rank, low);
-        let high = play_worth(End::Upper, left, won, live, square, kind, pairs);
-        put_worth(upper, number, layer, rank, high);
+        let lower = play_worth(End::Lower, left, won, live, square, kind, pairs);
+        let upper = play_worth(End::Upper, left, won, live, square, kind, pairs);
+        put_worth(rows, number, layer, rank, Worths { lower, upper });
     }
 }
 
@@ -118,8 +111,7 @@ fn fill_layer<P: Pairs>(
     column: &Column,
     points: &[OtherPoints],
     layer: usize,
-    lower: &mut [Row],
-    upper: &mut [Row],
+    rows: &mut [Row],
     pairs: &mut P,
 )
     requires sure { IsTrue (P.seen pairs.old).source.sure }
@@ -128,16 +120,12 @@ fn fill_layer<P: Pairs>(
     requires points { ArePointsOf column.now.layouts points.now }
     requires layer { layer < length column.now.others }
     requires eight { layer < 8 }
-    requires lower { AreRows (length stakes.now.kinds) lower.old }
-    requires upper { AreRows (length stakes.now.kinds) upper.old }
-    ensures lower { AreRows (length stakes.now.kinds) lower.new }
-    ensures upper { AreRows (length stakes.now.kinds) upper.new }
-    ensures found_lower { AreFoundRowsTo Lower (P.seen pairs.old).source (P.seen pairs.new).notes
-        stakes.now column.now.layouts (layout_at column.now.others layer) column.now.needed
-        lower.old lower.new layer (length column.now.layouts) }
-    ensures found_upper { AreFoundRowsTo Upper (P.seen pairs.old).source (P.seen pairs.new).notes
-        stakes.now column.now.layouts (layout_at column.now.others layer) column.now.needed
-        upper.old upper.new layer (length column.now.layouts) }
+    requires rows { AreRows (length stakes.now.kinds) rows.old }
+    ensures rows { AreRows (length stakes.now.kinds) rows.new }
+    ensures found { (end : EndData) → AreFoundRowsTo end (P.seen pairs.old).source
+        (P.seen pairs.new).notes stakes.now column.now.layouts
+        (layout_at column.now.others layer) column.now.needed rows.old rows.new layer
+        (length column.now.layouts) }
     ensures few { length column.now.layouts ≤ 3276 }
     ensures later { IsLater (P.seen pairs.old) (P.seen pairs.new) }
     ensures stays { P.stays pairs.new ≡ P.stays pairs.old }
@@ -151,42 +139,34 @@ fn fill_layer<P: Pairs>(
             Some(left) => {
                 let live = theirs.are_live(points[rank]);
                 let square = first + rank as u64;
-                fill_cell(
-                    stakes, &left, live, square, layer, rank, lower, upper, pairs,
-                );
+                fill_cell(stakes, &left, live, square, layer, rank, rows, pairs);
             }
         }
     }
 }
 
-/// Finds what the mover has after each play that may be made in a column: a row for each kind, for the lower ends and for the upper ones. What
-/// is asked of a play's end is the same for all of them.
+/// Finds what the mover has after each play that may be made in a column: a row for each kind, with both ends
+/// of a pair. What is asked of a play's end is the same for all of them.
 pub(crate) fn fill_rows<P: Pairs>(
     stakes: &Stakes,
     column: &Column,
     points: &[OtherPoints],
-    lower: &mut [Row],
-    upper: &mut [Row],
+    rows: &mut [Row],
     pairs: &mut P,
 )
     requires sure { IsTrue (P.seen pairs.old).source.sure }
     requires stakes { AreStakesOf (P.seen pairs.old).source stakes.now }
     requires layouts { AreLayouts (P.seen pairs.old).source.checkers column.now.layouts }
     requires points { ArePointsOf column.now.layouts points.now }
-    requires lower { AreRows (length stakes.now.kinds) lower.old }
-    requires upper { AreRows (length stakes.now.kinds) upper.old }
-    ensures lower { AreRows (length stakes.now.kinds) lower.new }
-    ensures upper { AreRows (length stakes.now.kinds) upper.new }
-    ensures found_lower { AreFoundRows Lower (P.seen pairs.old).source (P.seen pairs.new).notes
-        stakes.now column.now.layouts column.now.others column.now.needed lower.new
-        (length column.now.others) }
-    ensures found_upper { AreFoundRows Upper (P.seen pairs.old).source (P.seen pairs.new).notes
-        stakes.now column.now.layouts column.now.others column.now.needed upper.new
-        (length column.now.others) }
+    requires rows { AreRows (length stakes.now.kinds) rows.old }
+    ensures rows { AreRows (length stakes.now.kinds) rows.new }
+    ensures found { (end : EndData) → AreFoundRows end (P.seen pairs.old).source
+        (P.seen pairs.new).notes stakes.now column.now.layouts column.now.others
+        column.now.needed rows.new (length column.now.others) }
     ensures later { IsLater (P.seen pairs.old) (P.seen pairs.new) }
     ensures stays { P.stays pairs.new ≡ P.stays pairs.old }
 {
     for layer in 0..column.layers() {
-        fill_layer(stakes, column, points, layer, lower, upper, pairs);
+        fill_layer(stakes, column, points, layer, rows, pairs);
     }
 }

@@ -1,74 +1,77 @@
 ghost use Rattle.std.specs.Prelude.{◌≡◌, ◌≢◌, ◌<◌, ◌≤◌, ◌*◌, ◌^◌, ℕ, pos, All, length, slice_index_or};
-ghost use Rattle.directed_fixed.specs.declared.bounds.End.{End};
+ghost use Rattle.directed_fixed.specs.declared.bounds.End.TheVariants.{Lower, Upper};
 ghost use Rattle.directed_fixed.specs.Bounds.{IsWithinUnits};
-ghost use Rattle.cube_actions.specs.Stakes.{kind_at};
-ghost use Rattle.turn_rule.specs.Looks.{Source, Notes, AreStakesOf};
-ghost use Rattle.column_sums.specs.Leaps.{layout_at};
-ghost use Rattle.column_turns.specs.Rows.{AreFoundLayers, AreFoundRows, AreRows, row_at};
-ghost use Rattle.column_turns.specs.Turns.{
-  place_in,
-  mover_at,
-  AreSumsOf,
-  AreSumsOfKind,
-  IsColumnOf,
-};
+ghost use Rattle.column_sums.specs.Worths.{worth_at, worths_at};
+ghost use Rattle.column_turns.specs.Rows.{AreRows};
+ghost use Rattle.column_turns.specs.Turns.{place_in};
+ghost use Rattle.column_turns.specs.SumsOfKinds.{AreKindsFound, AreOthersSame, IsKindFound};
 
-use column_sums::{Column, Row};
+use column_sums::{Column, Row, Worths};
 use cube_actions::Stakes;
-use directed_fixed::Fixed;
+use directed_fixed::{End, Fixed};
 
-/// Puts the sums of one kind among those of all kinds.
-fn put_sums(one: &[Fixed], many: usize, kinds: usize, number: usize, all: &mut [Fixed])
+/// The worth at one end.
+#[inline]
+fn worth_of(end: End, worths: Worths) -> Fixed
+    ensures { result ≡ worth_at end worths }
+{
+    match end {
+        End::Lower => worths.lower,
+        End::Upper => worths.upper,
+    }
+}
+
+/// Puts one kind's sums of one end among those of all kinds.
+fn put_sums(end: End, one: &[Worths], many: usize, kinds: usize, number: usize, all: &mut [Fixed])
     requires many { many ≤ length one.now }
     requires few { many ≤ 3276 }
     requires kinds { kinds ≤ 14 }
     requires number { number < kinds }
     requires room { many * kinds ≤ length all.old }
     requires small_one { (i : ℕ) → i < many
-        → IsWithinUnits (pos (2 ^ 42)) (slice_index_or one.now i (pos 0)) }
+        → IsWithinUnits (pos (2 ^ 42)) (slice_index_or (worths_at end one.now) i (pos 0)) }
     requires small { All (IsWithinUnits (pos (2 ^ 42))) all.old }
     ensures room { length all.new ≡ length all.old }
     ensures small { All (IsWithinUnits (pos (2 ^ 42))) all.new }
     ensures put { (i : ℕ) → i < many → slice_index_or all.new (place_in kinds i number) (pos 0)
-        ≡ slice_index_or one.now i (pos 0) }
+        ≡ slice_index_or (worths_at end one.now) i (pos 0) }
     ensures same { (i k : ℕ) → k < kinds → k ≢ number
         → slice_index_or all.new (place_in kinds i k) (pos 0)
         ≡ slice_index_or all.old (place_in kinds i k) (pos 0) }
 {
     for i in 0..many {
-        all[i * kinds + number] = one[i];
+        all[i * kinds + number] = worth_of(end, one[i]);
     }
 }
 
-/// The sums of one kind, for all movers of a column, from the rows of all kinds.
+/// Sums one kind over all rolls, at both ends.
 fn sum_kind(
     number: usize,
     stakes: &Stakes,
     column: &mut Column,
     rows: &[Row],
-    one: &mut [Fixed],
-    all: &mut [Fixed],
+    one: &mut [Worths],
+    lower: &mut [Fixed],
+    upper: &mut [Fixed],
 )
     requires number { number < length stakes.now.kinds }
     requires few { length column.old.movers ≤ 3276 }
     requires one { length column.old.movers ≤ length one.old }
     requires rows { AreRows (length stakes.now.kinds) rows.now }
-    requires room { length column.old.movers * length stakes.now.kinds ≤ length all.old }
-    requires small { All (IsWithinUnits (pos (2 ^ 42))) all.old }
+    requires lower { length column.old.movers * length stakes.now.kinds ≤ length lower.old }
+    requires upper { length column.old.movers * length stakes.now.kinds ≤ length upper.old }
+    requires small_lower { All (IsWithinUnits (pos (2 ^ 42))) lower.old }
+    requires small_upper { All (IsWithinUnits (pos (2 ^ 42))) upper.old }
     ensures column { column.new ≡ column.old }
     ensures one { length one.new ≡ length one.old }
-    ensures room { length all.new ≡ length all.old }
-    ensures small { All (IsWithinUnits (pos (2 ^ 42))) all.new }
-    ensures found { (end : End) (source : Source) (noted : Notes) → AreStakesOf source stakes.now
-        → IsColumnOf source column.old.layouts column.old.others column.old.movers
-        → AreFoundLayers end source noted (kind_at stakes.now number) column.old.layouts
-        column.old.others column.old.needed (row_at rows.now number) (length column.old.others)
-        → AreSumsOfKind end source noted stakes.now
-        (mover_at column.old.layouts (layout_at column.old.others 0) column.old.movers)
-        (length column.old.movers) number all.new }
-    ensures same { (i k : ℕ) → k < length stakes.now.kinds → k ≢ number
-        → slice_index_or all.new (place_in (length stakes.now.kinds) i k) (pos 0)
-        ≡ slice_index_or all.old (place_in (length stakes.now.kinds) i k) (pos 0) }
+    ensures lower { length lower.new ≡ length lower.old }
+    ensures upper { length upper.new ≡ length upper.old }
+    ensures small_lower { All (IsWithinUnits (pos (2 ^ 42))) lower.new }
+    ensures small_upper { All (IsWithinUnits (pos (2 ^ 42))) upper.new }
+    ensures found_lower { IsKindFound Lower stakes.now number column.old rows.now lower.new }
+    ensures found_upper { IsKindFound Upper stakes.now number column.old rows.now upper.new }
+    ensures same_lower { AreOthersSame (length stakes.now.kinds) number lower.old lower.new }
+    ensures same_upper { AreOthersSame (length stakes.now.kinds) number upper.old upper.new }
 {
     // What `bound` ensures says that the stakes are valid.
     let _bound = stakes.bound();
@@ -76,36 +79,40 @@ fn sum_kind(
     let _layers = column.layers();
     let movers = column.movers();
     let many = movers.len();
+    let kinds = stakes.kinds();
     column.sum(&rows[number], one);
-    put_sums(one, many, stakes.kinds(), number, all);
+    put_sums(End::Lower, one, many, kinds, number, lower);
+    put_sums(End::Upper, one, many, kinds, number, upper);
 }
 
-/// The sums of all kinds, for all movers of a column, from the rows of all kinds at one end.
+/// Sums each kind over all rolls, at both ends.
 pub(crate) fn sum_kinds(
     stakes: &Stakes,
     column: &mut Column,
     rows: &[Row],
-    one: &mut [Fixed],
-    all: &mut [Fixed],
+    one: &mut [Worths],
+    lower: &mut [Fixed],
+    upper: &mut [Fixed],
 )
     requires few { length column.old.movers ≤ 3276 }
     requires one { length column.old.movers ≤ length one.old }
     requires rows { AreRows (length stakes.now.kinds) rows.now }
-    requires room { length column.old.movers * length stakes.now.kinds ≤ length all.old }
-    requires small { All (IsWithinUnits (pos (2 ^ 42))) all.old }
+    requires lower { length column.old.movers * length stakes.now.kinds ≤ length lower.old }
+    requires upper { length column.old.movers * length stakes.now.kinds ≤ length upper.old }
+    requires small_lower { All (IsWithinUnits (pos (2 ^ 42))) lower.old }
+    requires small_upper { All (IsWithinUnits (pos (2 ^ 42))) upper.old }
     ensures column { column.new ≡ column.old }
     ensures one { length one.new ≡ length one.old }
-    ensures room { length all.new ≡ length all.old }
-    ensures small { All (IsWithinUnits (pos (2 ^ 42))) all.new }
-    ensures found { (end : End) (source : Source) (noted : Notes) → AreStakesOf source stakes.now
-        → IsColumnOf source column.old.layouts column.old.others column.old.movers
-        → AreFoundRows end source noted stakes.now column.old.layouts column.old.others
-        column.old.needed rows.now (length column.old.others)
-        → AreSumsOf end source noted stakes.now
-        (mover_at column.old.layouts (layout_at column.old.others 0) column.old.movers)
-        (length column.old.movers) (length stakes.now.kinds) all.new }
+    ensures lower { length lower.new ≡ length lower.old }
+    ensures upper { length upper.new ≡ length upper.old }
+    ensures small_lower { All (IsWithinUnits (pos (2 ^ 42))) lower.new }
+    ensures small_upper { All (IsWithinUnits (pos (2 ^ 42))) upper.new }
+    ensures found_lower { AreKindsFound Lower stakes.now (length stakes.now.kinds) column.old
+        rows.now lower.new }
+    ensures found_upper { AreKindsFound Upper stakes.now (length stakes.now.kinds) column.old
+        rows.now upper.new }
 {
     for number in 0..stakes.kinds() {
-        sum_kind(number, stakes, column, rows, one, all);
+        sum_kind(number, stakes, column, rows, one, lower, upper);
     }
 }

@@ -17,7 +17,7 @@ ghost use Rattle.column_turns.specs.Turns.{
 
 use crate::rows::fill_rows;
 use crate::sums::sum_kinds;
-use column_sums::{Column, Row};
+use column_sums::{Column, Row, Worths};
 use cube_actions::Stakes;
 use directed_fixed::{Fixed, Pair};
 use position_rank::OtherPoints;
@@ -79,9 +79,8 @@ pub(crate) fn turn_column<P: Pairs>(
     stakes: &Stakes,
     column: &mut Column,
     points: &[OtherPoints],
-    lower_rows: &mut [Row],
-    upper_rows: &mut [Row],
-    one: &mut [Fixed],
+    rows: &mut [Row],
+    one: &mut [Worths],
     lower: &mut [Fixed],
     upper: &mut [Fixed],
     turns: &mut [Pair],
@@ -93,16 +92,14 @@ pub(crate) fn turn_column<P: Pairs>(
         column.old.others column.old.movers }
     requires points { ArePointsOf column.old.layouts points.now }
     requires one { length column.old.movers ≤ length one.old }
-    requires lower_rows { AreRows (length stakes.now.kinds) lower_rows.old }
-    requires upper_rows { AreRows (length stakes.now.kinds) upper_rows.old }
+    requires rows { AreRows (length stakes.now.kinds) rows.old }
     requires lower { length column.old.movers * length stakes.now.kinds ≤ length lower.old }
     requires upper { length column.old.movers * length stakes.now.kinds ≤ length upper.old }
     requires turns { length column.old.movers * length stakes.now.kinds ≤ length turns.old }
     requires small_lower { All (IsWithinUnits (pos (2 ^ 42))) lower.old }
     requires small_upper { All (IsWithinUnits (pos (2 ^ 42))) upper.old }
     ensures column { column.new ≡ column.old }
-    ensures lower_rows { AreRows (length stakes.now.kinds) lower_rows.new }
-    ensures upper_rows { AreRows (length stakes.now.kinds) upper_rows.new }
+    ensures rows { AreRows (length stakes.now.kinds) rows.new }
     ensures one { length one.new ≡ length one.old }
     ensures lower { length lower.new ≡ length lower.old }
     ensures upper { length upper.new ≡ length upper.old }
@@ -115,8 +112,7 @@ pub(crate) fn turn_column<P: Pairs>(
     ensures later { IsLater (P.seen pairs.old) (P.seen pairs.new) }
     ensures stays { P.stays pairs.new ≡ P.stays pairs.old }
 {
-    fill_rows(stakes, column, points, lower_rows, upper_rows, pairs);
-    sum_kinds(stakes, column, lower_rows, one, lower);
-    sum_kinds(stakes, column, upper_rows, one, upper);
+    fill_rows(stakes, column, points, rows, pairs);
+    sum_kinds(stakes, column, rows, one, lower, upper);
     pair_positions(column.movers().len(), stakes, lower, upper, turns);
 }

@@ -5,10 +5,9 @@ pub returns : goal.returns
 returns c = record {
   points = c.in_ok-points_of.ensures;
   movers = omega (arith, c.in_ok-with_capacity.ensures.capacity, c.many-many.ensures.many);
-  one = c.in_ok-zeros.ensures.many ∙ c.many-many.ensures.many;
-  lower = record { many = rw (← c.many-many.ensures.many) c.in_ok-zeros-2.ensures.many; small = c.in_ok-zeros-2.ensures.small };
-  upper = record { many = rw (← c.many-many.ensures.many) c.in_ok-zeros-3.ensures.many; small = c.in_ok-zeros-3.ensures.small };
+  one = c.in_ok-zero_worths.ensures ∙ c.many-many.ensures.many;
+  lower = record { many = rw (← c.many-many.ensures.many) c.in_ok-zeros.ensures.many; small = c.in_ok-zeros.ensures.small };
+  upper = record { many = rw (← c.many-many.ensures.many) c.in_ok-zeros-2.ensures.many; small = c.in_ok-zeros-2.ensures.small };
   pairs = rw (← c.many-many.ensures.many) c.in_ok-zero_pairs.ensures;
-  lower_rows = c.in_ok-empty_rows.ensures;
-  upper_rows = c.in_ok-empty_rows-2.ensures;
+  rows = c.in_ok-empty_rows.ensures;
 }

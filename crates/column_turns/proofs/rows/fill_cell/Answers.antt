@@ -5,8 +5,8 @@ use Rattle.turn_rule.specs.Found.{LeavesState}
 use Rattle.directed_fixed.specs.declared.bounds.End.TheVariants.{Lower, Upper}
 use Rattle.cube_actions.specs.Stakes.{Terms, IsValid, kind_at, no_kind}
 use Rattle.turn_rule.specs.Looks.{Source, AreStakesOf}
-use Rattle.column_sums.specs.Cells.{cell_of}
-use Rattle.column_turns.specs.Rows.{row_at}
+use Rattle.column_turns.specs.Rows.{ArePut}
+use Rattle.column_sums.proofs.AtEnds.{both}
 use Rattle.turn_rule.proofs.RollSums.{wins-within}
 use Rattle.column_turns.proofs.Laters.{later-refl, later-trans}
 use Rattle.column_turns.proofs.RowsFound.{put-none, put-later, put-next, put-rest}
@@ -17,107 +17,99 @@ next-within s stakes valid fits k here = rw fits.kinds (valid.kinds k no_kind he
 
 pub loop-number-init : goal.loop-number-init
 loop-number-init g c = record {
-  lower = c.requires.lower;
-  upper = c.requires.upper;
-  put_lower = λ k below. absurd (omega (arith, below));
-  put_upper = λ k below. absurd (omega (arith, below));
-  rest_lower = λ k from. refl;
-  rest_upper = λ k from. refl;
+  rows = c.requires.rows;
+  put = λ end k below. absurd (omega (arith, below));
+  rest = λ k from. refl;
   later = later-refl _;
   stays = refl;
 }
 
-pub play_worth-low-requires-clause-sure : goal.play_worth-low-requires-clause-sure
-play_worth-low-requires-clause-sure g c = rw c.loop-number.invariant.later.source c.requires.sure
+pub play_worth-lower-requires-clause-sure : goal.play_worth-lower-requires-clause-sure
+play_worth-lower-requires-clause-sure g c = rw c.loop-number.invariant.later.source c.requires.sure
 
-pub play_worth-low-requires-clause-many : goal.play_worth-low-requires-clause-many
-play_worth-low-requires-clause-many g c = rw c.loop-number.invariant.later.source c.requires.many
+pub play_worth-lower-requires-clause-many : goal.play_worth-lower-requires-clause-many
+play_worth-lower-requires-clause-many g c = rw c.loop-number.invariant.later.source c.requires.many
 
-pub play_worth-low-requires-clause-won : goal.play_worth-low-requires-clause-won
-play_worth-low-requires-clause-won g c = c.won_after-won.ensures
+pub play_worth-lower-requires-clause-won : goal.play_worth-lower-requires-clause-won
+play_worth-lower-requires-clause-won g c = c.won_after-won.ensures
 
-pub play_worth-low-requires-clause-live : goal.play_worth-low-requires-clause-live
-play_worth-low-requires-clause-live g c = c.requires.live
+pub play_worth-lower-requires-clause-live : goal.play_worth-lower-requires-clause-live
+play_worth-lower-requires-clause-live g c = c.requires.live
 
-pub play_worth-low-requires-clause-next : goal.play_worth-low-requires-clause-next
-play_worth-low-requires-clause-next g c =
+pub play_worth-lower-requires-clause-next : goal.play_worth-lower-requires-clause-next
+play_worth-lower-requires-clause-next g c =
     let here : c.loop-number.number < length c.args.stakes.now.kinds = omega (arith, c.loop-number-test.true, c.kinds-number-end.ensures.kinds) in
     rw (c.loop-number.invariant.later.source, c.kind-kind.ensures.kind) (next-within _ _ c.kind-kind.ensures.valid c.requires.stakes c.loop-number.number here)
 
-pub play_worth-low-requires-clause-wins : goal.play_worth-low-requires-clause-wins
-play_worth-low-requires-clause-wins g c =
+pub play_worth-lower-requires-clause-wins : goal.play_worth-lower-requires-clause-wins
+play_worth-lower-requires-clause-wins g c =
     let here : c.loop-number.number < length c.args.stakes.now.kinds = omega (arith, c.loop-number-test.true, c.kinds-number-end.ensures.kinds) in
     rw (c.loop-number.invariant.later.source, c.kind-kind.ensures.kind) (wins-within _ _ c.kind-kind.ensures.valid c.requires.stakes c.loop-number.number here)
 
-pub play_worth-low-requires-clause-square : goal.play_worth-low-requires-clause-square
-play_worth-low-requires-clause-square g c = c.requires.square
+pub play_worth-lower-requires-clause-square : goal.play_worth-lower-requires-clause-square
+play_worth-lower-requires-clause-square g c = c.requires.square
 
-pub play_worth-high-requires-clause-sure : goal.play_worth-high-requires-clause-sure
-play_worth-high-requires-clause-sure g c = rw (c.play_worth-low.ensures.later.source, c.loop-number.invariant.later.source) c.requires.sure
+pub play_worth-upper-requires-clause-sure : goal.play_worth-upper-requires-clause-sure
+play_worth-upper-requires-clause-sure g c = rw (c.play_worth-lower.ensures.later.source, c.loop-number.invariant.later.source) c.requires.sure
 
-pub play_worth-high-requires-clause-many : goal.play_worth-high-requires-clause-many
-play_worth-high-requires-clause-many g c = rw (c.play_worth-low.ensures.later.source, c.loop-number.invariant.later.source) c.requires.many
+pub play_worth-upper-requires-clause-many : goal.play_worth-upper-requires-clause-many
+play_worth-upper-requires-clause-many g c = rw (c.play_worth-lower.ensures.later.source, c.loop-number.invariant.later.source) c.requires.many
 
-pub play_worth-high-requires-clause-won : goal.play_worth-high-requires-clause-won
-play_worth-high-requires-clause-won g c = c.won_after-won.ensures
+pub play_worth-upper-requires-clause-won : goal.play_worth-upper-requires-clause-won
+play_worth-upper-requires-clause-won g c = c.won_after-won.ensures
 
-pub play_worth-high-requires-clause-live : goal.play_worth-high-requires-clause-live
-play_worth-high-requires-clause-live g c = c.requires.live
+pub play_worth-upper-requires-clause-live : goal.play_worth-upper-requires-clause-live
+play_worth-upper-requires-clause-live g c = c.requires.live
 
-pub play_worth-high-requires-clause-next : goal.play_worth-high-requires-clause-next
-play_worth-high-requires-clause-next g c =
+pub play_worth-upper-requires-clause-next : goal.play_worth-upper-requires-clause-next
+play_worth-upper-requires-clause-next g c =
     let here : c.loop-number.number < length c.args.stakes.now.kinds = omega (arith, c.loop-number-test.true, c.kinds-number-end.ensures.kinds) in
-    rw (c.play_worth-low.ensures.later.source, c.loop-number.invariant.later.source, c.kind-kind.ensures.kind) (next-within _ _ c.kind-kind.ensures.valid c.requires.stakes c.loop-number.number here)
+    rw (c.play_worth-lower.ensures.later.source, c.loop-number.invariant.later.source, c.kind-kind.ensures.kind) (next-within _ _ c.kind-kind.ensures.valid c.requires.stakes c.loop-number.number here)
 
-pub play_worth-high-requires-clause-wins : goal.play_worth-high-requires-clause-wins
-play_worth-high-requires-clause-wins g c =
+pub play_worth-upper-requires-clause-wins : goal.play_worth-upper-requires-clause-wins
+play_worth-upper-requires-clause-wins g c =
     let here : c.loop-number.number < length c.args.stakes.now.kinds = omega (arith, c.loop-number-test.true, c.kinds-number-end.ensures.kinds) in
-    rw (c.play_worth-low.ensures.later.source, c.loop-number.invariant.later.source, c.kind-kind.ensures.kind) (wins-within _ _ c.kind-kind.ensures.valid c.requires.stakes c.loop-number.number here)
+    rw (c.play_worth-lower.ensures.later.source, c.loop-number.invariant.later.source, c.kind-kind.ensures.kind) (wins-within _ _ c.kind-kind.ensures.valid c.requires.stakes c.loop-number.number here)
 
-pub play_worth-high-requires-clause-square : goal.play_worth-high-requires-clause-square
-play_worth-high-requires-clause-square g c = c.requires.square
+pub play_worth-upper-requires-clause-square : goal.play_worth-upper-requires-clause-square
+play_worth-upper-requires-clause-square g c = c.requires.square
 
 pub loop-number-preserved : goal.loop-number-preserved
 loop-number-preserved g c =
     let old = g.P.Pairs.seen c.args.pairs.now in
     let mid = g.P.Pairs.seen c.loop-number.pairs in
-    let between = g.P.Pairs.seen c.play_worth-low.new.pairs in
-    let new = g.P.Pairs.seen c.play_worth-high.new.pairs in
+    let between = g.P.Pairs.seen c.play_worth-lower.new.pairs in
+    let new = g.P.Pairs.seen c.play_worth-upper.new.pairs in
     let before = c.loop-number.invariant in
     let stakes = c.args.stakes.now in
     let left = c.args.left.now in
     let number = c.loop-number.number in
-    let low = c.play_worth-low in
-    let high = c.play_worth-high in
+    let low = c.play_worth-lower in
+    let high = c.play_worth-upper in
     let one = low.ensures.later in
     let two = high.ensures.later in
     let to_between = later-trans old mid between before.later one in
     let found_low = rw (before.later.source, c.kind-kind.ensures.kind) at low.ensures.found in
     let found_high = rw (to_between.source, c.kind-kind.ensures.kind) at high.ensures.found in
-    let here_lower : number < length c.loop-number.lower = omega (arith, c.loop-number-test.true, before.lower.many, c.kinds-number-end.ensures.kinds) in
-    let here_upper : number < length c.loop-number.upper = omega (arith, c.loop-number-test.true, before.upper.many, c.kinds-number-end.ensures.kinds) in
-    let first_lower = c.args.lower.now in
-    let first_upper = c.args.upper.now in
-    let put_lower = put-next Lower old stakes left c.args.layer c.args.rank first_lower c.loop-number.lower between.notes number low.result here_lower
-    (put-later Lower old stakes left c.args.layer c.args.rank first_lower c.loop-number.lower mid between number before.later one before.put_lower) before.rest_lower found_low in
-    let put_upper = put-next Upper old stakes left c.args.layer c.args.rank first_upper c.loop-number.upper new.notes number high.result here_upper
-    (put-later Upper old stakes left c.args.layer c.args.rank first_upper c.loop-number.upper mid new number before.later (later-trans mid between new one two) before.put_upper) before.rest_upper found_high in
+    let rows = c.loop-number.rows in
+    let first = c.args.rows.now in
+    let put = c.put_worth.ensures.put in
+    let here : number < length rows = omega (arith, c.loop-number-test.true, before.rows.many, c.kinds-number-end.ensures.kinds) in
+    let put_lower = put-later Lower old stakes left c.args.layer c.args.rank first (set rows number put.row) between new (number + 1) to_between two
+    (put-next Lower old stakes left c.args.layer c.args.rank first rows between.notes number put.row low.result here
+    (put-later Lower old stakes left c.args.layer c.args.rank first rows mid between number before.later one (before.put Lower)) before.rest (put.cells Lower) found_low) in
+    let put_upper = put-next Upper old stakes left c.args.layer c.args.rank first rows new.notes number put.row high.result here
+    (put-later Upper old stakes left c.args.layer c.args.rank first rows mid new number before.later (later-trans mid between new one two) (before.put Upper)) before.rest (put.cells Upper) found_high in
     record {
-      lower = c.put_worth.ensures.rows (length stakes.kinds) before.lower;
-      upper = c.put_worth-in-loop-number.ensures.rows (length stakes.kinds) before.upper;
-      put_lower = put-later Lower old stakes left c.args.layer c.args.rank first_lower c.put_worth.new.rows between new (number + 1) to_between two (rw c.put_worth.ensures.put put_lower);
-      put_upper = rw c.put_worth-in-loop-number.ensures.put put_upper;
-      rest_lower = rw c.put_worth.ensures.put (put-rest Lower old stakes left c.args.layer c.args.rank first_lower c.loop-number.lower number (set (row_at c.loop-number.lower number) (cell_of c.args.layer c.args.rank) (Some low.result)) before.rest_lower);
-      rest_upper = rw c.put_worth-in-loop-number.ensures.put (put-rest Upper old stakes left c.args.layer c.args.rank first_upper c.loop-number.upper number (set (row_at c.loop-number.upper number) (cell_of c.args.layer c.args.rank) (Some high.result)) before.rest_upper);
+      rows = c.put_worth.ensures.rows (length stakes.kinds) before.rows;
+      put = rw put.put (both (λ end. ArePut end old.source new.notes stakes left c.args.layer c.args.rank first (set rows number put.row) (number + 1)) put_lower put_upper);
+      rest = rw put.put (put-rest Lower old stakes left c.args.layer c.args.rank first rows number put.row before.rest);
       later = later-trans old between new to_between two;
       stays = high.ensures.stays ∙ (low.ensures.stays ∙ before.stays);
     }
 
-pub returns-clause-put_lower : goal.returns-clause-put_lower
-returns-clause-put_lower g c = λ k below. c.loop-number.invariant.put_lower k (omega (arith, below, c.loop-number-test.false, c.kinds-number-end.ensures.kinds))
-
-pub returns-clause-put_upper : goal.returns-clause-put_upper
-returns-clause-put_upper g c = λ k below. c.loop-number.invariant.put_upper k (omega (arith, below, c.loop-number-test.false, c.kinds-number-end.ensures.kinds))
+pub returns-clause-put : goal.returns-clause-put
+returns-clause-put g c = λ end k below. c.loop-number.invariant.put end k (omega (arith, below, c.loop-number-test.false, c.kinds-number-end.ensures.kinds))
 
 none-of : {X : Type 0} (o : Option X) → is_some o ≡ false → o ≡ None
 none-of None h = refl
@@ -126,10 +118,6 @@ none-of (Some x) h = absurd (false≢true (sym h))
 nobody : (g : _) (c : goal.Then-is_none g) (k : ℕ) → LeavesState (g.P.Pairs.seen c.args.pairs.now).source (kind_at c.args.stakes.now k).next c.args.left.now → ⊥
 nobody g c k leaves = false≢true (sym c.if-not-live.true ∙ c.requires.live.1 (leaves (sym c.won_after-won.ensures ∙ none-of c.won_after-won.result c.if-is_none.ensures)).live)
 
-pub returns-then-is_none-clause-put_lower : goal.returns-then-is_none-clause-put_lower
-returns-then-is_none-clause-put_lower g c =
-    put-none Lower (g.P.Pairs.seen c.args.pairs.now) c.args.stakes.now (g.P.Pairs.seen c.args.pairs.now).notes c.args.left.now c.args.layer c.args.rank c.args.lower.now c.requires.lower c.requires.layer c.requires.rank (nobody g c)
-
-pub returns-then-is_none-clause-put_upper : goal.returns-then-is_none-clause-put_upper
-returns-then-is_none-clause-put_upper g c =
-    put-none Upper (g.P.Pairs.seen c.args.pairs.now) c.args.stakes.now (g.P.Pairs.seen c.args.pairs.now).notes c.args.left.now c.args.layer c.args.rank c.args.upper.now c.requires.upper c.requires.layer c.requires.rank (nobody g c)
+pub returns-then-is_none-clause-put : goal.returns-then-is_none-clause-put
+returns-then-is_none-clause-put g c = λ end.
+    put-none end (g.P.Pairs.seen c.args.pairs.now) c.args.stakes.now (g.P.Pairs.seen c.args.pairs.now).notes c.args.left.now c.args.layer c.args.rank c.args.rows.now c.requires.rows c.requires.layer c.requires.rank (nobody g c)

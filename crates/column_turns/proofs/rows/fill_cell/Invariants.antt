@@ -1,7 +1,7 @@
 use Rattle.std.proofs.Common.{◌≡◌, ◌≤◌, ℕ, length}
-use Rattle.directed_fixed.specs.declared.bounds.End.TheVariants.{Lower, Upper}
+use Rattle.directed_fixed.specs.declared.bounds.End.{End}
 use Rattle.column_turns.specs.Moments.{IsLater}
-use Rattle.column_turns.specs.Rows.{ArePut, AreRows, row_at}
+use Rattle.column_turns.specs.Rows.{ArePut, AreRows, row_of}
 use Rattle.column_turns.proofs.rows.fill_cell.Given as goal
 
 -- the rows of the kinds so far
@@ -10,12 +10,9 @@ invariant-loop-number g l =
     let old = g.P.Pairs.seen l.fn.pairs in
     let now = g.P.Pairs.seen l.pairs in
     record {
-      lower : AreRows (length l.stakes.kinds) l.lower;
-      upper : AreRows (length l.stakes.kinds) l.upper;
-      put_lower : ArePut Lower old.source now.notes l.stakes l.left l.layer l.rank l.fn.lower l.lower l.number;
-      put_upper : ArePut Upper old.source now.notes l.stakes l.left l.layer l.rank l.fn.upper l.upper l.number;
-      rest_lower : (k : ℕ) → l.number ≤ k → row_at l.lower k ≡ row_at l.fn.lower k;
-      rest_upper : (k : ℕ) → l.number ≤ k → row_at l.upper k ≡ row_at l.fn.upper k;
+      rows : AreRows (length l.stakes.kinds) l.rows;
+      put : (end : End) → ArePut end old.source now.notes l.stakes l.left l.layer l.rank l.fn.rows l.rows l.number;
+      rest : (k : ℕ) → l.number ≤ k → row_of l.rows k ≡ row_of l.fn.rows k;
       later : IsLater old now;
       stays : g.P.Pairs.stays l.pairs ≡ g.P.Pairs.stays l.fn.pairs;
     }

@@ -1,9 +1,9 @@
-use Rattle.std.proofs.Common.{◌<◌, ◌∙◌, ◌↔◌, IsTrue, length, sym, subst, arith}
+use Rattle.std.proofs.Common.{◌≡◌, ◌<◌, ℕ, ◌∙◌, ◌↔◌, IsTrue, length, sym, subst, arith}
 use Rattle.std.proofs.lemmas.List.{get_or_default}
 use Rattle.position_rank.specs.Placement.{Placement, IsLive, swap}
 use Rattle.position_rank.specs.Points.{AreMoverPoints, AreOtherPoints}
-use Rattle.directed_fixed.specs.declared.bounds.End.TheVariants.{Lower, Upper}
 use Rattle.column_sums.specs.Leaps.{layout_at}
+use Rattle.column_turns.specs.Rows.{AreFoundRowsTo}
 use Rattle.column_turns.proofs.Laters.{later-trans}
 use Rattle.column_turns.proofs.RowsFound.{rows-more, rows-none}
 use Rattle.column_turns.proofs.rows.fill_layer.Goals as goal
@@ -38,22 +38,24 @@ loop-rank-preserved g c =
           let new = g.P.Pairs.seen w.fill_cell.new.pairs in
           let cell = w.fill_cell.ensures in
           let left_is = w.in-Some.ensures.position in
-          rw (w.lower-is, w.upper-is, w.pairs-is) (record {
-            lower = cell.lower;
-            upper = cell.upper;
-            found_lower = rows-more Lower old stakes layouts other c.args.column.now.needed mid new c.args.lower.now c.loop-rank.lower w.fill_cell.new.lower c.args.layer rank w.in-Some.left before.later cell.later cell.lower c.requires.eight few left_is (rw before.later.source at cell.put_lower) before.found_lower;
-            found_upper = rows-more Upper old stakes layouts other c.args.column.now.needed mid new c.args.upper.now c.loop-rank.upper w.fill_cell.new.upper c.args.layer rank w.in-Some.left before.later cell.later cell.upper c.requires.eight few left_is (rw before.later.source at cell.put_upper) before.found_upper;
+          rw (w.rows-is, w.pairs-is) (record {
+            rows = cell.rows;
+            found = λ end. rows-more end old stakes layouts other c.args.column.now.needed mid new c.args.rows.now c.loop-rank.rows w.fill_cell.new.rows c.args.layer rank w.in-Some.left before.later cell.later cell.rows c.requires.eight few left_is (rw before.later.source at (cell.put end)) (before.found end);
             later = later-trans old mid new before.later cell.later;
             stays = cell.stays ∙ before.stays;
           }))
       | in-None w ↦ (
           let none = c.needed_position.ensures.none w.in-None.is in
-          rw (w.lower-is, w.upper-is, w.pairs-is) (record {
-            lower = before.lower;
-            upper = before.upper;
-            found_lower = rows-none Lower old stakes layouts other c.args.column.now.needed mid.notes c.args.lower.now c.loop-rank.lower c.args.layer rank none before.found_lower;
-            found_upper = rows-none Upper old stakes layouts other c.args.column.now.needed mid.notes c.args.upper.now c.loop-rank.upper c.args.layer rank none before.found_upper;
+          rw (w.rows-is, w.pairs-is) (record {
+            rows = before.rows;
+            found = λ end. rows-none end old stakes layouts other c.args.column.now.needed mid.notes c.args.rows.now c.loop-rank.rows c.args.layer rank none (before.found end);
             later = before.later;
             stays = before.stays;
           }))
     ]
+
+pub returns-clause-found : goal.returns-clause-found
+returns-clause-found g c = λ end.
+    let column = c.args.column.now in
+    let last : c.loop-rank.rank ≡ length column.layouts = omega (arith, c.loop-rank-test.false, c.many-rank-end.ensures.many, c.loop-rank.auto.rank-end) in
+    subst (λ (count : ℕ). AreFoundRowsTo end (g.P.Pairs.seen c.args.pairs.now).source (g.P.Pairs.seen c.loop-rank.pairs).notes c.args.stakes.now column.layouts (layout_at column.others c.args.layer) column.needed c.args.rows.now c.loop-rank.rows c.args.layer count) last (c.loop-rank.invariant.found end)

@@ -1,5 +1,5 @@
 use Rattle.std.proofs.Common.{◌≡◌, length}
-use Rattle.directed_fixed.specs.declared.bounds.End.TheVariants.{Lower, Upper}
+use Rattle.directed_fixed.specs.declared.bounds.End.{End}
 use Rattle.column_sums.specs.Leaps.{layout_at}
 use Rattle.column_turns.specs.Moments.{IsLater}
 use Rattle.column_turns.specs.Rows.{AreFoundRowsTo, AreRows}
@@ -12,10 +12,8 @@ invariant-loop-rank g l =
     let now = g.P.Pairs.seen l.pairs in
     let other = layout_at l.column.others l.layer in
     record {
-      lower : AreRows (length l.stakes.kinds) l.lower;
-      upper : AreRows (length l.stakes.kinds) l.upper;
-      found_lower : AreFoundRowsTo Lower old.source now.notes l.stakes l.column.layouts other l.column.needed l.fn.lower l.lower l.layer l.rank;
-      found_upper : AreFoundRowsTo Upper old.source now.notes l.stakes l.column.layouts other l.column.needed l.fn.upper l.upper l.layer l.rank;
+      rows : AreRows (length l.stakes.kinds) l.rows;
+      found : (end : End) → AreFoundRowsTo end old.source now.notes l.stakes l.column.layouts other l.column.needed l.fn.rows l.rows l.layer l.rank;
       later : IsLater old now;
       stays : g.P.Pairs.stays l.pairs ≡ g.P.Pairs.stays l.fn.pairs;
     }

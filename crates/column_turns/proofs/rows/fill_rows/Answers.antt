@@ -1,5 +1,4 @@
 use Rattle.std.proofs.Common.{◌∙◌, refl}
-use Rattle.directed_fixed.specs.declared.bounds.End.TheVariants.{Lower, Upper}
 use Rattle.column_sums.specs.Leaps.{layout_at}
 use Rattle.column_turns.proofs.Laters.{later-trans}
 use Rattle.column_turns.proofs.RowsFound.{layers-more}
@@ -17,12 +16,9 @@ loop-layer-preserved g c =
     let layer = c.loop-layer.layer in
     let other = layout_at column.others layer in
     record {
-      lower = filled.lower;
-      upper = filled.upper;
-      found_lower = layers-more Lower old stakes column.layouts other column.needed column.others mid new c.loop-layer.lower c.fill_layer.new.lower layer before.later filled.later filled.few refl before.found_lower
-          (rw before.later.source at filled.found_lower);
-      found_upper = layers-more Upper old stakes column.layouts other column.needed column.others mid new c.loop-layer.upper c.fill_layer.new.upper layer before.later filled.later filled.few refl before.found_upper
-          (rw before.later.source at filled.found_upper);
+      rows = filled.rows;
+      found = λ end. layers-more end old stakes column.layouts other column.needed column.others mid new c.loop-layer.rows c.fill_layer.new.rows layer before.later filled.later filled.few refl (before.found end)
+          (rw before.later.source at (filled.found end));
       later = later-trans old mid new before.later filled.later;
       stays = filled.stays ∙ before.stays;
     }

@@ -13,12 +13,11 @@ returns-clause-turns g c =
     let place = mover_at column.layouts (layout_at column.others 0) column.movers in
     let filled = c.fill_rows.ensures in
     let one = c.sum_kinds.ensures in
-    let two = c.sum_kinds-2.ensures in
-    let summed : AreSummed s new.notes stakes place (length column.movers) c.sum_kinds.new.all c.sum_kinds-2.new.all = record {
+    let summed : AreSummed s new.notes stakes place (length column.movers) c.sum_kinds.new.lower c.sum_kinds.new.upper = record {
       fits = c.requires.stakes;
       within = rw filled.later.source at (g.met.P.Pairs.notes_within c.fill_rows.new.pairs);
       states = λ i k here below. c.requires.column.states i k here (rw c.requires.stakes.kinds below);
-      low = one.found Lower s new.notes c.requires.stakes c.requires.column filled.found_lower;
-      high = (rw one.column at two.found) Upper s new.notes c.requires.stakes c.requires.column filled.found_upper;
+      low = one.found_lower s new.notes c.requires.stakes c.requires.column (filled.found Lower);
+      high = one.found_upper s new.notes c.requires.stakes c.requires.column (filled.found Upper);
     } in
-    (rw (c.movers.ensures.movers, two.column, one.column) at c.pair_positions.ensures.turns) s new.notes place summed
+    (rw (c.movers.ensures.movers, one.column) at c.pair_positions.ensures.turns) s new.notes place summed

@@ -1,6 +1,7 @@
-use Rattle.std.proofs.Common.{◌≡◌, ◌∙◌, ℤ, List, Option, length, ap, sym, arith}
+use Rattle.std.proofs.Common.{◌≡◌, ◌∙◌, List, length, ap, sym, arith}
 use Rattle.turn_rule.specs.Layouts.{HasRank}
 use Rattle.column_sums.specs.ColumnOf.{ColumnOf}
+use Rattle.column_sums.specs.declared.best.Bests.{Bests}
 use Rattle.column_turns.proofs.ColumnStates.{listed-movers, column-of, written, room-for}
 use Rattle.column_turns.proofs.column_turns.ColumnTurns.fill.Goals as goal
 
@@ -26,33 +27,29 @@ turn_column-requires-clause-column g c =
     rw c.begin.ensures.layouts
     (column-of s layouts c.begin.new.self.others other c.begin.new.self.movers all c.self.invariant.few c.begin.ensures.some c.begin.ensures.first has.valid has.many few live)
 
-pub turn_column-requires-clause-lower_rows : goal.turn_column-requires-clause-lower_rows
-turn_column-requires-clause-lower_rows g c =
-    rw (c.as_mut_slice.ensures.value, sym (rw (← c.self.view_is) at c.requires.kinds)) c.self.invariant.lower_rows
-
-pub turn_column-requires-clause-upper_rows : goal.turn_column-requires-clause-upper_rows
-turn_column-requires-clause-upper_rows g c =
-    rw (c.as_mut_slice-2.ensures.value, sym (rw (← c.self.view_is) at c.requires.kinds)) c.self.invariant.upper_rows
+pub turn_column-requires-clause-rows : goal.turn_column-requires-clause-rows
+turn_column-requires-clause-rows g c =
+    rw (c.as_mut_slice.ensures.value, sym (rw (← c.self.view_is) at c.requires.kinds)) c.self.invariant.rows
 
 pub turn_column-requires-clause-one : goal.turn_column-requires-clause-one
 turn_column-requires-clause-one g c =
     let few = rw (c.movers-movers.ensures.movers, c.begin.ensures.layouts) at c.movers-movers.ensures.few in
-    rw c.as_mut_slice-3.ensures.value (omega (arith, few, c.self.invariant.room_one))
+    rw c.as_mut_slice-2.ensures.value (omega (arith, few, c.self.invariant.room_one))
 
 pub turn_column-requires-clause-lower : goal.turn_column-requires-clause-lower
 turn_column-requires-clause-lower g c =
     let few = rw (c.movers-movers.ensures.movers, c.begin.ensures.layouts) at c.movers-movers.ensures.few in
-    rw c.as_mut_slice-4.ensures.value (room-for _ _ _ _ _ few (rw (← c.self.view_is) at c.requires.kinds) c.self.invariant.room_lower.many)
+    rw c.as_mut_slice-3.ensures.value (room-for _ _ _ _ _ few (rw (← c.self.view_is) at c.requires.kinds) c.self.invariant.room_lower.many)
 
 pub turn_column-requires-clause-upper : goal.turn_column-requires-clause-upper
 turn_column-requires-clause-upper g c =
     let few = rw (c.movers-movers.ensures.movers, c.begin.ensures.layouts) at c.movers-movers.ensures.few in
-    rw c.as_mut_slice-5.ensures.value (room-for _ _ _ _ _ few (rw (← c.self.view_is) at c.requires.kinds) c.self.invariant.room_upper.many)
+    rw c.as_mut_slice-4.ensures.value (room-for _ _ _ _ _ few (rw (← c.self.view_is) at c.requires.kinds) c.self.invariant.room_upper.many)
 
 pub turn_column-requires-clause-turns : goal.turn_column-requires-clause-turns
 turn_column-requires-clause-turns g c =
     let few = rw (c.movers-movers.ensures.movers, c.begin.ensures.layouts) at c.movers-movers.ensures.few in
-    rw c.as_mut_slice-6.ensures.value (room-for _ _ _ _ _ few (rw (← c.self.view_is) at c.requires.kinds) c.self.invariant.pairs)
+    rw c.as_mut_slice-5.ensures.value (room-for _ _ _ _ _ few (rw (← c.self.view_is) at c.requires.kinds) c.self.invariant.pairs)
 
 pub invariant_of-self : goal.invariant_of-self
 invariant_of-self g c =
@@ -63,13 +60,12 @@ invariant_of-self g c =
     let column : new.column.layouts ≡ inside.column.layouts = ap (λ (x : ColumnOf). x.layouts) swept.column ∙ c.begin.ensures.layouts in
     let has : HasRank inside.checkers c.args.other c.layout.result.now = rw c.layout.ensures (before.all.each c.args.other _ (rw (← c.self.view_is) at c.requires.other)) in
     let kinds = rw (← c.self.view_is) at c.requires.kinds in
-    let lower_rows = written inside.lower_rows.len new.lower_rows inside.lower_rows.items c.as_mut_slice.result.now c.as_mut_slice.ensures.value c.as_mut_slice.ensures.len (swept.lower_rows.many ∙ (sym kinds ∙ (sym before.lower_rows.many ∙ ap (λ (rows : List (List (Option ℤ))). length rows) (sym c.as_mut_slice.ensures.value)))) in
-    let upper_rows = written inside.upper_rows.len new.upper_rows inside.upper_rows.items c.as_mut_slice-2.result.now c.as_mut_slice-2.ensures.value c.as_mut_slice-2.ensures.len (swept.upper_rows.many ∙ (sym kinds ∙ (sym before.upper_rows.many ∙ ap (λ (rows : List (List (Option ℤ))). length rows) (sym c.as_mut_slice-2.ensures.value)))) in
-    let one = written inside.one.len new.one inside.one.items c.as_mut_slice-3.result.now c.as_mut_slice-3.ensures.value c.as_mut_slice-3.ensures.len swept.one in
-    let lower = written inside.lower.len new.lower inside.lower.items c.as_mut_slice-4.result.now c.as_mut_slice-4.ensures.value c.as_mut_slice-4.ensures.len swept.lower in
-    let upper = written inside.upper.len new.upper inside.upper.items c.as_mut_slice-5.result.now c.as_mut_slice-5.ensures.value c.as_mut_slice-5.ensures.len swept.upper in
-    let turns = written inside.pairs.len new.turns inside.pairs.items c.as_mut_slice-6.result.now c.as_mut_slice-6.ensures.value c.as_mut_slice-6.ensures.len swept.room in
-    rw (column, lower_rows, upper_rows, one, lower, upper, turns)
+    let rows = written inside.rows.len new.rows inside.rows.items c.as_mut_slice.result.now c.as_mut_slice.ensures.value c.as_mut_slice.ensures.len (swept.rows.many ∙ (sym kinds ∙ (sym before.rows.many ∙ ap (λ (rows : List (List Bests)). length rows) (sym c.as_mut_slice.ensures.value)))) in
+    let one = written inside.one.len new.one inside.one.items c.as_mut_slice-2.result.now c.as_mut_slice-2.ensures.value c.as_mut_slice-2.ensures.len swept.one in
+    let lower = written inside.lower.len new.lower inside.lower.items c.as_mut_slice-3.result.now c.as_mut_slice-3.ensures.value c.as_mut_slice-3.ensures.len swept.lower in
+    let upper = written inside.upper.len new.upper inside.upper.items c.as_mut_slice-4.result.now c.as_mut_slice-4.ensures.value c.as_mut_slice-4.ensures.len swept.upper in
+    let turns = written inside.pairs.len new.turns inside.pairs.items c.as_mut_slice-5.result.now c.as_mut_slice-5.ensures.value c.as_mut_slice-5.ensures.len swept.room in
+    rw (column, rows, one, lower, upper, turns)
     (record {
       low = before.low;
       high = before.high;
@@ -81,12 +77,11 @@ invariant_of-self g c =
       ranked = has.ranked;
       points = before.points;
       room = rw c.list_movers.ensures.room before.room;
-      lower_rows = rw kinds swept.lower_rows;
-      upper_rows = rw kinds swept.upper_rows;
-      room_one = rw (swept.one, c.as_mut_slice-3.ensures.value) before.room_one;
-      room_lower = record { many = rw (swept.lower, c.as_mut_slice-4.ensures.value) before.room_lower.many; small = swept.small_lower };
-      room_upper = record { many = rw (swept.upper, c.as_mut_slice-5.ensures.value) before.room_upper.many; small = swept.small_upper };
-      pairs = rw (swept.room, c.as_mut_slice-6.ensures.value) before.pairs;
+      rows = rw kinds swept.rows;
+      room_one = rw (swept.one, c.as_mut_slice-2.ensures.value) before.room_one;
+      room_lower = record { many = rw (swept.lower, c.as_mut_slice-3.ensures.value) before.room_lower.many; small = swept.small_lower };
+      room_upper = record { many = rw (swept.upper, c.as_mut_slice-4.ensures.value) before.room_upper.many; small = swept.small_upper };
+      pairs = rw (swept.room, c.as_mut_slice-5.ensures.value) before.pairs;
     })
 
 pub returns-clause-movers : goal.returns-clause-movers
@@ -100,5 +95,5 @@ pub returns-clause-turns : goal.returns-clause-turns
 returns-clause-turns g c =
     let inside = c.self.inside in
     let new = c.turn_column.new in
-    let turns = written inside.pairs.len new.turns inside.pairs.items c.as_mut_slice-6.result.now c.as_mut_slice-6.ensures.value c.as_mut_slice-6.ensures.len c.turn_column.ensures.room in
+    let turns = written inside.pairs.len new.turns inside.pairs.items c.as_mut_slice-5.result.now c.as_mut_slice-5.ensures.value c.as_mut_slice-5.ensures.len c.turn_column.ensures.room in
     rw (c.turn_column.ensures.column, turns) (rw c.begin.ensures.first at c.turn_column.ensures.turns)
