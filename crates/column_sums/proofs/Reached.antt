@@ -1,5 +1,5 @@
 -- Lists of what a die leads to.
-use Rattle.std.proofs.Common.{◌≡◌, ◌≤◌, ◌<◌, ◌+◌, ◌-◌, ◌∙◌, ◌++◌, All, IsFalse, drop, take, inl, inr, ℕ, suc, get_or, List, [], ◌∷◌, length, length-append, refl, ap, sym, subst, arith}
+use Rattle.std.proofs.Common.{◌≡◌, ◌≤◌, ◌<◌, ◌+◌, ◌-◌, ◌∙◌, ◌++◌, All, drop, take, inl, inr, ℕ, suc, get_or, List, [], ◌∷◌, length, length-append, refl, ap, sym, subst, arith}
 use Rattle.std.proofs.lemmas.Bool.{cases_lt}
 use Rattle.std.proofs.lemmas.List.{get_or_append_left, get_or-append-add, get_or-drop, length-drop, take_all}
 use Rattle.std.proofs.lemmas.List.Elements.{All-take, All-drop}
@@ -7,9 +7,8 @@ use Rattle.column_sums.specs.declared.cells.Reach.{Reach}
 use Rattle.column_sums.specs.Cells.{IsReach, IsCellOrNone}
 use Rattle.column_sums.specs.Listings.{AreListedStill, LeadsInto, LeadsToCells, IsListedOrNone}
 use Rattle.column_sums.specs.declared.moves.DieList.{DieList}
-use Rattle.column_sums.specs.Tables.{HasNoThird}
 use Rattle.column_sums.proofs.Listed.{kept-same, kept-again, into-kept}
-use Rattle.column_sums.specs.MoveLists.{AreReaches, AreDieLists, IsAmongOrNone, IsEmpty, LeadsAmong, IsDieList}
+use Rattle.column_sums.specs.MoveLists.{AreReaches, AreDieLists, IsAmongOrNone, IsEmpty, LeadsAmong, LeadToTwo, IsDieList}
 
 module _ (reaches : List Reach) (reach : Reach) where
   pub push-each : (P : ℕ → Reach → Type 0) → ((i : ℕ) (none : Reach) → i < length reaches → P i (get_or reaches i none)) → P (length reaches) reach
@@ -86,8 +85,8 @@ pub die-list : (layouts others : List (List ℕ)) (near one two : List ℕ) (die
     → length r1 ≡ length near → ((i : ℕ) (none : Reach) → i < length r0 → get_or r1 i none ≡ get_or r0 i none) → All (LeadsInto one) r1
     → length r2 ≡ length one → ((i : ℕ) (none : Reach) → i < length r1 → get_or r2 i none ≡ get_or r1 i none) → All (LeadsInto two) r2
     → AreReaches layouts others die two list.reaches.items → length list.reaches.items ≡ length two → ((i : ℕ) (none : Reach) → i < length r2 → get_or list.reaches.items i none ≡ get_or r2 i none)
-    → length two ≤ 32768 → list.second ≡ length one → (IsFalse list.has_third → All HasNoThird list.reaches.items) → IsDieList layouts others near (length r0) die list
-die-list layouts others near one two die r0 r1 r2 list k1 k2 few into0 n1 s1 into1 n2 s2 into2 are n3 s3 short second two_cells = record {
+    → length two ≤ 32768 → list.second ≡ length one → IsDieList layouts others near (length r0) die list
+die-list layouts others near one two die r0 r1 r2 list k1 k2 few into0 n1 s1 into1 n2 s2 into2 are n3 s3 short second = record {
   first = few;
   longer = omega (arith, k1.longer, second);
   second = omega (arith, k2.longer, second, n3);
@@ -99,7 +98,6 @@ die-list layouts others near one two die r0 r1 r2 list k1 k2 few into0 n1 s1 int
       (subst (LeadsAmong list.reaches.items (length one)) (sym (from1 i none (omega (arith, h, n1)))) (leads-among layouts others die one two list.reaches.items k2 are n3 (get_or r1 i none) (into1 i none (omega (arith, h, n1)))));
   three_dice = λ i none h. subst (λ (n : ℕ). LeadsAmong list.reaches.items n (get_or list.reaches.items i none)) (sym n3)
       (subst (LeadsAmong list.reaches.items (length two)) (sym (s3 i none (omega (arith, h, n2, second)))) (leads-among layouts others die two two list.reaches.items (kept-same two) are n3 (get_or r2 i none) (into2 i none (omega (arith, h, n2, second)))));
-  two_cells = two_cells;
 } where
   from1 : (i : ℕ) (none : Reach) → i < length r1 → get_or list.reaches.items i none ≡ get_or r1 i none
   from1 i none h = s3 i none (omega (arith, h, n1, n2, k1.longer)) ∙ s2 i none h
@@ -137,8 +135,10 @@ empty-list layouts others die list is = record {
   one_die = λ i none h. absurd (omega (arith, h));
   two_dice = λ i none h. absurd (omega (arith, h));
   three_dice = λ i none h. absurd (omega (arith, h, is.second));
-  two_cells = λ _ i none h. absurd (nothing list.reaches.items i is.reaches h);
 }
 
 pub empty-lists : (layouts others : List (List ℕ)) (lists : List DieList) → length lists ≡ 6 → All IsEmpty lists → AreDieLists layouts others [] 0 lists
 empty-lists layouts others lists six empty die none a b = empty-list layouts others die (get_or lists (die - 1) none) (empty (die - 1) none (omega (arith, a, b, six)))
+
+pub empty-two : (lists : List DieList) → length lists ≡ 6 → All IsEmpty lists → LeadToTwo lists
+empty-two lists six empty i none h k d below = absurd (nothing (get_or lists i none).reaches.items k (empty i none (omega (arith, h, six))).reaches below)

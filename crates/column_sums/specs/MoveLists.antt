@@ -31,7 +31,7 @@ pub record LeadsAmong (reaches : List Reach) (end : ℕ) (reach : Reach) : Type 
   pub third : IsAmongOrNone reaches end reach.third
 
 -- What a die leads to: first from the cells where the mover's turn begins, then from these cells, which any one die may lead to from
--- there, and then from those that one die more and two dice more of this number may lead to. It tells whether some cell leads to a third.
+-- there, and then from those that one die more and two dice more of this number may lead to.
 pub record IsDieList (layouts others : List (List ℕ)) (near : List ℕ) (begun die : ℕ)
     (list : DieList) : Type 0 where
   pub first : begun ≤ length near
@@ -49,7 +49,6 @@ pub record IsDieList (layouts others : List (List ℕ)) (near : List ℕ) (begun
   pub three_dice : (i : ℕ) (none : Reach) → i < list.second
       → LeadsAmong list.reaches.items (length list.reaches.items)
       (slice_index_or list.reaches.items i none)
-  pub two_cells : IsFalse list.has_third → All HasNoThird list.reaches.items
 
 -- room for what a die leads to from all cells
 abbrev pub HasListRoom : DieList → Type 0
@@ -87,6 +86,11 @@ AreDieLists layouts others near movers lists =
     (die : ℕ) (none : DieList) → 1 ≤ die → die ≤ 6
     → IsDieList layouts others near movers die (slice_index_or lists (die - 1) none)
 
+-- no cell leads to a third by any die
+abbrev pub LeadToTwo : List DieList → Type 0
+LeadToTwo lists = (i : ℕ) (none : DieList) → i < 6
+    → All HasNoThird (slice_index_or lists i none).reaches.items
+
 -- all is listed, and each layer has room for all layouts
 pub record AreReady (moves : Moves) : Type 0 where
   pub few : length moves.steps ≤ 3276
@@ -96,3 +100,4 @@ pub record AreReady (moves : Moves) : Type 0 where
   pub begun : AreMovers (length moves.steps) moves.listing moves.movers
   pub each : AreDieLists moves.steps moves.layers moves.listing moves.movers moves.lists
   pub needed : AreNeeded moves.listing moves.lists moves.needed.items
+  pub two_cells : IsFalse moves.has_third → LeadToTwo moves.lists

@@ -2,7 +2,7 @@ ghost use Rattle.std.specs.Prelude.{◌≡◌, ◌+◌, ◌-◌, ◌<◌, ◌≤
 ghost use Rattle.turn_rule.specs.Layouts.{AreLayouts};
 ghost use Rattle.column_sums.specs.Leaps.{layout_at};
 ghost use Rattle.column_sums.specs.Listings.{IsListed, AreListedStill, AreCells, LeadsInto, LeadsToCells};
-ghost use Rattle.column_sums.specs.MoveLists.{AreReaches, AreReady, AreRooms, AreBegun, AreDieLists, IsEmpty, IsMover, HasListRoom, IsDieList};
+ghost use Rattle.column_sums.specs.MoveLists.{AreReaches, AreReady, AreRooms, AreBegun, AreDieLists, IsEmpty, IsMover, HasListRoom, IsDieList, LeadToTwo};
 ghost use Rattle.column_sums.specs.Tables.{HasNoThird};
 ghost use Rattle.column_sums.specs.declared.cells.Reach.{Reach as ReachData};
 ghost use Rattle.column_sums.specs.declared.moves.DieList.{DieList as DieListData};
@@ -22,8 +22,6 @@ pub(crate) struct DieList {
     pub(crate) reaches: Vec<Reach>,
     /// How many there are without those that take two dice more to come to.
     pub(crate) second: usize,
-    /// Whether one of them may lead to a third cell, as only with three checkers.
-    pub(crate) has_third: bool,
 }
 
 /// What the dice lead to from the cells of a column that are needed.
@@ -39,6 +37,8 @@ pub(crate) struct Moves {
     pub(crate) lists: [DieList; 6],
     /// Of each cell, whether a turn begins there or some die leads to it.
     pub(crate) needed: Vec<bool>,
+    /// Whether some die may lead from some cell to a third, as only with three checkers.
+    pub(crate) has_third: bool,
 }
 
 /// Adds what a die leads to from the cells past those that are done.
@@ -125,6 +125,19 @@ fn has_third(reaches: &[Reach]) -> bool
     false
 }
 
+/// Whether some cell of these lists leads to a third.
+fn have_third(lists: &[DieList; 6]) -> bool
+    requires { length lists.now ≡ 6 }
+    ensures { IsFalse result → LeadToTwo lists.now }
+{
+    for list in lists {
+        if has_third(&list.reaches) {
+            return true;
+        }
+    }
+    false
+}
+
 /// The whole list of a die. The listing stays as it is.
 fn finish(steps: &Steps, layers: &Layers, die: u8, listing: &mut Listing, list: &mut DieList)
     requires low { 1 ≤ die }
@@ -149,7 +162,6 @@ fn finish(steps: &Steps, layers: &Layers, die: u8, listing: &mut Listing, list: 
     listing.add_after(&list.reaches[near..]);
     add_reaches(steps, layers, die, listing.cells(), &mut list.reaches);
     list.second = second;
-    list.has_third = has_third(&list.reaches);
     listing.rewind(near);
 }
 
@@ -192,6 +204,7 @@ impl Moves {
             movers: 0,
             lists: six_lists(alloc)?,
             needed: no_marks(alloc, CELLS)?,
+            has_third: false,
         })
     }
 
@@ -221,6 +234,7 @@ impl Moves {
             &mut self.lists,
         );
         mark_needed(self.listing.cells(), &self.lists, &mut self.needed);
+        self.has_third = have_third(&self.lists);
     }
 }
 
@@ -230,11 +244,7 @@ fn empty_list(alloc: Global) -> Result<DieList, NoMemory>
     ensures empty { IfOk result IsEmpty }
 {
     let reaches = Vec::with_capacity(alloc, CELLS)?;
-    Ok(DieList {
-        reaches,
-        second: 0,
-        has_third: false,
-    })
+    Ok(DieList { reaches, second: 0 })
 }
 
 /// An empty list for each die.

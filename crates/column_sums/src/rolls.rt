@@ -39,26 +39,25 @@ fn fewer_of_pair(cell: u16, row: &[Bests], after_high: &[Bests], after_low: &[Be
 
 /// What the best play of two unequal dice is worth: both of them in either order, else the higher one, else the lower one, else none.
 #[inline]
-pub(crate) fn best_pair(
+pub(crate) fn best_pair<const THIRD: bool>(
     high: &Reach,
     low: &Reach,
     row: &[Bests],
     after_high: &[Bests],
     after_low: &[Bests],
-    third: bool,
 ) -> Worths
     requires high { IsReachWithin high.now }
     requires low { IsReachWithin low.now }
     requires row { length row.now ≡ 32768 }
     requires after_high { AreTable after_high.now }
     requires after_low { AreTable after_low.now }
-    requires third { IsFalse third → HasNoThird high.now × HasNoThird low.now }
+    requires third { IsFalse THIRD → HasNoThird high.now × HasNoThird low.now }
     ensures best { (end : End) → worth_at end result ≡ pair_found high.now low.now
         (cells_at end row.now) (cells_at end after_high.now) (cells_at end after_low.now) }
     ensures small { AreSmallWorths result }
 {
-    let high_first = best_after(after_low, high, third);
-    let low_first = best_after(after_high, low, third);
+    let high_first = best_after::<THIRD>(after_low, high);
+    let low_first = best_after::<THIRD>(after_high, low);
     let both = high_first.max(low_first);
     if both.lower.is_missing() || both.upper.is_missing() {
         both.or(fewer_of_pair(high.cell, row, after_high, after_low))
@@ -94,25 +93,24 @@ fn fewer_of_double(
 
 /// What the best play of a double is worth: as many of its four dice as can be played.
 #[inline]
-pub(crate) fn best_double(
+pub(crate) fn best_double<const THIRD: bool>(
     reach: &Reach,
     row: &[Bests],
     one: &[Bests],
     two: &[Bests],
     three: &[Bests],
-    third: bool,
 ) -> Worths
     requires reach { IsReachWithin reach.now }
     requires row { length row.now ≡ 32768 }
     requires one { length one.now ≡ 32768 }
     requires two { length two.now ≡ 32768 }
     requires three { AreTable three.now }
-    requires third { IsFalse third → HasNoThird reach.now }
+    requires third { IsFalse THIRD → HasNoThird reach.now }
     ensures best { (end : End) → worth_at end result ≡ double_found reach.now (cells_at end row.now)
         (cells_at end one.now) (cells_at end two.now) (cells_at end three.now) }
     ensures small { AreSmallWorths result }
 {
-    let four = best_after(three, reach, third);
+    let four = best_after::<THIRD>(three, reach);
     if four.lower.is_missing() || four.upper.is_missing() {
         four.or(fewer_of_double(reach.cell, row, one, two, three))
     } else {

@@ -1,4 +1,4 @@
-ghost use Rattle.std.specs.Prelude.{◌≡◌, ◌<◌, ◌≤◌, ◌^◌, ◌-◌, ℕ, ℤ, pos, ◌+ℤ◌, ◌*ℤ◌, List, [], ◌∷◌, length, slice_index_or};
+ghost use Rattle.std.specs.Prelude.{IsFalse, ◌≡◌, ◌<◌, ◌≤◌, ◌^◌, ◌-◌, ℕ, ℤ, pos, ◌+ℤ◌, ◌*ℤ◌, List, [], ◌∷◌, length, slice_index_or};
 ghost use Rattle.roll_table.specs.Rolls.{Dice, all_rolls};
 ghost use Rattle.position_rank.specs.Placement.{Placement};
 ghost use Rattle.directed_fixed.specs.declared.bounds.End.{End};
@@ -65,7 +65,7 @@ fn fill_ones(moves: &Moves, row: &[Bests], ones: &mut [Table; 6])
     for d in 0..6 {
         let list = &moves.lists[d];
         let table = &mut ones[d];
-        table.fill(&list.reaches, row, list.has_third);
+        table.fill(&list.reaches, row, moves.has_third);
     }
 }
 
@@ -81,12 +81,12 @@ fn fill_two_and_three(moves: &Moves, die: u8, one: &[Bests], two: &mut Table, th
 {
     let list = &moves.lists[usize::from(die) - 1];
     let near = moves.listing.cells().len();
-    two.fill(&list.reaches[..list.second], one, list.has_third);
-    three.fill(&list.reaches[..near], two.cells(), list.has_third);
+    two.fill(&list.reaches[..list.second], one, moves.has_third);
+    three.fill(&list.reaches[..near], two.cells(), moves.has_third);
 }
 
 /// Adds what the best play of a double is worth to the sum of each mover, once.
-fn add_double(
+fn add_double<const THIRD: bool>(
     moves: &Moves,
     die: u8,
     row: &[Bests],
@@ -96,6 +96,7 @@ fn add_double(
     sums: &mut [Worths],
 )
     requires ready { AreReady moves.now }
+    requires third { IsFalse THIRD → IsFalse moves.now.has_third }
     requires low { 1 ≤ die }
     requires high { die ≤ 6 }
     requires row { AreRow row.now }
@@ -109,17 +110,15 @@ fn add_double(
         (cells_at end two.now) (cells_at end three.now))
         (λ value. best_double value die) (worths_at end sums.old) (worths_at end sums.new) }
 {
-    let list = &moves.lists[usize::from(die) - 1];
-    let reaches = list.reaches.as_slice();
-    let third = list.has_third;
+    let reaches = moves.lists[usize::from(die) - 1].reaches.as_slice();
     for i in 0..moves.movers {
-        let best = best_double(&reaches[i], row, one, two, three, third);
+        let best = best_double::<THIRD>(&reaches[i], row, one, two, three);
         sums[i] = add_times(sums[i], 1, best);
     }
 }
 
 /// Adds what the best play of two unequal dice is worth to the sum of each mover, twice.
-fn add_pair(
+fn add_pair<const THIRD: bool>(
     moves: &Moves,
     high: u8,
     low: u8,
@@ -129,6 +128,7 @@ fn add_pair(
     sums: &mut [Worths],
 )
     requires ready { AreReady moves.now }
+    requires third { IsFalse THIRD → IsFalse moves.now.has_third }
     requires high { (1 ≤ high) × (high ≤ 6) }
     requires low { (1 ≤ low) × (low ≤ 6) }
     requires row { AreRow row.now }
@@ -141,18 +141,54 @@ fn add_pair(
         (cells_at end after_high.now) (cells_at end after_low.now))
         (λ value. best_pair value high low) (worths_at end sums.old) (worths_at end sums.new) }
 {
-    let high_list = &moves.lists[usize::from(high) - 1];
-    let low_list = &moves.lists[usize::from(low) - 1];
-    let by_high = high_list.reaches.as_slice();
-    let by_low = low_list.reaches.as_slice();
-    let third = high_list.has_third || low_list.has_third;
+    let by_high = moves.lists[usize::from(high) - 1].reaches.as_slice();
+    let by_low = moves.lists[usize::from(low) - 1].reaches.as_slice();
     for i in 0..moves.movers {
-        let best = best_pair(&by_high[i], &by_low[i], row, after_high, after_low, third);
+        let best = best_pair::<THIRD>(&by_high[i], &by_low[i], row, after_high, after_low);
         sums[i] = add_times(sums[i], 2, best);
     }
 }
 
 /// Adds what the best play of a roll is worth to the sum of each mover, as often as it comes.
+fn add_roll_by<const THIRD: bool>(
+    moves: &Moves,
+    roll: Roll,
+    row: &[Bests],
+    ones: &[Table; 6],
+    two: &mut Table,
+    three: &mut Table,
+    sums: &mut [Worths],
+)
+    requires ready { AreReady moves.now }
+    requires third { IsFalse THIRD → IsFalse moves.now.has_third }
+    requires row { AreRow row.now }
+    requires sums { moves.now.movers ≤ length sums.old }
+    requires small { (end : End) → AreSmall (worths_at end sums.old) moves.now.movers }
+    ensures { (end : End) → IsRollAdded moves.now (ways roll)
+        (λ value. RollTables end value moves.now row.now ones.now)
+        (λ value p. best_of_roll value p roll) (worths_at end sums.old) (worths_at end sums.new) }
+{
+    let high = roll.high();
+    let low = roll.low();
+    let after_high = ones[usize::from(high) - 1].cells();
+    if high == low {
+        fill_two_and_three(moves, high, after_high, two, three);
+        add_double::<THIRD>(
+            moves,
+            high,
+            row,
+            after_high,
+            two.cells(),
+            three.cells(),
+            sums,
+        );
+    } else {
+        let after_low = ones[usize::from(low) - 1].cells();
+        add_pair::<THIRD>(moves, high, low, row, after_high, after_low, sums);
+    }
+}
+
+/// The same, where it isn't known yet whether some cell leads to a third.
 fn add_roll(
     moves: &Moves,
     roll: Roll,
@@ -170,23 +206,10 @@ fn add_roll(
         (λ value. RollTables end value moves.now row.now ones.now)
         (λ value p. best_of_roll value p roll) (worths_at end sums.old) (worths_at end sums.new) }
 {
-    let high = roll.high();
-    let low = roll.low();
-    let after_high = ones[usize::from(high) - 1].cells();
-    if high == low {
-        fill_two_and_three(moves, high, after_high, two, three);
-        add_double(
-            moves,
-            high,
-            row,
-            after_high,
-            two.cells(),
-            three.cells(),
-            sums,
-        );
+    if moves.has_third {
+        add_roll_by::<true>(moves, roll, row, ones, two, three, sums);
     } else {
-        let after_low = ones[usize::from(low) - 1].cells();
-        add_pair(moves, high, low, row, after_high, after_low, sums);
+        add_roll_by::<false>(moves, roll, row, ones, two, three, sums);
     }
 }
 

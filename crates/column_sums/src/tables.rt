@@ -114,7 +114,11 @@ impl Table {
             → All (IsRightAfter value dice layouts others (cells_at end from.now)) reaches.now
             → AreRightIn value (die ∷ dice) layouts others (cells_at end self.new) reaches.now }
     {
-        fill_cells(reaches, from, third, &mut self.cells);
+        if third {
+            fill_cells::<true>(reaches, from, &mut self.cells);
+        } else {
+            fill_cells::<false>(reaches, from, &mut self.cells);
+        }
     }
 }
 
@@ -126,18 +130,18 @@ fn cells_of(alloc: Global, value: Bests, count: usize) -> Result<Vec<Bests>, NoM
     Ok(cells)
 }
 
-/// The greatest value of the cells that this leads to. `third` may be false where there is no third: that spares a look.
+/// The greatest value of the cells that this leads to. `THIRD` may be false where there is no third: that spares a look.
 #[inline]
-pub(crate) fn best_after(table: &[Bests], reach: &Reach, third: bool) -> Bests
+pub(crate) fn best_after<const THIRD: bool>(table: &[Bests], reach: &Reach) -> Bests
     requires table { AreTable table.now }
     requires reach { IsReachWithin reach.now }
-    requires third { IsFalse third → HasNoThird reach.now }
+    requires third { IsFalse THIRD → HasNoThird reach.now }
     ensures { (end : End) → best_at end result ≡ best_after (cells_at end table.now) reach.now }
 {
     let first = table[usize::from(reach.first)];
     let second = table[usize::from(reach.second)];
     let both = first.max(second);
-    if third {
+    if THIRD {
         both.max(table[usize::from(reach.third)])
     } else {
         both
@@ -145,9 +149,9 @@ pub(crate) fn best_after(table: &[Bests], reach: &Reach, third: bool) -> Bests
 }
 
 /// One die more in each of these cells.
-fn fill_cells(reaches: &[Reach], from: &[Bests], third: bool, to: &mut [Bests])
+fn fill_cells<const THIRD: bool>(reaches: &[Reach], from: &[Bests], to: &mut [Bests])
     requires from { AreTable from.now }
-    requires third { IsFalse third → All HasNoThird reaches.now }
+    requires third { IsFalse THIRD → All HasNoThird reaches.now }
     requires to { AreTable to.old }
     requires reaches { All IsReachWithin reaches.now }
     ensures table { AreTable to.new }
@@ -158,6 +162,6 @@ fn fill_cells(reaches: &[Reach], from: &[Bests], third: bool, to: &mut [Bests])
         → AreRightIn value (die ∷ dice) layouts others (cells_at end to.new) reaches.now }
 {
     for reach in reaches {
-        to[usize::from(reach.cell)] = best_after(from, reach, third);
+        to[usize::from(reach.cell)] = best_after::<THIRD>(from, reach);
     }
 }

@@ -1,8 +1,7 @@
-use Rattle.std.proofs.Common.{◌≡◌, ◌∙◌, ℕ, All, IsFalse, List, length, drop, take, subst, sym, ap}
+use Rattle.std.proofs.Common.{◌≡◌, ◌∙◌, ℕ, All, List, length, drop, take, subst, sym, ap}
 use Rattle.column_sums.specs.Listings.{AreCells, LeadsInto, LeadsToCells}
 use Rattle.column_sums.specs.declared.cells.Reach.{Reach}
 use Rattle.column_sums.specs.MoveLists.{AreReaches}
-use Rattle.column_sums.specs.Tables.{HasNoThird}
 use Rattle.column_sums.proofs.Listed.{kept-again}
 use Rattle.column_sums.proofs.Reached.{leads-cells, take-kept, rest-all, rest-of, into-longer, die-list}
 use Rattle.column_sums.proofs.moves.finish.Goals as goal
@@ -48,6 +47,6 @@ returns-clause-list c =
     let into2 : All (LeadsInto two) r2 = into-longer one two (length c.cells-near.result.now) r1 r2 c.add_after-2.ensures.kept (ap (λ (xs : List ℕ). length xs) c.cells-near.ensures.cells ∙ sym n1) c.add_reaches-2.ensures.kept into1
     (subst (λ (xs : List Reach). All (LeadsInto two) (drop (length c.cells-near.result.now) xs)) c.deref-2.ensures.value (subst (All (LeadsInto two)) (rest-of (length c.cells-near.result.now) c.deref-2.result.now) c.add_after-2.ensures.listed)) in
     let are : AreReaches layouts others c.args.die two r3 = subst (λ (xs : List ℕ). AreReaches layouts others c.args.die xs r3) c.cells-3.ensures.cells c.add_reaches-3.ensures.done in
-    die-list layouts others near one two c.args.die r0 r1 r2 (record { reaches = c.add_reaches-3.new.reaches; second = length c.cells-second.result.now; has_third = c.has_third-list.result })
+    die-list layouts others near one two c.args.die r0 r1 r2 (record { reaches = c.add_reaches-3.new.reaches; second = length c.cells-second.result.now })
     c.add_after.ensures.kept c.add_after-2.ensures.kept c.requires.begun.few c.requires.listed n1 c.add_reaches.ensures.kept into1 n2 c.add_reaches-2.ensures.kept into2 are n3 c.add_reaches-3.ensures.kept
-    c.cells-3.ensures.few (ap (λ (xs : List ℕ). length xs) c.cells-second.ensures.cells) (subst (λ (reaches : List Reach). IsFalse c.has_third-list.result → All HasNoThird reaches) c.deref-3.ensures.value c.has_third-list.ensures)
+    c.cells-3.ensures.few (ap (λ (xs : List ℕ). length xs) c.cells-second.ensures.cells)

@@ -7,7 +7,7 @@ use Rattle.column_sums.specs.Worths.{cells_at, worths_at}
 use Rattle.column_sums.proofs.sums.add_double.Given as goal
 
 abbrev pub invariant-loop-i : goal.invariant-loop-i
-invariant-loop-i l = record {
+invariant-loop-i g l = record {
   added : (end : End) (k : ℕ) → k < l.i → IsAdded 1 (λ (best : ℤ). (value : Placement → ℤ) → DoubleTables value l.moves l.die (cells_at end l.row) (cells_at end l.one) (cells_at end l.two) (cells_at end l.three) → best ≡ best_double value l.die (mover_placement l.moves k)) (sum_at (worths_at end l.fn.sums) k) (sum_at (worths_at end l.sums) k);
   rest : (end : End) (k : ℕ) → l.i ≤ k → sum_at (worths_at end l.sums) k ≡ sum_at (worths_at end l.fn.sums) k;
 }

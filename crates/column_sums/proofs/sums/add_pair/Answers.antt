@@ -13,13 +13,13 @@ abbrev no_reach : Reach
 no_reach = record { cell = 0; first = 0; second = 0; third = 0 }
 
 pub add_times-requires-clause-lower : goal.add_times-requires-clause-lower
-add_times-requires-clause-lower c = read-small c.args.sums.now c.loop-i.sums c.loop-i.i c.args.moves.now.movers c.index-sums-i.result (omega (arith, c.loop-i-test.true, c.requires.sums, c.loop-i.auto.sums)) c.index-sums-i.is c.loop-i.invariant.rest c.requires.small c.loop-i-test.true Lower
+add_times-requires-clause-lower g c = read-small c.args.sums.now c.loop-i.sums c.loop-i.i c.args.moves.now.movers c.index-sums-i.result (omega (arith, c.loop-i-test.true, c.requires.sums, c.loop-i.auto.sums)) c.index-sums-i.is c.loop-i.invariant.rest c.requires.small c.loop-i-test.true Lower
 
 pub add_times-requires-clause-upper : goal.add_times-requires-clause-upper
-add_times-requires-clause-upper c = read-small c.args.sums.now c.loop-i.sums c.loop-i.i c.args.moves.now.movers c.index-sums-i.result (omega (arith, c.loop-i-test.true, c.requires.sums, c.loop-i.auto.sums)) c.index-sums-i.is c.loop-i.invariant.rest c.requires.small c.loop-i-test.true Upper
+add_times-requires-clause-upper g c = read-small c.args.sums.now c.loop-i.sums c.loop-i.i c.args.moves.now.movers c.index-sums-i.result (omega (arith, c.loop-i-test.true, c.requires.sums, c.loop-i.auto.sums)) c.index-sums-i.is c.loop-i.invariant.rest c.requires.small c.loop-i-test.true Upper
 
 pub loop-i-preserved : goal.loop-i-preserved
-loop-i-preserved c =
+loop-i-preserved g c =
     let moves = c.args.moves.now in
     let start = c.args.sums.now in
     let sums = c.loop-i.sums in

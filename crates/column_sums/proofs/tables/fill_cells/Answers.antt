@@ -13,7 +13,7 @@ abbrev no_reach : Reach
 no_reach = record { cell = 0; first = 0; second = 0; third = 0 }
 
 pub loop-reach-preserved : goal.loop-reach-preserved
-loop-reach-preserved c =
+loop-reach-preserved g c =
     let reaches = c.args.reaches.now in
     let at = c.loop-reach.reach-index in
     let reach = get_or reaches at no_reach in

@@ -8,7 +8,7 @@ use Rattle.column_sums.specs.Worths.{cells_at}
 use Rattle.column_sums.proofs.tables.fill_cells.Given as goal
 
 abbrev pub invariant-loop-reach : goal.invariant-loop-reach
-invariant-loop-reach l = record {
+invariant-loop-reach g l = record {
   table : AreTable l.to;
   filled : (end : End) (value : Placement → ℤ) (dice : List ℕ) (layouts others : List (List ℕ)) (die : ℕ)
       → length layouts ≤ 3276 → All (IsReach layouts others die) l.reaches

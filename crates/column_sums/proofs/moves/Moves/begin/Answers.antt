@@ -72,6 +72,7 @@ returns-clause-ready c =
       begun = subst (λ (xs : List ℕ). AreMovers many xs (length c.cells.result.now)) (sym same) begun;
       each = subst (λ (xs : List ℕ). AreDieLists c.args.self.now.steps c.set.new.self xs (length c.cells.result.now) c.finish_lists.new.lists) (sym same) c.finish_lists.ensures.lists;
       needed = subst (λ (xs : List ℕ). AreNeeded xs c.finish_lists.new.lists c.mark_needed.new.needed.items) c.cells-2.ensures.cells c.mark_needed.ensures;
+      two_cells = c.have_third-self.ensures;
     }
 
 pub returns-clause-movers : goal.returns-clause-movers

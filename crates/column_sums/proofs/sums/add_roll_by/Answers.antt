@@ -5,10 +5,10 @@ use Rattle.column_sums.specs.Sums.{AreRightEach, AreTwoAndThree, DoubleTables, P
 use Rattle.column_sums.specs.Worths.{cells_at}
 use Rattle.column_sums.specs.declared.best.Bests.{Bests}
 use Rattle.column_sums.proofs.SumSteps.{added-as, one-way, two-ways, double-roll, pair-roll}
-use Rattle.column_sums.proofs.sums.add_roll.Goals as goal
+use Rattle.column_sums.proofs.sums.add_roll_by.Goals as goal
 
 pub returns-then-high-low : goal.returns-then-high-low
-returns-then-high-low c = λ end i h.
+returns-then-high-low g c = λ end i h.
     let moves = c.args.moves.now in
     let row = c.args.row.now in
     let ones = c.args.ones.now in
@@ -35,7 +35,7 @@ returns-then-high-low c = λ end i h.
     (c.add_double.ensures end i h)
 
 pub returns-else-high-low : goal.returns-else-high-low
-returns-else-high-low c = λ end i h.
+returns-else-high-low g c = λ end i h.
     let moves = c.args.moves.now in
     let row = c.args.row.now in
     let ones = c.args.ones.now in
