@@ -1,10 +1,12 @@
 -- A last round, over the notes and over the words.
-use Rattle.std.proofs.Common.{◌≡◌, ℕ, ℤ, Option, None, Some, IsSomeAnd, inl, inr, arith}
+use Rattle.std.proofs.Common.{◌≡◌, ℕ, ℤ, Option, None, Some, IsSomeAnd, List, inl, inr, subst, sym, arith}
 use Rattle.std.proofs.lemmas.Bool.{cases_lt}
 use Rattle.turn_rule.specs.Turn.{Words}
 use Rattle.turn_rule.specs.States.{AreNoLooser}
 use Rattle.turn_rule.specs.declared.game.Game.{Game}
-use Rattle.interval_words.specs.WordLists.{AreNarrow}
+use Rattle.interval_words.specs.declared.view.Note.{Note}
+use Rattle.interval_words.specs.Core.{noted}
+use Rattle.interval_words.specs.WordLists.{AreNarrow, WordList, words_in_list}
 use Rattle.interval_words.proofs.Narrow.{narrow-tighter}
 use Rattle.worker_sweep.specs.LastRounds.{IsLastRound}
 
@@ -27,3 +29,10 @@ last-tighter game goal asked u v round tighter last = record {
   narrow = λ fewer. narrow-goal game goal u v tighter (last.narrow fewer);
   needed = last.needed;
 }
+
+-- the closed words of a board after its last round
+pub closed-last : (game : Game) (closed : WordList) (goal : Option ℤ) (asked made : ℕ) (notes : List Note) → closed.game ≡ game → closed.rounds ≡ made → AreNoLooser closed.game (words_in_list closed) (noted closed.game notes)
+    → IsLastRound game goal asked (noted game notes) made → IsLastRound closed.game goal asked (words_in_list closed) closed.rounds
+closed-last game closed goal asked made notes same rounds tighter last =
+    subst (λ (n : ℕ). IsLastRound closed.game goal asked (words_in_list closed) n) (sym rounds)
+    (last-tighter closed.game goal asked (words_in_list closed) (noted closed.game notes) made tighter (subst (λ (g : Game). IsLastRound g goal asked (noted g notes) made) (sym same) last))

@@ -2,7 +2,7 @@ ghost use Rattle.std.specs.Prelude.{◌≡◌, ◌+◌, ◌-◌, ◌<◌, ◌≤
 ghost use Rattle.turn_rule.specs.Games.{game_of};
 ghost use Rattle.turn_rule.specs.Turn.{rounds as rounds_after};
 ghost use Rattle.interval_words.specs.Core.{all_hands, noted};
-ghost use Rattle.interval_words.specs.Seats.{SitsAt, KeepsNotes};
+ghost use Rattle.interval_words.specs.Seats.{SitsAt, KeepsNotes, first_seat};
 ghost use Rattle.interval_words.specs.WordLists.{AreClosed, AreNarrow, words_in_list};
 ghost use Rattle.worker_sweep.specs.Blocks.{blocks as blocks_in};
 ghost use Rattle.block_claims.specs.Views.{fresh};
@@ -244,6 +244,61 @@ fn make_workers(
     Ok((crew, owner))
 }
 
+/// What the workers of a board leave after its rounds: the owner's seat, all claims, the workers, and how many rounds were made.
+#[derive(Drop)]
+struct Worked {
+    owner: BoardSeat,
+    claims: ClaimSeat,
+    crew: Vec<Worker>,
+    rounds: u32,
+}
+
+/// Has so many workers sweep a new board in rounds.
+fn work<R: Threads + Sync, G: Gate + Sync>(
+    team: &Team<R>,
+    alloc: Global,
+    board: &Board,
+    claims: &Claims,
+    seat: BoardSeat,
+    claim_seat: ClaimSeat,
+    rounds: u32,
+    goal: Option<Fixed>,
+    gate: &G,
+) -> Result<Worked, NoMemory>
+    requires seat { seat ≡ first_seat board.now }
+    requires many { claims.now.blocks ≡ blocks_in board.now.game.checkers }
+    requires claims { claim_seat ≡ record { table = claims.now.table; view = fresh } }
+    requires rounds { (1 ≤ rounds) × (rounds ≤ 4096) }
+    ensures seat { IfOk result (λ worked. SitsAt board.now worked.owner) }
+    ensures base { IfOk result (λ worked. worked.owner.view.base ≡ worked.rounds) }
+    ensures rounds { IfOk result (λ worked. IsLastRound board.now.game goal rounds
+        (noted board.now.game worked.owner.view.notes) worked.rounds) }
+    ensures divided { IfOk result (λ worked. IsDivided board.now.game worked.rounds
+        team.now worked.claims worked.crew.items worked.owner) }
+{
+    let (mut crew, mut owner) = make_workers(
+        alloc,
+        board,
+        claims,
+        seat,
+        claim_seat,
+        team.workers(),
+    )?;
+    let made = run_each(
+        team, board, claims, gate, &mut owner, &mut crew, rounds, goal,
+    );
+    let (owner, mut all) = owner.into_seats();
+    hand_all(claims, &mut all, &mut crew);
+    // The prover is told that none of all claims comes twice.
+    all.has_each_once();
+    Ok(Worked {
+        owner,
+        claims: all,
+        crew,
+        rounds: made,
+    })
+}
+
 /// Solves a game of one to three checkers a side by 1 to 4,096 rounds of a team's workers, each in a thread of its own
 /// where one can be started, else in turn.
 ///
@@ -277,26 +332,19 @@ pub fn run_rounds<R: Threads + Sync, G: Gate + Sync>(
 {
     let (board, seat) = Board::new(alloc, checkers, stakes)?;
     let (claims, claim_seat) = Claims::new(alloc, block_count(&board))?;
-    let (mut crew, mut owner) = make_workers(
-        alloc,
-        &board,
-        &claims,
-        seat,
-        claim_seat,
-        team.workers(),
+    let Worked {
+        mut owner,
+        claims,
+        crew,
+        rounds,
+    } = work(
+        team, alloc, &board, &claims, seat, claim_seat, rounds, goal, gate,
     )?;
-    let made = run_each(
-        team, &board, &claims, gate, &mut owner, &mut crew, rounds, goal,
-    );
-    let (mut owner, mut all) = owner.into_seats();
-    hand_all(&claims, &mut all, &mut crew);
-    // The prover is told that none of all claims comes twice.
-    all.has_each_once();
     let known = board.split(&mut owner);
-    let closed = board.close(alloc, known, made)?;
+    let closed = board.close(alloc, known, rounds)?;
     Ok(Solved {
         closed,
-        claims: all,
+        claims,
         crew,
         owner,
     })
@@ -320,5 +368,12 @@ pub fn words_after_rounds<R: Threads + Sync, G: Gate + Sync>(
     ensures rounds { IfOk result (λ closed. IsLastRound closed.game goal rounds
         (words_in_list closed) closed.rounds) }
 {
-    Ok(run_rounds(team, alloc, checkers, stakes, rounds, goal, gate)?.closed)
+    let (board, seat) = Board::new(alloc, checkers, stakes)?;
+    let (claims, claim_seat) = Claims::new(alloc, block_count(&board))?;
+    // The workers give their room back before the words are copied.
+    let Worked { owner, rounds, .. } = work(
+        team, alloc, &board, &claims, seat, claim_seat, rounds, goal, gate,
+    )?;
+    let closed = board.close(alloc, owner, rounds)?;
+    Ok(closed)
 }

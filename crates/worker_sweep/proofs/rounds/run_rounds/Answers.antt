@@ -1,69 +1,13 @@
-use Rattle.std.proofs.Common.{◌≡◌, ℕ, All, List, length, arith, subst, ap, sym, ◌∙◌}
-use Rattle.std.proofs.lemmas.List.Elements.{All-weaker}
-use Rattle.turn_rule.specs.declared.game.Game.{Game}
+use Rattle.std.proofs.Common.{List, ap, subst, sym}
 use Rattle.interval_words.specs.declared.view.Note.{Note}
 use Rattle.interval_words.specs.Core.{noted}
-use Rattle.interval_words.specs.WordLists.{words_in_list}
 use Rattle.worker_sweep.specs.LastRounds.{IsLastRound}
-use Rattle.worker_sweep.specs.Workers.{SeatsAndMarks, IsReady}
-use Rattle.worker_sweep.specs.Shares.{HasDone, IsOnLeft, shares_of, works_of, hands_of, all_claims}
-use Rattle.worker_sweep.proofs.LastLemmas.{last-tighter}
-use Rattle.worker_sweep.proofs.ShareLemmas.{take-first, works-shares, hands-shares, length-shares}
+use Rattle.worker_sweep.proofs.LastLemmas.{closed-last}
 use Rattle.worker_sweep.proofs.rounds.run_rounds.Goals as goal
-
-pub run_each-made-requires-clause-crew : goal.run_each-made-requires-clause-crew
-run_each-made-requires-clause-crew g c κs within =
-    let at = subst (λ n. All (IsReady c.in_ok-board.board c.in_ok-claims.claims n) c.in_ok-crew.crew.items) (ap (λ s. s.view.base) c.in_ok-board.ensures.seat) c.in_ok-crew.ensures.crew in
-    subst (All (IsReady c.in_ok-board.board c.in_ok-claims.claims 0)) (sym c.deref_mut.ensures.value) at
-
-pub run_each-made-requires-clause-done : goal.run_each-made-requires-clause-done
-run_each-made-requires-clause-done g c κs within =
-    subst (λ (crew : List SeatsAndMarks). All (HasDone c.in_ok-board.board.game 0) (shares_of crew)) (sym c.deref_mut.ensures.value) c.in_ok-crew.ensures.done
-
-pub hand_all-requires-clause-crew : goal.hand_all-requires-clause-crew
-hand_all-requires-clause-crew g c =
-    let crew = c.run_each-made.new.crew in
-    let claims = c.in_ok-claims.claims in
-    let many : c.in_ok-crew.crew.len ≡ length crew = sym (c.run_each-made.ensures.len ∙ c.deref_mut.ensures.len) in
-    let same : c.deref_mut-2.result.now ≡ crew = c.deref_mut-2.ensures.value ∙ take-first c.in_ok-crew.crew.len crew _ many in
-    subst (All (λ (worker : SeatsAndMarks). worker.claims.table ≡ claims.table)) (sym same)
-    (All-weaker (IsReady c.in_ok-board.board claims c.run_each-made.result) (λ (worker : SeatsAndMarks). worker.claims.table ≡ claims.table) (λ worker ready. ready.works.claimer) crew c.run_each-made.ensures.crew)
 
 pub returns-clause-rounds : goal.returns-clause-rounds
 returns-clause-rounds g c =
-    let closed = c.in_ok-closed.closed in
-    let owner = c.run_each-made.new.owner.seat in
-    let known = c.split-known.result in
-    let goal = c.args.goal in
-    let asked = c.args.rounds in
-    let made = c.run_each-made.result in
-    let notes : owner.view.notes ≡ known.view.notes = sym (ap (λ s. s.view.notes) c.split-known.ensures.copy ∙ ap (λ s. s.view.notes) c.into_seats-owner.ensures.board) in
-    let last = subst (λ (g : Game). IsLastRound g goal asked (noted g owner.view.notes) made) (sym c.in_ok-closed.ensures.game) c.run_each-made.ensures.last in
-    let told = subst (λ (ns : List Note). IsLastRound closed.game goal asked (noted closed.game ns) made) notes last in
-    subst (λ (n : ℕ). IsLastRound closed.game goal asked (words_in_list closed) n) (sym c.in_ok-closed.ensures.rounds)
-    (last-tighter closed.game goal asked (words_in_list closed) (noted closed.game known.view.notes) made c.in_ok-closed.ensures.noted told)
-
-pub returns-clause-divided : goal.returns-clause-divided
-returns-clause-divided g c =
-    let crew = c.run_each-made.new.crew in
-    let long = c.in_ok-crew.crew.len in
-    let many : long ≡ length crew = sym (c.run_each-made.ensures.len ∙ c.deref_mut.ensures.len) in
-    let same : c.deref_mut-2.result.now ≡ crew = c.deref_mut-2.ensures.value ∙ take-first long crew _ many in
-    let handed : long ≡ length c.hand_all.new.crew = many ∙ (sym (ap length same) ∙ sym c.hand_all.ensures.len) in
-    let game : c.in_ok-board.board.game ≡ c.in_ok-closed.closed.game = sym c.in_ok-closed.ensures.game in
-    let made : c.run_each-made.result ≡ c.in_ok-closed.closed.rounds = sym c.in_ok-closed.ensures.rounds in
-    let work : c.run_each-made.new.owner.seat.view.work ≡ c.split-known.new.seat.view.work = sym (ap (λ s. s.view.work) (c.split-known.ensures.seat ∙ c.into_seats-owner.ensures.board)) in
-    record {
-      shares = shares_of crew;
-      many = length-shares crew ∙ (c.run_each-made.ensures.len ∙ (ap length c.deref_mut.ensures.value ∙ (c.in_ok-crew.ensures.many ∙ c.workers.ensures.is)));
-      claimed = c.hand_all.ensures.seat ∙ ap (λ (workers : List SeatsAndMarks). all_claims (shares_of workers)) same;
-      once = c.has_each_once.ensures;
-      worked = ap works_of (take-first long c.hand_all.new.crew _ handed) ∙ (c.hand_all.ensures.works ∙ (ap works_of same ∙ works-shares crew));
-      handed = ap hands_of (take-first long c.hand_all.new.crew _ handed) ∙ (c.hand_all.ensures.hands ∙ (ap hands_of same ∙ hands-shares crew));
-      hands = omega (arith, ap (λ s. s.view.hands) (c.split-known.ensures.seat ∙ c.into_seats-owner.ensures.board), c.run_each-made.ensures.hands, ap (λ w. w.seat.view.hands) c.in_ok-crew.ensures.owner, ap (λ s. s.view.hands) c.in_ok-board.ensures.seat, c.workers.ensures.is, c.workers.ensures.high);
-      done = subst (λ (n : ℕ). All (HasDone c.in_ok-closed.closed.game n) (shares_of crew)) made (subst (λ (g : Game). All (HasDone g c.run_each-made.result) (shares_of crew)) game c.run_each-made.ensures.done);
-      rest =
-          subst (λ (n : ℕ). All (IsOnLeft c.in_ok-closed.closed.game n (shares_of crew)) c.split-known.new.seat.view.work) made
-          (subst (λ (g : Game). All (IsOnLeft g c.run_each-made.result (shares_of crew)) c.split-known.new.seat.view.work) game
-          (subst (All (IsOnLeft c.in_ok-board.board.game c.run_each-made.result (shares_of crew))) work c.run_each-made.ensures.rest));
-    }
+    let game = c.in_ok-board.board.game in
+    let closed = c.in_ok-closed in
+    closed-last game closed.closed c.args.goal c.args.rounds c.in_ok-owner.field-0.rounds c.split-known.result.view.notes closed.ensures.game closed.ensures.rounds closed.ensures.noted
+    (subst (λ (notes : List Note). IsLastRound game c.args.goal c.args.rounds (noted game notes) c.in_ok-owner.field-0.rounds) (sym (ap (λ s. s.view.notes) c.split-known.ensures.copy)) c.in_ok-owner.ensures.rounds)
