@@ -1,4 +1,4 @@
-"""How the script `hypergammon` builds and packs the program, in a small checkout where a stand-in for `rt` proves nothing."""
+"""How the script `hypergammon` builds and packs the program, in a small checkout where stand-ins for the toolchain prove nothing."""
 
 import os
 import pathlib
@@ -11,15 +11,22 @@ import time
 
 from tally import TOP, run
 
-# Says of each crate that it is proved, and leaves a program that tells how often one was built.
-STAND_IN = """#!/bin/sh
-[ "$1" = ci ] || exec echo "a stand-in"
+# By their names beside `rt`. The prover notes each crate that it is asked to prove, and the linker makes a program that tells how often one was built.
+STAND_INS = {
+    "rt": "#!/bin/sh\nexec echo a stand-in\n",
+    "rattle": """#!/bin/sh
+for made; do :; done
+echo "$3" >>"{top}/proofs"
+sleep 0.5
+[ ! -e "{top}/waits" ] || sleep 20
+[ ! -e "{top}/fails" ] || exec false
+mkdir -p "$made"
+""",
+    "rattle-link": """#!/bin/sh
 echo build >>"{top}/builds"
-for name in $(cut -d: -f1 crates.txt); do echo "rt: $name proved"; sleep 0.5; [ ! -e "{top}/waits" ] || sleep 5; done
-printf '#!/bin/sh\\nexec wc -l <"{top}/builds"\\n' >hyper_app
-mkdir -p crates/hyper_app/out && chmod +x hyper_app && mv hyper_app crates/hyper_app/out
-[ ! -e "{top}/fails" ]
-"""
+printf '#!/bin/sh\\nexec wc -l <"{top}/builds"\\n' >"$6" && chmod +x "$6"
+""",
+}
 CRATES = "low:\nhyper_app: low\nbeside: low\n"
 # Who commits, and when.
 NOON = 946728000
@@ -43,8 +50,9 @@ class Checkout:
         for name in ("hypergammon", "scripts/build"):
             shutil.copy(TOP / name, top / name)
         (top / "bin").mkdir()
-        (top / "bin/rt").write_text(STAND_IN.format(top=top), encoding="utf-8")
-        (top / "bin/rt").chmod(0o755)
+        for name, text in STAND_INS.items():
+            (top / "bin" / name).write_text(text.format(top=top), encoding="utf-8")
+            (top / "bin" / name).chmod(0o755)
 
     def source(self, crate):
         return self.top / "crates" / crate / "src/main.rt"
@@ -63,6 +71,13 @@ class Checkout:
         output, told = called.communicate(timeout=60)
         return called.returncode, output.strip(), told
 
+    def proofs(self):
+        """The crates that were to be proved since it was asked last."""
+        told = self.top / "proofs"
+        names = told.read_text(encoding="utf-8").split() if told.exists() else []
+        told.unlink(missing_ok=True)
+        return names
+
     def left(self):
         """What a build left beside the program that it shouldn't."""
         return sorted(it.name for it in (self.top / "crates/hyper_app/out").glob("build-*"))
@@ -75,6 +90,7 @@ def first_calls(checkout):
     seen = checkout.top / "crates/hyper_app/out/hyper_app.seen"
     looked = seen.stat()
     yield ends == [("1", 0)] * 2 and checkout.call() == (0, "1", "") and not checkout.left()
+    yield checkout.proofs() == ["low", "hyper_app"]
     # It is the same file; when it was read last is no matter.
     yield seen.stat().st_ino == looked.st_ino and seen.stat().st_mtime_ns == looked.st_mtime_ns
 
@@ -87,14 +103,16 @@ def touched(checkout):
 
 
 def changed(checkout):
-    """A changed source builds, with the same time and length too; without rt the old program runs, and that is said."""
+    """A changed source builds, with the same time and length too, and proves what stands on it alone; without rt the old program runs, and that is said."""
     was = checkout.source("low").stat()
     checkout.source("low").write_text("// mow\n", encoding="utf-8")
     os.utime(checkout.source("low"), ns=(was.st_atime_ns, was.st_mtime_ns + 1))
     for _ in range(2):
         status, output, told = checkout.call(has_rt=False)
         yield (status, output) == (0, "1") and "of other sources" in told
-    yield checkout.call()[:2] == (0, "2")
+    yield checkout.call()[:2] == (0, "2") and checkout.proofs() == ["low", "hyper_app"]
+    checkout.source("hyper_app").write_text("// the program anew\n", encoding="utf-8")
+    yield checkout.call()[:2] == (0, "3") and checkout.proofs() == ["hyper_app"]
 
 
 def came_and_went(checkout):
@@ -103,36 +121,36 @@ def came_and_went(checkout):
     shutil.copytree(sources, checkout.top / "older")
     (checkout.top / "older/main.rt").write_text("// a fourth text\n", encoding="utf-8")
     (sources / "more.rt").write_text("// more\n", encoding="utf-8")
-    yield checkout.call()[:2] == (0, "3")
-    (sources / "more.rt").unlink()
     yield checkout.call()[:2] == (0, "4")
+    (sources / "more.rt").unlink()
+    yield checkout.call()[:2] == (0, "5")
     sources.rename(checkout.top / "newer")
     (checkout.top / "older").rename(sources)
-    yield checkout.call()[:2] == (0, "5")
+    yield checkout.call()[:2] == (0, "6")
 
 
 def failing(checkout):
-    """Of a build that fails the status is 70, and what rt said last is told."""
+    """Of a build that fails the status is 70, and which crate isn't proved is told."""
     checkout.source("low").write_text("// a third text\n", encoding="utf-8")
     (checkout.top / "fails").touch()
     status, output, told = checkout.call()
-    yield (status, output) == (70, "") and "the build failed" in told
+    yield (status, output) == (70, "") and "low isn't proved" in told
     (checkout.top / "fails").unlink()
 
 
 def stopped(checkout):
     """A call that is stopped while it builds leaves nothing running and no folder, and the next one builds."""
     (checkout.top / "waits").touch()
-    log = checkout.top / "crates/hyper_app/out/build.log"
-    log.unlink()
+    checkout.proofs()
     called = checkout.begin()
-    while not log.exists() or "rt: " not in log.read_text(encoding="utf-8"):
+    while not (checkout.top / "proofs").exists():
         time.sleep(0.1)
     called.send_signal(signal.SIGTERM)
     called.communicate(timeout=60)
     yield called.returncode == -signal.SIGTERM and not checkout.left()
+    yield not run(["pgrep", "-f", checkout.top / "bin/rattle"], "/").output
     (checkout.top / "waits").unlink()
-    yield checkout.call()[:2] == (0, "8")
+    yield checkout.call()[:2] == (0, "7")
 
 
 def commit(checkout, changes):

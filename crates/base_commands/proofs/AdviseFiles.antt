@@ -24,11 +24,11 @@ use Rattle.database_file.specs.Opened.{AnswersPaged}
 use Rattle.database_file.specs.Paged.{paged_source, told_notes}
 use Rattle.database_file.specs.PagedFiles.{PagedFile}
 use Rattle.database_file.specs.Texts.{game_in}
-use Rattle.base_commands.specs.declared.advise.AskedKind.{AskedKind}
+use Rattle.run_endings.specs.declared.asked.AskedKind.{AskedKind}
 use Rattle.command_line.specs.declared.command.Advise.{Advise as AdviseTask}
 use Rattle.run_endings.specs.Loads.{look_refusal}
 use Rattle.base_commands.specs.Advises.{Advises, AnswersAdvice, AnswersRanking, IsBadFor, IsStateIn, MeetsAdvising, Ranks, RefusesAdvice, RestsOn}
-use Rattle.base_commands.specs.Games.{AnswersAsked}
+use Rattle.run_endings.specs.Games.{AnswersAsked}
 use Rattle.run_endings.specs.Pages.{AnswersSought, IsOnBadPage, OfHeld, TellsFirst}
 use Rattle.run_endings.proofs.Pages.{bad-page, noted_in, same-kinds, source_in}
 

@@ -5,8 +5,3 @@ mod ShowLaws
 mod AdviseLaws
 mod AdviseFiles
 mod ListLaws
-mod Verified
-mod PlanLaws
-mod PlanFiles
-mod ScanFiles
-mod ReplyFiles

@@ -31,11 +31,11 @@ use Rattle.run_endings.specs.Endings.{IsOfListing, IsOfLoading, IsOutside}
 use Rattle.run_endings.specs.Loads.{look_refusal}
 use Rattle.run_endings.specs.Pages.{AnswersOpening, OfHeld}
 use Rattle.run_endings.proofs.Pages.{noted_in, source_in}
-use Rattle.base_commands.specs.declared.advise.AskedKind.{AskedKind}
+use Rattle.run_endings.specs.declared.asked.AskedKind.{AskedKind}
 use Rattle.base_commands.specs.declared.list_answers.LineAnswer.{LineAnswer}
 use Rattle.base_commands.specs.declared.list_answers.LineAnswer.TheVariants.{Ranked, Refused, Shown}
 use Rattle.base_commands.specs.declared.lists.RolledPosition.{RolledPosition}
-use Rattle.base_commands.specs.Games.{WantsCheckers, WantsOther}
+use Rattle.run_endings.specs.Games.{WantsCheckers, WantsOther}
 use Rattle.base_commands.specs.Lists.{AnswerEach, GivesPosition, GivesRolled, RefusesList}
 use Rattle.base_commands.specs.AdviseLists.{AdvisesLine, AdvisesRolled, advise_of}
 use Rattle.base_commands.specs.Advises.{AnswersRanking, IsStateIn, Ranks}

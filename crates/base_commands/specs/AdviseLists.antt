@@ -9,7 +9,7 @@ use Rattle.base_commands.specs.declared.list_answers.LineAnswer.{LineAnswer}
 use Rattle.base_commands.specs.declared.list_answers.LineAnswer.TheVariants.{Ranked, Refused, Shown}
 use Rattle.base_commands.specs.declared.lists.RolledPosition.{RolledPosition}
 use Rattle.base_commands.specs.Advises.{IsBadFor, Ranks}
-use Rattle.base_commands.specs.Games.{WantsOther}
+use Rattle.run_endings.specs.Games.{WantsOther}
 use Rattle.base_commands.specs.Lists.{GivesRolled}
 
 -- what `advise` is asked of a file by its name, for a position, a roll and a kind

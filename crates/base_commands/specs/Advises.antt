@@ -26,14 +26,14 @@ use Rattle.database_file.specs.Paged.{paged_source, told_notes}
 use Rattle.database_file.specs.Texts.{game_in}
 use Rattle.equity_report.specs.declared.refusal.Refusal.{Refusal}
 use Rattle.base_reports.specs.Advice.{cube_report, ranking_text}
-use Rattle.base_commands.specs.declared.advise.AskedKind.{AskedKind}
+use Rattle.run_endings.specs.declared.asked.AskedKind.{AskedKind}
 use Rattle.base_commands.specs.declared.advise.FoundAdvice.{FoundAdvice}
 use Rattle.base_commands.specs.declared.advise.FoundRanking.{FoundRanking}
 use Rattle.base_commands.specs.declared.advise.OpenedFile.{OpenedFile}
 use Rattle.command_line.specs.declared.command.Advise.{Advise as AdviseTask}
 use Rattle.run_endings.specs.Endings.{Ending, Tells}
 use Rattle.run_endings.specs.Pages.{AnswersSought, AreOnRightPages, HavePairsOf, IsOnBadPage, OfHeld, TellsFirst, RefusesOpeningFor}
-use Rattle.base_commands.specs.Games.{IsKindAsked, WantsOther}
+use Rattle.run_endings.specs.Games.{IsKindAsked, WantsOther}
 
 -- ---- the state in which advice is sought
 

@@ -1,12 +1,6 @@
-pub mod Games
 pub mod Shows
 pub mod Lists
 pub mod Advises
 pub mod ShowLists
 pub mod AdviseLists
 pub mod ListAnswers
-pub mod Verifies
-pub mod Migrates
-pub mod Plans
-pub mod Scans
-pub mod Replies

@@ -6,7 +6,7 @@ use Rattle.equity_report.specs.declared.refusal.Refusal.{Refusal}
 use Rattle.run_endings.specs.Pages.{IsOfOther}
 use Rattle.base_commands.specs.declared.list_answers.LineAnswer.{LineAnswer}
 use Rattle.base_commands.specs.declared.list_answers.LineAnswer.TheVariants.{Ranked, Refused, Shown}
-use Rattle.base_commands.specs.Games.{WantsCheckers}
+use Rattle.run_endings.specs.Games.{WantsCheckers}
 use Rattle.base_commands.specs.Lists.{GivesPosition}
 use Rattle.base_commands.specs.Shows.{IsBadAt, ShowsPairs}
 

@@ -25,7 +25,7 @@ use Rattle.base_commands.specs.declared.show.Shown.{Shown}
 use Rattle.run_endings.specs.Endings.{Ending, Tells}
 use Rattle.run_endings.specs.Loads.{game_told}
 use Rattle.run_endings.specs.Pages.{OfHeld, RefusesOpeningFor, words_in_file}
-use Rattle.base_commands.specs.Games.{WantsCheckers}
+use Rattle.run_endings.specs.Games.{WantsCheckers}
 
 -- a row for each of these kinds, which are counted from k, with the pair of the position in this kind
 abbrev pub rows_from : Words → Placement → ℕ → List KindName → List KindRow

@@ -3,39 +3,27 @@ ghost use Rattle.hyper_outside.specs.Causes.{Rose};
 ghost use Rattle.outside_log.specs.Log.{standing};
 ghost use Rattle.outside_log.specs.Readings.{ReadsOn, is_faithful, read_faults};
 ghost use Rattle.hyper_outside.specs.declared.outside.LookStop.TheVariants.{ReadFault};
-ghost use Rattle.turn_rule.specs.Games.{IsGame, kinds_of};
 ghost use Rattle.turn_rule.specs.States.{IsStateOf};
 ghost use Rattle.base_head.specs.Heads.{stakes_of};
 ghost use Rattle.database_file.specs.Paged.{KeepsPagesOf};
-ghost use Rattle.database_file.specs.Texts.{game_in};
 ghost use Rattle.equity_report.specs.declared.refusal.Refusal.TheVariants.{Read};
 ghost use Rattle.command_line.specs.Right.{IsRightAdvise};
 ghost use Rattle.run_endings.specs.Endings.{EndsBy, IsOfShowing};
 ghost use Rattle.run_endings.specs.declared.ending.RunStop.TheVariants.{Refused};
-ghost use Rattle.base_commands.specs.Games.{AnswersAsked};
 ghost use Rattle.base_commands.specs.Advises.{AnswersAdvice, AnswersCube, AnswersOpened, AnswersRanked, AnswersRanking, CanBePlayed, TellsAdvice};
 
 use crate::advise_laws::{looked_up_advice_is_of_the_file, looked_up_rankings_are_of_the_file};
-use base_head::Head;
 use base_reports::{write_cube, write_ranking};
 use command_line::Advise;
-use cube_actions::KindName;
 use database_file::PagedBase;
-use equity_report::{Refusal, Wanted};
+use equity_report::Refusal;
 use hyper_outside::{Failed, LookStop};
 use outside_log::{Files, Sink};
 use play_analyser::{CubeAdvice, Ranking, cube_advice, rank_plays};
 use position_rank::Position;
 use roll_table::Roll;
-use run_endings::{RunStop, game_told, look_refusal, open_file};
+use run_endings::{AskedKind, RunStop, asked_kind, look_refusal, open_file};
 use std::alloc::Global;
-
-/// A kind of state of a game.
-#[derive(Clone, Copy)]
-pub struct AskedKind {
-    pub number: usize,
-    pub name: KindName,
-}
 
 /// A file that was opened for a state of its game.
 #[derive(Drop)]
@@ -56,44 +44,6 @@ pub struct FoundRanking {
 pub struct FoundAdvice {
     pub kind: AskedKind,
     pub advice: CubeAdvice,
-}
-
-/// The kind of state that is asked for, the first where none is; or a refusal where the head's game has other checkers than the position, or no
-/// such kind.
-pub(crate) fn asked_kind(
-    head: &Head,
-    position: &Position,
-    asked: Option<KindName>,
-) -> Result<AskedKind, Refusal>
-    ensures asked { AnswersAsked position.now asked head.now result }
-    ensures game { IfOk result (λ kind. IsGame (game_in head.now)) }
-    ensures number { IfOk result (λ kind. kind.number < kinds_of (game_in head.now)) }
-    ensures kinds { IfErr result IsOfShowing }
-{
-    let game = game_told(head);
-    let wanted = position.checkers();
-    if wanted != game.checkers {
-        return Err(Refusal::Base {
-            wanted: Wanted::Checkers(wanted),
-            found: game,
-        });
-    }
-    let stakes = head.stakes();
-    let Some(name) = asked else {
-        // What `kinds` ensures says that there is a first one.
-        let _kinds = stakes.kinds();
-        return Ok(AskedKind {
-            number: 0,
-            name: stakes.kind_name(0),
-        });
-    };
-    match stakes.number_of(name) {
-        Some(number) => Ok(AskedKind { number, name }),
-        None => Err(Refusal::Base {
-            wanted: Wanted::Kind(name),
-            found: game,
-        }),
-    }
 }
 
 /// Opens the file of a task, and finds the kind of state that is asked for.

@@ -7,7 +7,7 @@ ghost use Rattle.play_analyser.specs.Rankings.{IsRanking};
 ghost use Rattle.base_head.specs.Heads.{FileHead, stakes_of};
 ghost use Rattle.database_file.specs.Faults.{header_of_file};
 ghost use Rattle.database_file.specs.Paged.{paged_source, told_notes};
-ghost use Rattle.base_commands.specs.declared.advise.AskedKind.{AskedKind};
+ghost use Rattle.run_endings.specs.declared.asked.AskedKind.{AskedKind};
 ghost use Rattle.command_line.specs.declared.command.Advise.{Advise as AdviseTask};
 ghost use Rattle.base_commands.specs.Advises.{Advises, IsStateIn, Ranks};
 

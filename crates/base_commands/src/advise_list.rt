@@ -13,7 +13,7 @@ ghost use Rattle.run_endings.specs.declared.ending.RunStop.TheVariants.{Refused 
 ghost use Rattle.base_commands.specs.AdviseLists.{AdvisesLine, AdvisesRolled};
 ghost use Rattle.base_commands.specs.ListAnswers.{IsTellable, OfOpened, TellsListed};
 
-use crate::advise::{asked_kind, ranking_of};
+use crate::advise::ranking_of;
 use crate::advise_laws::looked_up_rankings_are_of_the_file;
 use crate::list_answers::{LineAnswer, LineSought, RankedLine, run_list, stop_answer};
 use crate::lists::{RolledPosition, read_rolled};
@@ -23,7 +23,7 @@ use database_file::PagedBase;
 use equity_report::Refusal;
 use hyper_outside::Gate;
 use outside_log::{Files, Sink};
-use run_endings::RunStop;
+use run_endings::{RunStop, asked_kind};
 use std::alloc::Global;
 use std::thread::Threads;
 use worker_team::Team;

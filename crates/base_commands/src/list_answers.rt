@@ -12,7 +12,6 @@ ghost use Rattle.run_endings.specs.Notes.{PutsTally};
 ghost use Rattle.run_endings.specs.declared.ending.RunStop.TheVariants.{Refused as RunRefused};
 ghost use Rattle.base_commands.specs.ListAnswers.{AddsAnswer, AddsAnswers, AnswersLine, AnswersListed, AnswersStop, IsTellable, OfOpened, TellsListed, answer_line};
 
-use crate::advise::AskedKind;
 use crate::advise_list::advise_line;
 use crate::lists::{RolledPosition, first_line, read_list};
 use crate::show::Rows;
@@ -25,7 +24,7 @@ use hyper_outside::{Failed, Gate, LookStop, NoMemory};
 use outside_log::{Files, Sink};
 use play_analyser::Ranking;
 use position_rank::Position;
-use run_endings::{RunStop, look_refusal, open_keeping, put_tally};
+use run_endings::{AskedKind, RunStop, look_refusal, open_keeping, put_tally};
 use std::alloc::Global;
 use std::thread::Threads;
 use worker_team::Team;

@@ -31,7 +31,7 @@ use Rattle.run_endings.specs.Endings.{IsOutside}
 use Rattle.run_endings.specs.Loads.{OfFile}
 use Rattle.run_endings.specs.Pages.{HavePairsOf}
 use Rattle.run_laws.specs.RightFiles.{CanLoad, CanLookUp}
-use Rattle.base_commands.specs.Verifies.{MayRefuseVerifying, RefusesVerifying}
+use Rattle.whole_file_commands.specs.Verifies.{MayRefuseVerifying, RefusesVerifying}
 use Rattle.run_laws.proofs.RightLoads.{right-loads}
 use Rattle.run_endings.proofs.Pages.{same-kinds}
 

@@ -33,8 +33,8 @@ use Rattle.command_line.specs.Right.{IsRightLadder}
 use Rattle.run_endings.specs.Endings.{IsOutside, IsPut}
 use Rattle.run_endings.specs.Loads.{OfFile}
 use Rattle.base_commands.specs.Advises.{HasAdvised}
-use Rattle.base_commands.specs.Plans.{EndsLadder, HasPlanned, HoldsInTheEnd, first_file, first_score, planned_starts}
-use Rattle.base_commands.specs.Verifies.{MayRefuseVerifying}
+use Rattle.whole_file_commands.specs.Plans.{EndsLadder, HasPlanned, HoldsInTheEnd, first_file, first_score, planned_starts}
+use Rattle.whole_file_commands.specs.Verifies.{MayRefuseVerifying}
 use Rattle.run_endings.specs.Pages.{OfHeld}
 use Rattle.run_endings.specs.Scores.{score_file}
 use Rattle.solve_commands.specs.Ladders.{HasSolvedLadder, SolvedScore, AreScoresSolved, file_of, ladder_score, scores_in}

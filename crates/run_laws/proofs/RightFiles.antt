@@ -25,17 +25,17 @@ use Rattle.equity_report.specs.declared.refusal.Refusal.TheVariants.{Missing, Ot
 use Rattle.run_endings.specs.Beginnings.{RefusesBeginning}
 use Rattle.run_endings.specs.Endings.{IsOutside}
 use Rattle.base_commands.specs.Advises.{MayRefuseAdvice, RestsOn}
-use Rattle.base_commands.specs.Games.{IsKindAsked, WantsCheckers, WantsOther}
-use Rattle.base_commands.specs.Migrates.{MayRefuseMigrating}
-use Rattle.base_commands.specs.Plans.{MayRefusePlanning, RefusesPlanning, WantsFirst, first_file}
-use Rattle.base_commands.specs.Replies.{MayRefuseReplying, RefusesReplying}
+use Rattle.run_endings.specs.Games.{IsKindAsked, WantsCheckers, WantsOther}
+use Rattle.whole_file_commands.specs.Migrates.{MayRefuseMigrating}
+use Rattle.whole_file_commands.specs.Plans.{MayRefusePlanning, RefusesPlanning, WantsFirst, first_file}
+use Rattle.whole_file_commands.specs.Replies.{MayRefuseReplying, RefusesReplying}
 use Rattle.run_laws.specs.RightFiles.{IsRightForAdvising, IsRightForMigrating, IsRightForPlanning, IsRightForReplying, IsRightForScanning, IsRightForListing, IsRightForShowing, IsRightForVerifying, HasRightFront, IsRightList}
-use Rattle.base_commands.specs.Scans.{MayRefuseScanning, RefusesScanning}
+use Rattle.whole_file_commands.specs.Scans.{MayRefuseScanning, RefusesScanning}
 use Rattle.base_commands.specs.Lists.{RefusesList}
 use Rattle.base_commands.specs.ListAnswers.{RefusesListing}
 use Rattle.base_commands.specs.Shows.{RefusesShowing}
 use Rattle.run_endings.specs.Pages.{RefusesOpening}
-use Rattle.base_commands.specs.Verifies.{MayRefuseVerifying, RefusesVerifying}
+use Rattle.whole_file_commands.specs.Verifies.{MayRefuseVerifying, RefusesVerifying}
 use Rattle.run_laws.proofs.RightLoads.{not-other, right-fits, right-front, right-loads, right-opens, right-page}
 
 -- ---- files that are looked up

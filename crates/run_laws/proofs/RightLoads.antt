@@ -20,7 +20,7 @@ use Rattle.equity_report.specs.declared.refusal.Refusal.TheVariants.{Missing, Fi
 use Rattle.run_endings.specs.Endings.{IsOutside}
 use Rattle.run_endings.specs.Loads.{RefusesFrom}
 use Rattle.run_endings.specs.Pages.{RefusesOpening, RefusesOpeningFor}
-use Rattle.base_commands.specs.Games.{HasState, RefusesLoadingFor, WantsOther}
+use Rattle.run_endings.specs.Games.{HasState, RefusesLoadingFor, WantsOther}
 use Rattle.run_laws.specs.RightFiles.{CanLookUp}
 
 -- ---- right files

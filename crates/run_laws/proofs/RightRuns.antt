@@ -28,14 +28,14 @@ use Rattle.equity_report.specs.declared.refusal.Refusal.TheVariants.{Memory, Rea
 use Rattle.run_endings.specs.Endings.{Ending, IsOutside, PutsEnding, status_at}
 use Rattle.run_endings.specs.declared.ending.RunStop.TheVariants.{NotWritten, Refused}
 use Rattle.base_commands.specs.Advises.{MayRefuseAdvice}
-use Rattle.base_commands.specs.Migrates.{MayRefuseMigrating}
-use Rattle.base_commands.specs.Plans.{MayRefusePlanning, first_file}
-use Rattle.base_commands.specs.Replies.{MayRefuseReplying}
+use Rattle.whole_file_commands.specs.Migrates.{MayRefuseMigrating}
+use Rattle.whole_file_commands.specs.Plans.{MayRefusePlanning, first_file}
+use Rattle.whole_file_commands.specs.Replies.{MayRefuseReplying}
 use Rattle.run_laws.specs.RightFiles.{IsRightForAdvising, IsRightForMigrating, IsRightForPlanning, IsRightForReplying, IsRightForScanning, IsRightForListing, IsRightForShowing, IsRightForVerifying}
-use Rattle.base_commands.specs.Scans.{MayRefuseScanning}
+use Rattle.whole_file_commands.specs.Scans.{MayRefuseScanning}
 use Rattle.base_commands.specs.ListAnswers.{RefusesListing}
 use Rattle.base_commands.specs.Shows.{RefusesShowing}
-use Rattle.base_commands.specs.Verifies.{MayRefuseVerifying}
+use Rattle.whole_file_commands.specs.Verifies.{MayRefuseVerifying}
 use Rattle.run_laws.proofs.RightFiles.{right-begun}
 use Rattle.solve_commands.specs.Ladders.{MayRefuseLadder, file_of}
 use Rattle.solve_commands.specs.Races.{RefusesRace}

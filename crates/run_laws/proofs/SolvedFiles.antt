@@ -51,8 +51,8 @@ use Rattle.command_line.specs.declared.command.Solve.{Solve as SolveTask}
 use Rattle.command_line.specs.declared.command.Study.{Study as StudyTask}
 use Rattle.command_line.specs.Right.{IsRightAdvise, IsRightCommand, IsRightLadder, IsRightShow, IsRightSolve}
 use Rattle.base_commands.specs.Advises.{RestsOn}
-use Rattle.base_commands.specs.Games.{HasState}
-use Rattle.base_commands.specs.Plans.{IsOfFirstGame}
+use Rattle.run_endings.specs.Games.{HasState}
+use Rattle.whole_file_commands.specs.Plans.{IsOfFirstGame}
 use Rattle.run_laws.specs.RightFiles.{AdviceRestsOn, CanLoad, CanLookUp, HasConsistentWords, HasRightFront, IsRightForPlanning, IsRightForReplying, IsRightForVerifying}
 use Rattle.run_endings.specs.Loads.{game_told}
 use Rattle.run_endings.specs.Pages.{OfHeld}

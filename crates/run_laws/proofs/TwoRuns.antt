@@ -19,11 +19,11 @@ use Rattle.command_line.specs.declared.command.Solve.{Solve as SolveTask}
 use Rattle.command_line.specs.Right.{IsRightSolve}
 use Rattle.command_line.specs.declared.command.Advise.{Advise as AdviseTask}
 use Rattle.equity_report.specs.declared.refusal.Refusal.{Refusal}
-use Rattle.base_commands.specs.Verifies.{MayRefuseVerifying}
+use Rattle.whole_file_commands.specs.Verifies.{MayRefuseVerifying}
 use Rattle.run_endings.specs.Endings.{IsOutside, IsPut}
 use Rattle.solve_commands.specs.Solves.{AreSolved, HasSolved, head_of, solved_file}
 use Rattle.base_commands.specs.Advises.{HasAdvised, HasAdvisedOn}
-use Rattle.base_commands.specs.Games.{IsKindAsked}
+use Rattle.run_endings.specs.Games.{IsKindAsked}
 use Rattle.run_endings.specs.Pages.{OfHeld}
 use Rattle.record_commands.specs.Analyses.{HasAnalysed, JudgesBy, JudgesPlain}
 use Rattle.record_commands.specs.Records.{report_shown}

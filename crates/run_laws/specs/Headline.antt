@@ -15,11 +15,11 @@ use Rattle.record_analysis.specs.Truth.{IsTrueAnalysis}
 use Rattle.record_analysis.specs.declared.analysis.Judged.{Judged}
 use Rattle.record_study.specs.Matches.{IsTrueMatch}
 use Rattle.command_line.specs.declared.command.Ladder.{Ladder as LadderTask}
-use Rattle.base_commands.specs.declared.advise.AskedKind.{AskedKind}
+use Rattle.run_endings.specs.declared.asked.AskedKind.{AskedKind}
 use Rattle.command_line.specs.declared.command.Advise.{Advise as AdviseTask}
 use Rattle.match_plan.specs.Plans.{plan_text}
-use Rattle.base_commands.specs.Plans.{HoldsInTheEnd}
-use Rattle.base_commands.specs.Games.{IsKindAsked}
+use Rattle.whole_file_commands.specs.Plans.{HoldsInTheEnd}
+use Rattle.run_endings.specs.Games.{IsKindAsked}
 use Rattle.solve_commands.specs.Ladders.{SolvedScore, file_of, score_bytes, score_head, ladder_score, scores_in}
 
 -- The plays of a roll were printed from the best to the worst, and in the game of the head, of enough turns and however its unfinished end is

@@ -20,11 +20,11 @@ use Rattle.command_line.specs.declared.command.Reply.{Reply as ReplyTask}
 use Rattle.command_line.specs.declared.command.Scan.{Scan}
 use Rattle.command_line.specs.declared.command.Show.{Show as ShowTask}
 use Rattle.run_endings.specs.Pages.{AreOnRightPages, OfHeld}
-use Rattle.base_commands.specs.declared.advise.AskedKind.{AskedKind}
+use Rattle.run_endings.specs.declared.asked.AskedKind.{AskedKind}
 use Rattle.base_commands.specs.Advises.{RestsOn}
-use Rattle.base_commands.specs.Games.{HasState, IsKindAsked}
-use Rattle.base_commands.specs.Plans.{IsOfFirstGame}
-use Rattle.base_commands.specs.Scans.{IsConditionText}
+use Rattle.run_endings.specs.Games.{HasState, IsKindAsked}
+use Rattle.whole_file_commands.specs.Plans.{IsOfFirstGame}
+use Rattle.whole_file_commands.specs.Scans.{IsConditionText}
 
 -- Nothing is wrong with a file, where the versions from `oldest` on are read, and this is so of its head and words.
 pub record CanLoad (oldest : Version) (Fits : FileBase → Type 0) (bytes : List ℕ) : Type 0 where

@@ -13,7 +13,7 @@ use Rattle.base_head.specs.Headers.{magic}
 use Rattle.command_line.specs.declared.command.Command.{Command}
 use Rattle.command_line.specs.declared.command.Command.TheVariants.{Bound, Race, Solve, Show, ShowList, Migrate, Advise, AdviseList, Verify, Ladder, Analyse, Study, Make, Plan, Scan, Reply, Board}
 use Rattle.command_line.specs.declared.command.Ladder.{Ladder as LadderTask}
-use Rattle.base_commands.specs.Plans.{first_file}
+use Rattle.whole_file_commands.specs.Plans.{first_file}
 use Rattle.run_laws.specs.RightFiles.{IsRightForAdvising, IsRightForMigrating, IsRightForPlanning, IsRightForReplying, IsRightForScanning, IsRightForListing, IsRightForShowing, IsRightForVerifying}
 use Rattle.solve_commands.specs.Ladders.{file_of, scores_in}
 use Rattle.run_laws.specs.RightRecords.{IsRightForAnalysing, IsRightForStudying}

@@ -5,10 +5,10 @@ use Rattle.base_head.specs.Heads.{FileHead}
 use Rattle.base_head.specs.Headers.{magic}
 use Rattle.command_line.specs.declared.command.Command.{Command}
 use Rattle.command_line.specs.declared.command.Command.TheVariants.{Show, ShowList, Migrate, Advise, AdviseList, Verify, Plan, Scan, Reply}
-use Rattle.base_commands.specs.Games.{HasState}
+use Rattle.run_endings.specs.Games.{HasState}
 use Rattle.run_laws.specs.RightFiles.{IsRightList}
-use Rattle.base_commands.specs.Plans.{IsOfFirstGame, first_file}
-use Rattle.base_commands.specs.Scans.{IsConditionText}
+use Rattle.whole_file_commands.specs.Plans.{IsOfFirstGame, first_file}
+use Rattle.whole_file_commands.specs.Scans.{IsConditionText}
 use Rattle.run_laws.specs.RightRuns.{MayBeReplaced}
 
 -- the name of the one file of bounds that a command reads

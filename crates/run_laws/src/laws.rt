@@ -24,9 +24,9 @@ ghost use Rattle.record_commands.specs.Records.{HoldsRecord, game_recorded, repo
 ghost use Rattle.record_commands.specs.declared.record.Replayed.{Replayed};
 ghost use Rattle.solve_commands.specs.Solves.{HasSolved, head_of};
 ghost use Rattle.base_commands.specs.Advises.{HasAdvised};
-ghost use Rattle.base_commands.specs.Plans.{HasPlanned, first_file};
+ghost use Rattle.whole_file_commands.specs.Plans.{HasPlanned, first_file};
 ghost use Rattle.command_line.specs.declared.command.Plan.{Plan};
-ghost use Rattle.base_commands.specs.Verifies.{MayRefuseVerifying};
+ghost use Rattle.whole_file_commands.specs.Verifies.{MayRefuseVerifying};
 ghost use Rattle.run_laws.specs.Headline.{HoldLadder, PrintsGoodAdvice, PrintsTrueLosses, PrintsTrueMatch, PrintsTruePlan, ladder_file, ladder_head};
 ghost use Rattle.top_call.specs.Outcomes.{RunsAsAsked};
 ghost use Rattle.run_laws.specs.RightRuns.{AreAnswered, IsDoneUnlessHindered, IsRightFor};

@@ -11,13 +11,13 @@ ghost use Rattle.equity_report.specs.declared.refusal.Refusal.{Refusal};
 ghost use Rattle.run_endings.specs.Endings.{IsOutside};
 ghost use Rattle.base_commands.specs.Advises.{MayRefuseAdvice};
 ghost use Rattle.base_commands.specs.ListAnswers.{RefusesListing};
-ghost use Rattle.base_commands.specs.Migrates.{MayRefuseMigrating};
-ghost use Rattle.base_commands.specs.Plans.{MayRefusePlanning};
-ghost use Rattle.base_commands.specs.Replies.{MayRefuseReplying};
+ghost use Rattle.whole_file_commands.specs.Migrates.{MayRefuseMigrating};
+ghost use Rattle.whole_file_commands.specs.Plans.{MayRefusePlanning};
+ghost use Rattle.whole_file_commands.specs.Replies.{MayRefuseReplying};
 ghost use Rattle.run_laws.specs.RightFiles.{IsRightForAdvising, IsRightForMigrating, IsRightForPlanning, IsRightForReplying, IsRightForScanning, IsRightForListing, IsRightForShowing, IsRightForVerifying};
-ghost use Rattle.base_commands.specs.Scans.{MayRefuseScanning};
+ghost use Rattle.whole_file_commands.specs.Scans.{MayRefuseScanning};
 ghost use Rattle.base_commands.specs.Shows.{RefusesShowing};
-ghost use Rattle.base_commands.specs.Verifies.{MayRefuseVerifying};
+ghost use Rattle.whole_file_commands.specs.Verifies.{MayRefuseVerifying};
 
 /// Where the file of a command is there and is right for what is asked of it, and all answers were faithful, the command is refused
 /// only where reading failed or there was no memory. Of `show` and `advise` that is a file of the position's checkers, and of the

@@ -19,15 +19,15 @@ use Rattle.run_endings.specs.Endings.{Ending, EndsBy, IsOfAnalysing, IsOfBoundin
 use Rattle.run_endings.specs.Notes.{PutsTally}
 use Rattle.base_commands.specs.Advises.{TellsAdvice}
 use Rattle.base_commands.specs.Lists.{words_refusal}
-use Rattle.base_commands.specs.Migrates.{Migrates}
-use Rattle.base_commands.specs.Plans.{TellsPlan, first_file}
-use Rattle.base_commands.specs.Replies.{TellsReply}
-use Rattle.base_commands.specs.Scans.{TellsScan}
+use Rattle.whole_file_commands.specs.Migrates.{Migrates}
+use Rattle.whole_file_commands.specs.Plans.{TellsPlan, first_file}
+use Rattle.whole_file_commands.specs.Replies.{TellsReply}
+use Rattle.whole_file_commands.specs.Scans.{TellsScan}
 use Rattle.base_commands.specs.AdviseLists.{AdvisesLine}
 use Rattle.base_commands.specs.ListAnswers.{TellsListed}
 use Rattle.base_commands.specs.ShowLists.{ShowsLine}
 use Rattle.base_commands.specs.Shows.{TellsShown}
-use Rattle.base_commands.specs.Verifies.{TellsVerified}
+use Rattle.whole_file_commands.specs.Verifies.{TellsVerified}
 use Rattle.solve_commands.specs.Ladders.{SolvesLadder}
 use Rattle.solve_commands.specs.Races.{TellsRace}
 use Rattle.solve_commands.specs.Solves.{Solves}

@@ -10,10 +10,7 @@ ghost use Rattle.run_endings.specs.Notes.{PutsNote, PutsNotes};
 ghost use Rattle.top_call.specs.Outcomes.{Ends, HasRun, KeepsFiles, LeavesAllFiles, LeavesFiles, NotesBefore, RunsAsAsked, asked, asks_list, is_list, unread_refusal};
 
 use crate::board::run_board;
-use base_commands::{
-    run_advise, run_advise_list, run_migrate, run_plan, run_reply, run_scan, run_show,
-    run_show_list, run_verify, words_refusal,
-};
+use base_commands::{run_advise, run_advise_list, run_show, run_show_list, words_refusal};
 use command_line::{Command, WordsStop, read_words};
 use equity_report::Refusal;
 use hyper_outside::Gate;
@@ -25,6 +22,7 @@ use run_endings::{RunStop, end};
 use solve_commands::{run_bound, run_ladder, run_race, run_solve};
 use std::alloc::Global;
 use std::thread::Threads;
+use whole_file_commands::{run_migrate, run_plan, run_reply, run_scan, run_verify};
 use worker_team::Team;
 
 /// The refusal of words that weren't read.

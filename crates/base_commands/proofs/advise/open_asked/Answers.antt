@@ -1,5 +1,5 @@
 use Rattle.std.proofs.Common.{inl, inr}
-use Rattle.base_commands.specs.Games.{WantsOther}
+use Rattle.run_endings.specs.Games.{WantsOther}
 use Rattle.base_commands.proofs.AdviseFiles.{state-opened}
 use Rattle.base_commands.proofs.Fitting.{opened-other}
 use Rattle.outside_log.specs.Log.{standing}

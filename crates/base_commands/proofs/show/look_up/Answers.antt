@@ -3,7 +3,7 @@ use Rattle.base_head.specs.Heads.{FileHead}
 use Rattle.base_head.specs.declared.header.Header.{Header}
 use Rattle.equity_report.specs.declared.text.GameName.{GameName}
 use Rattle.run_endings.specs.Loads.{game_told}
-use Rattle.base_commands.specs.Games.{WantsCheckers}
+use Rattle.run_endings.specs.Games.{WantsCheckers}
 use Rattle.base_commands.specs.Shows.{AnswersRows}
 use Rattle.base_commands.proofs.Fitting.{moved, opened-other}
 use Rattle.base_commands.proofs.ShowLaws.{not-found, shown-told}

@@ -1,5 +1,0 @@
-use Rattle.base_commands.proofs.PlanLaws.{holds-inside}
-use Rattle.base_commands.proofs.plan_laws.plans_hold_inside_their_pairs.Goals as goal
-
-pub returns : goal.returns
-returns c = holds-inside

@@ -1,9 +1,0 @@
-use Rattle.std.proofs.Common.{◌≡◌}
-use Rattle.best_reply.specs.Sides.{AreReplyRounds}
-use Rattle.base_commands.proofs.reply.replies_after.Given as goal
-
-abbrev pub invariant-loop-round : goal.invariant-loop-round
-invariant-loop-round g l = record {
-  words : l.table.words ≡ l.words;
-  rounds : AreReplyRounds l.table l.round;
-}

@@ -1,0 +1,5 @@
+mod Verified
+mod PlanLaws
+mod PlanFiles
+mod ScanFiles
+mod ReplyFiles
