@@ -18,7 +18,7 @@ pub record LeadsToNeeded (needed : List Bool) (reach : Reach) : Type 0 where
   pub second : IsNeeded needed reach.second
   pub third : IsNeeded needed reach.third
 
--- wherever the list of a die leads to
+-- wherever the list of a die leads to is needed
 abbrev pub AreEndsNeeded : List DieList → List Bool → Type 0
 AreEndsNeeded lists needed = (i : ℕ) (none : DieList) → i < 6
     → All (LeadsToNeeded needed) (slice_index_or lists i none).reaches.items

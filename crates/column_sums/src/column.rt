@@ -124,7 +124,7 @@ impl Column {
         &self.moves.listing.cells()[..self.moves.movers]
     }
 
-    /// Whether the sums are made of the value of a cell: of this layer, and of the mover's layout with this rank.
+    /// Whether the sums may need the value of a cell: of this layer, and of the mover's layout with this rank.
     #[inline]
     pub fn needs(&self, layer: usize, rank: usize) -> bool
         requires layer { layer < 8 }

@@ -35,9 +35,9 @@ pub(crate) struct Moves {
     pub(crate) movers: usize,
     /// For each die.
     pub(crate) lists: [DieList; 6],
-    /// Of each cell, whether a turn begins there or some die leads to it.
+    /// The cells where a turn begins, and those that some die leads to, are marked.
     pub(crate) needed: Vec<bool>,
-    /// Whether some die may lead from some cell to a third, as only with three checkers.
+    /// Where this is false no die leads from a cell to a third, as with one or two checkers.
     pub(crate) has_third: bool,
 }
 
@@ -113,7 +113,7 @@ fn list_one_die(listing: &mut Listing, lists: &[DieList; 6])
     }
 }
 
-/// Whether one of these leads to a third cell.
+/// Where this is false none of these leads to a third cell.
 fn has_third(reaches: &[Reach]) -> bool
     ensures { IsFalse result → All HasNoThird reaches.now }
 {
@@ -125,7 +125,7 @@ fn has_third(reaches: &[Reach]) -> bool
     false
 }
 
-/// Whether some cell of these lists leads to a third.
+/// Where this is false no cell of these lists leads to a third.
 fn have_third(lists: &[DieList; 6]) -> bool
     requires { length lists.now ≡ 6 }
     ensures { IsFalse result → LeadToTwo lists.now }

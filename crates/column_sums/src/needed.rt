@@ -45,7 +45,7 @@ fn mark_lists(lists: &[DieList; 6], needed: &mut [bool])
     }
 }
 
-/// Marks these cells and those that the lists of the dice lead to, and no others.
+/// Marks these cells and those that the lists of the dice lead to, after all older marks are off.
 pub(crate) fn mark_needed(cells: &[u16], lists: &[DieList; 6], needed: &mut Vec<bool>)
     requires six { length lists.now ≡ 6 }
     requires many { length needed.old.items ≡ 32768 }
