@@ -149,6 +149,14 @@ def stopped(checkout):
     called.communicate(timeout=60)
     yield called.returncode == -signal.SIGTERM and not checkout.left()
     yield not run(["pgrep", "-f", checkout.top / "bin/rattle"], "/").output
+    checkout.proofs()
+    # A second signal of another kind may follow at once.
+    with subprocess.Popen([checkout.top / "scripts/build"], env=checkout.surroundings(), stderr=subprocess.DEVNULL) as build:
+        while not (checkout.top / "proofs").exists():
+            time.sleep(0.1)
+        build.send_signal(signal.SIGINT)
+        build.send_signal(signal.SIGHUP)
+    yield build.returncode == 70 and not checkout.left()
     (checkout.top / "waits").unlink()
     yield checkout.call()[:2] == (0, "7")
 
