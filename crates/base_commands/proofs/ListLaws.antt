@@ -23,7 +23,7 @@ use Rattle.database_file.specs.Faults.{header_of_file, whole}
 use Rattle.database_file.specs.Opened.{AnswersPaged}
 use Rattle.database_file.specs.Paged.{Kept}
 use Rattle.database_file.specs.PagedFiles.{PagedFile}
-use Rattle.base_reports.specs.declared.files.KindRow.{KindRow}
+use Rattle.base_reports.specs.declared.shown.KindRow.{KindRow}
 use Rattle.equity_report.specs.declared.refusal.Refusal.{Refusal}
 use Rattle.equity_report.specs.declared.refusal.Refusal.TheVariants.{Missing, File, Read, Memory}
 use Rattle.command_line.specs.declared.command.Advise.{Advise as AdviseTask}

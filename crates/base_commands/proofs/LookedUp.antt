@@ -9,7 +9,7 @@ use Rattle.directed_fixed.specs.declared.bounds.End.TheVariants.{Lower, Upper}
 use Rattle.directed_fixed.specs.Bounds.{Bounds}
 use Rattle.cube_actions.specs.declared.name.KindName.{KindName}
 use Rattle.turn_rule.specs.Turn.{Words}
-use Rattle.base_reports.specs.declared.files.KindRow.{KindRow}
+use Rattle.base_reports.specs.declared.shown.KindRow.{KindRow}
 use Rattle.base_commands.specs.Shows.{rows_from}
 use Rattle.turn_rule.specs.States.{IsStateOf, pair_of}
 use Rattle.base_head.specs.Headers.{IsHeader}

@@ -25,7 +25,7 @@ use Rattle.database_file.specs.Opened.{AnswersPaged}
 use Rattle.database_file.specs.Paged.{flaw_at, word_at}
 use Rattle.database_file.specs.PagedFiles.{PagedFile}
 use Rattle.database_file.proofs.PageWords.{word-among}
-use Rattle.base_reports.specs.declared.files.KindRow.{KindRow}
+use Rattle.base_reports.specs.declared.shown.KindRow.{KindRow}
 use Rattle.equity_report.specs.declared.refusal.Refusal.{Refusal}
 use Rattle.equity_report.specs.declared.refusal.Refusal.TheVariants.{File}
 use Rattle.command_line.specs.declared.command.Show.{Show as ShowTask}

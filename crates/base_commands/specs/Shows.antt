@@ -16,10 +16,10 @@ use Rattle.base_head.specs.Heads.{FileHead}
 use Rattle.base_head.specs.declared.header.Header.{Header}
 use Rattle.database_file.specs.Faults.{fault_before_pages, header_of_file, whole}
 use Rattle.database_file.specs.Paged.{flaw_at, word_at}
-use Rattle.base_reports.specs.declared.files.KindRow.{KindRow}
+use Rattle.base_reports.specs.declared.shown.KindRow.{KindRow}
 use Rattle.equity_report.specs.declared.refusal.Refusal.{Refusal}
 use Rattle.equity_report.specs.declared.refusal.Refusal.TheVariants.{File}
-use Rattle.base_reports.specs.Files.{shown_text}
+use Rattle.base_reports.specs.Shown.{shown_text}
 use Rattle.command_line.specs.declared.command.Show.{Show as ShowTask}
 use Rattle.base_commands.specs.declared.show.Shown.{Shown}
 use Rattle.run_endings.specs.Endings.{Ending, Tells}

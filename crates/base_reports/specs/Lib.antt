@@ -1,5 +1,3 @@
-pub mod Files
+pub mod Shown
 pub mod Lists
 pub mod Advice
-pub mod Scans
-pub mod Replies

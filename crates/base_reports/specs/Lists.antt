@@ -15,7 +15,7 @@ use Rattle.play_analyser.specs.declared.ranking.PlayRow.{PlayRow}
 use Rattle.play_analyser.specs.declared.ranking.Ranking.{Ranking}
 use Rattle.equity_report.specs.declared.refusal.Refusal.{Refusal}
 use Rattle.equity_report.specs.Refusals.{refusal_told}
-use Rattle.base_reports.specs.declared.files.KindRow.{KindRow}
+use Rattle.base_reports.specs.declared.shown.KindRow.{KindRow}
 
 -- a field behind a tab
 abbrev pub next_field : List ℕ → List ℕ

@@ -4,14 +4,16 @@ ghost use Rattle.play_text.specs.Notation.{CanFollow};
 ghost use Rattle.move_rules.specs.declared.play.TheConstants.{MOST_PLAYS};
 ghost use Rattle.roll_table.specs.Text.{roll_text};
 ghost use Rattle.cube_text.specs.Texts.{kind_text};
-ghost use Rattle.equity_report.specs.Reports.{line, points_text};
+ghost use Rattle.equity_report.specs.Reports.{line};
 ghost use Rattle.base_reports.specs.Advice.{action_text, advised_text, answer_advised, beaver_text, cube_report, ranked_text, ranked_texts, ranking_text};
 
 use arrayvec::ArrayString;
 use cube_actions::KindName;
 use cube_text::print_kind;
 use directed_fixed::{Fixed, Pair};
-use equity_report::{Report, add_number, add_points, add_position, answer_text, offer_text};
+use equity_report::{
+    Report, add_kind, add_number, add_points, add_position, add_worth, answer_text, offer_text,
+};
 use hyper_outside::Failed;
 use outside_log::Sink;
 use play_analyser::{CubeAction, CubeAdvice, PlayRow, Ranking};
@@ -38,19 +40,6 @@ fn add_advised(report: &mut Report, word: &str, choice: &str, bound: Fixed)
     report.push_str(choice);
     report.push_str(" loss ");
     report.push_str(print_up(bound).as_str());
-    report.push_str("\n");
-}
-
-/// Adds a line of what something is worth.
-pub(crate) fn add_worth(report: &mut Report, word: &str, pair: Pair)
-    requires word { length word.now ≤ 16 }
-    requires room { length report.old.bytes ≤ 2000 }
-    ensures bytes { report.new.bytes ≡ report.old.bytes ++ line word.now (points_text pair) }
-    ensures length { length report.new.bytes ≤ length report.old.bytes + 90 }
-{
-    report.push_str(word);
-    report.push_str(" ");
-    add_points(report, pair);
     report.push_str("\n");
 }
 
@@ -169,16 +158,6 @@ fn add_action(report: &mut Report, action: Option<CubeAction>)
             add_answer(report, Some(action));
         }
     }
-}
-
-pub(crate) fn add_kind(report: &mut Report, kind: KindName)
-    requires { length report.old.bytes ≤ 700 }
-    ensures bytes { report.new.bytes ≡ report.old.bytes ++ line (codes "kind") (kind_text kind) }
-    ensures length { length report.new.bytes ≤ length report.old.bytes + 22 }
-{
-    report.push_str("kind ");
-    report.push_str(print_kind(kind).as_str());
-    report.push_str("\n");
 }
 
 /// Puts what to do with the cube before a roll: the position and the kind, what rolling is worth and what each answer to a double leads to, in

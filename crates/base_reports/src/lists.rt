@@ -3,7 +3,7 @@ ghost use Rattle.std.specs.List.{flat_map};
 ghost use Rattle.play_text.specs.Notation.{CanFollow};
 ghost use Rattle.base_reports.specs.Lists.{best_fields, next_field, pair_fields, best_play_line, refused_line, row_fields, shown_line};
 
-use crate::files::KindRow;
+use crate::shown::KindRow;
 use cube_actions::KindName;
 use cube_text::print_kind;
 use directed_fixed::Pair;

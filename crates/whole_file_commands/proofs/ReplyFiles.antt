@@ -4,7 +4,7 @@ use Rattle.position_rank.specs.Placement.{Placement}
 use Rattle.turn_rule.specs.States.{pair_of}
 use Rattle.interval_words.specs.WordLists.{WordList, words_in_list}
 use Rattle.best_reply.specs.Replies.{Follower, Replier}
-use Rattle.base_reports.specs.Replies.{reply_text}
+use Rattle.whole_file_reports.specs.Replies.{reply_text}
 use Rattle.whole_file_commands.specs.declared.reply.FoundReply.{FoundReply}
 use Rattle.whole_file_commands.specs.declared.reply.LoadedFile.{LoadedFile}
 use Rattle.command_line.specs.declared.command.Reply.{Reply as ReplyTask}

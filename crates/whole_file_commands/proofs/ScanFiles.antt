@@ -9,7 +9,7 @@ use Rattle.interval_words.specs.WordLists.{WordList}
 use Rattle.database_file.specs.Bases.{AnswersBase}
 use Rattle.database_file.specs.FileBases.{FileBase}
 use Rattle.command_line.specs.declared.command.Scan.{Scan}
-use Rattle.base_reports.specs.Scans.{scan_text}
+use Rattle.whole_file_reports.specs.Scans.{scan_text}
 use Rattle.run_endings.specs.Loads.{OfFile}
 use Rattle.whole_file_commands.specs.Scans.{HasScanned, IsTextOf}
 

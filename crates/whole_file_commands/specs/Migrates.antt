@@ -12,7 +12,7 @@ use Rattle.database_file.specs.FileBases.{FileBase}
 use Rattle.database_file.specs.Texts.{file_text}
 use Rattle.command_line.specs.declared.command.Migrate.{Migrate}
 use Rattle.equity_report.specs.declared.refusal.Refusal.{Refusal}
-use Rattle.base_reports.specs.Files.{migrated_text}
+use Rattle.whole_file_reports.specs.Files.{migrated_text}
 use Rattle.run_endings.specs.Beginnings.{MayRefuseBeginning, MayTakePlace}
 use Rattle.run_endings.specs.Loads.{OfFile, game_told}
 use Rattle.whole_file_commands.specs.Verifies.{AreVerified, MayRefuseVerifying}

@@ -13,7 +13,7 @@ use Rattle.database_file.specs.Bases.{AnswersBase}
 use Rattle.database_file.specs.FileBases.{FileBase}
 use Rattle.database_file.specs.Faults.{Read as FileRead}
 use Rattle.equity_report.specs.declared.refusal.Refusal.{Refusal}
-use Rattle.base_reports.specs.Replies.{reply_text}
+use Rattle.whole_file_reports.specs.Replies.{reply_text}
 use Rattle.run_endings.specs.declared.asked.AskedKind.{AskedKind}
 use Rattle.whole_file_commands.specs.declared.reply.FoundReply.{FoundReply}
 use Rattle.whole_file_commands.specs.declared.reply.LoadedFile.{LoadedFile}

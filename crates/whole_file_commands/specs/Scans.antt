@@ -12,7 +12,7 @@ use Rattle.database_file.specs.Faults.{Read as FileRead}
 use Rattle.command_line.specs.declared.command.Scan.{Scan}
 use Rattle.equity_report.specs.declared.refusal.Refusal.{Refusal}
 use Rattle.equity_report.specs.declared.refusal.Refusal.TheVariants.{Condition}
-use Rattle.base_reports.specs.Scans.{scan_text}
+use Rattle.whole_file_reports.specs.Scans.{scan_text}
 use Rattle.run_endings.specs.Loads.{OfFile, RefusesLoading}
 use Rattle.run_endings.specs.Endings.{Ending, Tells}
 

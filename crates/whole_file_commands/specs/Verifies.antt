@@ -23,7 +23,7 @@ use Rattle.command_line.specs.declared.command.Verify.{Verify}
 use Rattle.equity_report.specs.declared.unheld.Unheld.{Unheld}
 use Rattle.equity_report.specs.declared.refusal.Refusal.{Refusal}
 use Rattle.equity_report.specs.declared.refusal.Refusal.TheVariants.{Inconsistent, Memory}
-use Rattle.base_reports.specs.Files.{verified_text}
+use Rattle.whole_file_reports.specs.Files.{verified_text}
 use Rattle.run_endings.specs.Loads.{OfFile, RefusesFrom, game_told}
 use Rattle.run_endings.specs.Endings.{Ending, Tells}
 

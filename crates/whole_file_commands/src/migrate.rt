@@ -11,7 +11,6 @@ ghost use Rattle.run_endings.specs.declared.ending.RunStop.TheVariants.{NotWritt
 
 use crate::verify::load_verified;
 use base_head::{BASE_START, Head, Header};
-use base_reports::write_migrated;
 use command_line::Migrate;
 use database_file::{Base, append_base_by};
 use hyper_outside::{Failed, Gate};
@@ -19,6 +18,7 @@ use outside_log::{Files, Sink};
 use run_endings::{RunStop, begin, game_told, settle};
 use std::alloc::Global;
 use std::thread::Threads;
+use whole_file_reports::write_migrated;
 use word_pages::Version;
 use worker_team::Team;
 

@@ -11,7 +11,6 @@ ghost use Rattle.run_endings.specs.Endings.{EndsBy, IsOfShowing};
 ghost use Rattle.run_endings.specs.declared.ending.RunStop.TheVariants.{Refused};
 
 use crate::reply_laws::replies_hold_for_any_words;
-use base_reports::write_reply;
 use best_reply::ReplyTable;
 use command_line::Reply;
 use database_file::Base;
@@ -24,6 +23,7 @@ use position_rank::Position;
 use run_endings::{AskedKind, RunStop, asked_kind, load_file};
 use std::alloc::Global;
 use std::thread::Threads;
+use whole_file_reports::write_reply;
 use word_pages::Version;
 use worker_team::Team;
 

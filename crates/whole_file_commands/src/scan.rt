@@ -8,7 +8,6 @@ ghost use Rattle.run_endings.specs.Endings.{EndsBy, IsOfScanning};
 ghost use Rattle.run_endings.specs.declared.ending.RunStop.TheVariants.{Refused};
 ghost use Rattle.whole_file_commands.specs.Scans.{TellsScan};
 
-use base_reports::write_scan;
 use base_scan::{read_condition, scan};
 use command_line::Scan;
 use equity_report::Refusal;
@@ -17,6 +16,7 @@ use outside_log::{Files, Sink};
 use run_endings::{RunStop, load_file};
 use std::alloc::Global;
 use std::thread::Threads;
+use whole_file_reports::write_scan;
 use word_pages::Version;
 use worker_team::Team;
 

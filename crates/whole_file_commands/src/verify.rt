@@ -11,7 +11,6 @@ ghost use Rattle.run_endings.specs.declared.ending.RunStop.TheVariants.{Refused}
 ghost use Rattle.whole_file_commands.specs.Verifies.{AnswersCheck, AnswersVerify, TellsFinding, TellsVerified, verified_report};
 
 use base_head::{Head, Header};
-use base_reports::write_verified;
 use base_verify::{Finding, VerifyStop, findings_tell_inconsistency, verify};
 use command_line::Verify;
 use database_file::Base;
@@ -23,6 +22,7 @@ use position_rank::layout_count;
 use run_endings::{RunStop, game_told, load_file};
 use std::alloc::Global;
 use std::thread::Threads;
+use whole_file_reports::write_verified;
 use word_pages::Version;
 use worker_team::Team;
 

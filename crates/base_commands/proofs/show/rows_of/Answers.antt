@@ -5,7 +5,7 @@ use Rattle.cube_actions.specs.Stakes.{Terms}
 use Rattle.turn_rule.specs.States.{pair_of}
 use Rattle.database_file.specs.Paged.{word_at}
 use Rattle.database_file.specs.PagedFiles.{PagedFile}
-use Rattle.base_reports.specs.declared.files.KindRow.{KindRow}
+use Rattle.base_reports.specs.declared.shown.KindRow.{KindRow}
 use Rattle.base_commands.specs.Shows.{AnswersPair, rows_from}
 use Rattle.arrayvec.specs.ArrayVec.{ArrayVec}
 use Rattle.base_head.specs.declared.header.Header.{Header}

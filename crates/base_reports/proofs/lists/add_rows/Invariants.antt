@@ -1,7 +1,7 @@
 use Rattle.std.proofs.Common.{◌≡◌, ◌≤◌, ◌++◌, ◌+◌, ◌*◌, List, length, ℕ, take}
 use Rattle.std.specs.List.{flat_map}
 use Rattle.base_reports.specs.Lists.{row_fields}
-use Rattle.base_reports.specs.declared.files.KindRow.{KindRow}
+use Rattle.base_reports.specs.declared.shown.KindRow.{KindRow}
 use Rattle.base_reports.proofs.lists.add_rows.Given as goal
 
 pub record Invariant (start now : List ℕ) (rows : List KindRow) (done : ℕ) : Type 0 where
