@@ -1,5 +1,5 @@
 -- Pages that are read together.
-use Rattle.std.proofs.Common.{◌≡◌, ◌∙◌, ℕ, suc, ◌+◌, ◌*◌, ◌-◌, ◌<◌, ◌≤◌, min, List, [], ◌∷◌, ◌++◌, ◌⊎◌, inl, inr, length, take, drop, slice_index_or, Option, Some, None, Result, Ok, Err, IsErrAnd, Vec, length-append, length-drop, refl, sym, ap, ap₂, subst, arith}
+use Rattle.std.proofs.Common.{◌≡◌, ◌∙◌, ℕ, zero, suc, Bool, ◌+◌, ◌*◌, ◌-◌, ◌<◌, ◌≤◌, min, List, [], ◌∷◌, ◌++◌, ◌⊎◌, inl, inr, length, take, drop, slice_index_or, Option, Some, None, Result, Ok, Err, IsErrAnd, Vec, length-append, length-drop, refl, sym, ap, ap₂, subst, arith}
 use Rattle.std.specs.Global.{Global}
 use Rattle.std.proofs.Math.Nat.{add-mul, mul-le-mul_right, suc-mul}
 use Rattle.std.proofs.Math.Seq.{drop-append_seam, take-append_seam}
@@ -16,9 +16,9 @@ use Rattle.database_file.specs.declared.batch.Batch.{Batch}
 use Rattle.database_file.specs.declared.pages.Pages.{Pages}
 use Rattle.database_file.specs.declared.pages.PagesStop.{PagesStop}
 use Rattle.database_file.specs.declared.pages.PagesStop.TheVariants.{BadPage, NoMemory, ReadFault}
-use Rattle.database_file.specs.Batches.{AddsBatch, AnswersEach, AnswersOn, AreOnPage, AreRead, IsBatch, batch_size, size_on}
-use Rattle.database_file.specs.Pages.{AnswersPages, binding_on, first_flaw, flaw_on, page_count, page_words, place_of, whole_page, words_on}
-use Rattle.database_file.proofs.ManyPages.{bytes_behind, flaw-is, is_whole, one_more, page_fits}
+use Rattle.database_file.specs.Batches.{AddsUpTo, AnswersEach, AnswersOn, AreOnPage, AreRead, HasComeTo, HasReadBatch, IsBatch, batch_size, size_on}
+use Rattle.database_file.specs.Pages.{AnswersPages, binding_on, first_flaw, first_words, flaw_on, page_count, page_words, place_of, whole_page, words_on}
+use Rattle.database_file.proofs.ManyPages.{bytes_behind, flaw-is, is_whole, one_more, page_fits, read-front}
 
 -- ---- one page
 
@@ -131,40 +131,31 @@ is_read pages batch at count file old new place room fills =
 
 -- ---- the pages of a batch, in order
 
-module _ (pages : Pages) (batch : Batch) (bytes all old : List ℕ) (read : List (Result (Vec ℕ Global) PagesStop)) (are : AnswersEach pages batch bytes read) (is : IsBatch pages batch bytes all) where
-  -- the words of so many of them were added
-  abbrev pub AreAdded : ℕ → List ℕ → Type 0
-  AreAdded number new = AreRead pages all batch.first old → AreRead pages all (batch.first + number) new
-
+module _ (pages : Pages) (batch : Batch) (all old : List ℕ) (read : List (Result (Vec ℕ Global) PagesStop)) (stands : HasComeTo pages batch all old read) where
+  -- what comes of a page
   told : (number : ℕ) (result : Result (Vec ℕ Global) PagesStop) → number < length read → slice_index_or read number (Err NoMemory) ≡ result → AnswersOn pages (batch.first + number) all result
-  told number result here same = subst (AnswersOn pages (batch.first + number) all) same (are.each number (omega (arith, here, are.many)) all is)
+  told number result here same = subst (AnswersOn pages (batch.first + number) all) same (stands.each number (omega (arith, here, stands.many)))
 
+  -- one more is added
   pub one_added : (number : ℕ) (words : Vec ℕ Global) (list new : List ℕ) → number < length read → slice_index_or read number (Err NoMemory) ≡ Ok words
-      → AreAdded number list → new ≡ list ++ words.items → AreAdded (number + 1) new
-  one_added number words list new here same added next before =
+      → AreRead pages all (batch.first + number) list → new ≡ list ++ words.items → AreRead pages all (batch.first + (number + 1)) new
+  one_added number words list new here same added next =
       let page = told number (Ok words) here same in
-      one_more pages (batch.first + number) (batch.first + (number + 1)) all list new (omega arith) (added before) (page.0, next ∙ ap (λ (words : List ℕ). list ++ words) page.1)
+      one_more pages (batch.first + number) (batch.first + (number + 1)) all list new (omega arith) added (page.0, next ∙ ap (λ (words : List ℕ). list ++ words) page.1)
 
-  pub stopped : (T : Type 0) (number : ℕ) (stop : PagesStop) (list new : List ℕ) → number < length read → slice_index_or read number (Err NoMemory) ≡ Err stop
-      → AreAdded number list → AddsBatch {T = T} pages batch all old new (Err stop)
-  stopped T number stop list new here same added = by_stop stop (told number (Err stop) here same)
+  -- one stops it
+  pub stopped : (number : ℕ) (stop : PagesStop) (list : List ℕ) → number < length read → slice_index_or read number (Err NoMemory) ≡ Err stop
+      → AreRead pages all (batch.first + number) list → AddsUpTo {T = Vec ℕ Global} pages batch.past all ⊥ (λ words. words.items) (Err stop)
+  stopped number stop list here same added = by_stop stop (told number (Err stop) here same) (stands.faultless number (omega (arith, here, stands.many))) same
     where
       inside : batch.first + number < page_count pages
-      inside = omega (arith, here, are.many, are.there)
+      inside = omega (arith, here, stands.many, stands.there)
 
-      by_stop : (stop : PagesStop) → AnswersOn pages (batch.first + number) all (Err stop) → AddsBatch {T = T} pages batch all old new (Err stop)
-      by_stop (BadPage flaw) page = λ before. flaw-is pages all list (batch.first + number) flaw inside (added before) page
-      by_stop ReadFault page = page
-      by_stop NoMemory page = page
-
-pub never_fault : (pages : Pages) (batch : Batch) (bytes : List ℕ) (read : List (Result (Vec ℕ Global) PagesStop)) → AnswersEach pages batch bytes read
-    → (number : ℕ) (stop : PagesStop) → number < length read → slice_index_or read number (Err NoMemory) ≡ Err stop → stop ≡ ReadFault → ⊥
-never_fault pages batch bytes read are number stop here same fault = are.faultless number (omega (arith, here, are.many)) (same ∙ ap (λ (stop : PagesStop). Err stop) fault)
-
-pub fault_of : {T : Type 0} (stop : PagesStop) → ◌≡◌ {A = Result T PagesStop} (Err stop) (Err ReadFault) → stop ≡ ReadFault
-fault_of ReadFault same = refl
-fault_of (BadPage flaw) same = absurd (grind (arith, same))
-fault_of NoMemory same = absurd (grind (arith, same))
+      by_stop : (stop : PagesStop) → AnswersOn pages (batch.first + number) all (Err stop) → (slice_index_or read number (Err NoMemory) ≡ Err ReadFault → ⊥)
+          → slice_index_or read number (Err NoMemory) ≡ Err stop → AddsUpTo {T = Vec ℕ Global} pages batch.past all ⊥ (λ words. words.items) (Err stop)
+      by_stop (BadPage flaw) page never is = flaw-is pages all list (batch.first + number) flaw inside added page
+      by_stop ReadFault page never is = never is
+      by_stop NoMemory page never is = tt
 
 -- ---- batch after batch
 
@@ -175,24 +166,86 @@ batch_fits pages batch rises =
     let all : (batch.past - batch.first) * whole_page pages ≡ (batch.past - 1 - batch.first) * whole_page pages + whole_page pages = ap (λ k. k * whole_page pages) one ∙ suc-mul (batch.past - 1 - batch.first) (whole_page pages) in
     omega (arith, all, page_fits pages (batch.past - 1))
 
--- a batch that is right and has pages behind it was there whole
-pub long_after : (pages : Pages) (batch : Batch) (before part words : List ℕ) → 0 < pages.size → batch.first < batch.past → length before ≡ batch.first * whole_page pages
-    → length part ≤ batch_size pages batch → AreRead pages (before ++ part) batch.past words → (batch.past < page_count pages → length (before ++ part) ≡ batch.past * whole_page pages)
-long_after pages batch before part words some rises long few read more =
-    let page = batch.past - 1 in
+-- room for so many whole pages has room for a batch of no more
+pub has_room : (pages : Pages) (batch : Batch) (most room : ℕ) → batch.first < batch.past → batch.past ≤ batch.first + most → room ≡ most * whole_page pages → batch_size pages batch ≤ room
+has_room pages batch most room rises few is =
+    let le : batch.past - batch.first ≤ most = omega (arith, few) in
+    let up = mul-le-mul_right (whole_page pages) le in
+    omega (arith, up, is, batch_fits pages batch rises)
+
+-- pages that are right and have others behind them are there whole
+pub long_after : (pages : Pages) (past : ℕ) (all words : List ℕ) → 0 < pages.size → length all ≤ past * whole_page pages → AreRead pages all past words → past < page_count pages → length all ≡ past * whole_page pages
+long_after pages zero all words some few read more = omega (arith, few)
+long_after pages (suc page) all words some few read more =
     let whole = whole_page pages in
-    let there : List ℕ = drop (page * whole) (before ++ part) in
-    let next : suc page ≡ batch.past = omega (arith, rises) in
-    let last : flaw_on pages (before ++ part) page ≡ None = (none_or (first_flaw pages (before ++ part) page) (flaw_on pages (before ++ part) page) (ap (first_flaw pages (before ++ part)) next ∙ read.right)).1 in
+    let there : List ℕ = drop (page * whole) all in
+    let last : flaw_on pages all page ≡ None = (none_or (first_flaw pages all page) (flaw_on pages all page) read.right).1 in
     let ends = leb-true (size_on pages page) (length there) (is_well _ _ _ (none_or _ _ last).0) in
-    let full : size_on pages page ≡ whole = ap (page_size pages.version) (is_whole pages page some (omega (arith, more, next))) in
-    let past : batch.past * whole ≡ page * whole + whole = ap (λ k. k * whole) (sym next) ∙ suc-mul page whole in
-    let start : page * whole ≡ (page - batch.first) * whole + batch.first * whole = ap (λ k. k * whole) (omega (arith, rises)) ∙ add-mul (page - batch.first) batch.first whole in
-    omega (arith, long, few, ends, full, past, start, length-append before part, length-drop (page * whole) (before ++ part))
+    let full : size_on pages page ≡ whole = ap (page_size pages.version) (is_whole pages page some more) in
+    omega (arith, few, ends, full, suc-mul page whole, length-drop (page * whole) all)
+
+-- before the first batch nothing is read
+pub stands_first : (pages : Pages) (all words : List ℕ) (read : List (Result (Vec ℕ Global) PagesStop)) → words ≡ [] → read ≡ [] → HasComeTo pages (record { first = 0; past = 0 }) all words read
+stands_first pages all words read none no_page = record {
+  rises = omega arith;
+  there = omega arith;
+  many = ap (λ (read : List (Result (Vec ℕ Global) PagesStop)). length read) no_page;
+  before = record { right = refl; words = none };
+  each = λ number here. absurd (omega (arith, here));
+  faultless = λ number here. absurd (omega (arith, here));
+}
+
+-- what comes of a batch stands behind the pages before
+pub stands_next : (pages : Pages) (batch : Batch) (bytes all words : List ℕ) (read : List (Result (Vec ℕ Global) PagesStop)) → AnswersEach pages batch bytes read → IsBatch pages batch bytes all
+    → AreRead pages all batch.first words → HasComeTo pages batch all words read
+stands_next pages batch bytes all words read answers is before = record {
+  rises = omega (arith, answers.some);
+  there = answers.there;
+  many = answers.many;
+  before = before;
+  each = λ number here. answers.each number here all is;
+  faultless = answers.faultless;
+}
+
+-- so it does for some bytes, which are no longer than these pages
+abbrev pub Reaches : Pages → Batch → List ℕ → List (Result (Vec ℕ Global) PagesStop) → Type 0
+Reaches pages batch words read = (all : List ℕ) × (length all ≤ batch.past * whole_page pages) × HasComeTo pages batch all words read
+
+pub reaches_next : (pages : Pages) (batch : Batch) (told : Bool) (file : Option (List ℕ)) (all words : List ℕ) (read : List (Result (Vec ℕ Global) PagesStop)) → 0 < pages.size
+    → length all ≤ batch.first * whole_page pages → AreRead pages all batch.first words → HasReadBatch pages batch told file read → Reaches pages batch words read
+reaches_next pages batch told file all words read some few before has =
+    let bytes = has.bytes in
+    let whole = whole_page pages in
+    let rises = has.answers.some in
+    let long = long_after pages batch.first all words some few before (omega (arith, rises, has.answers.there)) in
+    let fits = batch_fits pages batch rises in
+    let sum : batch.past * whole ≡ batch.first * whole + (batch.past - batch.first) * whole = ap (λ k. k * whole) (omega (arith, rises)) ∙ add-mul batch.first (batch.past - batch.first) whole in (
+      all ++ bytes,
+      omega (arith, long, has.has.few, fits, sum, length-append all bytes),
+      stands_next pages batch bytes (all ++ bytes) words read has.answers (is_part pages batch all bytes long has.has.few) (read-front pages batch.first all bytes words long before),
+    )
 
 -- where a batch stops the reading, all pages are answered
-pub answers_batch : (T : Type 0) (pages : Pages) (batch : Batch) (all words new : List ℕ) (stop : PagesStop) → AreRead pages all batch.first words
-    → AddsBatch {T = T} pages batch all words new (Err stop) → AnswersPages pages all (Err stop)
-answers_batch T pages batch all words new (BadPage flaw) read told = told read
-answers_batch T pages batch all words new ReadFault read told = told
-answers_batch T pages batch all words new NoMemory read told = told
+pub answers_stop : (T : Type 0) (pages : Pages) (past : ℕ) (all : List ℕ) (fault : Type 0) (words_of : T → List ℕ) (stop : PagesStop) → AddsUpTo pages past all fault words_of (Err stop)
+    → AnswersPages pages all (Err stop)
+answers_stop T pages past all fault words_of (BadPage flaw) told = told
+answers_stop T pages past all fault words_of ReadFault told = tt
+answers_stop T pages past all fault words_of NoMemory told = tt
+
+-- so they are where the words of all were added
+pub answers_all : (pages : Pages) (past : ℕ) (all : List ℕ) (result : Result (Vec ℕ Global) PagesStop) → past ≡ page_count pages → AddsUpTo pages past all ⊥ (λ (words : Vec ℕ Global). words.items) result
+    → AnswersPages pages all result
+answers_all pages past all (Ok words) is read = (ap (first_flaw pages all) (sym is) ∙ read.right, read.words ∙ ap (first_words pages all) is)
+answers_all pages past all (Err stop) is told = answers_stop (Vec ℕ Global) pages past all ⊥ (λ words. words.items) stop told
+
+-- a fault of the files says what it is said to
+pub fault_says : (T : Type 0) (pages : Pages) (past : ℕ) (all : List ℕ) (fault : Type 0) (words_of : T → List ℕ) (result : Result T PagesStop) → AddsUpTo pages past all fault words_of result
+    → result ≡ Err ReadFault → fault
+fault_says T pages past all fault words_of result told is = subst (AddsUpTo pages past all fault words_of) is told
+
+-- what stops the adding stops what goes on with it
+pub stop_told : (T U : Type 0) (pages : Pages) (past : ℕ) (all : List ℕ) (fault : Type 0) (words_of : T → List ℕ) (also_of : U → List ℕ) (stop : PagesStop)
+    → AddsUpTo pages past all ⊥ words_of (Err stop) → AddsUpTo pages past all fault also_of (Err stop)
+stop_told T U pages past all fault words_of also_of (BadPage flaw) told = told
+stop_told T U pages past all fault words_of also_of ReadFault told = absurd told
+stop_told T U pages past all fault words_of also_of NoMemory told = tt

@@ -1,19 +1,17 @@
 -- Pages that are kept as they are read together.
-use Rattle.std.proofs.Common.{◌≡◌, ◌∙◌, ℕ, ◌*◌, ◌+◌, ◌<◌, ◌≤◌, ◌++◌, Bool, List, length, slice_index_or, Option, Result, Ok, Err, Contains, Vec, Global, ◌⊎◌, inl, inr, sym, ap, subst, arith}
+use Rattle.std.proofs.Common.{◌≡◌, ◌∙◌, ℕ, ◌*◌, ◌+◌, ◌<◌, ◌≤◌, ◌++◌, Bool, List, length, slice_index_or, Option, Result, Ok, Err, Contains, Vec, Global, ◌⊎◌, inl, inr, sym, subst, arith}
 use Rattle.std.proofs.lemmas.List.{length-replicate}
 use Rattle.std.proofs.Math.ListN.{replicate}
 use Rattle.outside_log.specs.Files.{bytes_from}
-use Rattle.word_pages.specs.Flaws.{LieWithin}
-use Rattle.word_pages.proofs.Texts.{length-words_of}
 use Rattle.database_file.specs.declared.batch.Batch.{Batch}
 use Rattle.database_file.specs.declared.pages.Pages.{Pages}
 use Rattle.database_file.specs.declared.pages.PagesStop.{PagesStop}
 use Rattle.database_file.specs.declared.pages.PagesStop.TheVariants.{NoMemory}
 use Rattle.database_file.specs.Batches.{AnswersEach, AnswersOn, HasReadBatch, batch_size}
-use Rattle.database_file.specs.Pages.{whole_page, words_on}
+use Rattle.database_file.specs.Pages.{whole_page}
 use Rattle.database_file.specs.Paged.{AreOfFile, ArePagesKept, IsPage, IsPageOf, KeepsRead, Kept}
 use Rattle.database_file.proofs.Batches.{is_part}
-use Rattle.database_file.proofs.PageLists.{page-within}
+use Rattle.database_file.proofs.KeptPages.{is-page}
 
 abbrev pub Found : Type 0
 Found = Result (Vec ℕ Global) PagesStop
@@ -37,10 +35,7 @@ module _ (pages : Pages) (batch : Batch) (read : List Found) (old new : Kept) (k
           let long : length before ≡ batch.first * whole_page pages = length-replicate (batch.first * whole_page pages) 0 in
           let all : List ℕ = before ++ bytes in
           let told = subst (λ (found : Found). AnswersOn pages (batch.first + number) all found) is (answers.each number (omega (arith, here, answers.many)) all (is_part pages batch before bytes long few)) in
-          subst (λ (n : ℕ). IsPage pages n page.1.items) (sym at) (record {
-            long = ap (λ (words : List ℕ). length words) told.1 ∙ length-words_of pages.version (words_on pages (batch.first + number)) _;
-            within = subst (LieWithin pages.bound) (sym told.1) (page-within pages all (batch.first + number) told.0);
-          })
+          subst (λ (n : ℕ). IsPage pages n page.1.items) (sym at) (is-page pages (batch.first + number) all page.1 told)
     ]
 
   -- and of the file where it is told
@@ -49,6 +44,6 @@ module _ (pages : Pages) (batch : Batch) (read : List Found) (old new : Kept) (k
     | inl before ↦ of tells page before
     | inr (number, here, at, is) ↦
         let all = bytes_from pages.at file in
-        let answer = subst (λ (found : Found). AnswersOn pages (batch.first + number) all found) is (has.answers.each number (omega (arith, here, has.answers.many)) all (has.is_batch tells)) in
+        let answer = subst (λ (found : Found). AnswersOn pages (batch.first + number) all found) is (has.answers.each number (omega (arith, here, has.answers.many)) all (has.has.is_batch tells)) in
         subst (λ (n : ℕ). IsPageOf pages all n page.1.items) (sym at) (record { right = answer.0; holds = answer.1 })
   ]

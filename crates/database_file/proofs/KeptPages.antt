@@ -1,5 +1,5 @@
 -- Pages that are kept by their numbers.
-use Rattle.std.proofs.Common.{◌≡◌, ◌∙◌, ℕ, ◌*◌, ◌++◌, Bool, IsTrue, List, [], length, Option, None, Some, Contains, Vec, Global, nat_eq, inl, inr, sym, ap, subst}
+use Rattle.std.proofs.Common.{◌≡◌, ◌∙◌, ℕ, ◌+◌, ◌*◌, ◌++◌, ◌≤◌, Bool, IsTrue, IfOk, List, length, Option, Result, Ok, Err, Some, Contains, Vec, Global, nat_eq, inl, inr, sym, ap, subst, arith}
 use Rattle.std.specs.Map.{lookup}
 use Rattle.std.proofs.lemmas.Bool.{eqb-true}
 use Rattle.std.proofs.lemmas.List.{length-replicate}
@@ -10,8 +10,12 @@ use Rattle.outside_log.specs.Files.{bytes_from}
 use Rattle.word_pages.specs.Flaws.{LieWithin}
 use Rattle.word_pages.proofs.Texts.{length-words_of}
 use Rattle.database_file.specs.declared.pages.Pages.{Pages}
-use Rattle.database_file.specs.Pages.{flaw_on, page_words, whole_page, words_on}
-use Rattle.database_file.specs.Paged.{AreOfFile, IsPage, IsPageOf, Kept}
+use Rattle.database_file.specs.declared.pages.PagesStop.{PagesStop}
+use Rattle.database_file.specs.declared.pages.PagesStop.TheVariants.{BadPage, NoMemory, ReadFault}
+use Rattle.database_file.specs.Batches.{AnswersOn, IsBatch, batch_size}
+use Rattle.database_file.specs.Pages.{whole_page, words_on}
+use Rattle.database_file.specs.Paged.{AnswersOnePage, AreOfFile, IsPage, IsPageOf, Kept}
+use Rattle.database_file.proofs.Batches.{is_part}
 use Rattle.database_file.proofs.PageLists.{page-within}
 
 -- each entry has something
@@ -45,15 +49,29 @@ pub moved : (pages : Pages) (tells now : Bool) (file after : Option (List ℕ)) 
 moved pages tells now file after kept was files of told e among =
     subst (λ (file : Option (List ℕ)). IsPageOf pages (bytes_from pages.at file) e.0 e.1.items) (sym files) (of (was told) e among)
 
--- a page that was read is one, whatever stands before it
-pub one-page : (pages : Pages) (page : ℕ) (part old new : List ℕ) → old ≡ []
-    → ((before : List ℕ) → length before ≡ page * whole_page pages → (flaw_on pages (before ++ part) page ≡ None) × (new ≡ old ++ page_words pages (before ++ part) page))
-    → IsPage pages page new
-one-page pages page part old new none read =
+-- what was read of a page that is right is one
+pub is-page : (pages : Pages) (page : ℕ) (all : List ℕ) (words : Vec ℕ Global) → AnswersOn pages page all (Ok words) → IsPage pages page words.items
+is-page pages page all words told = record {
+  long = ap (λ (words : List ℕ). length words) told.1 ∙ length-words_of pages.version (words_on pages page) _;
+  within = subst (LieWithin pages.bound) (sym told.1) (page-within pages all page told.0);
+}
+
+-- whatever stands before it
+pub one-page : (pages : Pages) (page : ℕ) (bytes : List ℕ) (result : Result (Vec ℕ Global) PagesStop) → length bytes ≤ batch_size pages (record { first = page; past = page + 1 })
+    → ((all : List ℕ) → IsBatch pages (record { first = page; past = page + 1 }) bytes all → AnswersOn pages (page + 0) all result) → IfOk result (λ words. IsPage pages page words.items)
+one-page pages page bytes (Err stop) few read = tt
+one-page pages page bytes (Ok words) few read =
     let before : List ℕ = replicate (page * whole_page pages) 0 in
-    let told = read before (length-replicate (page * whole_page pages) 0) in
-    let is : new ≡ page_words pages (before ++ part) page = told.1 ∙ ap (λ (old : List ℕ). old ++ page_words pages (before ++ part) page) none in
-    record {
-      long = ap (λ (words : List ℕ). length words) is ∙ length-words_of pages.version (words_on pages page) _;
-      within = subst (LieWithin pages.bound) (sym is) (page-within pages (before ++ part) page told.0);
-    }
+    let all : List ℕ = before ++ bytes in
+    let told = read all (is_part pages (record { first = page; past = page + 1 }) before bytes (length-replicate (page * whole_page pages) 0) few) in
+    is-page pages page all words (subst (λ (page : ℕ). AnswersOn pages page all (Ok words)) (omega arith) told)
+
+-- and of a file
+pub page-told : (pages : Pages) (page : ℕ) (all : List ℕ) (result : Result (Vec ℕ Global) PagesStop) → AnswersOn pages (page + 0) all result → AnswersOnePage pages all page result
+page-told pages page all result told = by_result result (subst (λ (page : ℕ). AnswersOn pages page all result) (omega arith) told)
+  where
+    by_result : (result : Result (Vec ℕ Global) PagesStop) → AnswersOn pages page all result → AnswersOnePage pages all page result
+    by_result (Ok words) told = record { right = told.0; holds = told.1 }
+    by_result (Err (BadPage flaw)) told = told
+    by_result (Err ReadFault) told = tt
+    by_result (Err NoMemory) told = tt

@@ -1,69 +1,25 @@
 -- Pages of words that follow one another.
-use Rattle.std.proofs.Common.{◌≡◌, ◌∙◌, ℕ, zero, suc, ◌+◌, ◌*◌, ◌-◌, ◌<◌, ◌≤◌, List, ◌++◌, length, take, drop, Option, None, Some, is_none, Result, Ok, Err, IsErrAnd, length-append, length-drop, refl, sym, ap, ap₂, subst, arith}
+use Rattle.std.proofs.Common.{◌≡◌, ◌∙◌, ℕ, zero, suc, ◌+◌, ◌*◌, ◌-◌, ◌<◌, ◌≤◌, List, ◌++◌, length, take, drop, Option, None, Some, is_none, length-append, length-drop, refl, sym, ap, ap₂, subst, arith}
 use Rattle.std.proofs.Math.Nat.{le-div_iff_mul-le, mul-le-mul_left, suc-mul}
-use Rattle.std.proofs.Math.Seq.{drop-append_seam, drop-nil}
+use Rattle.std.proofs.Math.Seq.{drop-nil}
 use Rattle.std.proofs.lemmas.Bool.{false≢true}
 use Rattle.std.proofs.lemmas.List.{drop-append-le, drop-drop, length-take, take-append-le}
 use Rattle.std.specs.Option.{option_or}
 use Rattle.outside_log.specs.Files.{bytes_from}
 use Rattle.word_pages.specs.declared.flaws.Flaw.{Flaw}
-use Rattle.word_pages.specs.declared.load.PageStop.{PageStop}
-use Rattle.word_pages.specs.declared.load.PageStop.TheVariants as reading
 use Rattle.word_pages.specs.Words.{word_size, words_in_bytes}
 use Rattle.word_pages.specs.Pages.{page_size, page_flaw}
-use Rattle.word_pages.specs.Loads.{AnswersPage}
 use Rattle.word_pages.proofs.PageFlaws.{page_flaw-take}
 use Rattle.word_pages.proofs.Texts.{words_of-take}
 use Rattle.word_pages.proofs.Within.{or_none}
 use Rattle.database_file.specs.declared.pages.Pages.{Pages}
-use Rattle.database_file.specs.declared.pages.PagesStop.{PagesStop}
-use Rattle.database_file.specs.declared.pages.PagesStop.TheVariants.{ReadFault}
 use Rattle.database_file.specs.Batches.{AreRead}
-use Rattle.database_file.specs.Pages.{AddsPage, binding_on, first_flaw, first_words, flaw_in, flaw_on, page_count, page_words, place_of, stopped_by, whole_page, words_on}
+use Rattle.database_file.specs.Pages.{binding_on, first_flaw, first_words, flaw_in, flaw_on, page_count, page_words, place_of, whole_page, words_on}
 
 -- the bytes behind others
 pub bytes_behind : (at more : ℕ) (file : Option (List ℕ)) → bytes_from (at + more) file ≡ drop more (bytes_from at file)
 bytes_behind at more None = sym (drop-nil more)
 bytes_behind at more (Some bytes) = sym (drop-drop more at bytes)
-
--- the flaw of a page, as it was looked for
-same-flaw : (pages : Pages) (page n at : ℕ) (binding bytes there : List ℕ) → n ≡ words_on pages page → at ≡ place_of pages page → binding ≡ binding_on pages page → there ≡ drop (page * whole_page pages) bytes
-    → flaw_on pages bytes page ≡ page_flaw pages.version binding pages.bound n at there
-same-flaw pages page n at binding bytes there count place bound is =
-    ap₂ (λ (n : ℕ) (at : ℕ). page_flaw pages.version (binding_on pages page) pages.bound n at (drop (page * whole_page pages) bytes)) (sym count) (sym place)
-    ∙ ap₂ (λ (binding : List ℕ) (bytes : List ℕ). page_flaw pages.version binding pages.bound n at bytes) (sym bound) (sym is)
-
--- where a page stops the reading, its flaw is told
-pub stops : (T : Type 0) {U : Type 0} (pages : Pages) (page n at : ℕ) (binding bytes there cells old : List ℕ) (stop : PageStop) (result : Result U PagesStop)
-    → n ≡ words_on pages page → at ≡ place_of pages page → binding ≡ binding_on pages page → there ≡ drop (page * whole_page pages) bytes
-    → AnswersPage {T = T} pages.version binding pages.bound n at there cells (Err stop)
-    → IsErrAnd result (λ given. given ≡ stopped_by stop) → AddsPage pages page bytes old old result
-stops T pages page n at binding bytes there cells old stop (Ok x) count place bound is told wrong = absurd wrong
-stops T {U = U} pages page n at binding bytes there cells old stop (Err given) count place bound is told same = subst (λ (given : PagesStop). AddsPage {T = U} pages page bytes old old (Err given)) (sym same) (by_stop stop told)
-  where
-    by_stop : (stop : PageStop) → AnswersPage {T = T} pages.version binding pages.bound n at there cells (Err stop) → AddsPage {T = U} pages page bytes old old (Err (stopped_by stop))
-    by_stop reading.ReadFault told = told
-    by_stop (reading.BadPage flaw) told = same-flaw pages page n at binding bytes there count place bound is ∙ told
-
--- where it is right, its words are added
-pub adds : (pages : Pages) (page n at : ℕ) (binding bytes there cells old new : List ℕ)
-    → n ≡ words_on pages page → at ≡ place_of pages page → binding ≡ binding_on pages page → there ≡ drop (page * whole_page pages) bytes
-    → (page_flaw pages.version binding pages.bound n at there ≡ None) × (cells ≡ words_in_bytes pages.version n there) → new ≡ old ++ cells
-    → (flaw_on pages bytes page ≡ None) × (new ≡ old ++ page_words pages bytes page)
-adds pages page n at binding bytes there cells old new count place bound is read added = (
-  same-flaw pages page n at binding bytes there count place bound is ∙ read.0,
-  added ∙ ap (λ (words : List ℕ). old ++ words) (read.1 ∙ ap₂ (λ (n : ℕ) (bytes : List ℕ). words_in_bytes pages.version n bytes) count is),
-)
-
--- what stands behind the pages before
-pub stands_behind : (before part : List ℕ) (k : ℕ) → length before ≡ k → part ≡ drop k (before ++ part)
-stands_behind before part k long = sym (ap (λ k. drop k (before ++ part)) (sym long) ∙ drop-append_seam before part)
-
--- a fault of the files is told only where a page told it
-pub fault_only : {U : Type 0} (stop : PageStop) (result : Result U PagesStop) → IsErrAnd result (λ given. given ≡ stopped_by stop) → result ≡ Err ReadFault → stop ≡ reading.ReadFault
-fault_only reading.ReadFault result same is = refl
-fault_only (reading.BadPage flaw) (Ok x) wrong is = absurd wrong
-fault_only (reading.BadPage flaw) (Err given) same is = grind (arith, same, is)
 
 -- ---- the first pages
 

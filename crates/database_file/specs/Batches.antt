@@ -7,7 +7,7 @@ use Rattle.database_file.specs.declared.batch.Batch.{Batch}
 use Rattle.database_file.specs.declared.pages.Pages.{Pages}
 use Rattle.database_file.specs.declared.pages.PagesStop.{PagesStop}
 use Rattle.database_file.specs.declared.pages.PagesStop.TheVariants.{ReadFault, BadPage, NoMemory}
-use Rattle.database_file.specs.Pages.{first_flaw, first_words, flaw_in, flaw_on, page_count, page_words, whole_page, words_on}
+use Rattle.database_file.specs.Pages.{ArePages, first_flaw, first_words, flaw_in, flaw_on, page_count, page_words, whole_page, words_on}
 
 -- how many bytes a page has
 abbrev pub size_on : Pages → ℕ → ℕ
@@ -48,24 +48,50 @@ pub record AnswersEach (pages : Pages) (batch : Batch) (bytes : List ℕ)
   pub faultless : (number : ℕ) → number < batch.past - batch.first
       → slice_index_or read number (Err NoMemory) ≡ Err ReadFault → ⊥
 
--- a batch of a file was read: these come of its pages, and what was read is what there is of it where all answers were faithful
+-- workers can look at the pages of a batch whose bytes these are, and have room for what comes of each
+pub record CanBeLookedAt (pages : Pages) (batch : Batch) (bytes : List ℕ)
+    (room : List (Result (Vec ℕ Global) PagesStop)) : Type 0 where
+  pub pages_are : ArePages pages
+  pub some : batch.first < batch.past
+  pub there : batch.past ≤ page_count pages
+  pub few : length bytes ≤ batch_size pages batch
+  pub enough : length room ≡ batch.past - batch.first
+
+-- these bytes of a batch were read, and are what there is of it where all answers were faithful
+pub record HasBytes (pages : Pages) (batch : Batch) (told : Bool) (file : Option (List ℕ))
+    (bytes : List ℕ) : Type 0 where
+  pub few : length bytes ≤ batch_size pages batch
+  pub is_batch : IsTrue told → IsBatch pages batch bytes (bytes_from pages.at file)
+
+-- a batch of a file was read, and these come of its pages
 pub record HasReadBatch (pages : Pages) (batch : Batch) (told : Bool) (file : Option (List ℕ))
     (read : List (Result (Vec ℕ Global) PagesStop)) : Type 0 where
   pub bytes : List ℕ
-  pub few : length bytes ≤ batch_size pages batch
+  pub has : HasBytes pages batch told file bytes
   pub answers : AnswersEach pages batch bytes read
-  pub is_batch : IsTrue told → IsBatch pages batch bytes (bytes_from pages.at file)
 
 -- the first n pages have no flaw, and these are their words
 pub record AreRead (pages : Pages) (bytes : List ℕ) (n : ℕ) (list : List ℕ) : Type 0 where
   pub right : first_flaw pages bytes n ≡ None
   pub words : list ≡ first_words pages bytes n
 
--- where those before it are read, the words of a batch were added, or this is the first flaw of all pages
-abbrev pub AddsBatch : {T : Type 0} → Pages → Batch → List ℕ → List ℕ → List ℕ → Result T PagesStop
-    → Type 0
-AddsBatch pages batch all old new (Ok x) =
-    AreRead pages all batch.first old → AreRead pages all batch.past new
-AddsBatch pages batch all old new (Err (BadPage flaw)) =
-    AreRead pages all batch.first old → flaw_in pages all ≡ Some flaw
-AddsBatch pages batch all old new (Err _) = ⊤
+-- the pages before a batch are read, and these come of its own pages, where `all` are the bytes of all pages
+pub record HasComeTo (pages : Pages) (batch : Batch) (all words : List ℕ)
+    (read : List (Result (Vec ℕ Global) PagesStop)) : Type 0 where
+  pub rises : batch.first ≤ batch.past
+  pub there : batch.past ≤ page_count pages
+  pub many : length read ≡ batch.past - batch.first
+  pub before : AreRead pages all batch.first words
+  pub each : (number : ℕ) → number < batch.past - batch.first
+      → AnswersOn pages (batch.first + number) all (slice_index_or read number (Err NoMemory))
+  pub faultless : (number : ℕ) → number < batch.past - batch.first
+      → slice_index_or read number (Err NoMemory) ≡ Err ReadFault → ⊥
+
+-- The words of the pages before the one with this number were added to what was read, or this is the first flaw of all pages. A fault of the
+-- files says `fault`.
+abbrev pub AddsUpTo : {T : Type 0} → Pages → ℕ → List ℕ → Type 0 → (T → List ℕ)
+    → Result T PagesStop → Type 0
+AddsUpTo pages past all fault words_of (Ok x) = AreRead pages all past (words_of x)
+AddsUpTo pages past all fault words_of (Err (BadPage flaw)) = flaw_in pages all ≡ Some flaw
+AddsUpTo pages past all fault words_of (Err ReadFault) = fault
+AddsUpTo pages past all fault words_of (Err NoMemory) = ⊤

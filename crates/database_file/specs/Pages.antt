@@ -3,19 +3,12 @@ use Rattle.std.specs.Prelude.{◌≡◌, ◌<◌, ℕ, zero, suc, ◌+◌, ◌-�
 use Rattle.std.specs.Global.{Global}
 use Rattle.std.specs.Option.{option_or}
 use Rattle.word_pages.specs.declared.flaws.Flaw.{Flaw}
-use Rattle.word_pages.specs.declared.load.PageStop.{PageStop}
-use Rattle.word_pages.specs.declared.load.PageStop.TheVariants as pages
 use Rattle.word_pages.specs.Words.{words_in_bytes}
 use Rattle.word_pages.specs.Sealed.{binding_of}
 use Rattle.word_pages.specs.Pages.{page_size, page_flaw, pages_in}
 use Rattle.database_file.specs.declared.pages.Pages.{Pages}
 use Rattle.database_file.specs.declared.pages.PagesStop.{PagesStop}
-use Rattle.database_file.specs.declared.pages.PagesStop.TheVariants.{ReadFault, BadPage}
-
--- what a page that could not be read stops
-abbrev pub stopped_by : PageStop → PagesStop
-stopped_by pages.ReadFault = ReadFault
-stopped_by (pages.BadPage flaw) = BadPage flaw
+use Rattle.database_file.specs.declared.pages.PagesStop.TheVariants.{BadPage}
 
 -- how many pages there are
 abbrev pub page_count : Pages → ℕ
@@ -76,15 +69,6 @@ pub record ArePages (pages : Pages) : Type 0 where
   pub to : pages.bound ≤ℤ pos (2 ^ 36)
   pub words : pages.count < 2 ^ 60
   pub places : place_of pages (page_count pages) < 2 ^ 63
-
--- where these are the bytes of the pages, the words of one of them were added and it has no flaw, or this is its first flaw; a fault of the
--- files or of memory says nothing
-abbrev pub AddsPage : {T : Type 0} → Pages → ℕ → List ℕ → List ℕ → List ℕ → Result T PagesStop
-    → Type 0
-AddsPage pages page bytes old new (Ok x) =
-    (flaw_on pages bytes page ≡ None) × (new ≡ old ++ page_words pages bytes page)
-AddsPage pages page bytes old new (Err (BadPage flaw)) = flaw_on pages bytes page ≡ Some flaw
-AddsPage pages page bytes old new (Err _) = ⊤
 
 -- where these are the bytes of the pages, these are their words and they have no flaw, or this is their first flaw
 abbrev pub AnswersPages : Pages → List ℕ → Result (Vec ℕ Global) PagesStop → Type 0

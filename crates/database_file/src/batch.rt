@@ -1,13 +1,12 @@
-ghost use Rattle.std.specs.Prelude.{◌≡◌, ◌≤◌, ◌<◌, ◌+◌, ◌-◌, ◌++◌, ◌*◌, ◌^◌, ℕ, List, IfErr, IfOk, IsTrue, Err, length};
+ghost use Rattle.std.specs.Prelude.{◌≡◌, ◌≤◌, ◌<◌, ◌+◌, ◌-◌, ◌*◌, ◌^◌, ℕ, List, IfErr, IfOk, Err, length, take};
 ghost use Rattle.hyper_outside.specs.Causes.{HasCause, Rose};
 ghost use Rattle.outside_log.specs.Log.{standing};
 ghost use Rattle.outside_log.specs.Readings.{ReadsOn, is_faithful, read_faults};
-ghost use Rattle.outside_log.specs.Files.{bytes_from};
 ghost use Rattle.database_file.specs.declared.batch.Batch.{Batch as BatchOf};
 ghost use Rattle.database_file.specs.declared.pages.Pages.{Pages as PagesOf};
 ghost use Rattle.database_file.specs.declared.pages.PagesStop.TheVariants.{ReadFault, NoMemory};
 ghost use Rattle.database_file.specs.Pages.{ArePages, page_count, place_of, whole_page};
-ghost use Rattle.database_file.specs.Batches.{AddsBatch, AnswersEach, AnswersOn, AreOnPage, HasReadBatch, IsBatch, batch_size};
+ghost use Rattle.database_file.specs.Batches.{AddsUpTo, AnswersEach, AnswersOn, AreOnPage, CanBeLookedAt, HasBytes, HasComeTo, HasReadBatch, IsBatch, batch_size};
 
 use crate::pages::{Pages, PagesStop};
 use hyper_outside::Failed;
@@ -63,7 +62,7 @@ fn read_one(pages: &Pages, page: usize, bytes: &[u8], room: Vec<u64>) -> Result<
 }
 
 /// The words of a page of a batch whose bytes are in memory, as a worker reads them.
-fn read_in_batch(
+pub(crate) fn read_in_batch(
     pages: &Pages,
     batch: Batch,
     bytes: &[u8],
@@ -84,18 +83,16 @@ fn read_in_batch(
     read_one(pages, batch.first + number, &bytes[from..], room)
 }
 
-/// Room for what comes of each of so many pages.
+/// Room for what comes of each of so many pages, in the room of others, which isn't needed any more.
 pub(crate) fn make_room(
-    alloc: Global,
+    room: Vec<Result<Vec<u64>, PagesStop>>,
     count: usize,
 ) -> Result<Vec<Result<Vec<u64>, PagesStop>>, PagesStop>
     ensures room { IfOk result (λ room. length room.items ≡ count) }
     ensures memory { IfErr result (λ stop. stop ≡ NoMemory) }
 {
-    let mut room = Vec::with_capacity(alloc, count)?;
-    for _ in 0..count {
-        room.push(Err(PagesStop::NoMemory))?;
-    }
+    let mut room = room;
+    room.resize_with(count, || Err(PagesStop::NoMemory))?;
     Ok(room)
 }
 
@@ -128,24 +125,49 @@ fn read_each<R: Threads + Sync>(
 }
 
 /// Adds the words of pages in order, up to the first that could not be read.
-fn add_words(read: &[Result<Vec<u64>, PagesStop>], words: &mut Vec<u64>) -> Result<(), PagesStop>
-    ensures adds { (pages : PagesOf) (batch : BatchOf) (bytes all : List ℕ)
-        → AnswersEach pages batch bytes read.now → IsBatch pages batch bytes all
-        → AddsBatch pages batch all words.old.items words.new.items result }
-    ensures faultless { (pages : PagesOf) (batch : BatchOf) (bytes : List ℕ)
-        → AnswersEach pages batch bytes read.now → result ≡ Err ReadFault → ⊥ }
+pub(crate) fn add_words(
+    read: &[Result<Vec<u64>, PagesStop>],
+    words: Vec<u64>,
+) -> Result<Vec<u64>, PagesStop>
+    ensures { (pages : PagesOf) (batch : BatchOf) (all : List ℕ)
+        → HasComeTo pages batch all words.items read.now
+        → AddsUpTo pages batch.past all ⊥ (λ words. words.items) result }
 {
+    let mut words = words;
     for page in read {
         match page {
             Ok(list) => words.extend_from_slice(list)?,
             Err(stop) => return Err(*stop),
         }
     }
-    Ok(())
+    Ok(words)
 }
 
-/// Reads a batch of pages through a buffer, over as many reads as it takes, and has them looked at by
-/// the workers, who leave their words in `read`.
+/// Reads the bytes of a batch of pages into the front of a buffer, over as many reads as it takes, and tells how many there were.
+pub(crate) fn fill_batch<F: Files>(
+    files: &mut F,
+    name: &str,
+    pages: &Pages,
+    batch: Batch,
+    buf: &mut [u8],
+) -> Result<usize, Failed>
+    requires pages { ArePages pages.now }
+    requires some { batch.first < batch.past }
+    requires there { batch.past ≤ page_count pages.now }
+    requires bytes { batch_size pages.now batch ≤ length buf.old }
+    ensures bytes { IfOk result (λ count. HasBytes pages.now batch (is_faithful (F.log files.new))
+        (standing (F.log files.old) name.now) (take count buf.new)) }
+    ensures within { IfOk result (λ count. count ≤ length buf.new) }
+    ensures buf { length buf.new ≡ length buf.old }
+    ensures cause { HasCause (read_faults (F.log files.old))
+        (read_faults (F.log files.new)) result }
+    ensures reads { ReadsOn (F.log files.old) (F.log files.new) }
+{
+    let size = batch_size(pages, batch);
+    fill(files, name, pages.place_of(batch.first), &mut buf[..size])
+}
+
+/// Reads a batch of pages through a buffer, and has them looked at by the workers, who leave their words in `read`.
 pub(crate) fn read_batch<R: Threads + Sync, F: Files>(
     team: &Team<R>,
     alloc: Global,
@@ -159,7 +181,7 @@ pub(crate) fn read_batch<R: Threads + Sync, F: Files>(
     requires pages { ArePages pages.now }
     requires some { batch.first < batch.past }
     requires there { batch.past ≤ page_count pages.now }
-    requires bytes { (batch.past - batch.first) * whole_page pages.now ≤ length buf.old }
+    requires bytes { batch_size pages.now batch ≤ length buf.old }
     requires room { length read.old ≡ batch.past - batch.first }
     ensures read { IfOk result (λ _. HasReadBatch pages.now batch (is_faithful (F.log files.new))
         (standing (F.log files.old) name.now) read.new) }
@@ -169,14 +191,31 @@ pub(crate) fn read_batch<R: Threads + Sync, F: Files>(
         (read_faults (F.log files.new)) result }
     ensures reads { ReadsOn (F.log files.old) (F.log files.new) }
 {
-    let size = batch_size(pages, batch);
-    let count = fill(files, name, pages.place_of(batch.first), &mut buf[..size])?;
+    let count = fill_batch(files, name, pages, batch, buf)?;
     read_each(team, alloc, pages, batch, &buf[..count], read);
     Ok(())
 }
 
-/// Reads a batch of pages and adds their words in order.
-pub(crate) fn add_batch<R: Threads + Sync, F: Files>(
+/// Has the workers look at a batch whose bytes are in memory, and gives what comes of its pages.
+fn look_at<R: Threads + Sync>(
+    team: &Team<R>,
+    alloc: Global,
+    pages: &Pages,
+    batch: Batch,
+    bytes: &[u8],
+    room: Vec<Result<Vec<u64>, PagesStop>>,
+) -> Vec<Result<Vec<u64>, PagesStop>>
+    requires { CanBeLookedAt pages.now batch bytes.now room.items }
+    ensures { AnswersEach pages.now batch bytes.now result.items }
+{
+    let mut read = room;
+    read_each(team, alloc, pages, batch, bytes, &mut read);
+    read
+}
+
+/// Reads a batch of pages through a buffer, and adds the words of the batch before in order, of which `before` came, while the workers look
+/// at the pages that were read. Gives what comes of these, and the words.
+pub(crate) fn look_and_add<R: Threads + Sync, F: Files>(
     team: &Team<R>,
     alloc: Global,
     files: &mut F,
@@ -184,28 +223,32 @@ pub(crate) fn add_batch<R: Threads + Sync, F: Files>(
     pages: &Pages,
     batch: Batch,
     buf: &mut [u8],
-    read: &mut [Result<Vec<u64>, PagesStop>],
-    words: &mut Vec<u64>,
-) -> Result<(), PagesStop>
+    room: Vec<Result<Vec<u64>, PagesStop>>,
+    before: &[Result<Vec<u64>, PagesStop>],
+    words: Vec<u64>,
+) -> Result<(Vec<Result<Vec<u64>, PagesStop>>, Vec<u64>), PagesStop>
     requires pages { ArePages pages.now }
     requires some { batch.first < batch.past }
     requires there { batch.past ≤ page_count pages.now }
-    requires bytes { (batch.past - batch.first) * whole_page pages.now ≤ length buf.old }
-    requires room { batch.past - batch.first ≤ length read.old }
-    ensures part { (part : List ℕ) × (length part ≤ batch_size pages.now batch)
-        × ((before : List ℕ) → length before ≡ batch.first * whole_page pages.now
-        → AddsBatch pages.now batch (before ++ part) words.old.items words.new.items result) }
-    ensures told { IsTrue (is_faithful (F.log files.new))
-        → AddsBatch pages.now batch (bytes_from pages.now.at (standing (F.log files.old) name.now))
-        words.old.items words.new.items result }
+    requires bytes { batch_size pages.now batch ≤ length buf.old }
+    ensures read { IfOk result (λ read. HasReadBatch pages.now batch
+        (is_faithful (F.log files.new)) (standing (F.log files.old) name.now) read.0.items) }
+    ensures added { (past : BatchOf) (all : List ℕ)
+        → HasComeTo pages.now past all words.items before.now
+        → AddsUpTo pages.now past.past all
+        (Rose (read_faults (F.log files.old)) (read_faults (F.log files.new)))
+        (λ read. read.1.items) result }
     ensures buf { length buf.new ≡ length buf.old }
-    ensures kept { length read.new ≡ length read.old }
     ensures later { read_faults (F.log files.old) ≤ read_faults (F.log files.new) }
-    ensures cause { result ≡ Err ReadFault
-        → Rose (read_faults (F.log files.old)) (read_faults (F.log files.new)) }
     ensures reads { ReadsOn (F.log files.old) (F.log files.new) }
 {
-    let read = &mut read[..batch.past - batch.first];
-    read_batch(team, alloc, files, name, pages, batch, buf, read)?;
-    add_words(read, words)
+    let room = make_room(room, batch.past - batch.first)?;
+    let count = fill_batch(files, name, pages, batch, buf)?;
+    let bytes = &buf[..count];
+    let look = move |team: &Team<R>|
+        requires { CanBeLookedAt pages.now batch bytes.now room.items }
+        ensures { AnswersEach pages.entry.now batch bytes.entry.now result.items }
+    { look_at(team, alloc, pages, batch, bytes, room) };
+    let (read, words) = team.join(look, || add_words(before, words));
+    Ok((read, words?))
 }

@@ -107,7 +107,7 @@ pub(crate) fn keep_all<R: Threads + Sync, F: Files, G: Gate>(
     gate.expect(1, pages.batch_count());
     let most = BATCH_PAGES.min(count);
     let mut buf = vec![in alloc; 0u8; most * pages.version.page_size(pages.size)]?;
-    let mut read = make_room(alloc, most)?;
+    let mut read = make_room(Vec::new(alloc), most)?;
     let mut first = 0;
     'batches: while first < count {
         gate.pass(0, first as u64);

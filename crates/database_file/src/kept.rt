@@ -11,7 +11,8 @@ ghost use Rattle.database_file.specs.declared.pages.PagesStop.TheVariants.{ReadF
 ghost use Rattle.database_file.specs.Pages.{ArePages, page_count, words_on};
 ghost use Rattle.database_file.specs.Paged.{AnswersOnePage, AnswersWord, AreOfFile, ArePagesKept, IsPage};
 
-use crate::pages::{Pages, PagesStop, add_page};
+use crate::batch::{Batch, fill_batch, read_in_batch};
+use crate::pages::{Pages, PagesStop};
 use directed_fixed::{End, Fixed};
 use lru::LruCache;
 use outside_log::Files;
@@ -48,11 +49,13 @@ fn read_page<F: Files>(
         → Rose (read_faults (F.log files.old)) (read_faults (F.log files.new)) }
     ensures reads { ReadsOn (F.log files.old) (F.log files.new) }
 {
-    let mut buf = vec![in alloc; 0u8; pages.version.page_size(pages.size)]?;
-    let mut cells = vec![in alloc; 0u64; pages.size]?;
-    let mut words = Vec::with_capacity(alloc, pages.words_on(page))?;
-    add_page(files, name, pages, page, &mut buf, &mut cells, &mut words)?;
-    Ok(words)
+    let batch = Batch {
+        first: page,
+        past: page + 1,
+    };
+    let mut buf = vec![in alloc; 0u8; pages.version.page_size(pages.words_on(page))]?;
+    let count = fill_batch(files, name, pages, batch, &mut buf)?;
+    read_in_batch(pages, batch, &buf[..count], 0, Vec::new(alloc))
 }
 
 /// The word of a state at an end, among the words of its page.

@@ -1,19 +1,18 @@
-ghost use Rattle.std.specs.Prelude.{◌≡◌, ◌≤◌, ◌<◌, ◌+◌, ◌++◌, ◌*◌, ℕ, List, IsTrue, Err, length};
+ghost use Rattle.std.specs.Prelude.{◌≡◌, ◌≤◌, ◌<◌, ℕ, List, IsTrue, Err};
 ghost use Rattle.hyper_outside.specs.Causes.{Rose};
 ghost use Rattle.outside_log.specs.Log.{standing};
 ghost use Rattle.outside_log.specs.Readings.{ReadsOn, is_faithful, read_faults};
 ghost use Rattle.outside_log.specs.Files.{bytes_from};
-ghost use Rattle.word_pages.specs.Pages.{page_size};
 ghost use Rattle.database_file.specs.declared.pages.PagesStop.TheVariants.{ReadFault, BadPage, NoMemory};
-ghost use Rattle.database_file.specs.Pages.{AddsPage, AnswersPages, ArePages, binding_on, most_batches, page_count, place_of, stopped_by, whole_page, words_on};
+ghost use Rattle.database_file.specs.Pages.{AnswersPages, ArePages, binding_on, most_batches, page_count, place_of, words_on};
 
-use crate::batch::{Batch, add_batch, make_room};
+use crate::batch::{Batch, add_words, look_and_add};
 use directed_fixed::Fixed;
 use hyper_outside::{Failed, Gate};
 use outside_log::Files;
 use std::alloc::{AllocError, AllocFailed, Global};
 use std::thread::Threads;
-use word_pages::{Binding, Flaw, PageStop, Version, binding_of, load_page};
+use word_pages::{Binding, Flaw, Version, binding_of};
 use worker_team::Team;
 
 /// How many pages are read together: so many that the workers seldom wait for the slowest of them, which they do once for each batch.
@@ -44,17 +43,6 @@ pub enum PagesStop {
     BadPage(Flaw),
     /// There was no memory.
     NoMemory,
-}
-
-impl From<PageStop> for PagesStop {
-    ghost from_gives = { λ stop stopped. stopped ≡ stopped_by stop };
-
-    fn from(stop: PageStop) -> Self {
-        match stop {
-            PageStop::ReadFault => PagesStop::ReadFault,
-            PageStop::BadPage(flaw) => PagesStop::BadPage(flaw),
-        }
-    }
 }
 
 impl From<Flaw> for PagesStop {
@@ -132,54 +120,9 @@ impl Pages {
     }
 }
 
-/// Reads the page with this number, and adds its words.
-pub(crate) fn add_page<F: Files>(
-    files: &mut F,
-    name: &str,
-    pages: &Pages,
-    page: usize,
-    buf: &mut [u8],
-    cells: &mut [u64],
-    words: &mut Vec<u64>,
-) -> Result<(), PagesStop>
-    requires pages { ArePages pages.now }
-    requires there { page < page_count pages.now }
-    requires bytes { length buf.old ≡ whole_page pages.now }
-    requires cells { length cells.old ≡ pages.now.size }
-    ensures page { (part : List ℕ)
-        × (length part ≤ page_size pages.now.version (words_on pages.now page))
-        × ((before : List ℕ) → length before ≡ page * whole_page pages.now
-        → AddsPage pages.now page (before ++ part) words.old.items words.new.items result) }
-    ensures told { IsTrue (is_faithful (F.log files.new))
-        → AddsPage pages.now page (bytes_from pages.now.at (standing (F.log files.old) name.now))
-        words.old.items words.new.items result }
-    ensures buf { length buf.new ≡ length buf.old }
-    ensures kept { length cells.new ≡ length cells.old }
-    ensures later { read_faults (F.log files.old) ≤ read_faults (F.log files.new) }
-    ensures cause { result ≡ Err ReadFault
-        → Rose (read_faults (F.log files.old)) (read_faults (F.log files.new)) }
-    ensures reads { ReadsOn (F.log files.old) (F.log files.new) }
-{
-    let count = pages.words_on(page);
-    let size = pages.version.page_size(count);
-    let cells = &mut cells[..count];
-    load_page(
-        files,
-        name,
-        pages.place_of(page),
-        pages.version,
-        pages.binding_on(page).as_slice(),
-        pages.bound,
-        &mut buf[..size],
-        cells,
-    )?;
-    words.extend_from_slice(cells)?;
-    Ok(())
-}
-
-/// Reads all pages in order, some of them together, which the workers check, and whose words they
-/// read, and answers the words of all. The gate is told how many such parts there are at most, and passed before each. `BadPage` tells the first flaw of the pages, and is the same for each number of workers.
-/// `ReadFault` comes only where a call that reads failed.
+/// Reads all pages in order, some of them together, which the workers check, and whose words they read, and answers the words of all. The words
+/// of a batch are added while the next one is checked. The gate is told how many such parts there are at most, and passed before each. `BadPage`
+/// tells the first flaw of the pages, and is the same for each number of workers. `ReadFault` comes only where a call that reads failed.
 pub fn read_pages<R: Threads + Sync, F: Files, G: Gate>(
     team: &Team<R>,
     alloc: Global,
@@ -202,17 +145,22 @@ pub fn read_pages<R: Threads + Sync, F: Files, G: Gate>(
     gate.expect(1, pages.batch_count());
     let most = BATCH_PAGES.min(count);
     let mut buf = vec![in alloc; 0u8; most * pages.version.page_size(pages.size)]?;
-    let mut read = make_room(alloc, most)?;
     let mut words = Vec::with_capacity(alloc, pages.count)?;
-    let mut first = 0;
-    'batches: while first < count {
+    let mut room = Vec::new(alloc);
+    let mut read = Vec::new(alloc);
+    let mut before = Batch { first: 0, past: 0 };
+    'batches: while before.past < count {
+        let first = before.past;
         gate.pass(0, first as u64);
         let past = (first + most).min(count);
         let batch = Batch { first, past };
-        add_batch(
-            team, alloc, files, name, pages, batch, &mut buf, &mut read, &mut words,
+        let next = look_and_add(
+            team, alloc, files, name, pages, batch, &mut buf, room, &read, words,
         )?;
-        first = past;
+        room = read;
+        read = next.0;
+        words = next.1;
+        before = batch;
     }
-    Ok(words)
+    add_words(&read, words)
 }

@@ -1,9 +1,9 @@
 //! The hypergammon solver.
 #![tactic(auto)]
 
-use real_run::start;
 use std::io::IsTerminal;
 use std::process::ExitCode;
+use top_call::start;
 
 fn main(rt: HostRuntime) -> ExitCode {
     let errors = rt.stderr();

@@ -1,5 +1,5 @@
 -- The first flaw of a page.
-use Rattle.std.proofs.Common.{◌≡◌, ◌∙◌, ◌⊎◌, inl, inr, ℕ, ◌+◌, ◌*◌, ◌≤◌, ◌<◌, Bool, true, false, List, length, take, Option, None, Some, Result, Ok, Err, IsErrAnd, subst, ℤ, refl, sym, ap, ap₂, arith, nat_le}
+use Rattle.std.proofs.Common.{◌≡◌, ◌∙◌, ◌⊎◌, inl, inr, ℕ, ◌+◌, ◌*◌, ◌≤◌, ◌<◌, Bool, true, false, List, length, take, Option, None, Some, ℤ, refl, sym, ap, ap₂, arith, nat_le}
 use Rattle.std.proofs.lemmas.Bool.{cases_lt, false≢true, le-leb}
 use Rattle.std.proofs.lemmas.Bool.Decides.{leb_tells}
 use Rattle.std.proofs.lemmas.List.{take_all, take-take, length-take-le}
@@ -12,9 +12,6 @@ use Rattle.word_pages.specs.Words.{word_size, words_in_bytes}
 use Rattle.word_pages.specs.Sealed.{is_sealed_under}
 use Rattle.word_pages.specs.Flaws.{flaw_unless, pairs_flaw}
 use Rattle.word_pages.specs.Pages.{page_size, page_flaw}
-use Rattle.word_pages.specs.declared.load.PageStop.{PageStop}
-use Rattle.word_pages.specs.declared.load.PageStop.TheVariants.{ReadFault, BadPage}
-use Rattle.word_pages.specs.Loads.{AnswersPage}
 use Rattle.word_pages.proofs.Texts.{words_of-take}
 
 pub no_flaw : (well : Bool) (fault : PageFault) (at : ℕ) → well ≡ true → flaw_unless well fault at ≡ None
@@ -67,17 +64,3 @@ page_flaw-take version binding bound n at bytes = by_length (cases_lt (length by
         long-flaw version binding bound n at (take size bytes) (omega (arith, count))
         ∙ ap₂ (λ (page : List ℕ) (words : List ℕ). option_or (flaw_unless (is_sealed_under binding page) PageDigest (at + word_size version * n)) (pairs_flaw version bound at words)) (take-take size size bytes (omega arith)) (words_of-take version n size bytes (omega arith))
         ∙ sym (long-flaw version binding bound n at bytes long)
-
--- nor for what may be answered
-pub answers_on : {T : Type 0} (version : Version) (binding : List ℕ) (bound : ℤ) (n at : ℕ) (bytes words : List ℕ) (result : Result T PageStop)
-    → AnswersPage version binding bound n at (take (page_size version n) bytes) words result → AnswersPage version binding bound n at bytes words result
-answers_on version binding bound n at bytes words (Ok x) told =
-    (sym (page_flaw-take version binding bound n at bytes) ∙ told.0, told.1 ∙ words_of-take version n (page_size version n) bytes (omega arith))
-answers_on version binding bound n at bytes words (Err (BadPage flaw)) told = sym (page_flaw-take version binding bound n at bytes) ∙ told
-answers_on version binding bound n at bytes words (Err ReadFault) told = told
-
--- a flaw that is answered
-pub answers_bad : {T : Type 0} (version : Version) (binding : List ℕ) (bound : ℤ) (n at : ℕ) (bytes words : List ℕ) (flaw : Flaw) (result : Result T PageStop)
-    → IsErrAnd result (λ stop. stop ≡ BadPage flaw) → Some flaw ≡ page_flaw version binding bound n at bytes → AnswersPage version binding bound n at bytes words result
-answers_bad version binding bound n at bytes words flaw (Ok x) wrong is = absurd wrong
-answers_bad {T = T} version binding bound n at bytes words flaw (Err stop) same is = subst (λ (stop : PageStop). AnswersPage {T = T} version binding bound n at bytes words (Err stop)) (sym same) (sym is)

@@ -2,4 +2,3 @@ pub mod Words
 pub mod Sealed
 pub mod Flaws
 pub mod Pages
-pub mod Loads

@@ -4,7 +4,6 @@
 mod digest;
 mod flaws;
 mod laws;
-mod load;
 mod page;
 mod version;
 mod words;
@@ -16,7 +15,6 @@ pub use laws::{
     right_pairs_are_within, sealed_bytes_are_sealed, word_examples,
     words_and_bytes_are_each_others,
 };
-pub use load::{PageStop, load_page};
 pub use page::read_page;
 pub use version::Version;
 pub use words::{put_words, read_words};

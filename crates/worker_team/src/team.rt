@@ -1,4 +1,5 @@
 ghost use Rattle.std.specs.Prelude.{◌≡◌, ℕ, ◌<◌, ◌≤◌, IfOk, vec_len};
+ghost use Rattle.std.specs.Fn.{FnOnceReturnsAt};
 ghost use Rattle.std.specs.Fork.{AcceptsEach, ChangesEach, GivesEach};
 
 use std::alloc::{AllocError, Global};
@@ -60,5 +61,32 @@ impl<'a, R: Threads + Sync> Team<'a, R> {
         ensures each { IfOk result (λ results. GivesEach F.Fn f.now self.now results.items) }
     {
         thread::map_indices(self.rt, alloc, self.workers as usize, f)
+    }
+
+    /// Calls `f` with workers, and `g` beside it in this thread. This thread is one of a team of three or more, so `f` is given the others; a smaller
+    /// team calls `f` with all its workers, and then `g`.
+    pub fn join<A: Send, B, F: FnOnce(&Team<R>) -> A + Send, G: FnOnce() -> B>(
+        &self,
+        f: F,
+        g: G,
+    ) -> (A, B)
+        requires first { F.IsAlwaysCallable f }
+        requires second { G.pre g }
+        ensures first { (workers : ℕ) × (workers ≤ self.now)
+            × FnOnceReturnsAt F.FnOnce f workers result.0 }
+        ensures second { G.post g result.1 }
+    {
+        if self.workers < 3 {
+            return (f(self), g());
+        }
+        let others = Team {
+            rt: self.rt,
+            workers: self.workers - 1,
+        };
+        let by_others = ||
+            requires { F.IsAlwaysCallable f }
+            ensures { FnOnceReturnsAt F.FnOnce f others.entry result }
+        { f(&others) };
+        thread::join(self.rt, by_others, g)
     }
 }

@@ -1,9 +1,10 @@
-use Rattle.std.proofs.Common.{◌-◌, ◌∙◌, refl}
+use Rattle.std.proofs.Common.{◌-◌, ◌∙◌, arith, refl}
 use Rattle.std.proofs.lemmas.List.{length-take-le}
 use Rattle.database_file.proofs.ManyPages.{same_length}
 use Rattle.outside_log.specs.Log.{standing}
 use Rattle.outside_log.specs.Readings.{is_faithful}
 use Rattle.outside_log.proofs.Readings.{reads-before, reads-file}
+use Rattle.database_file.proofs.Batches.{batch_fits}
 use Rattle.database_file.proofs.KeepingPages.{kept-of-file, kept-right}
 use Rattle.database_file.proofs.KeptPages.{moved}
 use Rattle.database_file.proofs.keeping.keep_batch.Goals as goal
@@ -16,7 +17,7 @@ returns-in_err-read_batch-clause-of_file g c =
 pub returns-clause-right : goal.returns-clause-right
 returns-clause-right g c =
     let read = c.in_ok-read_batch.ensures.read in
-    kept-right c.args.pages.now c.args.batch c.read_batch.new.read c.args.kept.now.entries c.keep_each.new.kept.entries c.keep_each.ensures.kept read.bytes read.few read.answers c.requires.right
+    kept-right c.args.pages.now c.args.batch c.read_batch.new.read c.args.kept.now.entries c.keep_each.new.kept.entries c.keep_each.ensures.kept read.bytes read.has.few read.answers c.requires.right
 
 pub returns-clause-of_file : goal.returns-clause-of_file
 returns-clause-of_file g c =
@@ -36,7 +37,7 @@ pub read_batch-requires-clause-there : goal.read_batch-requires-clause-there
 read_batch-requires-clause-there g c κs _ = c.requires.there
 
 pub read_batch-requires-clause-bytes : goal.read_batch-requires-clause-bytes
-read_batch-requires-clause-bytes g c κs _ = c.requires.bytes
+read_batch-requires-clause-bytes g c κs _ = omega (arith, c.requires.bytes, batch_fits c.args.pages.now c.args.batch c.requires.some)
 
 pub read_batch-requires-clause-room : goal.read_batch-requires-clause-room
 read_batch-requires-clause-room g c κs _ = length-take-le (c.args.batch.past - c.args.batch.first) c.args.read.now c.requires.room

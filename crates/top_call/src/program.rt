@@ -5,6 +5,7 @@ ghost use Rattle.run_endings.specs.Notes.{PutsNotes};
 ghost use Rattle.run_endings.specs.Endings.{Ending, IsStatus};
 ghost use Rattle.top_call.specs.Outcomes.{LeavesAllFiles, RunsAsAsked, asked, asks_list};
 
+use crate::top::run;
 use progress_line::{ProgressGate, WipingWriter};
 use refusal_notes::put_unread_note;
 use run_endings::refuse_unread;
@@ -14,7 +15,6 @@ use std::rt::{Clock, Env, Files as System};
 use std::thread::Threads;
 use std::{env, io};
 use system_files::{RealFiles, RealSink};
-use top_call::run;
 
 /// The words after the program's name. A word that isn't text is `InvalidData`.
 fn words_of<R: Env + AllocGlobal>(rt: &R) -> io::Result<Vec<String>> {

@@ -1,4 +1,4 @@
-use Rattle.real_run.proofs.program.run_real.Given as goal
+use Rattle.top_call.proofs.program.run_real.Given as goal
 
 -- any files may have stood there
 abbrev pub ghost-new : goal.ghost-new

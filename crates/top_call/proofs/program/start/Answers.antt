@@ -3,7 +3,7 @@ use contract.BorrowLft.{⊑_meet, ⊑_refl, ⊑_static}
 use Rattle.equity_report.specs.declared.refusal.Refusal.TheVariants.{Memory}
 use Rattle.run_endings.specs.Endings.{IsStatus, no_text}
 use Rattle.top_call.proofs.Endings.{is-status}
-use Rattle.real_run.proofs.program.start.Goals as goal
+use Rattle.top_call.proofs.program.start.Goals as goal
 
 pub returns-in-Ok : goal.returns-in-Ok
 returns-in-Ok g c = let (ending, runs, rest, note) = c.run_real.ensures in subst IsStatus (sym runs.is_status) (is-status ending)

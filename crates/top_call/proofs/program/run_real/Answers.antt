@@ -1,5 +1,5 @@
 use Rattle.std.proofs.Common.{◌∙◌, ap}
-use Rattle.real_run.proofs.program.run_real.Goals as goal
+use Rattle.top_call.proofs.program.run_real.Goals as goal
 
 pub returns : goal.returns
 returns g c =
